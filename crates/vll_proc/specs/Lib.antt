@@ -1,0 +1,6 @@
+pub mod Meaning
+pub mod Serial
+pub mod WellFormed
+pub mod Made
+pub mod Cells
+pub mod Kept

@@ -1,0 +1,80 @@
+-- What a procedure's body means on a whole map of records: by cases on the syntax, operands from left to right, and the first reason ends the call.
+use Rattle.std.specs.Prelude.{ℕ, ◌+◌, ◌-◌, ◌^◌, List, [], ◌∷◌, ◌++◌, map, Result, Ok, Err, nat_lt, if◌then◌else◌, slice_index, slice_set}
+use Rattle.vll_proc.specs.declared.call.Reason.{Reason}
+use Rattle.vll_proc.specs.declared.call.Reason.TheVariants.{Overflow, Underflow}
+use Rattle.vll_proc.specs.declared.syntax.KeyAt.{KeyAt}
+use Rattle.vll_proc.specs.declared.syntax.KeyAt.TheVariants as at
+use Rattle.vll_proc.specs.declared.syntax.KeyDecl.{KeyDecl}
+use Rattle.vll_proc.specs.declared.syntax.Proc.{Proc}
+use Rattle.vll_proc.specs.declared.syntax.Expr.{Expr, Row_of-Expr, end_of-Expr, more_of-Expr, Num, Arg, Key, Add', Sub'}
+use Rattle.vll_proc.specs.declared.syntax.Stmt.{Stmt}
+use Rattle.vll_proc.specs.declared.syntax.Stmt.TheVariants.{Set, Reply}
+
+-- goes on with a value, or ends with a reason
+abbrev pub and_then : {A B : Type 0} → Result A Reason → (A → Result B Reason) → Result B Reason
+and_then (Ok a) go = go a
+and_then (Err why) go = Err why
+
+-- a number of 64 bits
+abbrev pub fitting : ℕ → Result ℕ Reason
+fitting n = if nat_lt n (2 ^ 64) then Ok n else Err Overflow
+
+abbrev pub difference : ℕ → ℕ → Result ℕ Reason
+difference x y = if nat_lt x y then Err Underflow else Ok (x - y)
+
+-- where a body stands: the record that each key position names, the arguments, and then what changes
+pub record Scene : Type 0 where
+  pub named : List ℕ
+  pub args : List ℕ
+  pub records : List ℕ
+  pub outputs : List ℕ
+
+abbrev pub Value : Type 0
+Value = Scene → Result ℕ Reason
+
+-- both operands, the left one first
+abbrev pub both : (ℕ → ℕ → Result ℕ Reason) → Value → Value → Value
+both f a b s = and_then (a s) (λ x. and_then (b s) (λ y. f x y))
+
+abbrev mutual
+  pub value_of : Expr → Value
+  value_of (Num n) s = Ok n
+  value_of (Arg i) s = Ok (slice_index s.args i)
+  value_of (Key i) s = Ok (slice_index s.records (slice_index s.named i))
+  value_of (Add' p a q b) s = both (λ x y. fitting (x + y)) (operand a) (operand b) s
+  value_of (Sub' p a q b) s = both difference (operand a) (operand b) s
+
+  -- a boxed operand is a row of one
+  pub operand : {m : _} → Row_of-Expr m → Value
+  operand end_of-Expr s = Ok 0
+  operand (more_of-Expr e rest) s = value_of e s
+
+abbrev pub Action : Type 0
+Action = Scene → Result Scene Reason
+
+-- one after another, up to the first reason
+abbrev pub in_turn : List Action → Action
+in_turn [] s = Ok s
+in_turn (act ∷ acts) s = and_then (act s) (in_turn acts)
+
+abbrev pub effect : Stmt → Action
+effect (Set i e) s = and_then (value_of e s) (λ v. Ok (record s { records = slice_set s.records (slice_index s.named i) v }))
+effect (Reply e) s = and_then (value_of e s) (λ v. Ok (record s { outputs = s.outputs ++ v ∷ [] }))
+
+-- the record that a key position names
+abbrev pub record_named : List ℕ → KeyAt → ℕ
+record_named args (at.Fixed r) = r
+record_named args (at.Arg i) = slice_index args i
+
+-- where the body of a procedure begins
+abbrev pub opening_scene : Proc → List ℕ → List ℕ → Scene
+opening_scene p args records = record {
+  named = map (λ (k : KeyDecl). record_named args k.at) p.keys;
+  args = args;
+  records = records;
+  outputs = [];
+}
+
+-- the meaning of a procedure's body on a whole map of records
+abbrev pub body : Proc → List ℕ → List ℕ → Result Scene Reason
+body p args records = in_turn (map effect p.body) (opening_scene p args records)

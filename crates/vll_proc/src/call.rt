@@ -1,0 +1,36 @@
+use crate::outputs::Outputs;
+use vll_record::Claims;
+
+/// Why a call was aborted.
+#[derive(Clone, Copy, PartialEq, Eq, Debug)]
+pub enum Reason {
+    /// The procedure's own reason.
+    Code(u16),
+    /// A result over 18446744073709551615.
+    Overflow,
+    /// A difference below 0.
+    Underflow,
+    /// A division by 0.
+    ZeroDivisor,
+}
+
+/// What a call answers: its outputs, or why it was aborted. An aborted call changes no record.
+#[derive(Clone, Copy)]
+pub enum Reply {
+    Committed(Outputs),
+    Aborted(Reason),
+}
+
+/// A call of a procedure, with the claims it makes. It owns no memory.
+#[derive(Clone, Copy)]
+pub struct Call {
+    /// The procedure, by its place in the library from 0.
+    pub number: u32,
+    pub arg_count: u8,
+    /// The arguments, and then zeros.
+    pub args: [u64; 8],
+    /// The records that the key positions name, each once.
+    pub claims: Claims,
+    /// For each key position the place of its claim, and then zeros.
+    pub cells: [u8; 16],
+}

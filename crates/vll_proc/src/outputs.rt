@@ -1,0 +1,66 @@
+ghost use Rattle.std.specs.Prelude.{◌≡◌, ◌<◌, ◌≤◌, ◌++◌, ◌∷◌, [], length, slice_get};
+
+use std::marker::Model;
+
+/// What a call replies: up to 8 numbers, in the order of the reply statements. Contracts see them as their list.
+#[derive(Clone, Copy)]
+pub struct Outputs {
+    places: [u64; 8],
+    len: u8,
+}
+
+impl Model for Outputs {
+    ghost use Rattle.std.specs.Prelude.{ℕ, List};
+
+    ghost Value = { List ℕ };
+
+    ghost use Rattle.vll_proc.specs.Kept.{kept, from_list, IsCanonical, from_list-kept};
+
+    ghost view = { kept };
+
+    ghost invariant = { IsCanonical };
+
+    ghost inverse = { from_list };
+
+    ghost inverse_ok = { from_list-kept };
+}
+
+impl Outputs {
+    // No outputs.
+    pub(crate) fn new() -> Outputs
+        ensures { result ≡ [] }
+    {
+        Outputs {
+            places: [0; 8],
+            len: 0,
+        }
+    }
+
+    /// How many outputs there are, at most 8.
+    pub fn len(&self) -> usize
+        ensures value { result ≡ length self.now }
+        ensures few { length self.now ≤ 8 }
+    {
+        self.len as usize
+    }
+
+    /// The output at a place from 0, and `None` exactly from `len` on.
+    pub fn get(&self, i: usize) -> Option<u64>
+        ensures { result ≡ slice_get self.now i }
+    {
+        if i < self.len as usize {
+            Some(self.places[i])
+        } else {
+            None
+        }
+    }
+
+    // Puts an output behind all others.
+    pub(crate) fn push(&mut self, value: u64)
+        requires { length self.old < 8 }
+        ensures { self.new ≡ self.old ++ value ∷ [] }
+    {
+        self.places[self.len as usize] = value;
+        self.len += 1;
+    }
+}

@@ -1,0 +1,86 @@
+ghost use Rattle.std.specs.Prelude.{◌≡◌, string_bytes};
+
+use sqlite_items::{Boxed, Items};
+use std::marker::Model;
+use vll_record::Mode;
+
+/// An expression over numbers of 64 bits.
+#[derive(Drop)]
+pub enum Expr {
+    /// A number.
+    Num(u64),
+    /// An argument of the call, by its place from 0.
+    Arg(u8),
+    /// The present value of the record that a key position names.
+    Key(u8),
+    /// The sum. Over 18446744073709551615 the call is aborted with `Overflow`.
+    Add(Boxed<Expr>, Boxed<Expr>),
+    /// Left minus right. Where right is greater, the call is aborted with `Underflow`.
+    Sub(Boxed<Expr>, Boxed<Expr>),
+}
+
+/// A statement of a procedure's body.
+#[derive(Drop)]
+pub enum Stmt {
+    /// Gives the record that a key position names a new value.
+    Set(u8, Expr),
+    /// Appends an output.
+    Reply(Expr),
+}
+
+/// Where a key position's record is named.
+#[derive(Clone, Copy, PartialEq, Eq, Debug)]
+pub enum KeyAt {
+    /// Always this record.
+    Fixed(u32),
+    /// The record whose number is this argument, by its place from 0.
+    Arg(u8),
+}
+
+/// A key position: the record it names, and how a call claims that record.
+#[derive(Clone, Copy, PartialEq, Eq, Debug)]
+pub struct KeyDecl {
+    pub mode: Mode,
+    pub at: KeyAt,
+}
+
+/// A stored procedure: its name, how many arguments it takes, the keys it declares, and its body.
+#[derive(Drop)]
+pub struct Proc {
+    pub name: Text,
+    pub args: u8,
+    pub keys: Items<KeyDecl>,
+    pub body: Items<Stmt>,
+}
+
+/// A `String` that contracts see as its bytes.
+#[derive(Drop)]
+pub struct Text {
+    inner: String,
+}
+
+impl Model for Text {
+    ghost use Rattle.std.specs.Prelude.{ℕ, List, string_bytes};
+    ghost use Rattle.std.specs.Coded.{coded_list, coded_ℕ};
+
+    ghost Value = { List ℕ };
+
+    ghost coded = { coded_list coded_ℕ };
+
+    ghost view = { λ t. string_bytes t.inner };
+}
+
+impl Text {
+    /// The text of a `String`. It takes no memory.
+    pub fn new(text: String) -> Text
+        ensures { result ≡ string_bytes text }
+    {
+        Text { inner: text }
+    }
+
+    pub fn as_str(&self) -> &str
+        ensures { result.now ≡ self.now }
+    {
+        self.inner.as_str()
+    }
+}
