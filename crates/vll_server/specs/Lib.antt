@@ -1,0 +1,10 @@
+pub mod Tree
+pub mod Syntax
+pub mod Shape
+pub mod Checked
+pub mod Calls
+pub mod Setup
+pub mod Scenario
+pub mod Merge
+pub mod Text
+pub mod Streams

@@ -1,0 +1,87 @@
+-- The scenario that bytes are, or the fault that is answered for them.
+use Rattle.std.specs.Prelude.{◌≡◌, ℕ, suc, Bool, true, false, nat_lt, List, [], ◌∷◌, length, Option, Some, None, option_map, Result, Ok, Err, if◌then◌else◌}
+use Rattle.std.specs.Str.{IsUtf8}
+use Rattle.serde_json.specs.Data.{Data}
+use Rattle.serde_json.specs.Read.{read}
+use Rattle.vll_proc.specs.declared.call.Call.{Call}
+use Rattle.vll_proc.specs.declared.syntax.Proc.{Proc}
+use Rattle.vll_server.specs.declared.asked.Asked.{Asked}
+use Rattle.vll_server.specs.declared.fault.CallFault.{CallFault}
+use Rattle.vll_server.specs.declared.fault.ScenarioFault.{ScenarioFault}
+use Rattle.vll_server.specs.declared.fault.ScenarioFault.TheVariants as fault
+use Rattle.vll_server.specs.Calls.{call_made}
+use Rattle.vll_server.specs.Checked.{check_fault, has_name_twice}
+use Rattle.vll_server.specs.Setup.{Setup, has_sizes}
+use Rattle.vll_server.specs.Shape.{◌>>=◌, Parts, shape_of}
+
+abbrev pub or_else : {A : Type 0} → Option A → Option A → Option A
+or_else None b = b
+or_else (Some a) b = Some a
+
+-- the fault of the first item that has one; a test is given the item's index, from i on
+abbrev pub first_fault : {A F : Type 0} → (ℕ → A → Option F) → ℕ → List A → Option F
+first_fault test i [] = None
+first_fault test i (x ∷ xs) = or_else (test i x) (first_fault test (suc i) xs)
+
+-- what each item gives, or the fault of the first that has one
+abbrev pub each_given : {A B F : Type 0} → (ℕ → A → Result B F) → ℕ → List A → Result (List B) F
+each_given f i [] = Ok []
+each_given f i (x ∷ xs) = do
+  y ← f i x
+  ys ← each_given f (suc i) xs
+  Ok (y ∷ ys)
+
+abbrev pub ok_unless : {A F : Type 0} → Option F → A → Result A F
+ok_unless None a = Ok a
+ok_unless (Some why) a = Err why
+
+abbrev pub refuse_if : {A : Type 0} → Bool → ScenarioFault → Result A ScenarioFault → Result A ScenarioFault
+refuse_if true why go = Err why
+refuse_if false why go = go
+
+-- the first procedure that is not well-formed
+abbrev pub first_check : ℕ → List Proc → Option ScenarioFault
+first_check records procs = first_fault (λ i p. option_map (fault.Check i) (check_fault records p)) 0 procs
+
+abbrev pub in_call : ℕ → ℕ → Result Call CallFault → Result Call ScenarioFault
+in_call client index (Ok c) = Ok c
+in_call client index (Err why) = Err (fault.Call client index why)
+
+-- the calls of the scripts
+abbrev pub scripts_made : ℕ → List Proc → List (List Asked) → Result (List (List Call)) ScenarioFault
+scripts_made records procs scripts =
+    each_given (λ client script. each_given (λ index a. in_call client index (call_made records procs a)) 0 script) 0 scripts
+
+-- the scenario of its parts: the sizes, then the procedures, then their names, then the calls
+abbrev pub setup_of : Parts → Result Setup ScenarioFault
+setup_of p =
+    if has_sizes p.records p.procs p.scripts then
+    (do
+      procs ← ok_unless (first_check (length p.records) p.procs) p.procs
+      refuse_if (has_name_twice procs) fault.NameTwice (do
+        scripts ← scripts_made (length p.records) procs p.scripts
+        Ok (record { records = p.records; procs = procs; scripts = scripts })))
+    else Err fault.Size
+
+-- the scenario of a JSON tree
+abbrev pub scenario_of_tree : Data → Result Setup ScenarioFault
+scenario_of_tree d = do
+  parts ← shape_of d
+  setup_of parts
+
+-- the JSON tree that bytes are, or that they are none
+abbrev pub IsTree : List ℕ → Option Data → Type 0
+IsTree bytes (Some d) = IsUtf8 bytes × (read bytes ≡ Some d)
+IsTree bytes None = IsUtf8 bytes → read bytes ≡ None
+
+-- the most bytes that are read
+abbrev pub most_bytes : ℕ
+most_bytes = 16777216
+
+abbrev pub scenario_of_tree_or_none : Option Data → Result Setup ScenarioFault
+scenario_of_tree_or_none None = Err fault.Json
+scenario_of_tree_or_none (Some d) = scenario_of_tree d
+
+-- the scenario of bytes and of their tree
+abbrev pub scenario_of : List ℕ → Option Data → Result Setup ScenarioFault
+scenario_of bytes tree = if nat_lt most_bytes (length bytes) then Err fault.Size else scenario_of_tree_or_none tree

@@ -1,0 +1,111 @@
+-- What a JSON tree is as a part of a procedure. A list of another length, and what is not listed here, is none.
+use Rattle.std.specs.Prelude.{ℕ, ◌^◌, Bool, false, ◌&&◌, List, [], ◌∷◌, Option, Some, None, option_and_then, option_map, is_some, Result, Ok, Err, nat_lt, if◌then◌else◌, codes}
+use Rattle.std.specs.List.{list_all, list_any}
+use Rattle.std.specs.Str.{bytes_eq}
+use Rattle.serde_json.specs.Data.{Data, null, number, string, array, object, no_items, item, Members, no_members, member}
+use Rattle.serde_json.specs.Find.{as_u64, as_str, get, get_member}
+use Rattle.vll_record.specs.declared.claim.Mode.{Mode}
+use Rattle.vll_record.specs.declared.claim.Mode.TheVariants.{Read, Write}
+use Rattle.vll_proc.specs.declared.syntax.Expr.{Expr, Num, Arg, Key, Add, Sub}
+use Rattle.vll_proc.specs.declared.syntax.Stmt.{Stmt}
+use Rattle.vll_proc.specs.declared.syntax.Stmt.TheVariants.{Set, Reply}
+use Rattle.vll_proc.specs.declared.syntax.KeyAt.{KeyAt}
+use Rattle.vll_proc.specs.declared.syntax.KeyAt.TheVariants as at
+use Rattle.vll_proc.specs.declared.syntax.KeyDecl.{KeyDecl}
+use Rattle.vll_proc.specs.declared.syntax.Proc.{Proc}
+use Rattle.vll_server.specs.Tree.{number_at, list_at}
+
+infixl 10 ◌>>=◌
+-- goes on where something is there
+abbrev pub ◌>>=◌ : {A B : Type 0} → Option A → (A → Option B) → Option B
+o >>= go = option_and_then go o
+
+-- a number that is below a bound
+abbrev pub below : ℕ → Option ℕ → Option ℕ
+below limit o = option_and_then (λ n. if nat_lt n limit then Some n else None) o
+
+-- an index of an argument or a key, or a count of arguments
+abbrev pub index_at : Data → Option ℕ
+index_at d = below (2 ^ 8) (number_at d)
+
+-- both, if both are there
+abbrev pub both_of : {A B C : Type 0} → (A → B → C) → Option A → Option B → Option C
+both_of f a b = do
+  x ← a
+  y ← b
+  Some (f x y)
+
+-- ["arg", i] and ["key", i]
+abbrev pub leaf : List ℕ → Data → Option Expr
+leaf word i = if bytes_eq word (codes "arg") then option_map Arg (index_at i) else (if bytes_eq word (codes "key") then option_map Key (index_at i) else None)
+
+-- ["add", e, e] and ["sub", e, e]
+abbrev pub operation : List ℕ → Option Expr → Option Expr → Option Expr
+operation word a b = if bytes_eq word (codes "add") then both_of Add a b else (if bytes_eq word (codes "sub") then both_of Sub a b else None)
+
+-- a number is an expression, and so are the lists of these forms
+abbrev pub expr_at : Data → Option Expr
+expr_at (number n) = option_map Num (as_u64 n)
+expr_at (array (item (string word) (item i no_items))) = leaf word i
+expr_at (array (item (string word) (item a (item b no_items)))) = operation word (expr_at a) (expr_at b)
+expr_at _ = None
+
+-- ["set", i, e] and ["reply", e]
+abbrev pub stmt_at : Data → Option Stmt
+stmt_at (array (item (string word) (item e no_items))) = if bytes_eq word (codes "reply") then option_map Reply (expr_at e) else None
+stmt_at (array (item (string word) (item i (item e no_items)))) = if bytes_eq word (codes "set") then both_of Set (index_at i) (expr_at e) else None
+stmt_at _ = None
+
+-- "read" and "write"
+abbrev pub mode_at : List ℕ → Option Mode
+mode_at word = if bytes_eq word (codes "read") then Some Read else (if bytes_eq word (codes "write") then Some Write else None)
+
+-- where a key is placed: "arg" with an index, or "fixed" with a record
+abbrev pub place_at : List ℕ → Data → Option KeyAt
+place_at word d = if bytes_eq word (codes "arg") then option_map at.Arg (index_at d) else (if bytes_eq word (codes "fixed") then option_map at.Fixed (below (2 ^ 32) (number_at d)) else None)
+
+abbrev pub key_of : Mode → KeyAt → KeyDecl
+key_of mode place = record { mode = mode; at = place }
+
+-- ["read", "arg", i] and the like
+abbrev pub key_at : Data → Option KeyDecl
+key_at (array (item (string mode) (item (string word) (item d no_items)))) = both_of key_of (mode_at mode) (place_at word d)
+key_at _ = None
+
+-- the names of an object's members
+abbrev pub names_of : Members → List (List ℕ)
+names_of no_members = []
+names_of (member name d ms) = name ∷ names_of ms
+
+-- an object with these members and no others
+abbrev pub has_exactly : List (List ℕ) → Data → Bool
+has_exactly names (object ms) = list_all (λ name. is_some (get_member name ms)) names && list_all (λ name. list_any (bytes_eq name) names) (names_of ms)
+has_exactly names _ = false
+
+-- what a member is, and `null` where there is none
+abbrev pub member_at : List ℕ → Data → Data
+member_at name d = or_null (get name d)
+  where
+    or_null : Option Data → Data
+    or_null None = null
+    or_null (Some d) = d
+
+-- a list, whatever the index of a faulty item would be
+abbrev pub whole : {A : Type 0} → Result A ℕ → Option A
+whole (Ok a) = Some a
+whole (Err i) = None
+
+abbrev pub proc_names : List (List ℕ)
+proc_names = codes "name" ∷ codes "args" ∷ codes "keys" ∷ codes "body" ∷ []
+
+-- a procedure: an object with exactly `name`, `args`, `keys` and `body`
+abbrev pub proc_at : Data → Option Proc
+proc_at d = if has_exactly proc_names d then parts_of d else None
+  where
+    parts_of : Data → Option Proc
+    parts_of d = do
+      name ← as_str (member_at (codes "name") d)
+      args ← index_at (member_at (codes "args") d)
+      keys ← whole (list_at key_at (member_at (codes "keys") d))
+      body ← whole (list_at stmt_at (member_at (codes "body") d))
+      Some (record { name = name; args = args; keys = keys; body = body })

@@ -1,0 +1,54 @@
+-- The text of an outcome.
+use Rattle.std.specs.Prelude.{ℕ, List, [], ◌∷◌, ◌++◌, map, replicate, length, Option, Some, None, codes}
+use Rattle.std.specs.List.{flat_map, enumerate_from, zip}
+use Rattle.std.specs.Fmt.{decimal}
+use Rattle.vll_proc.specs.declared.call.Reason.{Reason}
+use Rattle.vll_proc.specs.declared.call.Reason.TheVariants.{Code, Overflow, Underflow, ZeroDivisor}
+use Rattle.vll_proc.specs.declared.call.Reply.{Reply}
+use Rattle.vll_proc.specs.declared.call.Reply.TheVariants.{Committed, Aborted}
+use Rattle.vll_proc.specs.declared.syntax.Proc.{Proc}
+use Rattle.vll_proc.specs.Serial.{Made, answer, end}
+use Rattle.vll_server.specs.declared.line.Line.{Line}
+
+abbrev pub Text : Type 0
+Text = List ℕ
+
+abbrev pub reason_text : Reason → Text
+reason_text Overflow = codes "overflow"
+reason_text Underflow = codes "underflow"
+reason_text ZeroDivisor = codes "zero divisor"
+reason_text (Code n) = codes "code " ++ decimal n
+
+abbrev pub reply_text : Reply → Text
+reply_text (Committed outputs) = codes "committed" ++ flat_map (λ n. 32 ∷ decimal n) outputs
+reply_text (Aborted why) = codes "aborted " ++ reason_text why
+
+-- a reply, or nothing where there is none
+abbrev pub answer_text : Option Reply → Text
+answer_text None = []
+answer_text (Some r) = reply_text r
+
+abbrev pub call_line : ℕ × (ℕ × Text) → Text
+call_line (t, (client, words)) = codes "call " ++ decimal t ++ codes " client " ++ decimal client ++ 32 ∷ words ++ 10 ∷ []
+
+abbrev pub record_line : ℕ × (ℕ × ℕ) → Text
+record_line (r, (value, pair)) = codes "record " ++ decimal r ++ codes " value " ++ decimal value ++ codes " pair " ++ decimal pair ++ 10 ∷ []
+
+-- a line for each call, with its client and its words, and one for each record, with its value and its pair word
+abbrev pub outcome_text : List (ℕ × Text) → List (ℕ × ℕ) → Text
+outcome_text calls records = flat_map call_line (enumerate_from 0 calls) ++ flat_map record_line (enumerate_from 0 records)
+
+abbrev pub line_words : Line → ℕ × Text
+line_words l = (l.client, answer_text l.reply)
+
+-- the text of what a run leaves
+abbrev pub closed_text : List Line → List ℕ → List ℕ → Text
+closed_text journal records pairs = outcome_text (map line_words journal) (zip records pairs)
+
+-- the outcome of a list of calls that run one at a time: their replies, the last records, and every pair word 0
+abbrev pub serial_text : List Proc → List ℕ → List Made → Text
+serial_text procs records calls =
+    let after = end procs calls records in
+    outcome_text
+    (map (λ (p : ℕ × Made). (p.1.0, answer_text (answer procs calls records p.0))) (enumerate_from 0 calls))
+    (zip after (replicate (length after) 0))

@@ -1,0 +1,43 @@
+-- What a JSON tree is read as.
+use Rattle.std.specs.Prelude.{◌≡◌, ℕ, suc, List, [], ◌∷◌, Option, Some, None, option_and_then, Result, Ok, Err}
+use Rattle.serde_json.specs.Data.{Data, Items, no_items, item}
+use Rattle.serde_json.specs.Find.{as_number, as_u64, as_array}
+use Rattle.vll_server.specs.declared.tree.Misread.{Misread}
+use Rattle.vll_server.specs.declared.tree.Misread.TheVariants as misread
+use Rattle.vll_server.specs.declared.tree.FirstFault.{FirstFault}
+use Rattle.vll_server.specs.declared.tree.FirstFault.TheVariants as first_fault
+
+-- a whole number of 64 bits without a sign
+abbrev pub number_at : Data → Option ℕ
+number_at d = option_and_then as_u64 (as_number d)
+
+-- one more item in front, and an index further on
+abbrev pub in_front : {A : Type 0} → Option A → Result (List A) ℕ → Result (List A) ℕ
+in_front None others = Err 0
+in_front (Some a) (Ok xs) = Ok (a ∷ xs)
+in_front (Some a) (Err i) = Err (suc i)
+
+-- the reading of each item, or the index of the first item that has none
+abbrev pub each : {A : Type 0} → (Data → Option A) → Items → Result (List A) ℕ
+each f no_items = Ok []
+each f (item d ds) = in_front (f d) (each f ds)
+
+abbrev pub each_of : {A : Type 0} → (Data → Option A) → Option Items → Result (List A) ℕ
+each_of f None = Err 0
+each_of f (Some ds) = each f ds
+
+-- the readings of a list, or the index of its first faulty item, which is 0 where there is no list
+abbrev pub list_at : {A : Type 0} → (Data → Option A) → Data → Result (List A) ℕ
+list_at f d = each_of f (as_array d)
+
+-- what is answered is the reading, unless memory ran out
+abbrev pub Gives : {A : Type 0} → Result A Misread → Option A → Type 0
+Gives (Ok a) reading = reading ≡ Some a
+Gives (Err misread.NoMemory) reading = Unit {0}
+Gives (Err misread.Faulty) reading = reading ≡ None
+
+-- the same of a list
+abbrev pub GivesList : {A : Type 0} → Result (List A) FirstFault → Result (List A) ℕ → Type 0
+GivesList (Ok xs) reading = reading ≡ Ok xs
+GivesList (Err first_fault.NoMemory) reading = Unit {0}
+GivesList (Err (first_fault.At i)) reading = reading ≡ Err i

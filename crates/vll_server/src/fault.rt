@@ -1,0 +1,127 @@
+use thiserror::Error;
+
+/// A part of a scenario. The parts' shapes are tested in this order.
+#[derive(Clone, Copy, PartialEq, Eq, Debug, Error)]
+pub enum Part {
+    /// The whole: no object, a member missing, or a member that is not known.
+    #[error("top")]
+    Top,
+    #[error("version")]
+    Version,
+    #[error("records")]
+    Records,
+    #[error("procs")]
+    Procs,
+    #[error("clients")]
+    Clients,
+}
+
+/// Where a scenario has another shape: the part, and the index of its first faulty item, from 0.
+/// It is 0 for `top`, for a single value, and where a part that should be a list is none.
+#[derive(Clone, Copy, PartialEq, Eq, Debug, Error)]
+#[error("{part} {index}")]
+pub struct Spot {
+    pub part: Part,
+    pub index: u32,
+}
+
+/// Why a procedure is not well-formed: the lowest number whose test fails.
+#[derive(Clone, Copy, PartialEq, Eq, Debug, Error)]
+pub enum CheckFault {
+    /// More than 8 arguments.
+    #[error("1")]
+    TooManyArgs,
+    /// More than 16 key positions.
+    #[error("2")]
+    TooManyKeys,
+    /// A key is placed by an argument that is not declared.
+    #[error("3")]
+    KeyArg,
+    /// A fixed record is not one of the records.
+    #[error("4")]
+    FixedRecord,
+    /// A key position that is not declared is read or set.
+    #[error("5")]
+    UnknownKey,
+    /// A key position is set that is declared Read.
+    #[error("6")]
+    NotWritable,
+    /// An argument is read that is not declared.
+    #[error("7")]
+    UnknownArg,
+    /// More than 8 replies.
+    #[error("10")]
+    TooManyReplies,
+}
+
+/// Why a call cannot be made: the lowest number that stands.
+#[derive(Clone, Copy, PartialEq, Eq, Debug, Error)]
+pub enum CallFault {
+    /// No procedure has the name.
+    #[error("1")]
+    UnknownProc,
+    /// Not the declared number of arguments.
+    #[error("2")]
+    ArgCount,
+    /// An argument that places a key is not below the number of records.
+    #[error("3")]
+    RecordRange,
+}
+
+/// Why a scenario was refused. Reading and the number of bytes are tested first, then `Json`, `Shape`,
+/// the other sizes, `Check`, `NameTwice` and `Call`. Of several procedures or calls the lowest is answered.
+#[derive(Clone, Copy, PartialEq, Eq, Debug, Error)]
+pub enum ScenarioFault {
+    /// The reader failed.
+    #[error("read")]
+    Read,
+    /// The bytes are no JSON text.
+    #[error("json")]
+    Json,
+    /// The JSON tree has another shape.
+    #[error("shape {0}")]
+    Shape(Spot),
+    /// A procedure is not well-formed.
+    #[error("check {index} {fault}")]
+    Check {
+        index: u32,
+        fault: CheckFault,
+    },
+    /// A call cannot be made.
+    #[error("call {client} {index} {fault}")]
+    Call {
+        client: u32,
+        index: u32,
+        fault: CallFault,
+    },
+    /// More than 16,777,216 bytes; no record or more than 65,536; more than 1,048,576 procedures, 1,024
+    /// clients or 65,536 calls in all scripts.
+    #[error("size")]
+    Size,
+    #[error("no memory")]
+    NoMemory,
+    /// Two procedures have one name.
+    #[error("name twice")]
+    NameTwice,
+}
+
+/// Why a text was not written whole. After `NoMemory` nothing has been written, and after `Write` a
+/// beginning of it.
+#[derive(Clone, Copy, PartialEq, Eq, Debug, Error)]
+pub enum WriteFault {
+    #[error("no memory")]
+    NoMemory,
+    /// A write or a flush failed, or a write took nothing.
+    #[error("write")]
+    Write,
+}
+
+/// Why a run did not end well.
+#[derive(Clone, Copy, PartialEq, Eq, Debug, Error)]
+pub enum ServeFault {
+    #[error("no memory")]
+    NoMemory,
+    /// The outcome was not written whole.
+    #[error("write")]
+    Write,
+}

@@ -1,0 +1,9 @@
+//! Scenarios in, texts out: reading and checking a scenario, running its scripts, and writing what came of it.
+#![tactic(auto)]
+
+mod asked;
+mod fault;
+mod line;
+mod stream;
+mod syntax;
+mod tree;
