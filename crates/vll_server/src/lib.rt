@@ -2,6 +2,7 @@
 #![tactic(auto)]
 
 mod asked;
+mod check;
 mod fault;
 mod line;
 mod stream;
