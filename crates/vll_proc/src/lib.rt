@@ -4,6 +4,7 @@
 mod call;
 mod frame;
 mod outputs;
+mod run;
 mod syntax;
 
 pub use call::{Call, Reason, Reply};
