@@ -1,1 +1,4 @@
 pub mod Equations
+pub mod FromRecord
+pub mod Copy
+pub mod Called
