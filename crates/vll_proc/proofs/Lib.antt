@@ -2,3 +2,4 @@ pub mod Equations
 pub mod FromRecord
 pub mod Copy
 pub mod Called
+pub mod Runs
