@@ -92,8 +92,17 @@ claims_few p c formed made =
     let as_asked = length-claims_of-le (asked p (take c.arg_count c.args)) in
     rw (claims_made p c made) (omega (arith, length-map p.keys (λ (k : KeyDecl). let d : Claim = record { id = record_named (take c.arg_count c.args) k.at; mode = k.mode } in d)))
 
-some_key : KeyDecl
+pub some_key : KeyDecl
 some_key = record { mode = Read; at = at.Fixed 0 }
+
+-- the record that a key position names, by the arguments that were passed
+pub key_record : (p : Proc) (c : Call) → IsWellFormed p → IsCallOf p c → (k : ℕ) → k < length p.keys
+    → slice_index (map (λ (d : KeyDecl). record_named c.args d.at) p.keys) k ≡ record_named (take c.arg_count c.args) (get_or p.keys k some_key).at
+key_record p c formed made k lt =
+    let key : KeyDecl = get_or p.keys k some_key in
+    let declared : argument_is_declared c.arg_count key ≡ true =
+        rw made.count (list_all_get (argument_is_declared p.args) p.keys k some_key formed.key_args lt) in
+    get_or-map (λ (d : KeyDecl). record_named c.args d.at) p.keys k some_key 0 lt ∙ sym (record_named-take c.arg_count c.args key declared)
 
 -- the cell of a key position is the place of the claim of the record that it names
 pub key_place : (p : Proc) (c : Call) → IsWellFormed p → IsCallOf p c → (k : ℕ) → k < length p.keys
@@ -104,12 +113,8 @@ key_place p c formed made k lt =
     let cell : KeyDecl → ℕ = λ d. place_of (claims_of (asked p args)) (record_named args d.at) in
     let cell_is : slice_index c.cells k ≡ cell key =
         ap (λ (x : Call). slice_index x.cells k) made.made ∙ slice_index-laid 16 (map cell p.keys) k ∙ get_or-map cell p.keys k some_key 0 lt in
-    let declared : argument_is_declared c.arg_count key ≡ true =
-        rw made.count (list_all_get (argument_is_declared p.args) p.keys k some_key formed.key_args lt) in
-    let record_is : slice_index (map (λ (d : KeyDecl). record_named c.args d.at) p.keys) k ≡ record_named args key.at =
-        get_or-map (λ (d : KeyDecl). record_named c.args d.at) p.keys k some_key 0 lt ∙ sym (record_named-take c.arg_count c.args key declared) in
     let claimed = mode_on-asked (λ (d : KeyDecl). record { id = record_named args d.at; mode = d.mode }) p.keys k some_key lt in
-    rw (cell_is, record_is, claims_made p c made)
+    rw (cell_is, key_record p c formed made k lt, claims_made p c made)
         (place_of-stands (claims_of (asked p args)) (record_named args key.at) claimed.0 (mode_on-claims_of (asked p args) (record_named args key.at) ∙ claimed.1))
 
 -- each key position has one of sixteen cells

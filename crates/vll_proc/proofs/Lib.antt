@@ -3,3 +3,5 @@ pub mod FromRecord
 pub mod Copy
 pub mod Called
 pub mod Runs
+pub mod Local
+pub mod Kept

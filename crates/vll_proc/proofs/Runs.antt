@@ -99,9 +99,14 @@ told_by_end n claims cells records (Err why) (Err reason) holds h = (ap Aborted 
 told_by_end n claims cells records (Ok s) (Err why) holds h = absurd h
 told_by_end n claims cells records (Err why) (Ok t) holds h = absurd h
 
+pub told_on : (p : Proc) (c : Call) (cells records : List ℕ) → IsWellFormed p → IsCallOf p c → length c.claims ≤ length cells → Holds cells c.claims records
+    → ToldBy cells c.claims (in_turn (map effect p.body) (cell_opening c cells)) (applied p c.args records)
+told_on p c cells records formed made room holds =
+    told_by_end (length p.keys) c.claims cells records (in_turn (map effect p.body) (cell_opening c cells)) (body p c.args records) holds
+        (ends_alike p c cells records formed made room holds)
+
 pub told : (p : Proc) (c : Call) (cells records : List ℕ) (r : Result Scene Reason) → IsWellFormed p → IsCallOf p c → length cells ≡ 16
     → in_turn (map effect p.body) (cell_opening c cells) ≡ r → Holds cells c.claims records → ToldBy cells c.claims r (applied p c.args records)
 told p c cells records r formed made whole e holds =
     let few = claims_few p c formed made in
-    told_by_end (length p.keys) c.claims cells records r (body p c.args records) holds
-        (rw (← e) (ends_alike p c cells records formed made (omega arith) holds))
+    rw (← e) (told_on p c cells records formed made (omega arith) holds)
