@@ -5,3 +5,4 @@ pub mod Called
 pub mod Runs
 pub mod Local
 pub mod Kept
+pub mod Rows
