@@ -3,4 +3,5 @@ pub mod Serial
 pub mod WellFormed
 pub mod Made
 pub mod Cells
+pub mod Running
 pub mod Kept

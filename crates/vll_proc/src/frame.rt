@@ -7,6 +7,8 @@ ghost use Rattle.vll_proc.specs.Serial.{applied};
 ghost use Rattle.vll_proc.specs.WellFormed.{IsWellFormed};
 
 use crate::call::{Call, Reply};
+use crate::outputs::Outputs;
+use crate::run::Progress;
 use crate::syntax::Proc;
 use std::marker::Model;
 
@@ -48,5 +50,33 @@ impl Frame {
         ensures { self.new ≡ slice_set self.old i value }
     {
         self.cells[i] = value;
+    }
+
+    /// Runs the body of a well-formed procedure for a call of it, on the values that the frame's
+    /// cells have, one for each of the call's claims, in order. Operands are evaluated from left to
+    /// right, and the first reason ends the body. After `Committed` the cells hold the records' new
+    /// values, after `Aborted` they are as before. It takes no memory.
+    pub fn run(&mut self, procedure: &Proc, call: &Call) -> Reply
+        requires formed { IsWellFormed procedure.now }
+        requires made { IsCallOf procedure.now call.now }
+        ensures reply { (records : List ℕ) → Holds self.old call.now.claims records
+            → result ≡ (applied procedure.now call.now.args records).reply }
+        ensures cells { (records : List ℕ) → Holds self.old call.now.claims records
+            → Holds self.new call.now.claims (applied procedure.now call.now.args records).records }
+        ensures aborted { (why : Reason) → result ≡ Aborted why → self.new ≡ self.old }
+        ensures whole { length self.new ≡ 16 }
+    {
+        let _ = &self.cells;
+        let mut progress = Progress {
+            cells: *self,
+            outputs: Outputs::new(),
+        };
+        match progress.steps(procedure.body.as_slice(), call) {
+            Ok(()) => {
+                *self = progress.cells;
+                Reply::Committed(progress.outputs)
+            }
+            Err(why) => Reply::Aborted(why),
+        }
     }
 }

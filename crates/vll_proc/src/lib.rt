@@ -3,10 +3,15 @@
 
 mod call;
 mod frame;
+mod laws;
 mod outputs;
+mod run;
 mod syntax;
 
 pub use call::{Call, Reason, Reply};
 pub use frame::Frame;
+pub use laws::{
+    changes_claimed_records_alone, depends_on_claimed_records_alone, keeps_the_number_of_records,
+};
 pub use outputs::Outputs;
 pub use syntax::{Expr, KeyAt, KeyDecl, Proc, Stmt, Text};

@@ -1,0 +1,136 @@
+-- What a body leaves as it was: the number of records, and each record that it does not claim for writing.
+use Rattle.std.proofs.Common.{◌≡◌, ◌≢◌, ℕ, zero, suc, ◌<◌, ◌≤◌, Bool, true, false, ◌&&◌, ◌==◌, nat_lt, List, [], ◌∷◌, ◌++◌, length, map, take, get_or, Option, Some, None, Result, Ok, Err, slice_get, slice_index, slice_set, refl, sym, ap, ◌∙◌, subst, arith, if◌then◌else◌}
+use Rattle.std.specs.List.{list_all}
+use Rattle.std.proofs.lemmas.Bool.{ltb-true, eq-eqb, cond-true, false≢true}
+use Rattle.std.proofs.lemmas.List.{get_or-map, get_or-set_other, length-set}
+use Rattle.std.proofs.lemmas.Option.{slice_get-get_or}
+use Rattle.vll_record.specs.declared.claim.Claim.{Claim}
+use Rattle.vll_record.specs.declared.claim.Mode.{Mode}
+use Rattle.vll_record.specs.declared.claim.Mode.TheVariants.{Read, Write}
+use Rattle.vll_record.specs.Claim.{mode_on, stronger, stronger_of, claims_of}
+use Rattle.vll_record.proofs.ClaimsOf.{mode_on-claims_of}
+use Rattle.vll_proc.specs.declared.call.Call.{Call}
+use Rattle.vll_proc.specs.declared.call.Reason.{Reason}
+use Rattle.vll_proc.specs.declared.syntax.KeyDecl.{KeyDecl}
+use Rattle.vll_proc.specs.declared.syntax.Proc.{Proc}
+use Rattle.vll_proc.specs.declared.syntax.Stmt.{Stmt}
+use Rattle.vll_proc.specs.declared.syntax.Stmt.TheVariants.{Set, Reply}
+use Rattle.vll_proc.specs.Made.{asked, IsCallOf}
+use Rattle.vll_proc.specs.Meaning.{Scene, Action, and_then, value_of, effect, in_turn, record_named, opening_scene, body}
+use Rattle.vll_proc.specs.Serial.{After, after, applied}
+use Rattle.vll_proc.specs.WellFormed.{IsWellFormed, stmt_keys_below, is_not_read, sets_no_read_key}
+use Rattle.vll_proc.proofs.Called.{claims_made, some_key, key_record}
+use Rattle.vll_proc.proofs.Copy.{both_true}
+
+-- a fact of the scene that a result ends with, if it ends with one
+abbrev pub IfGoesOn : (Scene → Type 0) → Result Scene Reason → Type 0
+IfGoesOn P (Ok s) = P s
+IfGoesOn P (Err why) = Unit {0}
+
+goes_on_then : (P Q : Scene → Type 0) (r : Result Scene Reason) (go : Action) → IfGoesOn P r → ((s : Scene) → P s → IfGoesOn Q (go s)) → IfGoesOn Q (and_then r go)
+goes_on_then P Q (Ok s) go h step = step s h
+goes_on_then P Q (Err why) go h step = tt
+
+goes_on_value : (P : Scene → Type 0) (r : Result ℕ Reason) (f : ℕ → Scene) → ((v : ℕ) → P (f v)) → IfGoesOn P (and_then r (λ v. Ok (f v)))
+goes_on_value P (Ok v) f h = h v
+goes_on_value P (Err why) f h = tt
+
+-- the number of records
+abbrev HasLength : ℕ → Scene → Type 0
+HasLength n s = length s.records ≡ n
+
+keeps_length : (n : ℕ) (st : Stmt) (s : Scene) → HasLength n s → IfGoesOn (HasLength n) (effect st s)
+keeps_length n (Set i e) s h =
+    goes_on_value (HasLength n) (value_of e s) (λ v. record s { records = slice_set s.records (slice_index s.named i) v }) (λ v. rw length-set h)
+keeps_length n (Reply e) s h =
+    goes_on_value (HasLength n) (value_of e s) (λ v. record s { outputs = s.outputs ++ v ∷ [] }) (λ v. h)
+
+all_keep_length : (n : ℕ) (sts : List Stmt) (s : Scene) → HasLength n s → IfGoesOn (HasLength n) (in_turn (map effect sts) s)
+all_keep_length n [] s h = h
+all_keep_length n (st ∷ sts) s h =
+    goes_on_then (HasLength n) (HasLength n) (effect st s) (in_turn (map effect sts)) (keeps_length n st s h) (λ t k. all_keep_length n sts t k)
+
+pub length-applied : (p : Proc) (args records : List ℕ) → length (applied p args records).records ≡ length records
+length-applied p args records = ended (body p args records) (all_keep_length (length records) p.body (opening_scene p args records) refl)
+  where
+    ended : (r : Result Scene Reason) → IfGoesOn (HasLength (length records)) r → length (after records r).records ≡ length records
+    ended (Ok s) h = h
+    ended (Err why) h = refl
+
+-- one record's value, while the key positions name what they named
+record StaysAt (r v : ℕ) (named : List ℕ) (s : Scene) : Type 0 where
+  pub value : slice_index s.records r ≡ v
+  pub names : s.named ≡ named
+
+-- none of the key positions that may be set names the record
+NamesNot : (r : ℕ) (keys : List KeyDecl) (named : List ℕ) → Type 0
+NamesNot r keys named = (i : ℕ) → nat_lt i (length keys) ≡ true → is_not_read (slice_get keys i) ≡ true → slice_index named i ≢ r
+
+keeps_value : (r v : ℕ) (keys : List KeyDecl) (named : List ℕ) (st : Stmt) (s : Scene) → NamesNot r keys named → stmt_keys_below (length keys) st ≡ true → sets_no_read_key keys st ≡ true
+    → StaysAt r v named s → IfGoesOn (StaysAt r v named) (effect st s)
+unfolding NamesNot
+keeps_value r v keys named (Set i e) s apart known writable h =
+    let other : slice_index s.named i ≢ r = rw h.names (apart i (both_true _ _ known).0 writable) in
+    goes_on_value (StaysAt r v named) (value_of e s) (λ x. record s { records = slice_set s.records (slice_index s.named i) x })
+        (λ x. record { value = get_or-set_other s.records (slice_index s.named i) r x 0 (λ e. other (sym e)) ∙ h.value; names = h.names })
+keeps_value r v keys named (Reply e) s apart known writable h =
+    goes_on_value (StaysAt r v named) (value_of e s) (λ x. record s { outputs = s.outputs ++ x ∷ [] }) (λ x. record { value = h.value; names = h.names })
+
+all_keep_value : (r v : ℕ) (keys : List KeyDecl) (named : List ℕ) (sts : List Stmt) (s : Scene) → NamesNot r keys named → list_all (stmt_keys_below (length keys)) sts ≡ true → list_all (sets_no_read_key keys) sts ≡ true
+    → StaysAt r v named s → IfGoesOn (StaysAt r v named) (in_turn (map effect sts) s)
+all_keep_value r v keys named [] s apart known writable h = h
+all_keep_value r v keys named (st ∷ sts) s apart known writable h =
+    let k = both_true _ _ known in
+    let w = both_true _ _ writable in
+    goes_on_then (StaysAt r v named) (StaysAt r v named) (effect st s) (in_turn (map effect sts)) (keeps_value r v keys named st s apart k.0 w.0 h)
+        (λ t more. all_keep_value r v keys named sts t apart k.1 w.1 more)
+
+-- a record that some position asks to write is claimed for writing
+stronger_write : (o : Option Mode) → stronger_of Write o ≡ Some Write
+stronger_write None = refl
+stronger_write (Some m) = refl
+
+to_write : (m : Mode) → stronger_of m (Some Write) ≡ Some Write
+to_write Read = refl
+to_write Write = refl
+
+mode_on-written : (f : KeyDecl → Claim) (keys : List KeyDecl) (k : ℕ) (d : KeyDecl) → k < length keys → (f (get_or keys k d)).mode ≡ Write → mode_on (map f keys) (f (get_or keys k d)).id ≡ Some Write
+mode_on-written f [] k d lt w = absurd (omega arith)
+mode_on-written f (x ∷ xs) zero d lt w =
+    cond-true ((f x).id == (f x).id) _ _ (eq-eqb (f x).id (f x).id refl) ∙ ap (λ m. stronger_of m (mode_on (map f xs) (f x).id)) w ∙ stronger_write (mode_on (map f xs) (f x).id)
+mode_on-written f (x ∷ xs) (suc k) d lt w =
+    by_first (f (get_or xs k d)).id ((f x).id == (f (get_or xs k d)).id) (mode_on-written f xs k d (omega arith) w)
+  where
+    by_first : (r : ℕ) (same : Bool) → mode_on (map f xs) r ≡ Some Write → (if same then stronger_of (f x).mode (mode_on (map f xs) r) else mode_on (map f xs) r) ≡ Some Write
+    by_first r true rest = ap (stronger_of (f x).mode) rest ∙ to_write (f x).mode
+    by_first r false rest = rest
+
+written : (o : Option KeyDecl) (d : KeyDecl) → o ≡ Some d → is_not_read o ≡ true → d.mode ≡ Write
+written o d is h = by_mode d.mode (rw is at h)
+  where
+    by_mode : (m : Mode) → elim m [ Read ↦ false | Write ↦ true ] ≡ true → m ≡ Write
+    by_mode Read h = absurd (false≢true h)
+    by_mode Write h = refl
+
+-- a key position that may be set claims its record for writing
+claimed_for_writing : (p : Proc) (c : Call) → IsWellFormed p → IsCallOf p c → (k : ℕ) → k < length p.keys → is_not_read (slice_get p.keys k) ≡ true
+    → mode_on c.claims (slice_index (map (λ (d : KeyDecl). record_named c.args d.at) p.keys) k) ≡ Some Write
+claimed_for_writing p c formed made k lt free =
+    let args : List ℕ = take c.arg_count c.args in
+    let mode : (get_or p.keys k some_key).mode ≡ Write = written (slice_get p.keys k) (get_or p.keys k some_key) (slice_get-get_or p.keys k some_key lt) free in
+    rw (key_record p c formed made k lt, claims_made p c made)
+        (mode_on-claims_of (asked p args) (record_named args (get_or p.keys k some_key).at)
+        ∙ mode_on-written (λ (d : KeyDecl). record { id = record_named args d.at; mode = d.mode }) p.keys k some_key lt mode)
+
+pub slice_index-applied : (p : Proc) (c : Call) (records : List ℕ) → IsWellFormed p → IsCallOf p c → (r : ℕ) → mode_on c.claims r ≢ Some Write
+    → slice_index (applied p c.args records).records r ≡ slice_index records r
+unfolding NamesNot
+slice_index-applied p c records formed made r free =
+    let named : List ℕ = map (λ (d : KeyDecl). record_named c.args d.at) p.keys in
+    let apart : NamesNot r p.keys named = λ k lt writable e. free (ap (mode_on c.claims) (sym e) ∙ claimed_for_writing p c formed made k (ltb-true k (length p.keys) lt) writable) in
+    ended (body p c.args records)
+        (all_keep_value r (slice_index records r) p.keys named p.body (opening_scene p c.args records) apart formed.known_keys formed.writable_keys (record { value = refl; names = refl }))
+  where
+    ended : (q : Result Scene Reason) → IfGoesOn (StaysAt r (slice_index records r) (map (λ (d : KeyDecl). record_named c.args d.at) p.keys)) q → slice_index (after records q).records r ≡ slice_index records r
+    ended (Ok s) h = h.value
+    ended (Err why) h = refl

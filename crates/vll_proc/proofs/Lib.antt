@@ -1,0 +1,8 @@
+pub mod Equations
+pub mod FromRecord
+pub mod Copy
+pub mod Called
+pub mod Runs
+pub mod Local
+pub mod Kept
+pub mod Rows

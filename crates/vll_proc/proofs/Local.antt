@@ -1,0 +1,52 @@
+-- What a call does depends on the values at its claims alone: both lists of records are held by one list of cells.
+use Rattle.std.proofs.Common.{◌≡◌, ℕ, ◌<◌, ◌≤◌, List, length, map, Result, Ok, Err, Some, slice_get, slice_index, sym, ap, ◌∙◌, arith}
+use Rattle.std.proofs.lemmas.List.{get_or-map, length-map}
+use Rattle.std.proofs.lemmas.Option.{slice_get_within, get_or_from_slice_get}
+use Rattle.vll_record.specs.declared.claim.Claim.{Claim}
+use Rattle.vll_proc.specs.declared.call.Call.{Call}
+use Rattle.vll_proc.specs.declared.call.Reason.{Reason}
+use Rattle.vll_proc.specs.declared.syntax.Proc.{Proc}
+use Rattle.vll_proc.specs.Cells.{Holds, AgreeAt}
+use Rattle.vll_proc.specs.Made.{IsCallOf}
+use Rattle.vll_proc.specs.Meaning.{Scene, effect, in_turn}
+use Rattle.vll_proc.specs.Serial.{After, applied}
+use Rattle.vll_proc.specs.WellFormed.{IsWellFormed}
+use Rattle.vll_proc.proofs.Runs.{ToldBy, told_on, cell_opening}
+
+-- the cells of the claims, as a list of records has them
+cells_of : List ℕ → List Claim → List ℕ
+cells_of records claims = map (λ (c : Claim). slice_index records c.id) claims
+
+slice_index-cells : (records : List ℕ) (claims : List Claim) (i : ℕ) (c : Claim) → slice_get claims i ≡ Some c → slice_index (cells_of records claims) i ≡ slice_index records c.id
+unfolding cells_of
+slice_index-cells records claims i c is =
+    get_or-map (λ (d : Claim). slice_index records d.id) claims i c 0 (slice_get_within claims i c is)
+    ∙ ap (λ (d : Claim). slice_index records d.id) (get_or_from_slice_get claims i c c is)
+
+room : (records : List ℕ) (claims : List Claim) → length claims ≤ length (cells_of records claims)
+unfolding cells_of
+room records claims = omega (arith, length-map claims (λ (c : Claim). slice_index records c.id))
+
+-- two ends that one end on cells tells of
+SameEnd : List Claim → After → After → Type 0
+SameEnd claims a b = (a.reply ≡ b.reply) × AgreeAt claims a.records b.records
+
+same_end : (cells : List ℕ) (claims : List Claim) (r : Result Scene Reason) (a b : After) → ToldBy cells claims r a → ToldBy cells claims r b → SameEnd claims a b
+unfolding SameEnd
+same_end cells claims (Ok s) a b p q = (p.0 ∙ sym q.0, λ i c is. ((p.1 i c is).0, (q.1 i c is).0, sym (p.1 i c is).1 ∙ (q.1 i c is).1))
+same_end cells claims (Err why) a b p q = (p.0 ∙ sym q.0, λ i c is. ((p.1 i c is).0, (q.1 i c is).0, sym (p.1 i c is).1 ∙ (q.1 i c is).1))
+
+local : (p : Proc) (c : Call) (m n : List ℕ) → IsWellFormed p → IsCallOf p c → AgreeAt c.claims m n → SameEnd c.claims (applied p c.args m) (applied p c.args n)
+local p c m n formed made agree =
+    let cells : List ℕ = cells_of m c.claims in
+    same_end cells c.claims (in_turn (map effect p.body) (cell_opening c cells)) (applied p c.args m) (applied p c.args n)
+        (told_on p c cells m formed made (room m c.claims) (λ i d is. ((agree i d is).0, slice_index-cells m c.claims i d is)))
+        (told_on p c cells n formed made (room m c.claims) (λ i d is. ((agree i d is).1, slice_index-cells m c.claims i d is ∙ (agree i d is).2)))
+
+pub same_reply : (p : Proc) (c : Call) (m n : List ℕ) → IsWellFormed p → IsCallOf p c → AgreeAt c.claims m n → (applied p c.args m).reply ≡ (applied p c.args n).reply
+unfolding SameEnd
+same_reply p c m n formed made agree = (local p c m n formed made agree).0
+
+pub same_values : (p : Proc) (c : Call) (m n : List ℕ) → IsWellFormed p → IsCallOf p c → AgreeAt c.claims m n → AgreeAt c.claims (applied p c.args m).records (applied p c.args n).records
+unfolding SameEnd
+same_values p c m n formed made agree = (local p c m n formed made agree).1
