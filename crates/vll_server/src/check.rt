@@ -11,27 +11,77 @@ use vll_record::Mode;
 pub(crate) fn check(procedure: &Proc, records: u32) -> Option<CheckFault>
     ensures { result ≡ check_fault records procedure.now }
 {
+    if procedure.args > 8 {
+        return Some(CheckFault::TooManyArgs);
+    }
+    if procedure.keys.len() > 16 {
+        return Some(CheckFault::TooManyKeys);
+    }
+    if !has_declared_key_args(procedure) {
+        return Some(CheckFault::KeyArg);
+    }
+    if !has_records(procedure, records) {
+        return Some(CheckFault::FixedRecord);
+    }
+    if !has_known_keys(procedure) {
+        return Some(CheckFault::UnknownKey);
+    }
+    if !has_writable_keys(procedure) {
+        return Some(CheckFault::NotWritable);
+    }
+    if !has_known_args(procedure) {
+        return Some(CheckFault::UnknownArg);
+    }
+    if !has_few_replies(procedure) {
+        return Some(CheckFault::TooManyReplies);
+    }
+    None
+}
+
+fn has_declared_key_args(procedure: &Proc) -> bool
+    ensures { result ≡ formed.has_declared_key_args procedure.now }
+{
+    let args = procedure.args;
+    let keys = procedure.keys.as_slice();
+    keys.iter().all(|key| argument_is_declared(key, args))
+}
+
+fn has_records(procedure: &Proc, records: u32) -> bool
+    ensures { result ≡ formed.has_records records procedure.now }
+{
+    let keys = procedure.keys.as_slice();
+    keys.iter().all(|key| record_is_there(key, records))
+}
+
+fn has_known_keys(procedure: &Proc) -> bool
+    ensures { result ≡ formed.has_known_keys procedure.now }
+{
+    let keys = procedure.keys.len();
+    let body = procedure.body.as_slice();
+    body.iter().all(|stmt| stmt_keys_below(stmt, keys))
+}
+
+fn has_writable_keys(procedure: &Proc) -> bool
+    ensures { result ≡ formed.has_writable_keys procedure.now }
+{
     let keys = procedure.keys.as_slice();
     let body = procedure.body.as_slice();
-    if procedure.args > 8 {
-        Some(CheckFault::TooManyArgs)
-    } else if keys.len() > 16 {
-        Some(CheckFault::TooManyKeys)
-    } else if !keys.iter().all(|key| argument_is_declared(key, procedure.args)) {
-        Some(CheckFault::KeyArg)
-    } else if !keys.iter().all(|key| record_is_there(key, records)) {
-        Some(CheckFault::FixedRecord)
-    } else if !body.iter().all(|stmt| stmt_keys_below(stmt, keys.len())) {
-        Some(CheckFault::UnknownKey)
-    } else if !body.iter().all(|stmt| sets_no_read_key(stmt, keys)) {
-        Some(CheckFault::NotWritable)
-    } else if !body.iter().all(|stmt| stmt_args_below(stmt, procedure.args)) {
-        Some(CheckFault::UnknownArg)
-    } else if body.iter().filter(|stmt| is_reply(stmt)).count() > 8 {
-        Some(CheckFault::TooManyReplies)
-    } else {
-        None
-    }
+    body.iter().all(|stmt| sets_no_read_key(stmt, keys))
+}
+
+fn has_known_args(procedure: &Proc) -> bool
+    ensures { result ≡ formed.has_known_args procedure.now }
+{
+    let args = procedure.args;
+    let body = procedure.body.as_slice();
+    body.iter().all(|stmt| stmt_args_below(stmt, args))
+}
+
+fn has_few_replies(procedure: &Proc) -> bool
+    ensures { result ≡ formed.has_few_replies procedure.now }
+{
+    let body = procedure.body.as_slice();
+    body.iter().filter(|stmt| is_reply(stmt)).count() <= 8
 }
 
 fn argument_is_declared(key: &KeyDecl, args: u8) -> bool
@@ -87,26 +137,26 @@ fn is_reply(stmt: &Stmt) -> bool
     matches!(stmt, Stmt::Reply(_))
 }
 
+#[tactic(auto, using(vll_proc::proofs::Equations::forms))]
 fn keys_below(value: &Expr, n: usize) -> bool
     ensures { result ≡ formed.keys_below n value.now }
 {
     match value {
         Expr::Num(_) | Expr::Arg(_) => true,
         Expr::Key(i) => (*i as usize) < n,
-        Expr::Add(left, right) | Expr::Sub(left, right) => {
-            keys_below(left.get(), n) && keys_below(right.get(), n)
-        }
+        Expr::Add(left, right) => keys_below(left.get(), n) && keys_below(right.get(), n),
+        Expr::Sub(left, right) => keys_below(left.get(), n) && keys_below(right.get(), n),
     }
 }
 
+#[tactic(auto, using(vll_proc::proofs::Equations::forms))]
 fn args_below(value: &Expr, n: u8) -> bool
     ensures { result ≡ formed.args_below n value.now }
 {
     match value {
         Expr::Num(_) | Expr::Key(_) => true,
         Expr::Arg(i) => *i < n,
-        Expr::Add(left, right) | Expr::Sub(left, right) => {
-            args_below(left.get(), n) && args_below(right.get(), n)
-        }
+        Expr::Add(left, right) => args_below(left.get(), n) && args_below(right.get(), n),
+        Expr::Sub(left, right) => args_below(left.get(), n) && args_below(right.get(), n),
     }
 }

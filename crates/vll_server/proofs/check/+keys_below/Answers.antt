@@ -1,0 +1,14 @@
+use Rattle.std.proofs.Common.{arith}
+use Rattle.std.proofs.lemmas.Grind.{common_steps}
+use Rattle.vll_proc.proofs.Equations.{forms}
+use Rattle.vll_server.proofs.check.+keys_below.Goals as goal
+
+pub returns-then-keys_below : goal.returns-then-keys_below
+returns-then-keys_below t c =
+    let is = c.in-Add.is in
+    grind (arith, common_steps, forms)
+
+pub returns-then-keys_below-2 : goal.returns-then-keys_below-2
+returns-then-keys_below-2 t c =
+    let is = c.in-Sub.is in
+    grind (arith, common_steps, forms)
