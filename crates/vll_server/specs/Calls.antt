@@ -1,5 +1,5 @@
 -- The call that is made of what a script asks for, or the lowest fault that stands.
-use Rattle.std.specs.Prelude.{ℕ, Bool, true, ◌==◌, nat_lt, List, length, Option, Some, None, slice_get, slice_index, position, Result, Ok, Err, if◌then◌else◌}
+use Rattle.std.specs.Prelude.{ℕ, suc, Bool, true, ◌==◌, nat_lt, List, [], ◌∷◌, length, Option, Some, None, slice_get, slice_index, Result, Ok, Err, if◌then◌else◌}
 use Rattle.std.specs.List.{list_all}
 use Rattle.std.specs.Str.{bytes_eq}
 use Rattle.vll_proc.specs.declared.call.Call.{Call}
@@ -11,9 +11,13 @@ use Rattle.vll_server.specs.declared.asked.Asked.{Asked}
 use Rattle.vll_server.specs.declared.fault.CallFault.{CallFault}
 use Rattle.vll_server.specs.declared.fault.CallFault.TheVariants.{UnknownProc, ArgCount, RecordRange}
 
--- the number of the first procedure with a name
+-- the number of the first procedure with a name, where numbers begin at n
+abbrev pub number_from : ℕ → List ℕ → List Proc → Option ℕ
+number_from n name [] = None
+number_from n name (p ∷ ps) = if bytes_eq name p.name then Some n else number_from (suc n) name ps
+
 abbrev pub number_named : List ℕ → List Proc → Option ℕ
-number_named name procs = position (λ (p : Proc). bytes_eq name p.name) procs
+number_named name procs = number_from 0 name procs
 
 -- an argument that places a key is below the number of records
 abbrev pub place_is_there : ℕ → List ℕ → KeyDecl → Bool

@@ -2,6 +2,7 @@ pub mod Tree
 pub mod Syntax
 pub mod Shape
 pub mod Checked
+pub mod Catalog
 pub mod Calls
 pub mod Setup
 pub mod Scenario

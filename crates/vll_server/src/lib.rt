@@ -4,6 +4,7 @@
 mod asked;
 mod check;
 mod fault;
+mod library;
 mod line;
 mod stream;
 mod syntax;
