@@ -1,13 +1,12 @@
 -- Claims laid in the array: what a write and an insert among them leave.
-use Rattle.std.proofs.Common.{◌≡◌, ℕ, suc, ◌+◌, ◌-◌, ◌<◌, ◌≤◌, List, [], ◌∷◌, ◌++◌, length, take, drop, set, replicate, insert, refl, subst, sym, ap, ap₂, ◌∙◌, arith, get_or, get_or-take, drop-drop, slice_get, Some, append_assoc, append-nil, length-append, length-set, length-drop, length-take-le, take_at, drop_at}
+use Rattle.std.proofs.Common.{◌≡◌, ℕ, suc, ◌+◌, ◌-◌, ◌<◌, ◌≤◌, List, ◌∷◌, ◌++◌, length, take, drop, set, replicate, insert, refl, subst, sym, ap, ap₂, ◌∙◌, arith, drop-drop, append_assoc, length-append, length-set, length-drop, length-take-le, take_at, drop_at}
 use Rattle.std.specs.List.{copy_within}
-use Rattle.std.proofs.lemmas.List.{length-replicate, set-append_left, set_split, take-append-le, drop-append-le, take-take, drop-replicate, take_all, length-take}
+use Rattle.std.proofs.lemmas.List.{length-replicate, set-append_left, set_split, take-append-le, drop-append-le, take-take, drop-replicate}
 use Rattle.std.proofs.lemmas.List.Edits.{length-insert}
 use Rattle.vll_record.specs.declared.claim.Claim.{Claim}
 use Rattle.vll_record.specs.Claim.{IsRising}
 use Rattle.vll_record.specs.Canon.{laid, no_claim}
 use Rattle.vll_record.specs.declared.claims.Claims.TheInside.{Inside}
-use Rattle.std.proofs.lemmas.Option.{slice_get_read}
 use Rattle.vll_record.specs.Kept.{kept, from_list, IsCanonical}
 
 pub kept-from_list : (cs : List Claim) → kept (from_list cs) ≡ cs

@@ -1,5 +1,5 @@
 -- A claim put in its place among rising claims: what it keeps, and where it goes.
-use Rattle.std.proofs.Common.{◌≡◌, ◌≢◌, ℕ, zero, suc, ◌<◌, ◌≤◌, ◌⊎◌, List, [], ◌∷◌, length, Some, None, IsSome, refl, ap, ◌∙◌, subst, sym, inl, inr, ◌==◌, nat_lt, slice_get, set, insert, arith, ⊎_elim}
+use Rattle.std.proofs.Common.{◌≡◌, ◌≢◌, ℕ, zero, suc, ◌<◌, ◌≤◌, ◌⊎◌, List, [], ◌∷◌, length, Some, None, Option, eqb, false, IsSome, refl, ap, ◌∙◌, subst, sym, inl, inr, ◌==◌, nat_lt, slice_get, set, insert, arith, ⊎_elim}
 use Rattle.std.proofs.lemmas.Bool.{false≢true, ltb-true, ltb-false, eqb-false, lt-ltb, le-ltb, eq-eqb, ne_eqb, cond_both, cond-true, cond-false, cases_order}
 use Rattle.std.proofs.lemmas.Option.{none-some, same_Some}
 use Rattle.vll_record.specs.declared.claim.Claim.{Claim}
@@ -110,3 +110,17 @@ length-with_claim-held c cs h s = same_length 0 c cs (RisesFrom-zero cs h) s
 pub length-with_claim-few : (n : ℕ) (c : Claim) (cs : List Claim) → IsRising cs → length cs ≤ n → (length cs < n) ⊎ IsSome (mode_on cs c.id) → length (with_claim c cs) ≤ n
 length-with_claim-few n c cs h le (inl room) = let most = length-with_claim-le c cs in omega arith
 length-with_claim-few n c cs h le (inr held) = let same = length-with_claim-held c cs h held in omega arith
+
+-- a claim is put in its place once its record is known to have one there, or not
+pub apart_from_other : (r : ℕ) (o : Option Claim) (c : Claim) → o ≡ Some c → eqb c.id r ≡ false → (d : Claim) → o ≡ Some d → d.id ≢ r
+apart_from_other r o c e ne d is same =
+    let one : c.id ≡ d.id = ap (λ (x : Claim). x.id) (same_Some c d (sym e ∙ is)) in
+    eqb-false c.id r ne (one ∙ same)
+
+pub apart_from_none : (r : ℕ) (o : Option Claim) → o ≡ None → (d : Claim) → o ≡ Some d → d.id ≢ r
+apart_from_none r o e d is same = none-some d (sym e ∙ is)
+
+-- room for what is put in place of no claim
+pub room_from_absent : (n r : ℕ) (cs : List Claim) (at : ℕ) → IsRising cs → IsPlaceOf r cs at → ((d : Claim) → slice_get cs at ≡ Some d → d.id ≢ r) → (length cs < n) ⊎ IsSome (mode_on cs r) → length cs < n
+room_from_absent n r cs at h p apart (inl room) = room
+room_from_absent n r cs at h p apart (inr held) = absurd (false≢true (subst IsSome (mode_on-absent r cs at h p apart) held))

@@ -1,5 +1,3 @@
-use Rattle.std.proofs.Common.{◌≡◌, ap, subst, sym, ◌∙◌, set}
-use Rattle.vll_record.specs.Kept.{kept, IsCanonical}
 use Rattle.vll_record.proofs.Laid.{IsCanonical-insert, kept-insert}
 use Rattle.vll_record.proofs.claims.Claims.insert.Goals as goal
 
