@@ -79,11 +79,11 @@ AreClaimsOf-claims_of asked = record { rising = IsRising-claims_of asked; each =
 same_tails : (c d : Claim) (cs ds : List Claim) → RisesFrom (suc c.id) cs → RisesFrom (suc d.id) ds → c.id ≡ d.id → ((r : ℕ) → mode_on (c ∷ cs) r ≡ mode_on (d ∷ ds) r) → (r : ℕ) → mode_on cs r ≡ mode_on ds r
 same_tails c d cs ds p q e same r =
     ⊎_elim
-        (λ (here : c.id ≡ r). mode_on_below (suc c.id) cs r p (omega arith) ∙ sym (mode_on_below (suc d.id) ds r q (omega arith)))
-        (λ (other : c.id ≡ r → ⊥).
-            let other_too : d.id ≡ r → ⊥ = λ h. other (e ∙ h) in
-            sym (mode_on-other c cs r other) ∙ same r ∙ mode_on-other d ds r other_too)
-        (cases_eq c.id r)
+    (λ (here : c.id ≡ r). mode_on_below (suc c.id) cs r p (omega arith) ∙ sym (mode_on_below (suc d.id) ds r q (omega arith)))
+    (λ (other : c.id ≡ r → ⊥).
+    let other_too : d.id ≡ r → ⊥ = λ h. other (e ∙ h) in
+    sym (mode_on-other c cs r other) ∙ same r ∙ mode_on-other d ds r other_too)
+    (cases_eq c.id r)
 
 same_heads : (c d : Claim) (cs ds : List Claim) → RisesFrom (suc c.id) cs → RisesFrom (suc d.id) ds → c.id ≡ d.id → mode_on (c ∷ cs) c.id ≡ mode_on (d ∷ ds) c.id → c ≡ d
 same_heads c d cs ds p q e same =
@@ -98,23 +98,23 @@ same_claims m n [] (d ∷ ds) p q same = absurd (none-some d.mode (same d.id ∙
 same_claims m n (c ∷ cs) [] p q same = absurd (none-some c.mode (sym (same c.id) ∙ mode_on_first c cs p.1))
 same_claims m n (c ∷ cs) (d ∷ ds) p q same =
     ⊎_elim
-        (λ (e : c.id ≡ d.id).
-            ap₂ (λ (x : Claim) (xs : List Claim). x ∷ xs)
-                (same_heads c d cs ds p.1 q.1 e (same c.id))
-                (same_claims (suc c.id) (suc d.id) cs ds p.1 q.1 (same_tails c d cs ds p.1 q.1 e same)))
-        (λ (o : (c.id < d.id) ⊎ (d.id < c.id)).
-            ⊎_elim
-                (λ (lt : c.id < d.id).
-                    let none : mode_on (d ∷ ds) c.id ≡ None = mode_on_below d.id (d ∷ ds) c.id (omega arith, q.1) lt in
-                    absurd (none-some c.mode (sym none ∙ sym (same c.id) ∙ mode_on_first c cs p.1)))
-                (λ (gt : d.id < c.id).
-                    let none : mode_on (c ∷ cs) d.id ≡ None = mode_on_below c.id (c ∷ cs) d.id (omega arith, p.1) gt in
-                    absurd (none-some d.mode (sym none ∙ same d.id ∙ mode_on_first d ds q.1)))
-                o)
-        (cases_order c.id d.id)
+    (λ (e : c.id ≡ d.id).
+    ap₂ (λ (x : Claim) (xs : List Claim). x ∷ xs)
+    (same_heads c d cs ds p.1 q.1 e (same c.id))
+    (same_claims (suc c.id) (suc d.id) cs ds p.1 q.1 (same_tails c d cs ds p.1 q.1 e same)))
+    (λ (o : (c.id < d.id) ⊎ (d.id < c.id)).
+    ⊎_elim
+    (λ (lt : c.id < d.id).
+    let none : mode_on (d ∷ ds) c.id ≡ None = mode_on_below d.id (d ∷ ds) c.id (omega arith, q.1) lt in
+    absurd (none-some c.mode (sym none ∙ sym (same c.id) ∙ mode_on_first c cs p.1)))
+    (λ (gt : d.id < c.id).
+    let none : mode_on (c ∷ cs) d.id ≡ None = mode_on_below c.id (c ∷ cs) d.id (omega arith, p.1) gt in
+    absurd (none-some d.mode (sym none ∙ same d.id ∙ mode_on_first d ds q.1)))
+    o)
+    (cases_order c.id d.id)
 
 -- what was asked for has one list of claims
 pub claims_of-unique : (asked cs : List Claim) → AreClaimsOf asked cs → cs ≡ claims_of asked
 claims_of-unique asked cs h =
     same_claims 0 0 cs (claims_of asked) (RisesFrom-zero cs h.rising) (RisesFrom-zero (claims_of asked) (IsRising-claims_of asked))
-        (λ r. h.each r ∙ sym (mode_on-claims_of asked r))
+    (λ r. h.each r ∙ sym (mode_on-claims_of asked r))

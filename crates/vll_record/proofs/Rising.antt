@@ -102,14 +102,14 @@ place_from : (n : ℕ) (cs : List Claim) (r : ℕ) (m : Mode) → RisesFrom n cs
 place_from n [] r m h e = absurd (none-some m e)
 place_from n (c ∷ cs) r m h e =
     ⊎_elim
-        (λ (same : c.id ≡ r).
-            let first : mode_on (c ∷ cs) r ≡ Some c.mode = subst (λ (x : ℕ). mode_on (c ∷ cs) x ≡ Some c.mode) same (mode_on_first c cs h.1) in
-            let mode : c.mode ≡ m = same_Some c.mode m (sym first ∙ e) in
-            (zero, ap (λ (x : ℕ). Some (claim_of x c.mode)) same ∙ ap (λ (x : Mode). Some (claim_of r x)) mode))
-        (λ (other : c.id ≡ r → ⊥).
-            let rest = place_from (suc c.id) cs r m h.1 (sym (mode_on-other c cs r other) ∙ e) in
-            (suc rest.0, rest.1))
-        (cases_eq c.id r)
+    (λ (same : c.id ≡ r).
+    let first : mode_on (c ∷ cs) r ≡ Some c.mode = subst (λ (x : ℕ). mode_on (c ∷ cs) x ≡ Some c.mode) same (mode_on_first c cs h.1) in
+    let mode : c.mode ≡ m = same_Some c.mode m (sym first ∙ e) in
+    (zero, ap (λ (x : ℕ). Some (claim_of x c.mode)) same ∙ ap (λ (x : Mode). Some (claim_of r x)) mode))
+    (λ (other : c.id ≡ r → ⊥).
+    let rest = place_from (suc c.id) cs r m h.1 (sym (mode_on-other c cs r other) ∙ e) in
+    (suc rest.0, rest.1))
+    (cases_eq c.id r)
 
 -- where a rising list claims a record, that claim stands at a place
 pub place_from_mode : (cs : List Claim) (r : ℕ) (m : Mode) → IsRising cs → mode_on cs r ≡ Some m → (i : ℕ) × (slice_get cs i ≡ Some (claim_of r m))

@@ -11,13 +11,13 @@ pub RisesFrom-with_claim : (n : ℕ) (c : Claim) (cs : List Claim) → n ≤ c.i
 RisesFrom-with_claim n c [] le h = (le, tt)
 RisesFrom-with_claim n c (d ∷ ds) le h =
     cond_both (nat_lt c.id d.id) _ _ (RisesFrom n)
-        (λ lt. (le, (ltb-true c.id d.id lt, h.1)))
-        (λ ge. cond_both (c.id == d.id) _ _ (RisesFrom n)
-            (λ eq. (h.0, h.1))
-            (λ ne.
-                let not_below = ltb-false c.id d.id ge in
-                let apart = eqb-false c.id d.id ne in
-                (h.0, RisesFrom-with_claim (suc d.id) c ds (omega arith) h.1)))
+    (λ lt. (le, (ltb-true c.id d.id lt, h.1)))
+    (λ ge. cond_both (c.id == d.id) _ _ (RisesFrom n)
+    (λ eq. (h.0, h.1))
+    (λ ne.
+    let not_below = ltb-false c.id d.id ge in
+    let apart = eqb-false c.id d.id ne in
+    (h.0, RisesFrom-with_claim (suc d.id) c ds (omega arith) h.1)))
 
 pub IsRising-with_claim : (c : Claim) (cs : List Claim) → IsRising cs → IsRising (with_claim c cs)
 IsRising-with_claim c cs h =
@@ -27,10 +27,10 @@ pub length-with_claim-le : (c : Claim) (cs : List Claim) → length (with_claim 
 length-with_claim-le c [] = omega arith
 length-with_claim-le c (d ∷ ds) =
     cond_both (nat_lt c.id d.id) _ _ (λ (l : List Claim). length l ≤ suc (suc (length ds)))
-        (λ _. omega arith)
-        (λ _. cond_both (c.id == d.id) _ _ (λ (l : List Claim). length l ≤ suc (suc (length ds)))
-            (λ _. omega arith)
-            (λ _. let rest = length-with_claim-le c ds in omega arith))
+    (λ _. omega arith)
+    (λ _. cond_both (c.id == d.id) _ _ (λ (l : List Claim). length l ≤ suc (suc (length ds)))
+    (λ _. omega arith)
+    (λ _. let rest = length-with_claim-le c ds in omega arith))
 
 -- the three cases of the definition
 pub with_claim-before : (c d : Claim) (ds : List Claim) → c.id < d.id → with_claim c (d ∷ ds) ≡ c ∷ d ∷ ds
@@ -90,17 +90,17 @@ same_length : (n : ℕ) (c : Claim) (cs : List Claim) → RisesFrom n cs → IsS
 same_length n c [] h s = absurd (false≢true s)
 same_length n c (d ∷ ds) h s =
     ⊎_elim
-        (λ (e : c.id ≡ d.id). ap length (with_claim-same c d ds e))
-        (λ (o : (c.id < d.id) ⊎ (d.id < c.id)).
-            ⊎_elim
-                (λ (lt : c.id < d.id).
-                    let none : mode_on (d ∷ ds) c.id ≡ None = mode_on_below d.id (d ∷ ds) c.id (omega arith, h.1) lt in
-                    absurd (false≢true (subst IsSome none s)))
-                (λ (gt : d.id < c.id).
-                    let rest : IsSome (mode_on ds c.id) = subst IsSome (mode_on-other d ds c.id (λ e. omega arith)) s in
-                    ap length (with_claim-after c d ds gt) ∙ ap suc (same_length (suc d.id) c ds h.1 rest))
-                o)
-        (cases_order c.id d.id)
+    (λ (e : c.id ≡ d.id). ap length (with_claim-same c d ds e))
+    (λ (o : (c.id < d.id) ⊎ (d.id < c.id)).
+    ⊎_elim
+    (λ (lt : c.id < d.id).
+    let none : mode_on (d ∷ ds) c.id ≡ None = mode_on_below d.id (d ∷ ds) c.id (omega arith, h.1) lt in
+    absurd (false≢true (subst IsSome none s)))
+    (λ (gt : d.id < c.id).
+    let rest : IsSome (mode_on ds c.id) = subst IsSome (mode_on-other d ds c.id (λ e. omega arith)) s in
+    ap length (with_claim-after c d ds gt) ∙ ap suc (same_length (suc d.id) c ds h.1 rest))
+    o)
+    (cases_order c.id d.id)
 
 -- no claim is added for a record that has one
 pub length-with_claim-held : (c : Claim) (cs : List Claim) → IsRising cs → IsSome (mode_on cs c.id) → length (with_claim c cs) ≡ length cs
@@ -124,3 +124,5 @@ apart_from_none r o e d is same = none-some d (sym e ∙ is)
 pub room_from_absent : (n r : ℕ) (cs : List Claim) (at : ℕ) → IsRising cs → IsPlaceOf r cs at → ((d : Claim) → slice_get cs at ≡ Some d → d.id ≢ r) → (length cs < n) ⊎ IsSome (mode_on cs r) → length cs < n
 room_from_absent n r cs at h p apart (inl room) = room
 room_from_absent n r cs at h p apart (inr held) = absurd (false≢true (subst IsSome (mode_on-absent r cs at h p apart) held))
+
+pub ruleset lengths = length-with_claim-le

@@ -111,3 +111,6 @@ impl Claims {
         self.len += 1;
     }
 }
+
+#[cfg(test)]
+mod tests;

@@ -27,8 +27,8 @@ insert-requires-clause-room c =
     let place = c.place_of-place.result in
     let apart : (d : Claim) → slice_get cs place ≡ Some d → d.id ≢ c.args.claim.id =
     elim c.in_default.branch [
-      in_default-via-in-Some+else-eq w ↦ rw (← c.get.ensures) (apart_from_other c.args.claim.id c.get.result w.in-Some.held w.in-Some.is (sym w.eq.ensures ∙ w.if-eq.false))
-    | in_default-via-in_default w ↦ rw (← c.get.ensures) (apart_from_none c.args.claim.id c.get.result w.in_default.is)
+      | in_default-via-in-Some+else-eq w ↦ rw (← c.get.ensures) (apart_from_other c.args.claim.id c.get.result w.in-Some.held w.in-Some.is (sym w.eq.ensures ∙ w.if-eq.false))
+      | in_default-via-in_default w ↦ rw (← c.get.ensures) (apart_from_none c.args.claim.id c.get.result w.in_default.is)
     ] in
     room_from_absent 16 c.args.claim.id cs place c.place_of-place.ensures.rising c.place_of-place.ensures.place apart c.requires
 
@@ -38,8 +38,8 @@ insert-requires-clause-rising c =
     let place = c.place_of-place.result in
     let apart : (d : Claim) → slice_get cs place ≡ Some d → d.id ≢ c.args.claim.id =
     elim c.in_default.branch [
-      in_default-via-in-Some+else-eq w ↦ rw (← c.get.ensures) (apart_from_other c.args.claim.id c.get.result w.in-Some.held w.in-Some.is (sym w.eq.ensures ∙ w.if-eq.false))
-    | in_default-via-in_default w ↦ rw (← c.get.ensures) (apart_from_none c.args.claim.id c.get.result w.in_default.is)
+      | in_default-via-in-Some+else-eq w ↦ rw (← c.get.ensures) (apart_from_other c.args.claim.id c.get.result w.in-Some.held w.in-Some.is (sym w.eq.ensures ∙ w.if-eq.false))
+      | in_default-via-in_default w ↦ rw (← c.get.ensures) (apart_from_none c.args.claim.id c.get.result w.in_default.is)
     ] in
     subst IsRising (with_claim-insert c.args.claim cs place c.place_of-place.ensures.place apart) (IsRising-with_claim c.args.claim cs c.place_of-place.ensures.rising)
 
@@ -49,7 +49,7 @@ returns-in_default c =
     let place = c.place_of-place.result in
     let apart : (d : Claim) → slice_get cs place ≡ Some d → d.id ≢ c.args.claim.id =
     elim c.in_default.branch [
-      in_default-via-in-Some+else-eq w ↦ rw (← c.get.ensures) (apart_from_other c.args.claim.id c.get.result w.in-Some.held w.in-Some.is (sym w.eq.ensures ∙ w.if-eq.false))
-    | in_default-via-in_default w ↦ rw (← c.get.ensures) (apart_from_none c.args.claim.id c.get.result w.in_default.is)
+      | in_default-via-in-Some+else-eq w ↦ rw (← c.get.ensures) (apart_from_other c.args.claim.id c.get.result w.in-Some.held w.in-Some.is (sym w.eq.ensures ∙ w.if-eq.false))
+      | in_default-via-in_default w ↦ rw (← c.get.ensures) (apart_from_none c.args.claim.id c.get.result w.in_default.is)
     ] in
     c.insert.ensures ∙ sym (with_claim-insert c.args.claim cs place c.place_of-place.ensures.place apart)
