@@ -64,6 +64,7 @@ impl Claims {
     }
 
     /// Puts a claim in its place. A record that is there keeps one claim, Write where either is.
+    /// A record that is not there needs room: at most 15 claims so far.
     pub fn add(&mut self, claim: Claim)
         requires { (length self.old < 16) ⊎ IsSome (mode_on self.old claim.id) }
         ensures { self.new ≡ with_claim claim self.old }
@@ -80,13 +81,13 @@ impl Claims {
         ensures place { IsPlaceOf id self.now result }
         ensures rising { IsRising self.now }
     {
-        for i in 0..self.len as usize {
+        for i in 0..self.len() {
             let held = self.places[i];
             if held.id.0 >= id.0 {
                 return i;
             }
         }
-        self.len as usize
+        self.len()
     }
 
     fn replace(&mut self, place: usize, claim: Claim)
