@@ -3,21 +3,18 @@ use Rattle.std.proofs.Common.{◌≡◌, ◌⊎◌, ⊎_elim, ◌<◌, ◌≤◌
 use Rattle.std.proofs.lemmas.Map.Views.{exact_unsigned_eq}
 use Rattle.std.proofs.lemmas.Bool.{cases_eq, cases_order}
 use Rattle.std.proofs.lemmas.Option.{none-some, same_Some}
-use Rattle.vll_record.proofs.Rising.{RisesFrom, RisesFrom-zero, IsRising-from_rises, mode_on_below, mode_on_first, mode_on-other}
+use Rattle.vll_record.proofs.Rising.{claim_of, RisesFrom, RisesFrom-zero, IsRising-from_rises, mode_on_below, mode_on_first, mode_on-other}
 use Rattle.vll_record.proofs.WithClaim.{IsRising-with_claim, length-with_claim-le}
 use Rattle.vll_record.specs.declared.claim.Claim.{Claim}
 use Rattle.vll_record.specs.declared.claim.Mode.{Mode}
 use Rattle.vll_record.specs.declared.claim.Mode.TheVariants.{Read, Write}
 use Rattle.vll_record.specs.Claim.{IsRising, AreClaimsOf, stronger, stronger_of, mode_on, with_claim, claims_of}
 
-abbrev claim : ℕ → Mode → Claim
-claim r m = record { id = r; mode = m }
-
 -- a record that two positions name is one Write claim
-one_record : claims_of (claim 0 Write ∷ claim 0 Write ∷ []) ≡ claim 0 Write ∷ []
+one_record : claims_of (claim_of 0 Write ∷ claim_of 0 Write ∷ []) ≡ claim_of 0 Write ∷ []
 one_record = refl
 
-in_order : claims_of (claim 4 Read ∷ claim 0 Write ∷ claim 4 Write ∷ claim 2 Read ∷ []) ≡ claim 0 Write ∷ claim 2 Read ∷ claim 4 Write ∷ []
+in_order : claims_of (claim_of 4 Read ∷ claim_of 0 Write ∷ claim_of 4 Write ∷ claim_of 2 Read ∷ []) ≡ claim_of 0 Write ∷ claim_of 2 Read ∷ claim_of 4 Write ∷ []
 in_order = refl
 
 stronger_twice : (m n : Mode) (o : Option Mode) → stronger_of (stronger m n) o ≡ stronger_of m (stronger_of n o)
@@ -89,7 +86,7 @@ same_heads : (c d : Claim) (cs ds : List Claim) → RisesFrom (suc c.id) cs → 
 same_heads c d cs ds p q e same =
     let right : mode_on (d ∷ ds) c.id ≡ Some d.mode = subst (λ (x : ℕ). mode_on (d ∷ ds) x ≡ Some d.mode) (sym e) (mode_on_first d ds q) in
     let mode : c.mode ≡ d.mode = same_Some c.mode d.mode (sym (mode_on_first c cs p) ∙ same ∙ right) in
-    ap (λ (x : ℕ). claim x c.mode) e ∙ ap (λ (x : Mode). claim d.id x) mode
+    ap (λ (x : ℕ). claim_of x c.mode) e ∙ ap (λ (x : Mode). claim_of d.id x) mode
 
 -- a rising list is known from the mode in which it claims each record
 pub same_claims : (m n : ℕ) (cs ds : List Claim) → RisesFrom m cs → RisesFrom n ds → ((r : ℕ) → mode_on cs r ≡ mode_on ds r) → cs ≡ ds

@@ -1,4 +1,4 @@
--- Rising claims: the same by recursion, what a record's claim is among them, and that one list has given modes.
+-- Rising claims: rising by recursion, and which claim stands at which place.
 use Rattle.std.proofs.Common.{◌≡◌, ℕ, zero, suc, ◌+◌, ◌<◌, ◌≤◌, List, [], ◌∷◌, Some, None, refl, sym, ap, ◌∙◌, subst, slice_get, arith, ⊎_elim}
 use Rattle.std.proofs.lemmas.Bool.{eq-eqb, ne_eqb, cond-true, cond-false, cases_eq}
 use Rattle.std.proofs.lemmas.Option.{same_Some, none-some}
@@ -10,10 +10,6 @@ use Rattle.vll_record.specs.Claim.{IsRising, stronger_of, mode_on}
 abbrev pub RisesFrom : ℕ → List Claim → Type 0
 RisesFrom n [] = Unit {0}
 RisesFrom n (c ∷ cs) = (n ≤ c.id) × RisesFrom (suc c.id) cs
-
-pub RisesFrom-weaker : (m n : ℕ) (cs : List Claim) → m ≤ n → RisesFrom n cs → RisesFrom m cs
-RisesFrom-weaker m n [] le h = tt
-RisesFrom-weaker m n (c ∷ cs) le h = (let low : n ≤ c.id = h.0 in omega arith, h.1)
 
 pub IsRising-tail : (c : Claim) (cs : List Claim) → IsRising (c ∷ cs) → IsRising cs
 IsRising-tail c cs h k l =

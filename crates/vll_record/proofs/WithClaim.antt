@@ -106,12 +106,12 @@ same_length n c (d ∷ ds) h s =
 pub length-with_claim-held : (c : Claim) (cs : List Claim) → IsRising cs → IsSome (mode_on cs c.id) → length (with_claim c cs) ≡ length cs
 length-with_claim-held c cs h s = same_length 0 c cs (RisesFrom-zero cs h) s
 
--- there is room for one more claim, or its record has one
+-- with room for one more claim, or a claim of its record there, the claims stay within n
 pub length-with_claim-few : (n : ℕ) (c : Claim) (cs : List Claim) → IsRising cs → length cs ≤ n → (length cs < n) ⊎ IsSome (mode_on cs c.id) → length (with_claim c cs) ≤ n
 length-with_claim-few n c cs h le (inl room) = let most = length-with_claim-le c cs in omega arith
 length-with_claim-few n c cs h le (inr held) = let same = length-with_claim-held c cs h held in omega arith
 
--- a claim is put in its place once its record is known to have one there, or not
+-- a place that holds another record's claim, or none, does not hold the record's
 pub apart_from_other : (r : ℕ) (o : Option Claim) (c : Claim) → o ≡ Some c → eqb c.id r ≡ false → (d : Claim) → o ≡ Some d → d.id ≢ r
 apart_from_other r o c e ne d is same =
     let one : c.id ≡ d.id = ap (λ (x : Claim). x.id) (same_Some c d (sym e ∙ is)) in
@@ -120,9 +120,10 @@ apart_from_other r o c e ne d is same =
 pub apart_from_none : (r : ℕ) (o : Option Claim) → o ≡ None → (d : Claim) → o ≡ Some d → d.id ≢ r
 apart_from_none r o e d is same = none-some d (sym e ∙ is)
 
--- room for what is put in place of no claim
+-- a record with no claim at its place has none, so what is asked before a claim is added is room
 pub room_from_absent : (n r : ℕ) (cs : List Claim) (at : ℕ) → IsRising cs → IsPlaceOf r cs at → ((d : Claim) → slice_get cs at ≡ Some d → d.id ≢ r) → (length cs < n) ⊎ IsSome (mode_on cs r) → length cs < n
 room_from_absent n r cs at h p apart (inl room) = room
 room_from_absent n r cs at h p apart (inr held) = absurd (false≢true (subst IsSome (mode_on-absent r cs at h p apart) held))
 
+-- what a caller that adds a few claims needs
 pub ruleset lengths = length-with_claim-le
