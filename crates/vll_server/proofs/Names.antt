@@ -1,8 +1,9 @@
 -- The numbers of names, as procedures come one after another.
-use Rattle.std.proofs.Common.{◌≡◌, ℕ, suc, ◌+◌, Bool, true, false, ◌||◌, List, [], ◌∷◌, ◌++◌, length, take, drop, take-append-drop, Option, Some, None, refl, sym, ap, ◌∙◌, subst, if◌then◌else◌, cond, arith}
+use Rattle.std.proofs.Common.{◌≡◌, ℕ, suc, ◌+◌, ◌<◌, Bool, true, false, ◌||◌, List, [], ◌∷◌, ◌++◌, length, take, drop, take-append-drop, get_or, add-one, length-take, Option, Some, None, refl, sym, ap, ◌∙◌, subst, if◌then◌else◌, cond, arith}
 use Rattle.std.specs.Prelude.{is_some}
 use Rattle.std.specs.List.{list_any}
 use Rattle.std.specs.Str.{bytes_eq}
+use Rattle.std.proofs.Math.Seq.{take-suc}
 use Rattle.std.proofs.lemmas.List.Folds.{list_any-append}
 use Rattle.std.proofs.lemmas.Bool.{false≢true}
 use Rattle.std.proofs.lemmas.Bool.Decides.{same_from_decides}
@@ -77,3 +78,43 @@ has_name_twice-front [] qs e = absurd (false≢true e)
 has_name_twice-front (p ∷ ps) qs e =
     let same = λ (q : Proc). bytes_eq p.name q.name in
     widen (list_any same ps) (list_any same (ps ++ qs)) (has_name_twice ps) (has_name_twice (ps ++ qs)) (any_front same ps qs) (has_name_twice-front ps qs) e
+
+-- the procedure that comes next, and those before it
+pub take-next : (ps : List Proc) (i : ℕ) (p : Proc) → i < length ps → p ≡ get_or ps i p → take (i + 1) ps ≡ take i ps ++ p ∷ []
+take-next ps i p within is = rw (add-one, take-suc ps i p within, ← is) refl
+
+-- where the next procedure has an earlier one's name, a name is doubled
+pub next_doubles : (ps : List Proc) (i : ℕ) (p : Proc) → i < length ps → p ≡ get_or ps i p → is_some (number_named p.name (take i ps)) ≡ true → has_name_twice ps ≡ true
+next_doubles ps i p within is earlier =
+    let named : list_any (λ (q : Proc). bytes_eq p.name q.name) (take i ps) ≡ true = sym (is_some-number_named p.name (take i ps)) ∙ earlier in
+    let here : has_name_twice (take (i + 1) ps) ≡ true = rw (take-next ps i p within is, has_name_twice-push (take i ps) p, named) (or-true (has_name_twice (take i ps))) in
+    subst (λ qs. has_name_twice qs ≡ true) (take-append-drop (i + 1) ps) (has_name_twice-front (take (i + 1) ps) (drop (i + 1) ps) here)
+  where
+    or-true : (b : Bool) → (b || true) ≡ true
+    or-true true = refl
+    or-true false = refl
+
+-- where it has a name of its own, none is doubled up to it
+pub next_keeps : (ps : List Proc) (i : ℕ) (p : Proc) → i < length ps → p ≡ get_or ps i p → has_name_twice (take i ps) ≡ false → is_some (number_named p.name (take i ps)) ≡ false → has_name_twice (take (i + 1) ps) ≡ false
+next_keeps ps i p within is none new =
+    let named : list_any (λ (q : Proc). bytes_eq p.name q.name) (take i ps) ≡ false = sym (is_some-number_named p.name (take i ps)) ∙ new in
+    rw (take-next ps i p within is, has_name_twice-push (take i ps) p, named, none) refl
+
+by_name : (b : Bool) (o : Option ℕ) (n : ℕ) → (b ≡ true → o ≡ None) → (if b then Some n else o) ≡ or_behind o (if b then Some n else None)
+by_name true o n go = rw (go refl) refl
+by_name false None n go = refl
+by_name false (Some m) n go = refl
+
+none_from : (o : Option ℕ) → is_some o ≡ false → o ≡ None
+none_from None e = refl
+none_from (Some n) e = absurd (false≢true (sym e))
+
+-- one more name in front of those that are there, where it is not there
+pub next_number : (ps : List Proc) (i : ℕ) (p : Proc) (name : List ℕ) → i < length ps → p ≡ get_or ps i p → is_some (number_named p.name (take i ps)) ≡ false
+    → (if bytes_eq p.name name then Some i else number_named name (take i ps)) ≡ number_named name (take (i + 1) ps)
+next_number ps i p name within is new =
+    let whole : length (take i ps) ≡ i = omega (arith, length-take i ps) in
+    let same : bytes_eq p.name name ≡ true → number_named name (take i ps) ≡ None =
+      (λ e. none_from (number_named name (take i ps)) (subst (λ n. is_some (number_named n (take i ps)) ≡ false) ((bytes_eq-Decides p.name name).0 e) new)) in
+    by_name (bytes_eq p.name name) (number_named name (take i ps)) i same
+    ∙ sym (rw (take-next ps i p within is, number_named-push name (take i ps) p, whole, bytes_eq-swap name p.name) refl)

@@ -7,7 +7,7 @@ ghost use Rattle.vll_server.specs.Checked.{has_name_twice};
 ghost use Rattle.vll_server.specs.declared.library.LibraryFault.TheVariants as LibraryFault;
 
 use sqlite_items::Items;
-use std::alloc::{AllocError, Global};
+use std::alloc::{AllocError, AllocFailed, Global};
 use std::collections::BTreeMap;
 use std::marker::Model;
 use vll_proc::Proc;
@@ -17,6 +17,28 @@ use vll_proc::Proc;
 pub(crate) enum LibraryFault {
     NoMemory,
     NameTwice,
+}
+
+impl From<AllocError> for LibraryFault {
+    ghost use Rattle.std.specs.Prelude.{◌≡◌};
+    ghost use Rattle.vll_server.specs.declared.library.LibraryFault.TheVariants.{NoMemory};
+
+    ghost from_gives = { λ _ e. e ≡ NoMemory };
+
+    fn from(_: AllocError) -> LibraryFault {
+        LibraryFault::NoMemory
+    }
+}
+
+impl<T: Drop> From<AllocFailed<T>> for LibraryFault {
+    ghost use Rattle.std.specs.Prelude.{◌≡◌};
+    ghost use Rattle.vll_server.specs.declared.library.LibraryFault.TheVariants.{NoMemory};
+
+    ghost from_gives = { λ _ e. e ≡ NoMemory };
+
+    fn from(_: AllocFailed<T>) -> LibraryFault {
+        LibraryFault::NoMemory
+    }
 }
 
 // The number of each name's procedure.
@@ -32,8 +54,8 @@ fn numbers_of(alloc: Global, procs: &[Proc]) -> Result<BTreeMap<String, u32>, Li
         if numbers.contains_key(name) {
             return Err(LibraryFault::NameTwice);
         }
-        let name = String::from_str(alloc, name).map_err(|_| LibraryFault::NoMemory)?;
-        numbers.insert(name, i as u32).map_err(|_| LibraryFault::NoMemory)?;
+        let name = String::from_str(alloc, name)?;
+        numbers.insert(name, i as u32)?;
     }
     Ok(numbers)
 }
