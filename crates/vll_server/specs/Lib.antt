@@ -3,6 +3,7 @@ pub mod Syntax
 pub mod Shape
 pub mod Checked
 pub mod Catalog
+pub mod Making
 pub mod Calls
 pub mod Setup
 pub mod Scenario

@@ -6,6 +6,7 @@ mod check;
 mod fault;
 mod library;
 mod line;
+mod making;
 mod stream;
 mod syntax;
 mod tree;
