@@ -2,3 +2,4 @@ pub mod Lists
 pub mod Forms
 pub mod Names
 pub mod Places
+pub mod Passed

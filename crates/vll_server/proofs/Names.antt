@@ -118,3 +118,16 @@ next_number ps i p name within is new =
       (λ e. none_from (number_named name (take i ps)) (subst (λ n. is_some (number_named n (take i ps)) ≡ false) ((bytes_eq-Decides p.name name).0 e) new)) in
     by_name (bytes_eq p.name name) (number_named name (take i ps)) i same
     ∙ sym (rw (take-next ps i p within is, number_named-push name (take i ps) p, whole, bytes_eq-swap name p.name) refl)
+
+in_either : {P : Type 0} (b : Bool) (n k : ℕ) (o : Option ℕ) → (n ≡ k → P) → (o ≡ Some k → P) → (if b then Some n else o) ≡ Some k → P
+in_either true n k o here there e = here cc
+in_either false n k o here there e = there e
+
+number_from-within : (n : ℕ) (name : List ℕ) (ps : List Proc) (k : ℕ) → number_from n name ps ≡ Some k → k < n + length ps
+number_from-within n name [] k e = cc
+number_from-within n name (p ∷ ps) k e =
+    in_either (bytes_eq name p.name) n k (number_from (suc n) name ps) (λ (same : n ≡ k). omega arith) (λ rest. omega (arith, number_from-within (suc n) name ps k rest)) e
+
+-- a name's number is that of a procedure
+pub number_named-within : (name : List ℕ) (ps : List Proc) (k : ℕ) → number_named name ps ≡ Some k → k < length ps
+number_named-within name ps k e = omega (arith, number_from-within 0 name ps k e)

@@ -5,6 +5,7 @@ pub mod Checked
 pub mod Catalog
 pub mod Making
 pub mod Calls
+pub mod Library
 pub mod Setup
 pub mod Scenario
 pub mod Merge
