@@ -50,19 +50,31 @@ expr_at (array (item (string word) (item i no_items))) = leaf word i
 expr_at (array (item (string word) (item a (item b no_items)))) = operation word (expr_at a) (expr_at b)
 expr_at _ = None
 
--- ["set", i, e] and ["reply", e]
+-- ["reply", e]
+abbrev pub reply_form : List ℕ → Data → Option Stmt
+reply_form word e = if bytes_eq word (codes "reply") then option_map Reply (expr_at e) else None
+
+-- ["set", i, e]
+abbrev pub set_form : List ℕ → Data → Data → Option Stmt
+set_form word i e = if bytes_eq word (codes "set") then both_of Set (index_at i) (expr_at e) else None
+
+-- the lists of these forms are statements
 abbrev pub stmt_at : Data → Option Stmt
-stmt_at (array (item (string word) (item e no_items))) = if bytes_eq word (codes "reply") then option_map Reply (expr_at e) else None
-stmt_at (array (item (string word) (item i (item e no_items)))) = if bytes_eq word (codes "set") then both_of Set (index_at i) (expr_at e) else None
+stmt_at (array (item (string word) (item e no_items))) = reply_form word e
+stmt_at (array (item (string word) (item i (item e no_items)))) = set_form word i e
 stmt_at _ = None
 
 -- "read" and "write"
 abbrev pub mode_at : List ℕ → Option Mode
 mode_at word = if bytes_eq word (codes "read") then Some Read else (if bytes_eq word (codes "write") then Some Write else None)
 
+-- the number of a record
+abbrev pub record_at : Data → Option ℕ
+record_at d = below (2 ^ 32) (number_at d)
+
 -- where a key is placed: "arg" with an index, or "fixed" with a record
 abbrev pub place_at : List ℕ → Data → Option KeyAt
-place_at word d = if bytes_eq word (codes "arg") then option_map at.Arg (index_at d) else (if bytes_eq word (codes "fixed") then option_map at.Fixed (below (2 ^ 32) (number_at d)) else None)
+place_at word d = if bytes_eq word (codes "arg") then option_map at.Arg (index_at d) else (if bytes_eq word (codes "fixed") then option_map at.Fixed (record_at d) else None)
 
 abbrev pub key_of : Mode → KeyAt → KeyDecl
 key_of mode place = record { mode = mode; at = place }
