@@ -8,8 +8,8 @@ use Rattle.vll_server.specs.declared.fault.Part.{Part}
 use Rattle.vll_server.specs.declared.fault.Part.TheVariants.{Top, Version, Records, Procs, Clients}
 use Rattle.vll_server.specs.declared.fault.ScenarioFault.{ScenarioFault}
 use Rattle.vll_server.specs.declared.fault.ScenarioFault.TheVariants.{Shape}
-use Rattle.vll_server.specs.Tree.{number_at, list_at}
-use Rattle.vll_server.specs.Syntax.{both_of, has_exactly, member_at, whole, proc_at}
+use Rattle.vll_server.specs.Tree.{number_at, list_at, whole}
+use Rattle.vll_server.specs.Syntax.{both_of, has_exactly, member_at, proc_at}
 
 infixl 10 ◌>>=◌
 -- goes on where there is no fault

@@ -1,5 +1,5 @@
 -- What a JSON tree is as a part of a procedure. A list of another length, and what is not listed here, is none.
-use Rattle.std.specs.Prelude.{ℕ, ◌^◌, Bool, false, ◌&&◌, List, [], ◌∷◌, Option, Some, None, option_and_then, option_map, is_some, Result, Ok, Err, nat_lt, if◌then◌else◌, codes}
+use Rattle.std.specs.Prelude.{ℕ, ◌^◌, Bool, false, ◌&&◌, List, [], ◌∷◌, Option, Some, None, option_and_then, option_map, is_some, nat_lt, if◌then◌else◌, codes}
 use Rattle.std.specs.List.{list_all, list_any}
 use Rattle.std.specs.Str.{bytes_eq}
 use Rattle.serde_json.specs.Data.{Data, null, number, string, array, object, no_items, item, Members, no_members, member}
@@ -13,7 +13,7 @@ use Rattle.vll_proc.specs.declared.syntax.KeyAt.{KeyAt}
 use Rattle.vll_proc.specs.declared.syntax.KeyAt.TheVariants as at
 use Rattle.vll_proc.specs.declared.syntax.KeyDecl.{KeyDecl}
 use Rattle.vll_proc.specs.declared.syntax.Proc.{Proc}
-use Rattle.vll_server.specs.Tree.{number_at, list_at}
+use Rattle.vll_server.specs.Tree.{number_at, list_at, whole}
 
 infixl 10 ◌>>=◌
 -- goes on where something is there
@@ -89,9 +89,15 @@ abbrev pub names_of : Members → List (List ℕ)
 names_of no_members = []
 names_of (member name d ms) = name ∷ names_of ms
 
+abbrev pub has_all : List (List ℕ) → Members → Bool
+has_all names ms = list_all (λ name. is_some (get_member name ms)) names
+
+abbrev pub has_only : List (List ℕ) → Members → Bool
+has_only names ms = list_all (λ name. list_any (bytes_eq name) names) (names_of ms)
+
 -- an object with these members and no others
 abbrev pub has_exactly : List (List ℕ) → Data → Bool
-has_exactly names (object ms) = list_all (λ name. is_some (get_member name ms)) names && list_all (λ name. list_any (bytes_eq name) names) (names_of ms)
+has_exactly names (object ms) = has_all names ms && has_only names ms
 has_exactly names _ = false
 
 -- what a member is, and `null` where there is none
@@ -101,11 +107,6 @@ member_at name d = or_null (get name d)
     or_null : Option Data → Data
     or_null None = null
     or_null (Some d) = d
-
--- a list, whatever the index of a faulty item would be
-abbrev pub whole : {A : Type 0} → Result A ℕ → Option A
-whole (Ok a) = Some a
-whole (Err i) = None
 
 abbrev pub proc_names : List (List ℕ)
 proc_names = codes "name" ∷ codes "args" ∷ codes "keys" ∷ codes "body" ∷ []
