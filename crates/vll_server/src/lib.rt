@@ -5,6 +5,7 @@ mod asked;
 mod fault;
 mod line;
 mod members;
+mod shape;
 mod stream;
 mod syntax;
 mod tree;

@@ -1,15 +1,16 @@
 ghost use Rattle.std.specs.Prelude.{◌≡◌, ◌^◌, IfOk, IfErr, Some, None};
 ghost use Rattle.serde_json.specs.Find.{as_str};
 ghost use Rattle.serde_json.specs.View.{view};
-ghost use Rattle.vll_server.specs.Syntax.{both_of, expr_at, index_at, key_at, key_of, leaf, mode_at, operation, place_at, record_at, reply_form, set_form, stmt_at};
+ghost use Rattle.vll_server.specs.Syntax.{both_of, expr_at, index_at, key_at, key_of, leaf, mode_at, operation, place_at, proc_at, record_at, reply_form, set_form, stmt_at};
 ghost use Rattle.vll_server.specs.Tree.{Gives};
 ghost use Rattle.vll_server.specs.declared.tree.Misread.TheVariants as Misread;
 
+use crate::members::{has_exactly, member};
 use crate::tree::{Misread, Reads};
 use serde_json::Value;
-use sqlite_items::Boxed;
+use sqlite_items::{Boxed, Items};
 use std::alloc::Global;
-use vll_proc::{Expr, KeyAt, KeyDecl, Stmt};
+use vll_proc::{Expr, KeyAt, KeyDecl, Proc, Stmt, Text};
 use vll_record::Mode;
 
 impl Reads for Stmt {
@@ -26,6 +27,32 @@ impl Reads for KeyDecl {
     fn read(_alloc: Global, value: &Value) -> Result<KeyDecl, Misread> {
         key_of(value)
     }
+}
+
+impl Reads for Proc {
+    ghost reads = { proc_at };
+
+    fn read(alloc: Global, value: &Value) -> Result<Proc, Misread> {
+        proc_of(alloc, value)
+    }
+}
+
+fn proc_of(alloc: Global, value: &Value) -> Result<Proc, Misread>
+    ensures { Gives result (proc_at (view value.now)) }
+{
+    if !has_exactly(value, &["name", "args", "keys", "body"]) {
+        return Err(Misread::Faulty);
+    }
+    let name = Text::read(alloc, member(value, "name")?)?;
+    let args = index_of(member(value, "args")?)?;
+    let keys = Items::read(alloc, member(value, "keys")?)?;
+    let body = Items::read(alloc, member(value, "body")?)?;
+    Ok(Proc {
+        name,
+        args,
+        keys,
+        body,
+    })
 }
 
 fn stmt_of(alloc: Global, value: &Value) -> Result<Stmt, Misread>
