@@ -97,3 +97,6 @@ fn fault_at(part: Part, index: usize) -> ScenarioFault
         Err(_) => ScenarioFault::NoMemory,
     }
 }
+
+#[cfg(test)]
+mod tests;
