@@ -1,6 +1,6 @@
 -- What lists are as forms: their items by number, and none where a list has another length than a form has.
-use Rattle.std.proofs.Common.{◌≡◌, ◌≢◌, ℕ, List, [], ◌∷◌, length, map, get_or, Option, Some, None, Vec, Global, refl, ap, ◌∙◌, arith}
-use Rattle.serde_json.specs.Data.{Data, null, boolean, number, string, array, object, no_items, item}
+use Rattle.std.proofs.Common.{◌≡◌, ◌≢◌, ℕ, List, [], ◌∷◌, length, map, get_or, Some, None, Vec, Global, refl, ap, ◌∙◌, arith}
+use Rattle.serde_json.specs.Data.{Data, string, array, no_items, item}
 use Rattle.serde_json.specs.Find.{as_str}
 use Rattle.serde_json.specs.View.{items_of, items_view, view}
 use Rattle.serde_json.specs.declared.value.Value.{Value, Array}
@@ -44,8 +44,10 @@ other_expr (d ∷ e ∷ f ∷ []) two three = absurd (three (omega arith))
 other_expr (string s ∷ e ∷ f ∷ g ∷ ds) two three = refl
 other_expr (_ ∷ e ∷ f ∷ g ∷ ds) two three = refl
 
-pub other_length : (vs : List Value) → length vs ≢ 2 → length vs ≢ 3 → expr_at (array (items_view vs)) ≡ None
-other_length vs two three = other_expr (map view vs) (λ e. two (omega (arith, length-map vs view))) (λ e. three (omega (arith, length-map vs view)))
+pub expr_at-other_length : (v : Value) (list : Vec Value Global) → v ≡ Array list → length list.items ≢ 2 → length list.items ≢ 3 → expr_at (view v) ≡ None
+expr_at-other_length v list is two three =
+    let same = length-map list.items view in
+    ap expr_at (ap view is ∙ view-Array list) ∙ other_expr (map view list.items) (λ e. two (omega arith)) (λ e. three (omega arith))
 
 other_stmt : (ds : List Data) → length ds ≢ 2 → length ds ≢ 3 → stmt_at (array (items_of ds)) ≡ None
 other_stmt [] two three = refl

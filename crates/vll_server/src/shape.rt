@@ -6,7 +6,7 @@ ghost use Rattle.vll_server.specs.Tree.{Gives};
 use crate::asked::Asked;
 use crate::fault::{Part, ScenarioFault, Spot};
 use crate::members::{has_exactly, member};
-use crate::tree::{list_of, FirstFault, Misread, Reads};
+use crate::tree::{FirstFault, Misread, Reads, list_of};
 use serde_json::Value;
 use sqlite_items::Items;
 use std::alloc::Global;

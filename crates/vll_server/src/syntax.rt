@@ -198,3 +198,6 @@ fn operation_of(alloc: Global, word: &str, left: Expr, right: Expr) -> Result<Ex
         _ => Err(Misread::Faulty),
     }
 }
+
+#[cfg(test)]
+mod tests;

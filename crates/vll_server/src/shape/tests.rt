@@ -33,9 +33,13 @@ fn spot_of(alloc: Global, text: &str) -> Result<Option<(Part, u32)>, Fail> {
 }
 
 fn spot_in(alloc: Global, texts: Texts) -> Result<Option<(Part, u32)>, Fail> {
-    let Texts { version, records, procs, clients } = texts;
-    let text = format!(
-        in alloc;
+    let Texts {
+        version,
+        records,
+        procs,
+        clients,
+    } = texts;
+    let text = format!(in alloc;
         r#"{{"version":{version},"records":{records},"procs":{procs},"clients":{clients}}}"#
     )?;
     spot_of(alloc, text.as_str())
@@ -78,7 +82,17 @@ fn members_stand_in_any_order_and_the_last_of_a_name_counts(rt: HostRuntime) -> 
 
 #[test]
 fn version_is_the_number_one(rt: HostRuntime) -> Result<(), Fail> {
-    for version in ["0", "2", "-1", "1.0", "1e0", r#""1""#, "[1]", "null", "18446744073709551617"] {
+    for version in [
+        "0",
+        "2",
+        "-1",
+        "1.0",
+        "1e0",
+        r#""1""#,
+        "[1]",
+        "null",
+        "18446744073709551617",
+    ] {
         let spot = spot_in(rt.alloc(), Texts { version, ..SOUND })?;
         assert_eq!(rt; spot, Some((Part::Version, 0)), "{version}");
     }
@@ -108,148 +122,28 @@ fn first_record_that_is_no_number_is_named(rt: HostRuntime) -> Result<(), Fail> 
     Ok(())
 }
 
-// The spot of the fault of procedures of which the second is this one.
-fn spot_of_second(alloc: Global, second: &str) -> Result<Option<(Part, u32)>, Fail> {
-    let procs = format!(in alloc; r#"[{{"name":"first","args":0,"keys":[],"body":[]}},{second}]"#)?;
-    spot_in(alloc, Texts { procs: procs.as_str(), ..SOUND })
-}
-
 #[test]
-fn procedure_has_exactly_its_members(rt: HostRuntime) -> Result<(), Fail> {
-    for proc in [
-        "null",
-        "[]",
-        r#""p""#,
-        r#"{"args":0,"keys":[],"body":[]}"#,
-        r#"{"name":"p","keys":[],"body":[]}"#,
-        r#"{"name":"p","args":0,"body":[]}"#,
-        r#"{"name":"p","args":0,"keys":[]}"#,
-        r#"{"name":"p","args":0,"keys":[],"body":[],"cap":1}"#,
-        r#"{"name":null,"args":0,"keys":[],"body":[]}"#,
-        r#"{"name":7,"args":0,"keys":[],"body":[]}"#,
-        r#"{"name":"p","args":256,"keys":[],"body":[]}"#,
-        r#"{"name":"p","args":-1,"keys":[],"body":[]}"#,
-        r#"{"name":"p","args":null,"keys":[],"body":[]}"#,
-        r#"{"name":"p","args":0,"keys":null,"body":[]}"#,
-        r#"{"name":"p","args":0,"keys":{},"body":[]}"#,
-        r#"{"name":"p","args":0,"keys":[],"body":null}"#,
-        r#"{"name":"p","args":0,"keys":[],"body":7}"#,
+fn first_faulty_procedure_is_named(rt: HostRuntime) -> Result<(), Fail> {
+    for (procs, index) in [
+        ("null", 0),
+        ("{}", 0),
+        ("7", 0),
+        (r#"{"name":"p","args":0,"keys":[],"body":[]}"#, 0),
+        (
+            r#"[{"name":"p","args":0,"keys":[],"body":[["abort",7]]}]"#,
+            0,
+        ),
+        (r#"[{"name":"p","args":0,"keys":[],"body":[]},null,7]"#, 1),
+        (
+            r#"[{"name":"p","args":0,"keys":[],"body":[]},{"name":"p","args":0,"keys":[]}]"#,
+            1,
+        ),
     ] {
-        let spot = spot_of_second(rt.alloc(), proc)?;
-        assert_eq!(rt; spot, Some((Part::Procs, 1)), "{proc}");
-    }
-    for procs in ["null", "{}", "0"] {
         let spot = spot_in(rt.alloc(), Texts { procs, ..SOUND })?;
-        assert_eq!(rt; spot, Some((Part::Procs, 0)), "{procs}");
+        assert_eq!(rt; spot, Some((Part::Procs, index)), "{procs}");
     }
-    Ok(())
-}
-
-#[test]
-fn procedure_with_a_key_of_another_form_is_named(rt: HostRuntime) -> Result<(), Fail> {
-    for key in [
-        "null",
-        "7",
-        "{}",
-        "[]",
-        r#"["read"]"#,
-        r#"["read","arg"]"#,
-        r#"["read","arg",0,0]"#,
-        r#"["Read","arg",0]"#,
-        r#"["arg","read",0]"#,
-        r#"["read",0,"arg"]"#,
-        r#"[0,"arg",0]"#,
-        r#"["write","args",0]"#,
-        r#"["write","arg",256]"#,
-        r#"["write","arg","0"]"#,
-        r#"["read","fixed",4294967296]"#,
-        r#"["read","fixed",-1]"#,
-        r#"["read","fixed",1.0]"#,
-    ] {
-        let proc = format!(
-            in rt.alloc();
-            r#"{{"name":"p","args":0,"keys":[["write","arg",255],["read","fixed",4294967295],{key}],"body":[]}}"#
-        )?;
-        let spot = spot_of_second(rt.alloc(), proc.as_str())?;
-        assert_eq!(rt; spot, Some((Part::Procs, 1)), "{key}");
-    }
-    Ok(())
-}
-
-#[test]
-fn procedure_with_a_statement_of_another_form_is_named(rt: HostRuntime) -> Result<(), Fail> {
-    for statement in [
-        "null",
-        "7",
-        "[]",
-        r#""reply""#,
-        r#"["reply"]"#,
-        r#"["reply",1,2]"#,
-        r#"["Reply",1]"#,
-        r#"["set",1]"#,
-        r#"["set",0,1,2]"#,
-        r#"["set",256,1]"#,
-        r#"["set","0",1]"#,
-        r#"["let",0,1]"#,
-        r#"["if",1,[],[]]"#,
-        r#"["abort",1]"#,
-        r#"[["reply",1]]"#,
-        r#"[7,1]"#,
-        r#"[7,0,1]"#,
-    ] {
-        let spot = spot_of_body(rt.alloc(), statement)?;
-        assert_eq!(rt; spot, Some((Part::Procs, 1)), "{statement}");
-    }
-    let spot = spot_of_body(rt.alloc(), r#"["set",255,0]"#)?;
-    assert_eq!(rt; spot, None);
-    Ok(())
-}
-
-// The spot of the fault of a procedure whose body ends with this statement.
-fn spot_of_body(alloc: Global, statement: &str) -> Result<Option<(Part, u32)>, Fail> {
-    let proc = format!(
-        in alloc;
-        r#"{{"name":"p","args":0,"keys":[],"body":[["reply",0],{statement}]}}"#
-    )?;
-    spot_of_second(alloc, proc.as_str())
-}
-
-#[test]
-fn procedure_with_an_expression_of_another_form_is_named(rt: HostRuntime) -> Result<(), Fail> {
-    for expression in [
-        "null",
-        "-1",
-        "1.0",
-        "18446744073709551616",
-        r#""1""#,
-        "{}",
-        "[]",
-        "[1]",
-        r#"["arg"]"#,
-        r#"["arg",256]"#,
-        r#"["arg",-1]"#,
-        r#"["arg","0"]"#,
-        r#"["key",256]"#,
-        r#"["key",1.0]"#,
-        r#"["local",0]"#,
-        r#"["not",0]"#,
-        r#"["add",1]"#,
-        r#"["add",1,2,3]"#,
-        r#"["mul",1,2]"#,
-        r#"["add",1,["sub",2,["local",0]]]"#,
-        r#"["sub",null,2]"#,
-        r#"[1,2,3]"#,
-    ] {
-        let reply = format!(in rt.alloc(); r#"["reply",{expression}]"#)?;
-        let set = format!(in rt.alloc(); r#"["set",0,{expression}]"#)?;
-        for statement in [reply.as_str(), set.as_str()] {
-            let spot = spot_of_body(rt.alloc(), statement)?;
-            assert_eq!(rt; spot, Some((Part::Procs, 1)), "{statement}");
-        }
-    }
-    for statement in [r#"["reply",["arg",255]]"#, r#"["reply",["key",255]]"#] {
-        assert_eq!(rt; spot_of_body(rt.alloc(), statement)?, None, "{statement}");
-    }
+    let procs = r#"[{"name":"p","args":0,"keys":[],"body":[]}]"#;
+    assert_eq!(rt; spot_in(rt.alloc(), Texts { procs, ..SOUND })?, None);
     Ok(())
 }
 
@@ -261,7 +155,10 @@ fn first_client_that_is_no_script_is_named(rt: HostRuntime) -> Result<(), Fail> 
         ("[{}]", 0),
         ("[[],null,[]]", 1),
         (r#"[[{"proc":"p","args":[0]}],[["p",0]]]"#, 1),
-        (r#"[[],[],[{"proc":"p","args":[]},{"proc":"p","args":[],"at":0}]]"#, 2),
+        (
+            r#"[[],[],[{"proc":"p","args":[]},{"proc":"p","args":[],"at":0}]]"#,
+            2,
+        ),
         (r#"[[],[{"proc":"p"}]]"#, 1),
         (r#"[[],[{"args":[]}]]"#, 1),
         (r#"[[],[{"proc":0,"args":[]}]]"#, 1),
@@ -277,13 +174,33 @@ fn first_client_that_is_no_script_is_named(rt: HostRuntime) -> Result<(), Fail> 
 
 #[test]
 fn first_faulty_part_is_named(rt: HostRuntime) -> Result<(), Fail> {
-    let texts = Texts { version: "0", records: "[0,-1]", procs: "[null]", clients: "[[],[],0]" };
+    let texts = Texts {
+        version: "0",
+        records: "[0,-1]",
+        procs: "[null]",
+        clients: "[[],[],0]",
+    };
     assert_eq!(rt; spot_in(rt.alloc(), texts)?, Some((Part::Version, 0)));
-    let texts = Texts { version: "1", records: "[0,-1]", procs: "[null]", clients: "[[],[],0]" };
+    let texts = Texts {
+        version: "1",
+        records: "[0,-1]",
+        procs: "[null]",
+        clients: "[[],[],0]",
+    };
     assert_eq!(rt; spot_in(rt.alloc(), texts)?, Some((Part::Records, 1)));
-    let texts = Texts { version: "1", records: "[0]", procs: "[null]", clients: "[[],[],0]" };
+    let texts = Texts {
+        version: "1",
+        records: "[0]",
+        procs: "[null]",
+        clients: "[[],[],0]",
+    };
     assert_eq!(rt; spot_in(rt.alloc(), texts)?, Some((Part::Procs, 0)));
-    let texts = Texts { version: "1", records: "[0]", procs: "[]", clients: "[[],[],0]" };
+    let texts = Texts {
+        version: "1",
+        records: "[0]",
+        procs: "[]",
+        clients: "[[],[],0]",
+    };
     assert_eq!(rt; spot_in(rt.alloc(), texts)?, Some((Part::Clients, 2)));
     let text = r#"{"version":0,"records":[-1],"procs":[null],"clients":[0],"cap":8}"#;
     assert_eq!(rt; spot_of(rt.alloc(), text)?, Some((Part::Top, 0)));
@@ -310,11 +227,17 @@ fn transfer_scenario_is_read_whole(rt: HostRuntime) -> Result<(), Fail> {
     assert_eq!(rt; transfer.name.as_str(), "transfer");
     assert_eq!(rt; transfer.args, 3);
     assert_eq!(rt; transfer.body.len(), 3);
-    let write = |index| KeyDecl { mode: Mode::Write, at: KeyAt::Arg(index) };
+    let write = |index| KeyDecl {
+        mode: Mode::Write,
+        at: KeyAt::Arg(index),
+    };
     assert_eq!(rt; transfer.keys.as_slice(), [write(0), write(1)].as_slice());
     let sum = parts.procs.get(1).ok_or("sum2")?;
     assert_eq!(rt; sum.name.as_str(), "sum2");
-    let read = |index| KeyDecl { mode: Mode::Read, at: KeyAt::Arg(index) };
+    let read = |index| KeyDecl {
+        mode: Mode::Read,
+        at: KeyAt::Arg(index),
+    };
     assert_eq!(rt; sum.keys.as_slice(), [read(0), read(1)].as_slice());
     let script = parts.scripts.get(0).ok_or("script")?;
     assert_eq!(rt; script.len(), 2);
