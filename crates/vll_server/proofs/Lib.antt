@@ -1,5 +1,6 @@
 pub mod Lists
 pub mod Forms
 pub mod Names
+pub mod Numbers
 pub mod Places
 pub mod Passed

@@ -7,6 +7,8 @@ mod fault;
 mod library;
 mod line;
 mod making;
+mod members;
+mod shape;
 mod stream;
 mod syntax;
 mod tree;

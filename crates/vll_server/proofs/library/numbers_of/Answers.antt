@@ -4,7 +4,7 @@ use Rattle.std.specs.BTreeMap.{get_by_text}
 use Rattle.std.specs.Str.{bytes_eq}
 use Rattle.std.proofs.lemmas.Map.Text.{btree_map_updates_text}
 use Rattle.vll_server.specs.Calls.{number_named}
-use Rattle.vll_server.proofs.Names.{next_doubles, next_keeps, next_number}
+use Rattle.vll_server.proofs.Numbers.{next_doubles, next_keeps, next_number}
 use Rattle.vll_server.proofs.library.numbers_of.Goals as goal
 
 pub returns-then-contains_key-clause-err : goal.returns-then-contains_key-clause-err

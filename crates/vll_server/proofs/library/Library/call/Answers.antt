@@ -5,7 +5,7 @@ use Rattle.vll_proc.specs.declared.syntax.Proc.{Proc}
 use Rattle.vll_server.specs.Calls.{call_made, call_numbered, call_to, number_named}
 use Rattle.vll_server.specs.Catalog.{Catalog}
 use Rattle.vll_server.specs.Checked.{check_fault}
-use Rattle.vll_server.proofs.Names.{number_named-within}
+use Rattle.vll_server.proofs.Numbers.{number_named-within}
 use Rattle.vll_server.proofs.library.Library.call.Goals as goal
 
 pub bounds-procs-number : goal.bounds-procs-number
