@@ -8,3 +8,4 @@ pub mod Scenario
 pub mod Merge
 pub mod Text
 pub mod Streams
+pub mod Plain

@@ -4,6 +4,7 @@
 mod asked;
 mod fault;
 mod line;
+mod plain;
 mod stream;
 mod syntax;
 mod tree;
