@@ -2,6 +2,7 @@
 #![tactic(auto)]
 
 mod asked;
+mod bytes;
 mod fault;
 mod line;
 mod plain;
