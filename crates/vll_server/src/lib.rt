@@ -8,4 +8,5 @@ mod line;
 mod plain;
 mod stream;
 mod syntax;
+mod text;
 mod tree;
