@@ -1,3 +1,4 @@
 pub mod Lists
 pub mod Forms
 pub mod Texts
+pub mod Written

@@ -5,8 +5,15 @@ mod asked;
 mod bytes;
 mod fault;
 mod line;
+mod outcome;
 mod plain;
 mod stream;
 mod syntax;
 mod text;
 mod tree;
+
+pub use fault::{ServeFault, WriteFault};
+pub use line::{Closed, Line};
+pub use outcome::write_outcome;
+pub use plain::Plain;
+pub use stream::{Sink, Source};
