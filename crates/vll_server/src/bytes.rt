@@ -51,3 +51,6 @@ pub(crate) fn read_bytes<S: Source>(alloc: Global, source: &mut S) -> Result<Vec
     }
     Err(ReadFault::Size)
 }
+
+#[cfg(test)]
+mod tests;

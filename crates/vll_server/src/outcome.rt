@@ -11,14 +11,18 @@ use std::alloc::Global;
 
 /// Writes the text of what a run leaves: a line for each call, and then one for each record. The text is
 /// made whole before its first byte is written, and flushed once at its end.
-pub fn write_outcome<W: Sink>(alloc: Global, writer: &mut W, closed: &Closed) -> Result<(), WriteFault>
+pub fn write_outcome<W: Sink>(
+    alloc: Global,
+    writer: &mut W,
+    closed: &Closed,
+) -> Result<(), WriteFault>
     requires { W.failed writer.old ≡ false }
     ensures ok { OnOk result (Appends (W.contents writer.old) (W.contents writer.new) (closed_text
         closed.now.journal.items closed.now.records.items closed.now.pairs.items)) }
     ensures no_memory { result ≡ Err WriteFault.NoMemory → writer.new ≡ writer.old }
     ensures write { result ≡ Err WriteFault.Write
         → AppendsBeginning (W.contents writer.old) (W.contents writer.new) (closed_text
-            closed.now.journal.items closed.now.records.items closed.now.pairs.items) }
+        closed.now.journal.items closed.now.records.items closed.now.pairs.items) }
     ensures failed { (result ≡ Err WriteFault.Write) ↔ (W.failed writer.new ≡ true) }
 {
     let text = closed_text_of(alloc, closed).map_err(|_| WriteFault::NoMemory)?;
@@ -44,3 +48,6 @@ fn write_text<W: Sink>(writer: &mut W, text: &[u8]) -> Result<(), WriteFault>
     }
     writer.flush().map_err(|_| WriteFault::Write)
 }
+
+#[cfg(test)]
+mod tests;

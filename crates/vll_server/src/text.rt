@@ -68,7 +68,12 @@ fn push_call_lines(text: &mut String, journal: &[Line]) -> Result<(), AllocError
     Ok(())
 }
 
-fn push_record_line(text: &mut String, index: usize, value: u64, pair: u64) -> Result<(), AllocError>
+fn push_record_line(
+    text: &mut String,
+    index: usize,
+    value: u64,
+    pair: u64,
+) -> Result<(), AllocError>
     ensures { OnOk result (string_bytes text.new
         ≡ string_bytes text.old ++ record_line (index, (value, pair))) }
 {
