@@ -4,3 +4,5 @@ pub mod Names
 pub mod Numbers
 pub mod Places
 pub mod Passed
+pub mod Texts
+pub mod Written

@@ -11,3 +11,4 @@ pub mod Scenario
 pub mod Merge
 pub mod Text
 pub mod Streams
+pub mod Plain
