@@ -4,7 +4,7 @@ use Rattle.std.proofs.lemmas.Bool.{eq-eqb, ne_eqb, cond-true, cond-false, cases_
 use Rattle.std.proofs.lemmas.Option.{same_Some, none-some}
 use Rattle.vll_record.specs.declared.claim.Claim.{Claim}
 use Rattle.vll_record.specs.declared.claim.Mode.{Mode}
-use Rattle.vll_record.specs.Claim.{IsRising, stronger, stronger_of, mode_on, with_claim, claims_of}
+use Rattle.vll_record.specs.Claim.{IsRising, stronger_of, mode_on, with_claim, claims_of}
 
 -- rising, and no record number below n
 abbrev pub RisesFrom : ℕ → List Claim → Type 0
@@ -102,14 +102,14 @@ place_from : (n : ℕ) (cs : List Claim) (r : ℕ) (m : Mode) → RisesFrom n cs
 place_from n [] r m h e = absurd (none-some m e)
 place_from n (c ∷ cs) r m h e =
     ⊎_elim
-        (λ (same : c.id ≡ r).
-            let first : mode_on (c ∷ cs) r ≡ Some c.mode = subst (λ (x : ℕ). mode_on (c ∷ cs) x ≡ Some c.mode) same (mode_on_first c cs h.1) in
-            let mode : c.mode ≡ m = same_Some c.mode m (sym first ∙ e) in
-            (zero, ap (λ (x : ℕ). Some (claim_of x c.mode)) same ∙ ap (λ (x : Mode). Some (claim_of r x)) mode))
-        (λ (other : c.id ≡ r → ⊥).
-            let rest = place_from (suc c.id) cs r m h.1 (sym (mode_on-other c cs r other) ∙ e) in
-            (suc rest.0, rest.1))
-        (cases_eq c.id r)
+    (λ (same : c.id ≡ r).
+    let first : mode_on (c ∷ cs) r ≡ Some c.mode = subst (λ (x : ℕ). mode_on (c ∷ cs) x ≡ Some c.mode) same (mode_on_first c cs h.1) in
+    let mode : c.mode ≡ m = same_Some c.mode m (sym first ∙ e) in
+    (zero, ap (λ (x : ℕ). Some (claim_of x c.mode)) same ∙ ap (λ (x : Mode). Some (claim_of r x)) mode))
+    (λ (other : c.id ≡ r → ⊥).
+    let rest = place_from (suc c.id) cs r m h.1 (sym (mode_on-other c cs r other) ∙ e) in
+    (suc rest.0, rest.1))
+    (cases_eq c.id r)
 
 -- where a rising list claims a record, that claim stands at a place
 pub place_from_mode : (cs : List Claim) (r : ℕ) (m : Mode) → IsRising cs → mode_on cs r ≡ Some m → (i : ℕ) × (slice_get cs i ≡ Some (claim_of r m))
@@ -119,13 +119,13 @@ pub RisesFrom-with_claim : (n : ℕ) (c : Claim) (cs : List Claim) → n ≤ c.i
 RisesFrom-with_claim n c [] le h = (le, tt)
 RisesFrom-with_claim n c (d ∷ ds) le h =
     cond_both (nat_lt c.id d.id) _ _ (RisesFrom n)
-        (λ lt. (le, (ltb-true c.id d.id lt, h.1)))
-        (λ ge. cond_both (c.id == d.id) _ _ (RisesFrom n)
-            (λ eq. (h.0, h.1))
-            (λ ne.
-                let not_below = ltb-false c.id d.id ge in
-                let apart = eqb-false c.id d.id ne in
-                (h.0, RisesFrom-with_claim (suc d.id) c ds (omega arith) h.1)))
+    (λ lt. (le, (ltb-true c.id d.id lt, h.1)))
+    (λ ge. cond_both (c.id == d.id) _ _ (RisesFrom n)
+    (λ eq. (h.0, h.1))
+    (λ ne.
+    let not_below = ltb-false c.id d.id ge in
+    let apart = eqb-false c.id d.id ne in
+    (h.0, RisesFrom-with_claim (suc d.id) c ds (omega arith) h.1)))
 
 pub IsRising-with_claim : (c : Claim) (cs : List Claim) → IsRising cs → IsRising (with_claim c cs)
 IsRising-with_claim c cs h =
@@ -135,10 +135,10 @@ pub length-with_claim-le : (c : Claim) (cs : List Claim) → length (with_claim 
 length-with_claim-le c [] = omega arith
 length-with_claim-le c (d ∷ ds) =
     cond_both (nat_lt c.id d.id) _ _ (λ (l : List Claim). length l ≤ suc (suc (length ds)))
-        (λ _. omega arith)
-        (λ _. cond_both (c.id == d.id) _ _ (λ (l : List Claim). length l ≤ suc (suc (length ds)))
-            (λ _. omega arith)
-            (λ _. let rest = length-with_claim-le c ds in omega arith))
+    (λ _. omega arith)
+    (λ _. cond_both (c.id == d.id) _ _ (λ (l : List Claim). length l ≤ suc (suc (length ds)))
+    (λ _. omega arith)
+    (λ _. let rest = length-with_claim-le c ds in omega arith))
 
 pub IsRising-claims_of : (asked : List Claim) → IsRising (claims_of asked)
 IsRising-claims_of [] = IsRising-from_rises 0 [] tt

@@ -1,5 +1,5 @@
 -- What transfer, bump and sum2 answer, computed.
-use Rattle.std.proofs.Common.{◌≡◌, ℕ, List, [], ◌∷◌, refl}
+use Rattle.std.proofs.Common.{◌≡◌, List, [], ◌∷◌, refl}
 use Rattle.std.specs.Prelude.{codes}
 use denote.Hole.Carrier.{hidden}
 use Rattle.vll_record.specs.declared.claim.Mode.TheVariants.{Read, Write}
@@ -11,7 +11,7 @@ use Rattle.vll_proc.specs.declared.syntax.KeyAt.TheVariants as at
 use Rattle.vll_proc.specs.declared.syntax.Proc.{Proc}
 use Rattle.vll_proc.specs.declared.syntax.Stmt.TheVariants.{Set, Reply}
 use Rattle.vll_proc.specs.Made.{call_of}
-use Rattle.vll_proc.specs.Serial.{After, apply, applied}
+use Rattle.vll_proc.specs.Serial.{apply}
 use Rattle.vll_proc.specs.WellFormed.{IsWellFormed}
 
 abbrev transfer : Proc

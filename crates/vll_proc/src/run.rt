@@ -42,7 +42,7 @@ impl Progress {
             ≡ ended result (scene_of call.now self.new) }
         ensures outputs { OnOk result
             (length self.new.outputs
-                ≡ length self.old.outputs + (if is_reply statement.now then 1 else 0)) }
+            ≡ length self.old.outputs + (if is_reply statement.now then 1 else 0)) }
     {
         match statement {
             Stmt::Set(i, expr) => {
