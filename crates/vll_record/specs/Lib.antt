@@ -1,3 +1,4 @@
 pub mod Claim
+pub mod Place
 pub mod Canon
 pub mod Kept

@@ -1,5 +1,6 @@
-ghost use Rattle.std.specs.Prelude.{◌≡◌, ◌≤◌, [], length, slice_get};
-ghost use Rattle.vll_record.specs.Claim.{IsRising};
+ghost use Rattle.std.specs.Prelude.{◌≡◌, ◌<◌, ◌≤◌, ◌⊎◌, [], length, slice_get, slice_set, insert, IsSome};
+ghost use Rattle.vll_record.specs.Claim.{IsRising, mode_on, with_claim};
+ghost use Rattle.vll_record.specs.Place.{IsPlaceOf};
 
 use crate::claim::{Claim, Mode, RecordId};
 use std::marker::Model;
@@ -61,4 +62,56 @@ impl Claims {
             None
         }
     }
+
+    /// Puts a claim in its place. A record that is there keeps one claim, Write where either is.
+    /// A record that is not there needs room: at most 15 claims so far.
+    pub fn add(&mut self, claim: Claim)
+        requires { (length self.old < 16) ⊎ IsSome (mode_on self.old claim.id) }
+        ensures { self.new ≡ with_claim claim self.old }
+    {
+        let place = self.place_of(claim.id);
+        match self.get(place) {
+            Some(held) if held.id == claim.id => self.replace(place, held.with(claim.mode)),
+            _ => self.insert(place, claim),
+        }
+    }
+
+    // Where the record's claim stands, or would stand.
+    fn place_of(&self, id: RecordId) -> usize
+        ensures place { IsPlaceOf id self.now result }
+        ensures rising { IsRising self.now }
+    {
+        for i in 0..self.len() {
+            let held = self.places[i];
+            if held.id.0 >= id.0 {
+                return i;
+            }
+        }
+        self.len()
+    }
+
+    fn replace(&mut self, place: usize, claim: Claim)
+        requires within { place < length self.old }
+        requires rising { IsRising (slice_set self.old place claim) }
+        ensures { self.new ≡ slice_set self.old place claim }
+    {
+        let places = &mut self.places;
+        places[place] = claim;
+    }
+
+    // The claims from the place on move up by one.
+    fn insert(&mut self, place: usize, claim: Claim)
+        requires room { length self.old < 16 }
+        requires within { place ≤ length self.old }
+        requires rising { IsRising (insert self.old place claim) }
+        ensures { self.new ≡ insert self.old place claim }
+    {
+        let len = self.len as usize;
+        self.places.copy_within(place..len, place + 1);
+        self.places[place] = claim;
+        self.len += 1;
+    }
 }
+
+#[cfg(test)]
+mod tests;

@@ -1,0 +1,129 @@
+-- A claim put in its place among rising claims: what it keeps, and where it goes.
+use Rattle.std.proofs.Common.{◌≡◌, ◌≢◌, ℕ, zero, suc, ◌<◌, ◌≤◌, ◌⊎◌, List, [], ◌∷◌, length, Some, None, Option, eqb, false, IsSome, refl, ap, ◌∙◌, subst, sym, inl, inr, ◌==◌, nat_lt, slice_get, set, insert, arith, ⊎_elim}
+use Rattle.std.proofs.lemmas.Bool.{false≢true, ltb-true, ltb-false, eqb-false, lt-ltb, le-ltb, eq-eqb, ne_eqb, cond_both, cond-true, cond-false, cases_order}
+use Rattle.std.proofs.lemmas.Option.{none-some, same_Some}
+use Rattle.vll_record.specs.declared.claim.Claim.{Claim}
+use Rattle.vll_record.specs.Claim.{IsRising, stronger, mode_on, with_claim}
+use Rattle.vll_record.specs.Place.{IsPlaceOf}
+use Rattle.vll_record.proofs.Rising.{RisesFrom, RisesFrom-zero, IsRising-from_rises, mode_on_below, mode_on-other}
+
+pub RisesFrom-with_claim : (n : ℕ) (c : Claim) (cs : List Claim) → n ≤ c.id → RisesFrom n cs → RisesFrom n (with_claim c cs)
+RisesFrom-with_claim n c [] le h = (le, tt)
+RisesFrom-with_claim n c (d ∷ ds) le h =
+    cond_both (nat_lt c.id d.id) _ _ (RisesFrom n)
+    (λ lt. (le, (ltb-true c.id d.id lt, h.1)))
+    (λ ge. cond_both (c.id == d.id) _ _ (RisesFrom n)
+    (λ eq. (h.0, h.1))
+    (λ ne.
+    let not_below = ltb-false c.id d.id ge in
+    let apart = eqb-false c.id d.id ne in
+    (h.0, RisesFrom-with_claim (suc d.id) c ds (omega arith) h.1)))
+
+pub IsRising-with_claim : (c : Claim) (cs : List Claim) → IsRising cs → IsRising (with_claim c cs)
+IsRising-with_claim c cs h =
+    IsRising-from_rises 0 (with_claim c cs) (RisesFrom-with_claim 0 c cs (omega arith) (RisesFrom-zero cs h))
+
+pub length-with_claim-le : (c : Claim) (cs : List Claim) → length (with_claim c cs) ≤ suc (length cs)
+length-with_claim-le c [] = omega arith
+length-with_claim-le c (d ∷ ds) =
+    cond_both (nat_lt c.id d.id) _ _ (λ (l : List Claim). length l ≤ suc (suc (length ds)))
+    (λ _. omega arith)
+    (λ _. cond_both (c.id == d.id) _ _ (λ (l : List Claim). length l ≤ suc (suc (length ds)))
+    (λ _. omega arith)
+    (λ _. let rest = length-with_claim-le c ds in omega arith))
+
+-- the three cases of the definition
+pub with_claim-before : (c d : Claim) (ds : List Claim) → c.id < d.id → with_claim c (d ∷ ds) ≡ c ∷ d ∷ ds
+with_claim-before c d ds lt = cond-true (nat_lt c.id d.id) _ _ (lt-ltb c.id d.id lt)
+
+pub with_claim-same : (c d : Claim) (ds : List Claim) → c.id ≡ d.id → with_claim c (d ∷ ds) ≡ record d { mode = stronger c.mode d.mode } ∷ ds
+with_claim-same c d ds e =
+    cond-false (nat_lt c.id d.id) _ _ (le-ltb c.id d.id (omega arith)) ∙ cond-true (c.id == d.id) _ _ (eq-eqb c.id d.id e)
+
+pub with_claim-after : (c d : Claim) (ds : List Claim) → d.id < c.id → with_claim c (d ∷ ds) ≡ d ∷ with_claim c ds
+with_claim-after c d ds gt =
+    cond-false (nat_lt c.id d.id) _ _ (le-ltb c.id d.id (omega arith)) ∙ cond-false (c.id == d.id) _ _ (ne_eqb c.id d.id (λ e. omega arith))
+
+IsPlaceOf-tail : (r : ℕ) (d : Claim) (ds : List Claim) (at : ℕ) → IsPlaceOf r (d ∷ ds) (suc at) → IsPlaceOf r ds at
+IsPlaceOf-tail r d ds at p = record {
+  within = (let le = p.within in omega arith);
+  before = λ k c lt e. p.before (suc k) c (omega arith) e;
+  from = λ c e. p.from c e;
+}
+
+-- a record that has no claim gets one at its place
+pub with_claim-insert : (c : Claim) (cs : List Claim) (at : ℕ) → IsPlaceOf c.id cs at → ((d : Claim) → slice_get cs at ≡ Some d → d.id ≢ c.id) → with_claim c cs ≡ insert cs at c
+with_claim-insert c [] zero p apart = refl
+with_claim-insert c [] (suc at) p apart = absurd (omega (arith, p.within))
+with_claim-insert c (d ∷ ds) zero p apart =
+    let le = p.from d refl in
+    let ne = apart d refl in
+    with_claim-before c d ds (omega arith)
+with_claim-insert c (d ∷ ds) (suc at) p apart =
+    let lt = p.before zero d (omega arith) refl in
+    with_claim-after c d ds lt ∙ ap (λ (l : List Claim). d ∷ l) (with_claim-insert c ds at (IsPlaceOf-tail c.id d ds at p) apart)
+
+-- a record that has a claim keeps it there, Write where either is
+pub with_claim-set : (c d : Claim) (cs : List Claim) (at : ℕ) → IsPlaceOf c.id cs at → slice_get cs at ≡ Some d → d.id ≡ c.id → with_claim c cs ≡ set cs at (record d { mode = stronger c.mode d.mode })
+with_claim-set c d [] at p is e = absurd (none-some d is)
+with_claim-set c d (b ∷ bs) zero p is e =
+    subst (λ (x : Claim). x.id ≡ c.id → with_claim c (b ∷ bs) ≡ record x { mode = stronger c.mode x.mode } ∷ bs) (same_Some b d is) (λ q. with_claim-same c b bs (sym q)) e
+with_claim-set c d (b ∷ bs) (suc at) p is e =
+    let lt = p.before zero b (omega arith) refl in
+    with_claim-after c b bs lt ∙ ap (λ (l : List Claim). b ∷ l) (with_claim-set c d bs at (IsPlaceOf-tail c.id b bs at p) is e)
+
+absent_from : (n r : ℕ) (cs : List Claim) (at : ℕ) → RisesFrom n cs → IsPlaceOf r cs at → ((d : Claim) → slice_get cs at ≡ Some d → d.id ≢ r) → mode_on cs r ≡ None
+absent_from n r [] at h p apart = refl
+absent_from n r (d ∷ ds) zero h p apart =
+    let le = p.from d refl in
+    let ne = apart d refl in
+    mode_on_below d.id (d ∷ ds) r (omega arith, h.1) (omega arith)
+absent_from n r (d ∷ ds) (suc at) h p apart =
+    let lt = p.before zero d (omega arith) refl in
+    mode_on-other d ds r (λ e. omega arith) ∙ absent_from (suc d.id) r ds at h.1 (IsPlaceOf-tail r d ds at p) apart
+
+-- a record that is not at its place is not claimed
+pub mode_on-absent : (r : ℕ) (cs : List Claim) (at : ℕ) → IsRising cs → IsPlaceOf r cs at → ((d : Claim) → slice_get cs at ≡ Some d → d.id ≢ r) → mode_on cs r ≡ None
+mode_on-absent r cs at h p apart = absent_from 0 r cs at (RisesFrom-zero cs h) p apart
+
+same_length : (n : ℕ) (c : Claim) (cs : List Claim) → RisesFrom n cs → IsSome (mode_on cs c.id) → length (with_claim c cs) ≡ length cs
+same_length n c [] h s = absurd (false≢true s)
+same_length n c (d ∷ ds) h s =
+    ⊎_elim
+    (λ (e : c.id ≡ d.id). ap length (with_claim-same c d ds e))
+    (λ (o : (c.id < d.id) ⊎ (d.id < c.id)).
+    ⊎_elim
+    (λ (lt : c.id < d.id).
+    let none : mode_on (d ∷ ds) c.id ≡ None = mode_on_below d.id (d ∷ ds) c.id (omega arith, h.1) lt in
+    absurd (false≢true (subst IsSome none s)))
+    (λ (gt : d.id < c.id).
+    let rest : IsSome (mode_on ds c.id) = subst IsSome (mode_on-other d ds c.id (λ e. omega arith)) s in
+    ap length (with_claim-after c d ds gt) ∙ ap suc (same_length (suc d.id) c ds h.1 rest))
+    o)
+    (cases_order c.id d.id)
+
+-- no claim is added for a record that has one
+pub length-with_claim-held : (c : Claim) (cs : List Claim) → IsRising cs → IsSome (mode_on cs c.id) → length (with_claim c cs) ≡ length cs
+length-with_claim-held c cs h s = same_length 0 c cs (RisesFrom-zero cs h) s
+
+-- with room for one more claim, or a claim of its record there, the claims stay within n
+pub length-with_claim-few : (n : ℕ) (c : Claim) (cs : List Claim) → IsRising cs → length cs ≤ n → (length cs < n) ⊎ IsSome (mode_on cs c.id) → length (with_claim c cs) ≤ n
+length-with_claim-few n c cs h le (inl room) = let most = length-with_claim-le c cs in omega arith
+length-with_claim-few n c cs h le (inr held) = let same = length-with_claim-held c cs h held in omega arith
+
+-- a place that holds another record's claim, or none, does not hold the record's
+pub apart_from_other : (r : ℕ) (o : Option Claim) (c : Claim) → o ≡ Some c → eqb c.id r ≡ false → (d : Claim) → o ≡ Some d → d.id ≢ r
+apart_from_other r o c e ne d is same =
+    let one : c.id ≡ d.id = ap (λ (x : Claim). x.id) (same_Some c d (sym e ∙ is)) in
+    eqb-false c.id r ne (one ∙ same)
+
+pub apart_from_none : (r : ℕ) (o : Option Claim) → o ≡ None → (d : Claim) → o ≡ Some d → d.id ≢ r
+apart_from_none r o e d is same = none-some d (sym e ∙ is)
+
+-- a record with no claim at its place has none, so what is asked before a claim is added is room
+pub room_from_absent : (n r : ℕ) (cs : List Claim) (at : ℕ) → IsRising cs → IsPlaceOf r cs at → ((d : Claim) → slice_get cs at ≡ Some d → d.id ≢ r) → (length cs < n) ⊎ IsSome (mode_on cs r) → length cs < n
+room_from_absent n r cs at h p apart (inl room) = room
+room_from_absent n r cs at h p apart (inr held) = absurd (false≢true (subst IsSome (mode_on-absent r cs at h p apart) held))
+
+-- what a caller that adds a few claims needs
+pub ruleset lengths = length-with_claim-le

@@ -1,0 +1,53 @@
+#![tactic(auto, using(crate::proofs::WithClaim::lengths))]
+
+use super::Claims;
+use crate::claim::{Claim, Mode, RecordId};
+
+fn read(id: u32) -> Claim {
+    Claim {
+        id: RecordId(id),
+        mode: Mode::Read,
+    }
+}
+
+fn write(id: u32) -> Claim {
+    Claim {
+        id: RecordId(id),
+        mode: Mode::Write,
+    }
+}
+
+#[test]
+fn claims_stand_in_rising_order(rt: HostRuntime) {
+    let mut claims = Claims::new();
+    claims.add(read(4));
+    claims.add(write(0));
+    claims.add(read(7));
+    claims.add(read(2));
+    assert_eq!(rt; claims.len(), 4);
+    assert_eq!(rt; claims.get(0), Some(write(0)));
+    assert_eq!(rt; claims.get(1), Some(read(2)));
+    assert_eq!(rt; claims.get(2), Some(read(4)));
+    assert_eq!(rt; claims.get(3), Some(read(7)));
+}
+
+#[test]
+fn record_read_and_written_is_one_write_claim(rt: HostRuntime) {
+    let mut claims = Claims::new();
+    claims.add(read(3));
+    claims.add(write(3));
+    claims.add(read(3));
+    assert_eq!(rt; claims.len(), 1);
+    assert_eq!(rt; claims.get(0), Some(write(3)));
+}
+
+#[test]
+fn no_claim_stands_from_len_on(rt: HostRuntime) {
+    let mut claims = Claims::new();
+    assert_eq!(rt; claims.get(0), None);
+    claims.add(write(5));
+    claims.add(read(1));
+    assert_eq!(rt; claims.len(), 2);
+    assert_eq!(rt; claims.get(2), None);
+    assert_eq!(rt; claims.get(16), None);
+}
