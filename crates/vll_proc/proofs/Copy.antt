@@ -13,7 +13,7 @@ use Rattle.vll_proc.specs.declared.syntax.Stmt.TheVariants.{Set, Reply}
 use Rattle.vll_proc.specs.Cells.{Holds}
 use Rattle.vll_proc.specs.Meaning.{Scene, Value, Action, and_then, both, fitting, difference, value_of, operand, effect, in_turn}
 use Rattle.vll_proc.specs.WellFormed.{keys_below, operand_keys_below, stmt_keys_below}
-use Rattle.vll_proc.proofs.FromRecord.{same_place}
+use Rattle.vll_record.proofs.Rising.{same_place}
 
 -- a place among claims whose claim is of a record
 pub record IsPlaceFor (claims : List Claim) (place r : ℕ) : Type 0 where

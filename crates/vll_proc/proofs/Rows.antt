@@ -1,5 +1,5 @@
 -- What transfer, bump and sum2 answer, computed.
-use Rattle.std.proofs.Common.{◌≡◌, List, [], ◌∷◌, refl}
+use Rattle.std.proofs.Common.{◌≡◌, ℕ, List, [], ◌∷◌, refl}
 use Rattle.std.specs.Prelude.{codes}
 use denote.Hole.Carrier.{hidden}
 use Rattle.vll_record.specs.declared.claim.Mode.TheVariants.{Read, Write}
@@ -10,17 +10,20 @@ use Rattle.vll_proc.specs.declared.syntax.Expr.TheBlock.{hidden-the_row-Expr-0}
 use Rattle.vll_proc.specs.declared.syntax.KeyAt.TheVariants as at
 use Rattle.vll_proc.specs.declared.syntax.Proc.{Proc}
 use Rattle.vll_proc.specs.declared.syntax.Stmt.TheVariants.{Set, Reply}
+use Rattle.vll_proc.specs.declared.syntax.Stmt.{Stmt}
+use Rattle.vll_proc.specs.declared.syntax.KeyDecl.{KeyDecl}
 use Rattle.vll_proc.specs.Made.{call_of}
 use Rattle.vll_proc.specs.Serial.{apply}
 use Rattle.vll_proc.specs.WellFormed.{IsWellFormed}
 
+abbrev pub transfer_keys : List KeyDecl
+transfer_keys = record { mode = Write; at = at.Arg 0 } ∷ record { mode = Write; at = at.Arg 1 } ∷ []
+
+abbrev pub transfer_body : List Stmt
+transfer_body = Set 0 (Sub (Key 0) (Arg 2)) ∷ Set 1 (Add (Key 1) (Arg 2)) ∷ Reply (Key 0) ∷ []
+
 abbrev transfer : Proc
-transfer = record {
-  name = codes "transfer";
-  args = 3;
-  keys = record { mode = Write; at = at.Arg 0 } ∷ record { mode = Write; at = at.Arg 1 } ∷ [];
-  body = Set 0 (Sub (Key 0) (Arg 2)) ∷ Set 1 (Add (Key 1) (Arg 2)) ∷ Reply (Key 0) ∷ [];
-}
+transfer = record { name = codes "transfer"; args = 3; keys = transfer_keys; body = transfer_body }
 
 abbrev bump : Proc
 bump = record {
@@ -82,9 +85,9 @@ left_first : apply procs (call_of 3 odd_sum (18446744073709551615 ∷ [])) [] �
 unfolding hidden hidden-the_row-Expr-0
 left_first = refl
 
-is_well_formed : IsWellFormed transfer
+pub transfer_is_well_formed : (name : List ℕ) → IsWellFormed (record { name = name; args = 3; keys = transfer_keys; body = transfer_body })
 unfolding hidden hidden-the_row-Expr-0
-is_well_formed = record {
+transfer_is_well_formed name = record {
   few_args = refl;
   few_keys = refl;
   key_args = refl;

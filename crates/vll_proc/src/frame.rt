@@ -80,3 +80,6 @@ impl Frame {
         }
     }
 }
+
+#[cfg(test)]
+mod tests;
