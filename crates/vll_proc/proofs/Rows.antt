@@ -25,21 +25,23 @@ transfer_body = Set 0 (Sub (Key 0) (Arg 2)) ∷ Set 1 (Add (Key 1) (Arg 2)) ∷ 
 abbrev transfer : Proc
 transfer = record { name = codes "transfer"; args = 3; keys = transfer_keys; body = transfer_body }
 
+abbrev pub bump_keys : List KeyDecl
+bump_keys = record { mode = Write; at = at.Arg 0 } ∷ []
+
+abbrev pub bump_body : List Stmt
+bump_body = Set 0 (Add (Key 0) (Num 1)) ∷ Reply (Key 0) ∷ []
+
 abbrev bump : Proc
-bump = record {
-  name = codes "bump";
-  args = 1;
-  keys = record { mode = Write; at = at.Arg 0 } ∷ [];
-  body = Set 0 (Add (Key 0) (Num 1)) ∷ Reply (Key 0) ∷ [];
-}
+bump = record { name = codes "bump"; args = 1; keys = bump_keys; body = bump_body }
+
+abbrev pub sum2_keys : List KeyDecl
+sum2_keys = record { mode = Read; at = at.Arg 0 } ∷ record { mode = Read; at = at.Arg 1 } ∷ []
+
+abbrev pub sum2_body : List Stmt
+sum2_body = Reply (Add (Key 0) (Key 1)) ∷ []
 
 abbrev sum2 : Proc
-sum2 = record {
-  name = codes "sum2";
-  args = 2;
-  keys = record { mode = Read; at = at.Arg 0 } ∷ record { mode = Read; at = at.Arg 1 } ∷ [];
-  body = Reply (Add (Key 0) (Key 1)) ∷ [];
-}
+sum2 = record { name = codes "sum2"; args = 2; keys = sum2_keys; body = sum2_body }
 
 abbrev odd_sum : Proc
 odd_sum = record {
@@ -88,6 +90,30 @@ left_first = refl
 pub transfer_is_well_formed : (name : List ℕ) → IsWellFormed (record { name = name; args = 3; keys = transfer_keys; body = transfer_body })
 unfolding hidden hidden-the_row-Expr-0
 transfer_is_well_formed name = record {
+  few_args = refl;
+  few_keys = refl;
+  key_args = refl;
+  known_keys = refl;
+  writable_keys = refl;
+  known_args = refl;
+  few_replies = refl;
+}
+
+pub bump_is_well_formed : (name : List ℕ) → IsWellFormed (record { name = name; args = 1; keys = bump_keys; body = bump_body })
+unfolding hidden hidden-the_row-Expr-0
+bump_is_well_formed name = record {
+  few_args = refl;
+  few_keys = refl;
+  key_args = refl;
+  known_keys = refl;
+  writable_keys = refl;
+  known_args = refl;
+  few_replies = refl;
+}
+
+pub sum2_is_well_formed : (name : List ℕ) → IsWellFormed (record { name = name; args = 2; keys = sum2_keys; body = sum2_body })
+unfolding hidden hidden-the_row-Expr-0
+sum2_is_well_formed name = record {
   few_args = refl;
   few_keys = refl;
   key_args = refl;

@@ -9,7 +9,7 @@ use crate::frame::Frame;
 use crate::outputs::Outputs;
 use crate::syntax::{Expr, Stmt};
 
-// What changes while a body runs.
+// What changes while a body runs: it works on copies, so an aborted call leaves its frame as it was.
 #[derive(Clone, Copy)]
 pub(crate) struct Progress {
     pub(crate) cells: Frame,

@@ -52,10 +52,49 @@ fn transfer(alloc: Global) -> Result<Proc, AllocError>
     let less = sub(alloc, Expr::Key(0), Expr::Arg(2))?;
     let more = add(alloc, Expr::Key(1), Expr::Arg(2))?;
     let keys = [key(Mode::Write, 0), key(Mode::Write, 1)];
-    let body = vec![in alloc; Stmt::Set(0, less), Stmt::Set(1, more), Stmt::Reply(Expr::Key(0))]?;
+    let body = vec![in alloc;
+        Stmt::Set(0, less),
+        Stmt::Set(1, more),
+        Stmt::Reply(Expr::Key(0)),
+    ]?;
     Ok(Proc {
         name: Text::new(String::from_str(alloc, "transfer")?),
         args: 3,
+        keys: Items::from_slice(alloc, &keys)?,
+        body: Items::from_vec(body),
+    })
+}
+
+// Adds 1 to a record, and replies the sum.
+fn bump(alloc: Global) -> Result<Proc, AllocError>
+    ensures formed { IfOk result (λ p. IsWellFormed p) }
+    ensures args { IfOk result (λ p. p.args ≡ 1) }
+    ensures keys { IfOk result (λ p. p.keys
+        ≡ record { mode = Mode.Write; at = KeyAt.Arg 0 } ∷ []) }
+{
+    let more = add(alloc, Expr::Key(0), Expr::Num(1))?;
+    let body = vec![in alloc; Stmt::Set(0, more), Stmt::Reply(Expr::Key(0))]?;
+    Ok(Proc {
+        name: Text::new(String::from_str(alloc, "bump")?),
+        args: 1,
+        keys: Items::from_slice(alloc, &[key(Mode::Write, 0)])?,
+        body: Items::from_vec(body),
+    })
+}
+
+// Replies the sum of two records.
+fn sum2(alloc: Global) -> Result<Proc, AllocError>
+    ensures formed { IfOk result (λ p. IsWellFormed p) }
+    ensures args { IfOk result (λ p. p.args ≡ 2) }
+    ensures keys { IfOk result (λ p. p.keys
+        ≡ record { mode = Mode.Read; at = KeyAt.Arg 0 } ∷ record { mode = Mode.Read; at = KeyAt.Arg 1 } ∷ []) }
+{
+    let sum = add(alloc, Expr::Key(0), Expr::Key(1))?;
+    let keys = [key(Mode::Read, 0), key(Mode::Read, 1)];
+    let body = vec![in alloc; Stmt::Reply(sum)]?;
+    Ok(Proc {
+        name: Text::new(String::from_str(alloc, "sum2")?),
+        args: 2,
         keys: Items::from_slice(alloc, &keys)?,
         body: Items::from_vec(body),
     })
@@ -96,6 +135,43 @@ fn to_itself(procedure: &Proc, amount: u64) -> Call
         args: [0, 0, amount, 0, 0, 0, 0, 0],
         claims,
         cells: [0; 16],
+    }
+}
+
+// A bump of record 5.
+fn of_record_5(procedure: &Proc) -> Call
+    requires args { procedure.now.args ≡ 1 }
+    requires keys { procedure.now.keys
+        ≡ record { mode = Mode.Write; at = KeyAt.Arg 0 } ∷ [] }
+    ensures { IsCallOf procedure.now result }
+{
+    let mut claims = Claims::new();
+    claims.add(claim(5, Mode::Write));
+    Call {
+        number: 1,
+        arg_count: procedure.args,
+        args: [5, 0, 0, 0, 0, 0, 0, 0],
+        claims,
+        cells: [0; 16],
+    }
+}
+
+// The sum of records 4 and 2, whose cells stand in rising order.
+fn of_records_4_and_2(procedure: &Proc) -> Call
+    requires args { procedure.now.args ≡ 2 }
+    requires keys { procedure.now.keys
+        ≡ record { mode = Mode.Read; at = KeyAt.Arg 0 } ∷ record { mode = Mode.Read; at = KeyAt.Arg 1 } ∷ [] }
+    ensures { IsCallOf procedure.now result }
+{
+    let mut claims = Claims::new();
+    claims.add(claim(2, Mode::Read));
+    claims.add(claim(4, Mode::Read));
+    Call {
+        number: 2,
+        arg_count: procedure.args,
+        args: [4, 2, 0, 0, 0, 0, 0, 0],
+        claims,
+        cells: [1, 0, 0, 0, 0, 0, 0, 0, 0, 0, 0, 0, 0, 0, 0, 0],
     }
 }
 
@@ -143,5 +219,30 @@ fn transfer_to_itself_changes_nothing(rt: HostRuntime) -> Result<(), Fail> {
     let reply = frame.run(&procedure, &to_itself(&procedure, 30));
     assert!(rt; replied(reply) == Ok((1, Some(100), None)));
     assert_eq!(rt; frame.get(0), 100);
+    Ok(())
+}
+
+#[test]
+fn bump_past_the_greatest_number_is_aborted(rt: HostRuntime) -> Result<(), Fail> {
+    let procedure = bump(rt.alloc())?;
+    let call = of_record_5(&procedure);
+    let mut frame = Frame::new();
+    frame.put(0, u64::MAX - 1);
+    assert!(rt; replied(frame.run(&procedure, &call)) == Ok((1, Some(u64::MAX), None)));
+    assert!(rt; replied(frame.run(&procedure, &call)) == Err(Reason::Overflow));
+    assert_eq!(rt; frame.get(0), u64::MAX);
+    Ok(())
+}
+
+#[test]
+fn sum_reads_the_cells_of_its_keys(rt: HostRuntime) -> Result<(), Fail> {
+    let procedure = sum2(rt.alloc())?;
+    let mut frame = Frame::new();
+    frame.put(0, 70);
+    frame.put(1, 80);
+    let reply = frame.run(&procedure, &of_records_4_and_2(&procedure));
+    assert!(rt; replied(reply) == Ok((1, Some(150), None)));
+    assert_eq!(rt; frame.get(0), 70);
+    assert_eq!(rt; frame.get(1), 80);
     Ok(())
 }

@@ -1,7 +1,5 @@
 -- The procedure is built as its rows have it, whatever its name.
-use Rattle.std.proofs.Common.{◌≡◌, ◌∷◌, [], List, rules}
-use Rattle.vll_proc.specs.declared.syntax.KeyDecl.{KeyDecl}
-use Rattle.vll_proc.specs.declared.syntax.Stmt.{Stmt}
+use Rattle.std.proofs.Common.{◌≡◌, rules}
 use Rattle.vll_proc.proofs.Rows.{transfer_keys, transfer_body, transfer_is_well_formed}
 use Rattle.vll_proc.proofs.frame.tests.transfer.Goals as goal
 
