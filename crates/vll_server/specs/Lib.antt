@@ -7,6 +7,7 @@ pub mod Making
 pub mod Calls
 pub mod Library
 pub mod Setup
+pub mod Kept
 pub mod Scenario
 pub mod Merge
 pub mod Text
