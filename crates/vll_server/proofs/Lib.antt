@@ -6,3 +6,4 @@ pub mod Places
 pub mod Passed
 pub mod Texts
 pub mod Written
+pub mod Given

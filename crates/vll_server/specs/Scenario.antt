@@ -40,18 +40,28 @@ abbrev pub refuse_if : {A : Type 0} → Bool → ScenarioFault → Result A Scen
 refuse_if true why go = Err why
 refuse_if false why go = go
 
--- the first procedure that is not well-formed
+-- the fault of the first procedure that is not well-formed, where numbers begin at i
+abbrev pub first_check_from : ℕ → ℕ → List Proc → Option ScenarioFault
+first_check_from records i procs = first_fault (λ n p. option_map (fault.Check n) (check_fault records p)) i procs
+
 abbrev pub first_check : ℕ → List Proc → Option ScenarioFault
-first_check records procs = first_fault (λ i p. option_map (fault.Check i) (check_fault records p)) 0 procs
+first_check records procs = first_check_from records 0 procs
 
 abbrev pub in_call : ℕ → ℕ → Result Call CallFault → Result Call ScenarioFault
 in_call client index (Ok c) = Ok c
 in_call client index (Err why) = Err (fault.Call client index why)
 
--- the calls of the scripts
+-- the call that a client's script asks for at an index
+abbrev pub call_at : ℕ → List Proc → ℕ → ℕ → Asked → Result Call ScenarioFault
+call_at records procs client index a = in_call client index (call_made records procs a)
+
+-- the calls of a client's script
+abbrev pub script_made : ℕ → List Proc → ℕ → List Asked → Result (List Call) ScenarioFault
+script_made records procs client script = each_given (call_at records procs client) 0 script
+
+-- the calls of the scripts, client by client
 abbrev pub scripts_made : ℕ → List Proc → List (List Asked) → Result (List (List Call)) ScenarioFault
-scripts_made records procs scripts =
-    each_given (λ client script. each_given (λ index a. in_call client index (call_made records procs a)) 0 script) 0 scripts
+scripts_made records procs scripts = each_given (script_made records procs) 0 scripts
 
 -- the scenario of its parts: the sizes, then the procedures, then their names, then the calls
 abbrev pub setup_of : Parts → Result Setup ScenarioFault

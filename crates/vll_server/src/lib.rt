@@ -10,6 +10,7 @@ mod line;
 mod making;
 mod members;
 mod scenario;
+mod setup;
 mod shape;
 mod outcome;
 mod plain;
