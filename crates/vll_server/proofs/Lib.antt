@@ -7,3 +7,4 @@ pub mod Passed
 pub mod Texts
 pub mod Written
 pub mod Given
+pub mod Fitting
