@@ -1,3 +1,4 @@
 pub mod Lists
 pub mod Forms
 pub mod Names
+pub mod Sizes
