@@ -8,3 +8,4 @@ pub mod Texts
 pub mod Written
 pub mod Given
 pub mod Fitting
+pub mod Sizes
