@@ -8,7 +8,9 @@ pub mod Calls
 pub mod Library
 pub mod Setup
 pub mod Kept
+pub mod Bytes
 pub mod Scenario
+pub mod Reading
 pub mod Merge
 pub mod Text
 pub mod Streams

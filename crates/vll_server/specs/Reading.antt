@@ -6,29 +6,31 @@ use Rattle.serde_json.specs.View.{view}
 use Rattle.serde_json.specs.declared.value.Value.{Value}
 use Rattle.vll_server.specs.declared.fault.ScenarioFault.{ScenarioFault}
 use Rattle.vll_server.specs.declared.fault.ScenarioFault.TheVariants as fault
-use Rattle.vll_server.specs.declared.shape.Parts.{Parts}
-use Rattle.vll_server.specs.Scenario.{IsTree, most_bytes, scenario_of_tree_or_none}
-use Rattle.vll_server.specs.Setup.{Setup}
-use Rattle.vll_server.specs.Shape.{shape_of}
+use Rattle.vll_server.specs.Scenario.{IsTree, most_bytes}
 
--- the scenario of bytes, or their fault: too many bytes, no JSON text, or what the tree gives
-abbrev pub IsAnswerFor : List ℕ → Result Setup ScenarioFault → Type 0
-IsAnswerFor bytes result =
+-- what is answered for bytes: that there are too many, or what their tree gives
+abbrev pub IsAnswerBy : {A : Type 0} → (Option Data → Result A ScenarioFault) → List ℕ → Result A ScenarioFault → Type 0
+IsAnswerBy of bytes result =
     ((most_bytes < length bytes) × (result ≡ Err fault.Size))
-    ⊎ ((length bytes ≤ most_bytes) × ((tree : Option Data) × IsTree bytes tree × (scenario_of_tree_or_none tree ≡ result)))
+    ⊎ ((length bytes ≤ most_bytes) × ((tree : Option Data) × IsTree bytes tree × (of tree ≡ result)))
 
 -- the bytes were read to their end, or there are too many
 abbrev pub ReadsEnough : Option (List ℕ) → Option (List ℕ) → List ℕ → Type 0
 ReadsEnough old new bytes = Consumes old new bytes × ((most_bytes < length bytes) ⊎ IsAtEnd new)
 
 -- what is answered is the answer for the bytes that were read, unless the reader failed or memory ran out
-abbrev pub Answers : Option (List ℕ) → Option (List ℕ) → Result Setup ScenarioFault → Type 0
-Answers old new (Err fault.Read) = Unit {0}
-Answers old new (Err fault.NoMemory) = Unit {0}
-Answers old new result = (bytes : List ℕ) × ReadsEnough old new bytes × IsAnswerFor bytes result
+abbrev pub Reads : {A : Type 0} → (Option Data → Result A ScenarioFault) → Option (List ℕ) → Option (List ℕ) → Result A ScenarioFault → Type 0
+Reads of old new (Err fault.Read) = Unit {0}
+Reads of old new (Err fault.NoMemory) = Unit {0}
+Reads of old new result = (bytes : List ℕ) × ReadsEnough old new bytes × IsAnswerBy of bytes result
 
 -- where the reader tells its bytes, what is answered is the answer for them
-abbrev pub Tells : Option (List ℕ) → Result Setup ScenarioFault → Type 0
-Tells known (Err fault.Read) = Unit {0}
-Tells known (Err fault.NoMemory) = Unit {0}
-Tells known result = IfSome known (λ bytes. IsAnswerFor bytes result)
+abbrev pub Tells : {A : Type 0} → (Option Data → Result A ScenarioFault) → Option (List ℕ) → Result A ScenarioFault → Type 0
+Tells of known (Err fault.Read) = Unit {0}
+Tells of known (Err fault.NoMemory) = Unit {0}
+Tells of known result = IfSome known (λ bytes. IsAnswerBy of bytes result)
+
+-- a tree as what it stands for
+abbrev pub data_of : Result Value ScenarioFault → Result Data ScenarioFault
+data_of (Ok v) = Ok (view v)
+data_of (Err why) = Err why

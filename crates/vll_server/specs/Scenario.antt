@@ -74,12 +74,6 @@ setup_of p =
         Ok (record { records = p.records; procs = procs; scripts = scripts })))
     else Err fault.Size
 
--- the scenario of a JSON tree
-abbrev pub scenario_of_tree : Data → Result Setup ScenarioFault
-scenario_of_tree d = do
-  parts ← shape_of d
-  setup_of parts
-
 -- the JSON tree that bytes are, or that they are none
 abbrev pub IsTree : List ℕ → Option Data → Type 0
 IsTree bytes (Some d) = IsUtf8 bytes × (read bytes ≡ Some d)
@@ -89,10 +83,19 @@ IsTree bytes None = IsUtf8 bytes → read bytes ≡ None
 abbrev pub most_bytes : ℕ
 most_bytes = 16777216
 
-abbrev pub scenario_of_tree_or_none : Option Data → Result Setup ScenarioFault
-scenario_of_tree_or_none None = Err fault.Json
-scenario_of_tree_or_none (Some d) = scenario_of_tree d
+-- a tree, or that the bytes are none
+abbrev pub tree_or_json : Option Data → Result Data ScenarioFault
+tree_or_json None = Err fault.Json
+tree_or_json (Some d) = Ok d
 
--- the scenario of bytes and of their tree
-abbrev pub scenario_of : List ℕ → Option Data → Result Setup ScenarioFault
-scenario_of bytes tree = if nat_lt most_bytes (length bytes) then Err fault.Size else scenario_of_tree_or_none tree
+-- the parts of a tree
+abbrev pub parts_at : Option Data → Result Parts ScenarioFault
+parts_at tree = do
+  d ← tree_or_json tree
+  shape_of d
+
+-- the scenario of a tree: the tests are made in this order, and the first fault is answered
+abbrev pub scenario_at : Option Data → Result Setup ScenarioFault
+scenario_at tree = do
+  parts ← parts_at tree
+  setup_of parts

@@ -1,3 +1,4 @@
+use crate::bytes::ReadFault;
 use crate::library::LibraryFault;
 use std::alloc::AllocError;
 use thiserror::Error;
@@ -115,6 +116,21 @@ impl From<AllocError> for ScenarioFault {
 
     fn from(_: AllocError) -> ScenarioFault {
         ScenarioFault::NoMemory
+    }
+}
+
+impl From<ReadFault> for ScenarioFault {
+    ghost use Rattle.std.specs.Prelude.{◌≡◌};
+    ghost use Rattle.vll_server.specs.Bytes.{fault_of};
+
+    ghost from_gives = { λ f e. e ≡ fault_of f };
+
+    fn from(fault: ReadFault) -> ScenarioFault {
+        match fault {
+            ReadFault::Read => ScenarioFault::Read,
+            ReadFault::Size => ScenarioFault::Size,
+            ReadFault::NoMemory => ScenarioFault::NoMemory,
+        }
     }
 }
 

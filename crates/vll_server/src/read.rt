@@ -1,8 +1,8 @@
 //! A scenario, read from bytes.
 ghost use Rattle.std.specs.Prelude.{◌≡◌, ◌↔◌, ◌⊎◌, true, false, Some, None, Ok, Err, IfOk, IfErr, OnOk};
 ghost use Rattle.serde_json.specs.View.{view};
-ghost use Rattle.vll_server.specs.Scenario.{IsTree};
-ghost use Rattle.vll_server.specs.Reading.{Answers, ReadsParts, ReadsTree, Tells};
+ghost use Rattle.vll_server.specs.Scenario.{IsTree, parts_at, scenario_at, tree_or_json};
+ghost use Rattle.vll_server.specs.Reading.{data_of, Reads, Tells};
 ghost use Rattle.vll_server.specs.declared.fault.ScenarioFault.TheVariants as ScenarioFault;
 
 use crate::bytes::read_bytes;
@@ -22,8 +22,8 @@ use std::alloc::Global;
 /// others, and after `Ok`, the answer is that of the bytes that came.
 pub fn read_scenario<S: Source>(alloc: Global, reader: &mut S) -> Result<Scenario, ScenarioFault>
     requires { S.failed reader.old ≡ false }
-    ensures answer { Answers (S.remaining reader.old) (S.remaining reader.new) result }
-    ensures told { Tells (S.remaining reader.old) result }
+    ensures answer { Reads scenario_at (S.remaining reader.old) (S.remaining reader.new) result }
+    ensures told { Tells scenario_at (S.remaining reader.old) result }
     ensures failed { (result ≡ Err ScenarioFault.Read) ↔ (S.failed reader.new ≡ true) }
 {
     let parts = read_parts(alloc, reader)?;
@@ -33,7 +33,7 @@ pub fn read_scenario<S: Source>(alloc: Global, reader: &mut S) -> Result<Scenari
 // The parts of the scenario that a reader gives.
 fn read_parts<S: Source>(alloc: Global, reader: &mut S) -> Result<Parts, ScenarioFault>
     requires { S.failed reader.old ≡ false }
-    ensures parts { ReadsParts (S.remaining reader.old) (S.remaining reader.new) result }
+    ensures parts { Reads parts_at (S.remaining reader.old) (S.remaining reader.new) result }
     ensures failed { (result ≡ Err ScenarioFault.Read) ↔ (S.failed reader.new ≡ true) }
 {
     let tree = read_tree(alloc, reader)?;
@@ -43,7 +43,8 @@ fn read_parts<S: Source>(alloc: Global, reader: &mut S) -> Result<Parts, Scenari
 // The JSON tree that a reader gives.
 fn read_tree<S: Source>(alloc: Global, reader: &mut S) -> Result<Value, ScenarioFault>
     requires { S.failed reader.old ≡ false }
-    ensures tree { ReadsTree (S.remaining reader.old) (S.remaining reader.new) result }
+    ensures tree { Reads tree_or_json (S.remaining reader.old) (S.remaining reader.new)
+        (data_of result) }
     ensures failed { (result ≡ Err ScenarioFault.Read) ↔ (S.failed reader.new ≡ true) }
 {
     let bytes = read_bytes(alloc, reader)?;
