@@ -9,3 +9,4 @@ pub mod Written
 pub mod Given
 pub mod Fitting
 pub mod Sizes
+pub mod Answering
