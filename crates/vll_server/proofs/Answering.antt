@@ -1,24 +1,21 @@
 -- How what is answered for a tree becomes what is answered for its parts, and for its scenario.
-use Rattle.std.proofs.Common.{◌≡◌, ◌≢◌, ◌<◌, ◌≤◌, ◌⊎◌, inl, inr, ℕ, suc, Bool, true, false, List, [], ◌∷◌, ◌++◌, length, Option, Some, None, Result, Ok, Err, IfOk, IfErr, IfSome, refl, sym, ap, ◌∙◌, subst, arith, length-append, append-nil, option_map, if◌then◌else◌}
-use Rattle.std.specs.Io.KnownBytes.{Consumes, IsAtEnd}
+use Rattle.std.proofs.Common.{◌≡◌, ◌<◌, ◌⊎◌, inl, inr, ℕ, suc, Bool, true, false, List, [], ◌∷◌, ◌++◌, length, Option, Some, None, Result, Ok, Err, IfOk, IfErr, IfSome, refl, sym, ap, ◌∙◌, subst, arith, length-append, append-nil, option_map, if◌then◌else◌}
 use Rattle.serde_json.specs.Data.{Data}
 use Rattle.serde_json.specs.View.{view}
 use Rattle.serde_json.specs.declared.value.Value.{Value}
 use Rattle.vll_proc.specs.declared.call.Call.{Call}
 use Rattle.vll_proc.specs.declared.syntax.Proc.{Proc}
-use Rattle.vll_server.specs.declared.asked.Asked.{Asked}
 use Rattle.vll_server.specs.declared.fault.CallFault.{CallFault}
 use Rattle.vll_server.specs.declared.fault.CheckFault.{CheckFault}
-use Rattle.vll_server.specs.declared.fault.Part.{Part}
 use Rattle.vll_server.specs.declared.fault.ScenarioFault.{ScenarioFault}
 use Rattle.vll_server.specs.declared.fault.ScenarioFault.TheVariants as fault
 use Rattle.vll_server.specs.declared.shape.Parts.{Parts}
 use Rattle.vll_server.specs.Checked.{check_fault, has_name_twice}
 use Rattle.vll_server.specs.Calls.{call_made}
 use Rattle.vll_server.specs.Reading.{IsAnswerBy, ReadsEnough, Reads, Tells, data_of}
-use Rattle.vll_server.specs.Scenario.{IsTree, call_at, each_given, first_check, first_check_from, first_fault, in_call, most_bytes, ok_unless, or_else, refuse_if, script_made, scripts_made, setup_of, tree_or_json}
+use Rattle.vll_server.specs.Scenario.{IsTree, call_at, each_given, first_check, first_check_from, in_call, most_bytes, ok_unless, or_else, refuse_if, script_made, scripts_made, setup_of, tree_or_json}
 use Rattle.vll_server.specs.Setup.{Setup, has_sizes}
-use Rattle.vll_server.specs.Shape.{◌>>=◌, GivesUnlessMemory, in_part, shape_of, version_at}
+use Rattle.vll_server.specs.Shape.{◌>>=◌, GivesUnlessMemory}
 use Rattle.vll_server.specs.Streams.{ReadsAll}
 
 -- ---- the tree of the bytes

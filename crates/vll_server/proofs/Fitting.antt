@@ -1,19 +1,18 @@
 -- What is known of a scenario that was made of parts: its procedures are well-formed, and its calls are theirs.
-use Rattle.std.proofs.Common.{◌≡◌, ◌≢◌, ℕ, zero, suc, ◌+◌, ◌<◌, ◌≤◌, Bool, true, false, ◌&&◌, ◌==◌, nat_lt, nat_le, List, [], ◌∷◌, ◌++◌, length, map, take, drop, take_at, ◌-◌, get_or, replicate, Option, Some, None, option_map, Result, Ok, Err, refl, sym, ap, ap₂, ◌∙◌, subst, if◌then◌else◌, slice_get, arith, add-one}
+use Rattle.std.proofs.Common.{◌≡◌, ℕ, suc, ◌+◌, ◌<◌, ◌≤◌, Bool, true, false, ◌&&◌, ◌==◌, nat_lt, nat_le, List, [], ◌∷◌, length, map, drop, take_at, ◌-◌, get_or, replicate, Option, Some, None, option_map, Result, Ok, Err, refl, sym, ap, ap₂, ◌∙◌, subst, if◌then◌else◌, slice_get, add-one}
 use Rattle.std.specs.Prelude.{sum_by}
 use Rattle.std.specs.List.{All, AllByRecursion, list_all}
 use Rattle.std.proofs.Math.Seq.{drop-cons}
 use Rattle.std.proofs.lemmas.Bool.{eqb-true, leb-true, false≢true}
 use Rattle.std.proofs.lemmas.Option.{slice_get_within, get_or_from_slice_get}
-use Rattle.std.proofs.lemmas.List.Elements.{All-from_recursion, recursion_from_All}
+use Rattle.std.proofs.lemmas.List.Elements.{All-from_recursion}
 use Rattle.std.proofs.lemmas.List.Sums.{sum_by-cons}
-use Rattle.vll_record.specs.Canon.{laid}
 use Rattle.vll_record.specs.Claim.{claims_of, with_claim, stronger}
 use Rattle.vll_record.specs.declared.claim.Claim.{Claim}
 use Rattle.vll_proc.specs.declared.call.Call.{Call}
 use Rattle.vll_proc.specs.declared.syntax.KeyDecl.{KeyDecl}
 use Rattle.vll_proc.specs.declared.syntax.Proc.{Proc}
-use Rattle.vll_proc.specs.Made.{asked, call_of, IsCallOf}
+use Rattle.vll_proc.specs.Made.{asked, call_of}
 use Rattle.vll_proc.specs.WellFormed as formed
 use Rattle.vll_server.specs.declared.asked.Asked.{Asked}
 use Rattle.vll_server.specs.declared.fault.CallFault.{CallFault}

@@ -1,5 +1,5 @@
 -- What items give one after another, and the first fault among them.
-use Rattle.std.proofs.Common.{◌≡◌, ℕ, suc, ◌+◌, List, [], ◌∷◌, ◌++◌, Result, Ok, Err, refl, sym, ap, ◌∙◌, append_assoc, add-one}
+use Rattle.std.proofs.Common.{◌≡◌, ℕ, suc, ◌+◌, List, [], ◌∷◌, ◌++◌, Result, Ok, Err, refl, sym, ap, append_assoc, add-one}
 use Rattle.vll_server.specs.Shape.{◌>>=◌}
 use Rattle.vll_server.specs.Scenario.{each_given}
 

@@ -2,29 +2,28 @@
 #![tactic(auto)]
 
 mod asked;
-mod check;
 mod bytes;
+mod check;
 mod fault;
 mod library;
 mod line;
 mod making;
 mod members;
+mod outcome;
+mod plain;
 mod read;
 mod scenario;
 mod setup;
 mod shape;
-mod outcome;
-mod plain;
 mod stream;
 mod syntax;
 mod text;
 mod tree;
 
-pub use fault::{ServeFault, WriteFault};
+pub use fault::{CallFault, CheckFault, Part, ScenarioFault, ServeFault, Spot, WriteFault};
 pub use line::{Closed, Line};
 pub use outcome::write_outcome;
 pub use plain::Plain;
-pub use fault::{CallFault, CheckFault, Part, ScenarioFault, Spot};
 pub use read::read_scenario;
 pub use scenario::Scenario;
 pub use stream::{Sink, Source};

@@ -68,7 +68,12 @@ impl Library {
             return Err(CallFault::UnknownProc);
         };
         let procs = self.procs.as_slice();
-        call_to(self.records, *number, &procs[*number as usize], asked.args.as_slice())
+        call_to(
+            self.records,
+            *number,
+            &procs[*number as usize],
+            asked.args.as_slice(),
+        )
     }
 }
 

@@ -16,8 +16,11 @@ use std::alloc::Global;
 use vll_proc::{Call, Proc};
 
 const MOST_RECORDS: usize = 65_536;
+
 const MOST_PROCS: usize = 1_048_576;
+
 const MOST_CLIENTS: usize = 1_024;
+
 const MOST_CALLS: usize = 65_536;
 
 // The scenario of its parts: the sizes are tested first, then the procedures, their names and the calls.

@@ -1,6 +1,5 @@
-use Rattle.std.proofs.Common.{subst, sym, ap, ◌∙◌}
+use Rattle.std.proofs.Common.{subst, sym}
 use Rattle.vll_server.specs.Streams.{ReadsAll}
-use Rattle.vll_server.specs.Scenario.{IsTree}
 use Rattle.vll_server.proofs.Answering.{tree_reads}
 use Rattle.vll_server.proofs.read.read_tree.Goals as goal
 

@@ -1,4 +1,4 @@
-use Rattle.std.proofs.Common.{◌∙◌, ◌+◌, ap, drop, sym, arith}
+use Rattle.std.proofs.Common.{◌∙◌, ◌+◌, ap, drop, sym}
 use Rattle.vll_server.specs.Scenario.{first_check_from, ok_unless}
 use Rattle.vll_server.proofs.Fitting.{drop-next, check-fault, check-next}
 use Rattle.vll_server.proofs.setup.check_all.Goals as goal

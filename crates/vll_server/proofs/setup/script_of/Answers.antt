@@ -1,4 +1,4 @@
-use Rattle.std.proofs.Common.{◌≡◌, ◌∙◌, ◌+◌, ◌++◌, ◌∷◌, [], Ok, ap, drop, sym, arith}
+use Rattle.std.proofs.Common.{◌≡◌, ◌∙◌, ◌+◌, Ok, ap, drop, sym}
 use Rattle.vll_server.specs.Scenario.{call_at, each_given, in_call}
 use Rattle.vll_server.proofs.Fitting.{drop-next}
 use Rattle.vll_server.proofs.Given.{after_those, after_those-next}

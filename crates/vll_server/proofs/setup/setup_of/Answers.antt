@@ -1,10 +1,10 @@
-use Rattle.std.proofs.Common.{◌≡◌, ◌∙◌, List, ℕ, None, Ok, Result, true, ap, ap₂, sym, subst, length, arith}
+use Rattle.std.proofs.Common.{◌≡◌, ◌∙◌, None, Ok, true, ap, ap₂, sym, subst, length, arith}
 use Rattle.std.specs.List.{All}
 use Rattle.vll_proc.specs.declared.syntax.Proc.{Proc}
 use Rattle.vll_server.specs.Catalog.{Catalog}
 use Rattle.vll_server.specs.Checked.{check_fault}
 use Rattle.vll_server.specs.Scenario.{first_check, ok_unless, scripts_made}
-use Rattle.vll_server.specs.Setup.{Fits, has_sizes}
+use Rattle.vll_server.specs.Setup.{has_sizes}
 use Rattle.vll_server.proofs.Fitting.{few_procedures, no_first_check, scripts_fit, scripts_sizes}
 use Rattle.vll_server.proofs.setup.setup_of.Goals as goal
 
@@ -15,8 +15,8 @@ new-requires c =
     record {
       few = omega (arith, few_procedures parts.records parts.procs parts.scripts sizes);
       formed =
-        no_first_check c.len-count.result parts.procs tt c.in_ok-check_all.field-0
-        (sym (c.check_all.ensures ∙ ap (λ ps. ok_unless (first_check c.len-count.result ps) tt) c.as_slice-4.ensures) ∙ c.in_ok-check_all.was);
+          no_first_check c.len-count.result parts.procs tt c.in_ok-check_all.field-0
+          (sym (c.check_all.ensures ∙ ap (λ ps. ok_unless (first_check c.len-count.result ps) tt) c.as_slice-4.ensures) ∙ c.in_ok-check_all.was);
     }
 
 pub invariant_of-result : goal.invariant_of-result
@@ -30,7 +30,7 @@ invariant_of-result c =
     let procs : library.procs ≡ parts.procs = ap (λ (l : Catalog). l.procs) c.in_ok-library.ensures.ok in
     let scripts : scripts_made library.records library.procs parts.scripts ≡ Ok made = sym (ap (scripts_made library.records library.procs) c.as_slice-5.ensures) ∙ c.in_ok-scripts.ensures in
     let checks = no_first_check c.len-count.result parts.procs tt c.in_ok-check_all.field-0
-      (sym (c.check_all.ensures ∙ ap (λ ps. ok_unless (first_check c.len-count.result ps) tt) c.as_slice-4.ensures) ∙ c.in_ok-check_all.was) in
+    (sym (c.check_all.ensures ∙ ap (λ ps. ok_unless (first_check c.len-count.result ps) tt) c.as_slice-4.ensures) ∙ c.in_ok-check_all.was) in
     let as_many : library.records ≡ length c.in_ok-records.records.items = count ∙ ap length (sym kept) in
     let n = length c.in_ok-records.records.items in
     let checks_kept : All (λ (p : Proc). check_fault n p ≡ None) library.procs =
