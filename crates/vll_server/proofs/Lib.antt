@@ -6,3 +6,5 @@ pub mod Places
 pub mod Passed
 pub mod Texts
 pub mod Written
+pub mod Stored
+pub mod Served

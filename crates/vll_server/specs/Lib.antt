@@ -11,5 +11,6 @@ pub mod Kept
 pub mod Scenario
 pub mod Merge
 pub mod Text
+pub mod Serve
 pub mod Streams
 pub mod Plain

@@ -1,15 +1,18 @@
 //! Scenarios in, texts out: reading and checking a scenario, running its scripts, and writing what came of it.
 #![tactic(auto)]
 
+mod apply;
 mod asked;
 mod check;
 mod bytes;
 mod fault;
+mod laws;
 mod library;
 mod line;
 mod making;
 mod members;
 mod scenario;
+mod serve;
 mod shape;
 mod outcome;
 mod plain;
@@ -19,8 +22,10 @@ mod text;
 mod tree;
 
 pub use fault::{ServeFault, WriteFault};
+pub use laws::client_order_is_a_merge;
 pub use line::{Closed, Line};
 pub use outcome::write_outcome;
 pub use plain::Plain;
 pub use scenario::Scenario;
+pub use serve::serve_plain;
 pub use stream::{Sink, Source};
