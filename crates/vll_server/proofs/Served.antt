@@ -6,7 +6,9 @@ use Rattle.vll_proc.specs.declared.call.Call.{Call}
 use Rattle.vll_proc.specs.declared.call.Reply.{Reply}
 use Rattle.vll_proc.specs.declared.syntax.Proc.{Proc}
 use Rattle.vll_proc.specs.Serial.{Made, apply, applied, applied_at, end, answer}
+use Rattle.vll_proc.proofs.Kept.{length-applied}
 use Rattle.vll_server.specs.declared.line.Line.{Line}
+use Rattle.vll_server.specs.Merge.{in_client_order}
 use Rattle.vll_server.specs.Serve.{made_by, words_of}
 use Rattle.vll_server.specs.Text.{Text, answer_text, line_words, reply_text, outcome_text, closed_text, serial_text}
 
@@ -63,6 +65,31 @@ words_of-next procs before rest client call reply now new old journal whole next
     let words : (client, reply_text reply) ∷ words_of procs rest new ≡ words_of procs before now =
     ap₂ (λ (r : Reply) (rs : List ℕ). (client, reply_text r) ∷ words_of procs rest rs) replied is ∙ ap (λ (ms : List Made). words_of procs ms now) (sym next) in
     ap (λ ls. ls ++ words_of procs rest new) lines ∙ append_assoc (map line_words old) ((client, reply_text reply) ∷ []) (words_of procs rest new) ∙ ap (λ ws. map line_words old ++ ws) words ∙ so_far
+
+-- the next client's script, and what is still to come
+pub in_client_order-next : (scripts : List (List Call)) (i : ℕ) (script : List Call) → i < length scripts → script ≡ get_or scripts i script
+    → in_client_order i (drop i scripts) ≡ made_by i script ++ in_client_order (i + 1) (drop (i + 1) scripts)
+in_client_order-next scripts i script within is = rw (add-one, drop-cons scripts i script within, ← is) refl
+
+pub end-behind : (procs : List Proc) (before front rest : List Made) (now new whole : List ℕ) → before ≡ front ++ rest → new ≡ end procs front now → end procs before now ≡ whole → end procs rest new ≡ whole
+end-behind procs before front rest now new whole next is so_far =
+    ap (end procs rest) is ∙ sym (end-append procs front rest now) ∙ ap (λ (ms : List Made). end procs ms now) (sym next) ∙ so_far
+
+pub words_of-behind : (procs : List Proc) (before front rest : List Made) (now new : List ℕ) (old journal whole : List (ℕ × Text)) → before ≡ front ++ rest → new ≡ end procs front now
+    → journal ≡ old ++ words_of procs front now → old ++ words_of procs before now ≡ whole → journal ++ words_of procs rest new ≡ whole
+words_of-behind procs before front rest now new old journal whole next is grown so_far =
+    let words : words_of procs front now ++ words_of procs rest new ≡ words_of procs before now =
+    ap (λ (rs : List ℕ). words_of procs front now ++ words_of procs rest rs) is ∙ sym (words_of-append procs front rest now) ∙ ap (λ (ms : List Made). words_of procs ms now) (sym next) in
+    ap (λ ls. ls ++ words_of procs rest new) grown ∙ append_assoc old (words_of procs front now) (words_of procs rest new) ∙ ap (λ ws. old ++ ws) words ∙ so_far
+
+-- calls add no record and remove none
+pub end-length : (procs : List Proc) (calls : List Made) (records : List ℕ) → length (end procs calls records) ≡ length records
+end-length procs [] records = refl
+end-length procs (made ∷ more) records = end-length procs more (apply procs made.1 records).records ∙ at (slice_get procs made.1.number)
+  where
+    at : (o : Option Proc) → length (applied_at o made.1.args records).records ≡ length records
+    at None = refl
+    at (Some p) = length-applied p made.1.args records
 
 -- the words of a run are those of its answers
 pub words_of-answers : (procs : List Proc) (calls : List Made) (records : List ℕ)

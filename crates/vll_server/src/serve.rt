@@ -1,4 +1,4 @@
-ghost use Rattle.std.specs.Prelude.{◌≡◌, ◌↔◌, ◌++◌, false, true, length, map, All, OnOk, IfOk};
+ghost use Rattle.std.specs.Prelude.{◌≡◌, ◌↔◌, ◌++◌, ◌≤◌, false, true, length, map, All, OnOk, IfOk};
 ghost use Rattle.std.specs.Io.KnownBytes.{Appends};
 ghost use Rattle.vll_proc.specs.Serial.{end};
 ghost use Rattle.vll_server.specs.Merge.{in_client_order};
@@ -13,6 +13,7 @@ use crate::line::{Closed, Line};
 use crate::outcome::write_outcome;
 use crate::scenario::Scenario;
 use crate::stream::Sink;
+use sqlite_items::Items;
 use std::alloc::{AllocError, Global};
 use vll_proc::{Call, Proc};
 
@@ -40,7 +41,7 @@ pub fn serve_plain<W: Sink>(
     })
 }
 
-// Runs the scripts one after the other.
+// Runs a scenario's calls, each client's script after the one before.
 fn run(alloc: Global, scenario: Scenario) -> Result<Closed, AllocError>
     ensures { IfOk result (λ closed. closed_text closed.journal.items closed.records.items
         closed.pairs.items ≡ serial_text scenario.procs scenario.records
@@ -54,15 +55,32 @@ fn run(alloc: Global, scenario: Scenario) -> Result<Closed, AllocError>
     let mut records = records;
     let pairs = vec![in alloc; 0; records.len()]?;
     let mut journal = Vec::new(alloc);
-    for (client, script) in scripts.as_slice().iter().enumerate() {
-        let calls = script.as_slice();
-        serve_script(library.procs(), client as u32, calls, &mut records, &mut journal)?;
-    }
+    serve_scripts(library.procs(), scripts.as_slice(), &mut records, &mut journal)?;
     Ok(Closed {
         records,
         pairs,
         journal,
     })
+}
+
+// Runs the scripts one after the other, and says in the journal what came of each call.
+fn serve_scripts(
+    procs: &[Proc],
+    scripts: &[Items<Call>],
+    records: &mut [u64],
+    journal: &mut Vec<Line>,
+) -> Result<(), AllocError>
+    requires few { length scripts.now ≤ 1024 }
+    requires fits { All (λ script. All (Fits (length records.old) procs.now) script) scripts.now }
+    ensures records { OnOk result
+        (records.new ≡ end procs.now (in_client_order 0 scripts.now) records.old) }
+    ensures journal { OnOk result (map line_words journal.new.items ≡ map line_words
+        journal.old.items ++ words_of procs.now (in_client_order 0 scripts.now) records.old) }
+{
+    for (client, script) in scripts.iter().enumerate() {
+        serve_script(procs, client as u32, script.as_slice(), records, journal)?;
+    }
+    Ok(())
 }
 
 // Runs one client's script, and says in the journal what came of each call.
