@@ -8,3 +8,5 @@ pub mod Texts
 pub mod Written
 pub mod Stored
 pub mod Served
+pub mod Merges
+pub mod Rows

@@ -6,7 +6,6 @@ use Rattle.vll_proc.specs.declared.call.Call.{Call}
 use Rattle.vll_proc.specs.declared.call.Reply.{Reply}
 use Rattle.vll_proc.specs.declared.syntax.Proc.{Proc}
 use Rattle.vll_proc.specs.Serial.{Made, apply, applied, applied_at, end, answer}
-use Rattle.vll_proc.proofs.Kept.{length-applied}
 use Rattle.vll_server.specs.declared.line.Line.{Line}
 use Rattle.vll_server.specs.Merge.{in_client_order}
 use Rattle.vll_server.specs.Serve.{made_by, words_of}
@@ -81,15 +80,6 @@ words_of-behind procs before front rest now new old journal whole next is grown 
     let words : words_of procs front now ++ words_of procs rest new ≡ words_of procs before now =
     ap (λ (rs : List ℕ). words_of procs front now ++ words_of procs rest rs) is ∙ sym (words_of-append procs front rest now) ∙ ap (λ (ms : List Made). words_of procs ms now) (sym next) in
     ap (λ ls. ls ++ words_of procs rest new) grown ∙ append_assoc old (words_of procs front now) (words_of procs rest new) ∙ ap (λ ws. old ++ ws) words ∙ so_far
-
--- calls add no record and remove none
-pub end-length : (procs : List Proc) (calls : List Made) (records : List ℕ) → length (end procs calls records) ≡ length records
-end-length procs [] records = refl
-end-length procs (made ∷ more) records = end-length procs more (apply procs made.1 records).records ∙ at (slice_get procs made.1.number)
-  where
-    at : (o : Option Proc) → length (applied_at o made.1.args records).records ≡ length records
-    at None = refl
-    at (Some p) = length-applied p made.1.args records
 
 -- the words of a run are those of its answers
 pub words_of-answers : (procs : List Proc) (calls : List Made) (records : List ℕ)

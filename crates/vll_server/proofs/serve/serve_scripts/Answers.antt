@@ -1,7 +1,7 @@
 use Rattle.std.proofs.Common.{◌≡◌, ◌+◌, ◌<◌, ◌++◌, drop, length, get_or, ap, ◌∙◌, arith}
 use Rattle.vll_server.specs.Merge.{in_client_order}
 use Rattle.vll_server.specs.Serve.{made_by}
-use Rattle.vll_server.proofs.Served.{in_client_order-next, end-behind, end-length, words_of-behind}
+use Rattle.vll_server.proofs.Served.{in_client_order-next, end-behind, words_of-behind}
 use Rattle.vll_server.proofs.serve.serve_scripts.Goals as goal
 
 pub loop-client-preserved : goal.loop-client-preserved
