@@ -1,6 +1,6 @@
 -- The serial run, call by call: what its calls answer and what the journal says of them.
-use Rattle.std.proofs.Common.{◌≡◌, ℕ, zero, suc, ◌+◌, ◌<◌, List, [], ◌∷◌, ◌++◌, length, map, take, drop, drop-cons, get_or, Option, Some, None, refl, sym, ap, ap₂, ◌∙◌, subst, arith, append_assoc, length-append, add-one, slice_get, replicate}
-use Rattle.std.specs.List.{enumerate_from, zip}
+use Rattle.std.proofs.Common.{◌≡◌, ℕ, ◌+◌, ◌<◌, List, [], ◌∷◌, ◌++◌, length, map, take, drop, drop-cons, get_or, Some, refl, sym, ap, ap₂, ◌∙◌, arith, append_assoc, length-append, add-one, slice_get, replicate}
+use Rattle.std.specs.List.{enumerate_from}
 use Rattle.std.proofs.lemmas.List.{map-append, take_at}
 use Rattle.vll_proc.specs.declared.call.Call.{Call}
 use Rattle.vll_proc.specs.declared.call.Reply.{Reply}
@@ -9,7 +9,7 @@ use Rattle.vll_proc.specs.Serial.{Made, apply, applied, applied_at, end, answer}
 use Rattle.vll_server.specs.declared.line.Line.{Line}
 use Rattle.vll_server.specs.Merge.{in_client_order}
 use Rattle.vll_server.specs.Serve.{made_by, words_of}
-use Rattle.vll_server.specs.Text.{Text, answer_text, line_words, reply_text, outcome_text, closed_text, serial_text}
+use Rattle.vll_server.specs.Text.{Text, answer_text, line_words, reply_text, closed_text, serial_text}
 
 pub end-append : (procs : List Proc) (xs ys : List Made) (records : List ℕ) → end procs (xs ++ ys) records ≡ end procs ys (end procs xs records)
 end-append procs [] ys records = refl

@@ -1,9 +1,8 @@
 -- Cells stored claim by claim: each record is as it shall be, or a later claim writes it.
-use Rattle.std.proofs.Common.{◌≡◌, ◌≢◌, ℕ, ◌+◌, ◌<◌, ◌≤◌, ◌⊎◌, inl, inr, List, length, get_or, Some, None, Option, refl, sym, ap, ◌∙◌, subst, arith, slice_get, slice_index, slice_set, ⊎_elim, true, false, if◌then◌else◌}
-use Rattle.std.specs.List.{All}
+use Rattle.std.proofs.Common.{◌≡◌, ◌≢◌, ℕ, ◌+◌, ◌≤◌, ◌⊎◌, inl, inr, List, length, Some, None, Option, refl, sym, ap, ◌∙◌, subst, arith, slice_get, slice_index, slice_set, ⊎_elim, true, false, if◌then◌else◌}
 use Rattle.std.proofs.lemmas.Bool.{cases_eq}
 use Rattle.std.proofs.lemmas.List.{ext_get_or, get_or-set_same, get_or-set_other, length-set}
-use Rattle.std.proofs.lemmas.Option.{same_Some, none-some, slice_get_within, get_or_from_slice_get}
+use Rattle.std.proofs.lemmas.Option.{same_Some, none-some, slice_get_within}
 use Rattle.vll_record.specs.declared.claim.Claim.{Claim}
 use Rattle.vll_record.specs.declared.claim.Mode.{Mode}
 use Rattle.vll_record.specs.declared.claim.Mode.TheVariants.{Read, Write}
@@ -38,6 +37,7 @@ AreStoredTo-write cells claims old now end i c h so_far is = record {
         let count = so_far.count in
         subst (λ q. slice_index (slice_set now c.id (slice_index cells i)) q ≡ slice_index end q) same
         (get_or-set_same now c.id (slice_index cells i) 0 (omega arith) ∙ cell.1)
+
     there : (r : ℕ) → (c.id ≡ r → ⊥) → (slice_index now r ≡ slice_index end r) ⊎ ((j : ℕ) × (i ≤ j) × (slice_get claims j ≡ Some (claim_of r Write)))
         → (slice_index (slice_set now c.id (slice_index cells i)) r ≡ slice_index end r) ⊎ ((j : ℕ) × (i + 1 ≤ j) × (slice_get claims j ≡ Some (claim_of r Write)))
     there r other (inl e) = inl (get_or-set_other now c.id r (slice_index cells i) 0 (λ q. other (sym q)) ∙ e)

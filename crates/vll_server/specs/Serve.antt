@@ -6,7 +6,7 @@ use Rattle.vll_record.specs.Claim.{mode_on}
 use Rattle.vll_proc.specs.declared.call.Call.{Call}
 use Rattle.vll_proc.specs.declared.syntax.Proc.{Proc}
 use Rattle.vll_proc.specs.Cells.{Holds}
-use Rattle.vll_proc.specs.Serial.{Made, After, apply}
+use Rattle.vll_proc.specs.Serial.{Made, apply}
 use Rattle.vll_server.specs.Text.{Text, reply_text}
 
 -- the records once the cells are stored: the claimed ones have their cells' values, and those that no claim writes are as before

@@ -3,19 +3,19 @@
 
 mod apply;
 mod asked;
-mod check;
 mod bytes;
+mod check;
 mod fault;
 mod laws;
 mod library;
 mod line;
 mod making;
 mod members;
+mod outcome;
+mod plain;
 mod scenario;
 mod serve;
 mod shape;
-mod outcome;
-mod plain;
 mod stream;
 mod syntax;
 mod text;

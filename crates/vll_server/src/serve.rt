@@ -55,7 +55,12 @@ fn run(alloc: Global, scenario: Scenario) -> Result<Closed, AllocError>
     let mut records = records;
     let pairs = vec![in alloc; 0; records.len()]?;
     let mut journal = Vec::new(alloc);
-    serve_scripts(library.procs(), scripts.as_slice(), &mut records, &mut journal)?;
+    serve_scripts(
+        library.procs(),
+        scripts.as_slice(),
+        &mut records,
+        &mut journal,
+    )?;
     Ok(Closed {
         records,
         pairs,

@@ -1,6 +1,5 @@
-use Rattle.std.proofs.Common.{◌≡◌, ◌+◌, Some, Option, List, ℕ, length, refl, arith, subst, sym, ◌∙◌, slice_get, slice_index, slice_set, if◌then◌else◌}
+use Rattle.std.proofs.Common.{◌≡◌, ◌+◌, Some, refl, arith, subst, sym, ◌∙◌, slice_get, slice_index, slice_set, if◌then◌else◌}
 use Rattle.std.proofs.lemmas.Option.{slice_get-get_or}
-use Rattle.vll_record.specs.declared.claim.Claim.{Claim}
 use Rattle.vll_record.specs.Canon.{no_claim}
 use Rattle.vll_record.specs.Claim.{is_write}
 use Rattle.vll_server.proofs.Stored.{AreStoredTo, AreStoredTo-first, AreStoredTo-next, AreStoredTo-last}

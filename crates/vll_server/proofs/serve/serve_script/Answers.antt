@@ -1,11 +1,8 @@
-use Rattle.std.proofs.Common.{◌≡◌, ◌+◌, ◌<◌, ◌∷◌, [], Some, drop, length, map, sym, ap, ◌∙◌, subst, arith, append_assoc, slice_get, ◌++◌, refl}
-use Rattle.std.proofs.lemmas.List.{map-append}
+use Rattle.std.proofs.Common.{◌≡◌, ◌+◌, ◌<◌, Some, drop, length, sym, ap, ◌∙◌, subst, arith, slice_get, refl}
 use Rattle.std.proofs.lemmas.Option.{slice_get_read, slice_get_within}
-use Rattle.vll_proc.specs.Serial.{apply, end}
-use Rattle.vll_server.specs.declared.line.Line.{Line}
-use Rattle.vll_server.specs.Serve.{made_by, words_of}
+use Rattle.vll_proc.specs.Serial.{apply}
+use Rattle.vll_server.specs.Serve.{made_by}
 use Rattle.vll_server.specs.Setup.{Fits}
-use Rattle.vll_server.specs.Text.{line_words, reply_text}
 use Rattle.vll_server.proofs.Served.{made_by-next, apply-there, end-next, words_of-next}
 use Rattle.vll_server.proofs.serve.serve_script.Goals as goal
 

@@ -9,5 +9,5 @@ invariant-loop-call l = record {
   count : length l.records ≡ length l.initial.records;
   records : end l.procs (made_by l.client (drop l.call-index l.script)) l.records ≡ end l.procs (made_by l.client l.script) l.initial.records;
   words : map line_words l.journal.items ++ words_of l.procs (made_by l.client (drop l.call-index l.script)) l.records
-    ≡ map line_words l.initial.journal.items ++ words_of l.procs (made_by l.client l.script) l.initial.records;
+      ≡ map line_words l.initial.journal.items ++ words_of l.procs (made_by l.client l.script) l.initial.records;
 }

@@ -1,4 +1,4 @@
-use Rattle.std.proofs.Common.{◌≡◌, ◌+◌, ◌<◌, ◌++◌, drop, length, get_or, ap, ◌∙◌, arith}
+use Rattle.std.proofs.Common.{◌≡◌, ◌+◌, ◌<◌, drop, length, get_or, arith}
 use Rattle.vll_server.specs.Merge.{in_client_order}
 use Rattle.vll_server.specs.Serve.{made_by}
 use Rattle.vll_server.proofs.Served.{in_client_order-next, end-behind, words_of-behind}
