@@ -10,3 +10,7 @@ pub mod Given
 pub mod Fitting
 pub mod Sizes
 pub mod Answering
+pub mod Stored
+pub mod Served
+pub mod Merges
+pub mod Rows

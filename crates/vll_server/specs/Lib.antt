@@ -13,5 +13,6 @@ pub mod Scenario
 pub mod Reading
 pub mod Merge
 pub mod Text
+pub mod Serve
 pub mod Streams
 pub mod Plain
