@@ -15,9 +15,8 @@ mod outcome;
 mod plain;
 mod read;
 mod scenario;
-mod setup;
-mod scenario;
 mod serve;
+mod setup;
 mod shape;
 mod stream;
 mod syntax;
@@ -25,7 +24,6 @@ mod text;
 mod tree;
 
 pub use fault::{CallFault, CheckFault, Part, ScenarioFault, ServeFault, Spot, WriteFault};
-pub use fault::{ServeFault, WriteFault};
 pub use laws::client_order_is_a_merge;
 pub use line::{Closed, Line};
 pub use outcome::write_outcome;
