@@ -1,14 +1,14 @@
 -- What a made call says of its procedure: each key position has the cell of its claim.
-use Rattle.std.proofs.Common.{◌≡◌, ℕ, zero, suc, ◌+◌, ◌-◌, ◌<◌, ◌≤◌, Bool, true, false, ◌&&◌, ◌==◌, nat_lt, List, [], ◌∷◌, ◌++◌, length, map, take, replicate, get_or, Option, Some, None, slice_get, slice_index, refl, sym, ap, ◌∙◌, subst, arith, ⊎_elim, if◌then◌else◌}
+use Rattle.std.proofs.Common.{◌≡◌, ℕ, zero, suc, ◌-◌, ◌<◌, ◌≤◌, Bool, true, false, ◌==◌, List, [], ◌∷◌, length, map, take, replicate, get_or, Option, Some, None, slice_index, refl, sym, ap, ◌∙◌, arith, ⊎_elim, if◌then◌else◌}
 use Rattle.std.specs.List.{list_all}
 use Rattle.std.proofs.lemmas.Bool.{ltb-true, cases_lt, leb-true, eq-eqb, cond-true}
 use Rattle.std.proofs.lemmas.Map.Views.{exact_unsigned_eq}
-use Rattle.std.proofs.lemmas.List.{get_or-map, get_or_append_left, get_or-append_right, get_or-replicate, get_or-take, get_or_past, length-map}
+use Rattle.std.proofs.lemmas.List.{get_or-map, get_or_append_left, get_or-append_right, get_or-take, get_or_past, length-map}
 use Rattle.std.proofs.lemmas.Option.{slice_get_within, none-some}
 use Rattle.vll_record.specs.Canon.{laid}
 use Rattle.vll_record.specs.declared.claim.Claim.{Claim}
 use Rattle.vll_record.specs.declared.claim.Mode.{Mode}
-use Rattle.vll_record.specs.declared.claim.Mode.TheVariants.{Read, Write}
+use Rattle.vll_record.specs.declared.claim.Mode.TheVariants.{Read}
 use Rattle.vll_record.specs.Claim.{IsRising, mode_on, claims_of, stronger, stronger_of}
 use Rattle.vll_record.proofs.ClaimsOf.{mode_on-claims_of}
 use Rattle.vll_proc.specs.declared.call.Call.{Call}
@@ -16,11 +16,11 @@ use Rattle.vll_proc.specs.declared.syntax.KeyAt.{KeyAt}
 use Rattle.vll_proc.specs.declared.syntax.KeyAt.TheVariants as at
 use Rattle.vll_proc.specs.declared.syntax.KeyDecl.{KeyDecl}
 use Rattle.vll_proc.specs.declared.syntax.Proc.{Proc}
-use Rattle.vll_proc.specs.Made.{asked, place_of, call_of, IsCallOf}
+use Rattle.vll_proc.specs.Made.{asked, place_of, IsCallOf}
 use Rattle.vll_proc.specs.Meaning.{record_named}
 use Rattle.vll_proc.specs.Running.{HasCells}
 use Rattle.vll_proc.specs.WellFormed.{IsWellFormed, argument_is_declared}
-use Rattle.vll_proc.proofs.FromRecord.{IsRising-claims_of, length-claims_of-le}
+use Rattle.vll_record.proofs.ClaimsOf.{IsRising-claims_of, length-claims_of-le}
 use Rattle.vll_proc.proofs.Copy.{IsPlaceFor, both_true}
 
 -- a record that is claimed stands at its place
@@ -55,11 +55,11 @@ mode_on-asked f (x ∷ xs) (suc k) d lt =
 slice_index-laid : (n : ℕ) (xs : List ℕ) (i : ℕ) → slice_index (laid n 0 xs) i ≡ slice_index xs i
 slice_index-laid n xs i =
     ⊎_elim
-        (λ (lt : i < length xs). get_or_append_left xs (replicate (n - length xs) 0) 0 i lt)
-        (λ (ge : length xs ≤ i).
-            get_or-append_right xs (replicate (n - length xs) 0) (length xs) i 0 refl ge
-            ∙ zeros (n - length xs) (i - length xs) ∙ sym (get_or_past xs i 0 ge))
-        (cases_lt i (length xs))
+    (λ (lt : i < length xs). get_or_append_left xs (replicate (n - length xs) 0) 0 i lt)
+    (λ (ge : length xs ≤ i).
+    get_or-append_right xs (replicate (n - length xs) 0) (length xs) i 0 refl ge
+    ∙ zeros (n - length xs) (i - length xs) ∙ sym (get_or_past xs i 0 ge))
+    (cases_lt i (length xs))
   where
     zeros : (n i : ℕ) → get_or (replicate {A = ℕ} n 0) i 0 ≡ 0
     zeros zero i = refl
@@ -101,7 +101,7 @@ pub key_record : (p : Proc) (c : Call) → IsWellFormed p → IsCallOf p c → (
 key_record p c formed made k lt =
     let key : KeyDecl = get_or p.keys k some_key in
     let declared : argument_is_declared c.arg_count key ≡ true =
-        rw made.count (list_all_get (argument_is_declared p.args) p.keys k some_key formed.key_args lt) in
+    rw made.count (list_all_get (argument_is_declared p.args) p.keys k some_key formed.key_args lt) in
     get_or-map (λ (d : KeyDecl). record_named c.args d.at) p.keys k some_key 0 lt ∙ sym (record_named-take c.arg_count c.args key declared)
 
 -- the cell of a key position is the place of the claim of the record that it names
@@ -112,24 +112,24 @@ key_place p c formed made k lt =
     let key : KeyDecl = get_or p.keys k some_key in
     let cell : KeyDecl → ℕ = λ d. place_of (claims_of (asked p args)) (record_named args d.at) in
     let cell_is : slice_index c.cells k ≡ cell key =
-        ap (λ (x : Call). slice_index x.cells k) made.made ∙ slice_index-laid 16 (map cell p.keys) k ∙ get_or-map cell p.keys k some_key 0 lt in
+    ap (λ (x : Call). slice_index x.cells k) made.made ∙ slice_index-laid 16 (map cell p.keys) k ∙ get_or-map cell p.keys k some_key 0 lt in
     let claimed = mode_on-asked (λ (d : KeyDecl). record { id = record_named args d.at; mode = d.mode }) p.keys k some_key lt in
     rw (cell_is, key_record p c formed made k lt, claims_made p c made)
-        (place_of-stands (claims_of (asked p args)) (record_named args key.at) claimed.0 (mode_on-claims_of (asked p args) (record_named args key.at) ∙ claimed.1))
+    (place_of-stands (claims_of (asked p args)) (record_named args key.at) claimed.0 (mode_on-claims_of (asked p args) (record_named args key.at) ∙ claimed.1))
 
 -- each key position has one of sixteen cells
 pub HasCells-made : (p : Proc) (c : Call) → IsWellFormed p → IsCallOf p c → HasCells c
 HasCells-made p c formed made k lt =
     ⊎_elim
-        (λ (within : k < length p.keys).
-            let place = key_place p c formed made k within in
-            let few = claims_few p c formed made in
-            omega (arith, slice_get_within c.claims (slice_index c.cells k) place.claim place.stands))
-        (λ (past : length p.keys ≤ k).
-            let args : List ℕ = take c.arg_count c.args in
-            let cell : KeyDecl → ℕ = λ d. place_of (claims_of (asked p args)) (record_named args d.at) in
-            let cell_is : slice_index c.cells k ≡ 0 =
-                ap (λ (x : Call). slice_index x.cells k) made.made ∙ slice_index-laid 16 (map cell p.keys) k
-                ∙ get_or_past (map cell p.keys) k 0 (omega (arith, length-map p.keys cell)) in
-            omega arith)
-        (cases_lt k (length p.keys))
+    (λ (within : k < length p.keys).
+    let place = key_place p c formed made k within in
+    let few = claims_few p c formed made in
+    omega (arith, slice_get_within c.claims (slice_index c.cells k) place.claim place.stands))
+    (λ (past : length p.keys ≤ k).
+    let args : List ℕ = take c.arg_count c.args in
+    let cell : KeyDecl → ℕ = λ d. place_of (claims_of (asked p args)) (record_named args d.at) in
+    let cell_is : slice_index c.cells k ≡ 0 =
+    ap (λ (x : Call). slice_index x.cells k) made.made ∙ slice_index-laid 16 (map cell p.keys) k
+    ∙ get_or_past (map cell p.keys) k 0 (omega (arith, length-map p.keys cell)) in
+    omega arith)
+    (cases_lt k (length p.keys))

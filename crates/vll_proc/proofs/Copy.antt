@@ -1,5 +1,5 @@
 -- A body means the same on two scenes of which one holds what the other has at the claims of a call.
-use Rattle.std.proofs.Common.{◌≡◌, ◌≢◌, ℕ, ◌+◌, ◌<◌, ◌≤◌, Bool, true, false, ◌&&◌, nat_lt, List, [], ◌∷◌, ◌++◌, length, map, Result, Ok, Err, Some, slice_get, slice_index, slice_set, refl, sym, ap, ◌∙◌, subst, arith, ⊎_elim}
+use Rattle.std.proofs.Common.{◌≡◌, ◌≢◌, ℕ, ◌+◌, ◌<◌, ◌≤◌, Bool, true, false, ◌&&◌, List, [], ◌∷◌, ◌++◌, length, map, Result, Ok, Err, Some, slice_get, slice_index, slice_set, refl, sym, ap, ◌∙◌, arith, ⊎_elim}
 use Rattle.std.specs.List.{list_all}
 use Rattle.std.proofs.lemmas.Bool.{ltb-true, cases_eq, false≢true}
 use Rattle.std.proofs.lemmas.List.{get_or-set_same, get_or-set_other, length-set}
@@ -13,7 +13,7 @@ use Rattle.vll_proc.specs.declared.syntax.Stmt.TheVariants.{Set, Reply}
 use Rattle.vll_proc.specs.Cells.{Holds}
 use Rattle.vll_proc.specs.Meaning.{Scene, Value, Action, and_then, both, fitting, difference, value_of, operand, effect, in_turn}
 use Rattle.vll_proc.specs.WellFormed.{keys_below, operand_keys_below, stmt_keys_below}
-use Rattle.vll_proc.proofs.FromRecord.{same_place}
+use Rattle.vll_record.proofs.Rising.{same_place}
 
 -- a place among claims whose claim is of a record
 pub record IsPlaceFor (claims : List Claim) (place r : ℕ) : Type 0 where
@@ -85,33 +85,33 @@ Holds-set cells claims records i c v rising room is h j d at =
     let held = h j d at in
     let more : d.id < length (slice_set records c.id v) = rw length-set held.0 in
     ⊎_elim
-        (λ (e : i ≡ j).
-            let same : c ≡ d = same_Some c d (sym is ∙ ap (slice_get claims) e ∙ at) in
-            let cell : i < length cells = omega (arith, slice_get_within claims i c is) in
-            (more, ap (slice_index (slice_set cells i v)) (sym e) ∙ get_or-set_same cells i v 0 cell ∙ sym (get_or-set_same records c.id v 0 there) ∙ ap (λ (x : Claim). slice_index (slice_set records c.id v) x.id) same))
-        (λ (ne : i ≡ j → ⊥).
-            let apart : d.id ≢ c.id = λ e. ne (same_place claims i j c d rising is at (sym e)) in
-            (more, get_or-set_other cells i j v 0 (λ e. ne (sym e)) ∙ held.1 ∙ sym (get_or-set_other records c.id d.id v 0 apart)))
-        (cases_eq i j)
+    (λ (e : i ≡ j).
+    let same : c ≡ d = same_Some c d (sym is ∙ ap (slice_get claims) e ∙ at) in
+    let cell : i < length cells = omega (arith, slice_get_within claims i c is) in
+    (more, ap (slice_index (slice_set cells i v)) (sym e) ∙ get_or-set_same cells i v 0 cell ∙ sym (get_or-set_same records c.id v 0 there) ∙ ap (λ (x : Claim). slice_index (slice_set records c.id v) x.id) same))
+    (λ (ne : i ≡ j → ⊥).
+    let apart : d.id ≢ c.id = λ e. ne (same_place claims i j c d rising is at (sym e)) in
+    (more, get_or-set_other cells i j v 0 (λ e. ne (sym e)) ∙ held.1 ∙ sym (get_or-set_other records c.id d.id v 0 apart)))
+    (cases_eq i j)
 
 alike_effect : (n : ℕ) (claims : List Claim) (st : Stmt) (s t : Scene) → IsRising claims → IsCopy n claims s t → stmt_keys_below n st ≡ true → EndAlike n claims (effect st s) (effect st t)
 alike_effect n claims (Set i e) s t rising h k =
     let parts = both_true _ _ k in
     let at = h.named i (ltb-true i n parts.0) in
     alike_value n claims (value_of e s) (value_of e t)
-        (λ v. record s { records = slice_set s.records (slice_index s.named i) v })
-        (λ v. record t { records = slice_set t.records (slice_index t.named i) v })
-        (same_value n claims s t e h parts.1)
-        (λ v. record {
-            args = h.args;
-            outputs = h.outputs;
-            named = h.named;
-            values = rw (← at.is_for) (Holds-set s.records claims t.records _ at.claim v rising h.room at.stands h.values);
-            room = rw length-set h.room;
-        })
+    (λ v. record s { records = slice_set s.records (slice_index s.named i) v })
+    (λ v. record t { records = slice_set t.records (slice_index t.named i) v })
+    (same_value n claims s t e h parts.1)
+    (λ v. record {
+      args = h.args;
+      outputs = h.outputs;
+      named = h.named;
+      values = rw (← at.is_for) (Holds-set s.records claims t.records _ at.claim v rising h.room at.stands h.values);
+      room = rw length-set h.room;
+    })
 alike_effect n claims (Reply e) s t rising h k =
     alike_value n claims (value_of e s) (value_of e t) (λ v. record s { outputs = s.outputs ++ v ∷ [] }) (λ v. record t { outputs = t.outputs ++ v ∷ [] }) (same_value n claims s t e h k)
-        (λ v. record { args = h.args; outputs = ap (λ (l : List ℕ). l ++ v ∷ []) h.outputs; named = h.named; values = h.values; room = h.room })
+    (λ v. record { args = h.args; outputs = ap (λ (l : List ℕ). l ++ v ∷ []) h.outputs; named = h.named; values = h.values; room = h.room })
 
 -- statements in turn end alike
 pub alike_in_turn : (n : ℕ) (claims : List Claim) (body : List Stmt) (s t : Scene) → IsRising claims → IsCopy n claims s t → list_all (stmt_keys_below n) body ≡ true
@@ -120,4 +120,4 @@ alike_in_turn n claims [] s t rising h k = h
 alike_in_turn n claims (st ∷ body) s t rising h k =
     let parts = both_true _ _ k in
     alike_then n claims (effect st s) (effect st t) (in_turn (map effect body)) (alike_effect n claims st s t rising h parts.0)
-        (λ s' t' h'. alike_in_turn n claims body s' t' rising h' parts.1)
+    (λ s' t' h'. alike_in_turn n claims body s' t' rising h' parts.1)

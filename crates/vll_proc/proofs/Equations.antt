@@ -1,10 +1,10 @@
 -- What the definitions say at each form of an expression, as it is built.
-use Rattle.std.proofs.Common.{◌≡◌, ℕ, ◌+◌, Bool, ◌&&◌, refl, Result, Ok, Err}
+use Rattle.std.proofs.Common.{◌≡◌, ℕ, ◌+◌, ◌&&◌, refl, Result, Ok, Err}
 use denote.Hole.Carrier.{hidden}
 use Rattle.vll_proc.specs.declared.call.Reason.{Reason}
 use Rattle.vll_proc.specs.declared.syntax.Expr.{Expr, Row_of-Expr, end_of-Expr, more_of-Expr, Num, Arg, Key, Add, Sub, Add', Sub'}
 use Rattle.vll_proc.specs.declared.syntax.Expr.TheBlock.{hidden-the_row-Expr-0}
-use Rattle.vll_proc.specs.Meaning.{Scene, and_then, value_of, both, fitting, difference}
+use Rattle.vll_proc.specs.Meaning.{Scene, and_then, value_of, fitting, difference}
 use Rattle.vll_proc.specs.Running.{both_values}
 use Rattle.vll_proc.specs.WellFormed.{keys_below, args_below}
 
@@ -38,7 +38,6 @@ args_below_add n a b = refl
 pub args_below_sub : (n : ℕ) (a b : Expr) → args_below n (Sub a b) ≡ (args_below n a && args_below n b)
 unfolding hidden hidden-the_row-Expr-0
 args_below_sub n a b = refl
-
 
 -- how many forms an expression is made of
 abbrev mutual

@@ -1,13 +1,13 @@
 -- What a body leaves as it was: the number of records, and each record that it does not claim for writing.
-use Rattle.std.proofs.Common.{◌≡◌, ◌≢◌, ℕ, zero, suc, ◌<◌, ◌≤◌, Bool, true, false, ◌&&◌, ◌==◌, nat_lt, List, [], ◌∷◌, ◌++◌, length, map, take, get_or, Option, Some, None, Result, Ok, Err, slice_get, slice_index, slice_set, refl, sym, ap, ◌∙◌, subst, arith, if◌then◌else◌}
+use Rattle.std.proofs.Common.{◌≡◌, ◌≢◌, ℕ, zero, suc, ◌<◌, Bool, true, false, ◌==◌, nat_lt, List, [], ◌∷◌, ◌++◌, length, map, take, get_or, Option, Some, None, Result, Ok, Err, slice_get, slice_index, slice_set, refl, sym, ap, ◌∙◌, arith, if◌then◌else◌}
 use Rattle.std.specs.List.{list_all}
 use Rattle.std.proofs.lemmas.Bool.{ltb-true, eq-eqb, cond-true, false≢true}
-use Rattle.std.proofs.lemmas.List.{get_or-map, get_or-set_other, length-set}
+use Rattle.std.proofs.lemmas.List.{get_or-set_other, length-set}
 use Rattle.std.proofs.lemmas.Option.{slice_get-get_or}
 use Rattle.vll_record.specs.declared.claim.Claim.{Claim}
 use Rattle.vll_record.specs.declared.claim.Mode.{Mode}
 use Rattle.vll_record.specs.declared.claim.Mode.TheVariants.{Read, Write}
-use Rattle.vll_record.specs.Claim.{mode_on, stronger, stronger_of, claims_of}
+use Rattle.vll_record.specs.Claim.{mode_on, stronger_of}
 use Rattle.vll_record.proofs.ClaimsOf.{mode_on-claims_of}
 use Rattle.vll_proc.specs.declared.call.Call.{Call}
 use Rattle.vll_proc.specs.declared.call.Reason.{Reason}
@@ -17,7 +17,7 @@ use Rattle.vll_proc.specs.declared.syntax.Stmt.{Stmt}
 use Rattle.vll_proc.specs.declared.syntax.Stmt.TheVariants.{Set, Reply}
 use Rattle.vll_proc.specs.Made.{asked, IsCallOf}
 use Rattle.vll_proc.specs.Meaning.{Scene, Action, and_then, value_of, effect, in_turn, record_named, opening_scene, body}
-use Rattle.vll_proc.specs.Serial.{After, after, applied}
+use Rattle.vll_proc.specs.Serial.{after, applied}
 use Rattle.vll_proc.specs.WellFormed.{IsWellFormed, stmt_keys_below, is_not_read, sets_no_read_key}
 use Rattle.vll_proc.proofs.Called.{claims_made, some_key, key_record}
 use Rattle.vll_proc.proofs.Copy.{both_true}
@@ -72,7 +72,7 @@ unfolding NamesNot
 keeps_value r v keys named (Set i e) s apart known writable h =
     let other : slice_index s.named i ≢ r = rw h.names (apart i (both_true _ _ known).0 writable) in
     goes_on_value (StaysAt r v named) (value_of e s) (λ x. record s { records = slice_set s.records (slice_index s.named i) x })
-        (λ x. record { value = get_or-set_other s.records (slice_index s.named i) r x 0 (λ e. other (sym e)) ∙ h.value; names = h.names })
+    (λ x. record { value = get_or-set_other s.records (slice_index s.named i) r x 0 (λ e. other (sym e)) ∙ h.value; names = h.names })
 keeps_value r v keys named (Reply e) s apart known writable h =
     goes_on_value (StaysAt r v named) (value_of e s) (λ x. record s { outputs = s.outputs ++ x ∷ [] }) (λ x. record { value = h.value; names = h.names })
 
@@ -83,7 +83,7 @@ all_keep_value r v keys named (st ∷ sts) s apart known writable h =
     let k = both_true _ _ known in
     let w = both_true _ _ writable in
     goes_on_then (StaysAt r v named) (StaysAt r v named) (effect st s) (in_turn (map effect sts)) (keeps_value r v keys named st s apart k.0 w.0 h)
-        (λ t more. all_keep_value r v keys named sts t apart k.1 w.1 more)
+    (λ t more. all_keep_value r v keys named sts t apart k.1 w.1 more)
 
 -- a record that some position asks to write is claimed for writing
 stronger_write : (o : Option Mode) → stronger_of Write o ≡ Some Write
@@ -119,8 +119,8 @@ claimed_for_writing p c formed made k lt free =
     let args : List ℕ = take c.arg_count c.args in
     let mode : (get_or p.keys k some_key).mode ≡ Write = written (slice_get p.keys k) (get_or p.keys k some_key) (slice_get-get_or p.keys k some_key lt) free in
     rw (key_record p c formed made k lt, claims_made p c made)
-        (mode_on-claims_of (asked p args) (record_named args (get_or p.keys k some_key).at)
-        ∙ mode_on-written (λ (d : KeyDecl). record { id = record_named args d.at; mode = d.mode }) p.keys k some_key lt mode)
+    (mode_on-claims_of (asked p args) (record_named args (get_or p.keys k some_key).at)
+    ∙ mode_on-written (λ (d : KeyDecl). record { id = record_named args d.at; mode = d.mode }) p.keys k some_key lt mode)
 
 pub slice_index-applied : (p : Proc) (c : Call) (records : List ℕ) → IsWellFormed p → IsCallOf p c → (r : ℕ) → mode_on c.claims r ≢ Some Write
     → slice_index (applied p c.args records).records r ≡ slice_index records r
@@ -129,7 +129,7 @@ slice_index-applied p c records formed made r free =
     let named : List ℕ = map (λ (d : KeyDecl). record_named c.args d.at) p.keys in
     let apart : NamesNot r p.keys named = λ k lt writable e. free (ap (mode_on c.claims) (sym e) ∙ claimed_for_writing p c formed made k (ltb-true k (length p.keys) lt) writable) in
     ended (body p c.args records)
-        (all_keep_value r (slice_index records r) p.keys named p.body (opening_scene p c.args records) apart formed.known_keys formed.writable_keys (record { value = refl; names = refl }))
+    (all_keep_value r (slice_index records r) p.keys named p.body (opening_scene p c.args records) apart formed.known_keys formed.writable_keys (record { value = refl; names = refl }))
   where
     ended : (q : Result Scene Reason) → IfGoesOn (StaysAt r (slice_index records r) (map (λ (d : KeyDecl). record_named c.args d.at) p.keys)) q → slice_index (after records q).records r ≡ slice_index records r
     ended (Ok s) h = h.value

@@ -1,5 +1,4 @@
 pub mod Equations
-pub mod FromRecord
 pub mod Copy
 pub mod Called
 pub mod Runs

@@ -1,12 +1,12 @@
 -- What a call does depends on the values at its claims alone: both lists of records are held by one list of cells.
-use Rattle.std.proofs.Common.{◌≡◌, ℕ, ◌<◌, ◌≤◌, List, length, map, Result, Ok, Err, Some, slice_get, slice_index, sym, ap, ◌∙◌, arith}
+use Rattle.std.proofs.Common.{◌≡◌, ℕ, ◌≤◌, List, length, map, Result, Ok, Err, Some, slice_get, slice_index, sym, ap, ◌∙◌, arith}
 use Rattle.std.proofs.lemmas.List.{get_or-map, length-map}
 use Rattle.std.proofs.lemmas.Option.{slice_get_within, get_or_from_slice_get}
 use Rattle.vll_record.specs.declared.claim.Claim.{Claim}
 use Rattle.vll_proc.specs.declared.call.Call.{Call}
 use Rattle.vll_proc.specs.declared.call.Reason.{Reason}
 use Rattle.vll_proc.specs.declared.syntax.Proc.{Proc}
-use Rattle.vll_proc.specs.Cells.{Holds, AgreeAt}
+use Rattle.vll_proc.specs.Cells.{AgreeAt}
 use Rattle.vll_proc.specs.Made.{IsCallOf}
 use Rattle.vll_proc.specs.Meaning.{Scene, effect, in_turn}
 use Rattle.vll_proc.specs.Serial.{After, applied}
@@ -40,8 +40,8 @@ local : (p : Proc) (c : Call) (m n : List ℕ) → IsWellFormed p → IsCallOf p
 local p c m n formed made agree =
     let cells : List ℕ = cells_of m c.claims in
     same_end cells c.claims (in_turn (map effect p.body) (cell_opening c cells)) (applied p c.args m) (applied p c.args n)
-        (told_on p c cells m formed made (room m c.claims) (λ i d is. ((agree i d is).0, slice_index-cells m c.claims i d is)))
-        (told_on p c cells n formed made (room m c.claims) (λ i d is. ((agree i d is).1, slice_index-cells m c.claims i d is ∙ (agree i d is).2)))
+    (told_on p c cells m formed made (room m c.claims) (λ i d is. ((agree i d is).0, slice_index-cells m c.claims i d is)))
+    (told_on p c cells n formed made (room m c.claims) (λ i d is. ((agree i d is).1, slice_index-cells m c.claims i d is ∙ (agree i d is).2)))
 
 pub same_reply : (p : Proc) (c : Call) (m n : List ℕ) → IsWellFormed p → IsCallOf p c → AgreeAt c.claims m n → (applied p c.args m).reply ≡ (applied p c.args n).reply
 unfolding SameEnd

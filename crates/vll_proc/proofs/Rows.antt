@@ -10,33 +10,38 @@ use Rattle.vll_proc.specs.declared.syntax.Expr.TheBlock.{hidden-the_row-Expr-0}
 use Rattle.vll_proc.specs.declared.syntax.KeyAt.TheVariants as at
 use Rattle.vll_proc.specs.declared.syntax.Proc.{Proc}
 use Rattle.vll_proc.specs.declared.syntax.Stmt.TheVariants.{Set, Reply}
+use Rattle.vll_proc.specs.declared.syntax.Stmt.{Stmt}
+use Rattle.vll_proc.specs.declared.syntax.KeyDecl.{KeyDecl}
 use Rattle.vll_proc.specs.Made.{call_of}
-use Rattle.vll_proc.specs.Serial.{After, apply, applied}
+use Rattle.vll_proc.specs.Serial.{apply}
 use Rattle.vll_proc.specs.WellFormed.{IsWellFormed}
 
+abbrev pub transfer_keys : List KeyDecl
+transfer_keys = record { mode = Write; at = at.Arg 0 } ∷ record { mode = Write; at = at.Arg 1 } ∷ []
+
+abbrev pub transfer_body : List Stmt
+transfer_body = Set 0 (Sub (Key 0) (Arg 2)) ∷ Set 1 (Add (Key 1) (Arg 2)) ∷ Reply (Key 0) ∷ []
+
 abbrev transfer : Proc
-transfer = record {
-  name = codes "transfer";
-  args = 3;
-  keys = record { mode = Write; at = at.Arg 0 } ∷ record { mode = Write; at = at.Arg 1 } ∷ [];
-  body = Set 0 (Sub (Key 0) (Arg 2)) ∷ Set 1 (Add (Key 1) (Arg 2)) ∷ Reply (Key 0) ∷ [];
-}
+transfer = record { name = codes "transfer"; args = 3; keys = transfer_keys; body = transfer_body }
+
+abbrev pub bump_keys : List KeyDecl
+bump_keys = record { mode = Write; at = at.Arg 0 } ∷ []
+
+abbrev pub bump_body : List Stmt
+bump_body = Set 0 (Add (Key 0) (Num 1)) ∷ Reply (Key 0) ∷ []
 
 abbrev bump : Proc
-bump = record {
-  name = codes "bump";
-  args = 1;
-  keys = record { mode = Write; at = at.Arg 0 } ∷ [];
-  body = Set 0 (Add (Key 0) (Num 1)) ∷ Reply (Key 0) ∷ [];
-}
+bump = record { name = codes "bump"; args = 1; keys = bump_keys; body = bump_body }
+
+abbrev pub sum2_keys : List KeyDecl
+sum2_keys = record { mode = Read; at = at.Arg 0 } ∷ record { mode = Read; at = at.Arg 1 } ∷ []
+
+abbrev pub sum2_body : List Stmt
+sum2_body = Reply (Add (Key 0) (Key 1)) ∷ []
 
 abbrev sum2 : Proc
-sum2 = record {
-  name = codes "sum2";
-  args = 2;
-  keys = record { mode = Read; at = at.Arg 0 } ∷ record { mode = Read; at = at.Arg 1 } ∷ [];
-  body = Reply (Add (Key 0) (Key 1)) ∷ [];
-}
+sum2 = record { name = codes "sum2"; args = 2; keys = sum2_keys; body = sum2_body }
 
 abbrev odd_sum : Proc
 odd_sum = record {
@@ -82,9 +87,33 @@ left_first : apply procs (call_of 3 odd_sum (18446744073709551615 ∷ [])) [] �
 unfolding hidden hidden-the_row-Expr-0
 left_first = refl
 
-is_well_formed : IsWellFormed transfer
+pub transfer_is_well_formed : (name : List ℕ) → IsWellFormed (record { name = name; args = 3; keys = transfer_keys; body = transfer_body })
 unfolding hidden hidden-the_row-Expr-0
-is_well_formed = record {
+transfer_is_well_formed name = record {
+  few_args = refl;
+  few_keys = refl;
+  key_args = refl;
+  known_keys = refl;
+  writable_keys = refl;
+  known_args = refl;
+  few_replies = refl;
+}
+
+pub bump_is_well_formed : (name : List ℕ) → IsWellFormed (record { name = name; args = 1; keys = bump_keys; body = bump_body })
+unfolding hidden hidden-the_row-Expr-0
+bump_is_well_formed name = record {
+  few_args = refl;
+  few_keys = refl;
+  key_args = refl;
+  known_keys = refl;
+  writable_keys = refl;
+  known_args = refl;
+  few_replies = refl;
+}
+
+pub sum2_is_well_formed : (name : List ℕ) → IsWellFormed (record { name = name; args = 2; keys = sum2_keys; body = sum2_body })
+unfolding hidden hidden-the_row-Expr-0
+sum2_is_well_formed name = record {
   few_args = refl;
   few_keys = refl;
   key_args = refl;

@@ -1,5 +1,5 @@
 -- A well-formed procedure's body on the cells of a made call: it may run there, and ends as on the records.
-use Rattle.std.proofs.Common.{◌≡◌, ℕ, ◌<◌, ◌≤◌, Bool, true, false, ◌&&◌, nat_lt, List, [], ◌∷◌, length, map, Result, Ok, Err, refl, sym, ap, ◌∙◌, arith}
+use Rattle.std.proofs.Common.{◌≡◌, ℕ, ◌≤◌, Bool, true, ◌&&◌, nat_lt, List, [], ◌∷◌, length, map, Result, Ok, Err, refl, sym, ap, arith}
 use Rattle.std.specs.List.{list_all}
 use Rattle.std.proofs.lemmas.Bool.{ltb-true, lt-ltb, leb-true}
 use Rattle.vll_record.specs.declared.claim.Claim.{Claim}
@@ -65,12 +65,12 @@ still_all p q (x ∷ xs) f h = both_still _ _ _ _ (f x) (still_all p q xs f) h
 pub keys_known : (p : Proc) → IsWellFormed p → list_all (stmt_keys_below 16) p.body ≡ true
 keys_known p formed =
     still_all (stmt_keys_below (length p.keys)) (stmt_keys_below 16) p.body
-        (λ st. stmt_keys_below_more (length p.keys) 16 st (leb-true (length p.keys) 16 formed.few_keys)) formed.known_keys
+    (λ st. stmt_keys_below_more (length p.keys) 16 st (leb-true (length p.keys) 16 formed.few_keys)) formed.known_keys
 
 pub args_known : (p : Proc) → IsWellFormed p → list_all (stmt_args_below 8) p.body ≡ true
 args_known p formed =
     still_all (stmt_args_below p.args) (stmt_args_below 8) p.body
-        (λ st. stmt_args_below_more p.args 8 st (leb-true p.args 8 formed.few_args)) formed.known_args
+    (λ st. stmt_args_below_more p.args 8 st (leb-true p.args 8 formed.few_args)) formed.known_args
 
 -- where a body begins on the cells of a call
 abbrev pub cell_opening : Call → List ℕ → Scene
@@ -86,7 +86,7 @@ pub ends_alike : (p : Proc) (c : Call) (cells records : List ℕ) → IsWellForm
     → EndAlike (length p.keys) c.claims (in_turn (map effect p.body) (cell_opening c cells)) (body p c.args records)
 ends_alike p c cells records formed made room holds =
     alike_in_turn (length p.keys) c.claims p.body (cell_opening c cells) (opening_scene p c.args records) (claims_rise p c made)
-        (opening_copy p c cells records formed made room holds) formed.known_keys
+    (opening_copy p c cells records formed made room holds) formed.known_keys
 
 -- what an end on cells says of the end on records
 abbrev pub ToldBy : List ℕ → List Claim → Result Scene Reason → After → Type 0
@@ -103,7 +103,7 @@ pub told_on : (p : Proc) (c : Call) (cells records : List ℕ) → IsWellFormed 
     → ToldBy cells c.claims (in_turn (map effect p.body) (cell_opening c cells)) (applied p c.args records)
 told_on p c cells records formed made room holds =
     told_by_end (length p.keys) c.claims cells records (in_turn (map effect p.body) (cell_opening c cells)) (body p c.args records) holds
-        (ends_alike p c cells records formed made room holds)
+    (ends_alike p c cells records formed made room holds)
 
 pub told : (p : Proc) (c : Call) (cells records : List ℕ) (r : Result Scene Reason) → IsWellFormed p → IsCallOf p c → length cells ≡ 16
     → in_turn (map effect p.body) (cell_opening c cells) ≡ r → Holds cells c.claims records → ToldBy cells c.claims r (applied p c.args records)

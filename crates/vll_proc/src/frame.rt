@@ -1,4 +1,4 @@
-ghost use Rattle.std.specs.Prelude.{◌≡◌, ◌<◌, ℕ, List, replicate, length, slice_index, slice_set, Ok, Err};
+ghost use Rattle.std.specs.Prelude.{◌≡◌, ◌<◌, ℕ, List, replicate, length, slice_index, slice_set};
 ghost use Rattle.vll_proc.specs.declared.call.Reason.{Reason};
 ghost use Rattle.vll_proc.specs.declared.call.Reply.TheVariants.{Aborted};
 ghost use Rattle.vll_proc.specs.Cells.{Holds};
@@ -66,6 +66,7 @@ impl Frame {
         ensures aborted { (why : Reason) → result ≡ Aborted why → self.new ≡ self.old }
         ensures whole { length self.new ≡ 16 }
     {
+        // A contract sees the list of cells, and that it is one of sixteen only where they are read.
         let _ = &self.cells;
         let mut progress = Progress {
             cells: *self,
@@ -80,3 +81,6 @@ impl Frame {
         }
     }
 }
+
+#[cfg(test)]
+mod tests;

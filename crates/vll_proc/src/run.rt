@@ -9,7 +9,7 @@ use crate::frame::Frame;
 use crate::outputs::Outputs;
 use crate::syntax::{Expr, Stmt};
 
-// What changes while a body runs.
+// What changes while a body runs: it works on copies, so an aborted call leaves its frame as it was.
 #[derive(Clone, Copy)]
 pub(crate) struct Progress {
     pub(crate) cells: Frame,
@@ -42,7 +42,7 @@ impl Progress {
             ≡ ended result (scene_of call.now self.new) }
         ensures outputs { OnOk result
             (length self.new.outputs
-                ≡ length self.old.outputs + (if is_reply statement.now then 1 else 0)) }
+            ≡ length self.old.outputs + (if is_reply statement.now then 1 else 0)) }
     {
         match statement {
             Stmt::Set(i, expr) => {

@@ -1,33 +1,81 @@
--- A list of another length than a form has is no expression.
-use Rattle.std.proofs.Common.{◌≡◌, ◌≢◌, List, [], ◌∷◌, length, map, None, refl, arith}
-use Rattle.serde_json.specs.Data.{Data, null, boolean, number, string, array, object}
+-- What lists are as forms: their items by number, and none where a list has another length than a form has.
+use Rattle.std.proofs.Common.{◌≡◌, ◌≢◌, ℕ, List, [], ◌∷◌, length, map, get_or, Some, None, Vec, Global, refl, ap, ◌∙◌, arith}
+use Rattle.serde_json.specs.Data.{Data, string, array, no_items, item}
+use Rattle.serde_json.specs.Find.{as_str}
 use Rattle.serde_json.specs.View.{items_of, items_view, view}
-use Rattle.serde_json.specs.declared.value.Value.{Value}
+use Rattle.serde_json.specs.declared.value.Value.{Value, Array}
+use Rattle.serde_json.proofs.Views.{view-Array}
 use Rattle.std.proofs.lemmas.List.{length-map}
-use Rattle.vll_server.specs.Syntax.{expr_at}
+use Rattle.vll_server.specs.Syntax.{expr_at, key_at, stmt_at}
 
-alone : (d : Data) → expr_at (array (items_of (d ∷ []))) ≡ None
-alone null = refl
-alone (boolean b) = refl
-alone (number n) = refl
-alone (string s) = refl
-alone (array ds) = refl
-alone (object ms) = refl
+-- ---- the items of a list of two or three
 
-crowd : (d e f g : Data) (ds : List Data) → expr_at (array (items_of (d ∷ e ∷ f ∷ g ∷ ds))) ≡ None
-crowd null e f g ds = refl
-crowd (boolean b) e f g ds = refl
-crowd (number n) e f g ds = refl
-crowd (string s) e f g ds = refl
-crowd (array xs) e f g ds = refl
-crowd (object ms) e f g ds = refl
+two : (vs : List Value) (a b : Value) → length vs ≡ 2 → a ≡ get_or vs 0 a → b ≡ get_or vs 1 b → items_view vs ≡ item (view a) (item (view b) no_items)
+two [] a b n first second = absurd (omega arith)
+two (x ∷ []) a b n first second = absurd (omega arith)
+two (x ∷ y ∷ []) a b n first second = cc
+two (x ∷ y ∷ z ∷ vs) a b n first second = absurd (omega arith)
 
-of_data : (ds : List Data) → length ds ≢ 2 → length ds ≢ 3 → expr_at (array (items_of ds)) ≡ None
-of_data [] two three = refl
-of_data (d ∷ []) two three = alone d
-of_data (d ∷ e ∷ []) two three = absurd (two (omega arith))
-of_data (d ∷ e ∷ f ∷ []) two three = absurd (three (omega arith))
-of_data (d ∷ e ∷ f ∷ g ∷ ds) two three = crowd d e f g ds
+three : (vs : List Value) (a b c : Value) → length vs ≡ 3 → a ≡ get_or vs 0 a → b ≡ get_or vs 1 b → c ≡ get_or vs 2 c → items_view vs ≡ item (view a) (item (view b) (item (view c) no_items))
+three [] a b c n first second third = absurd (omega arith)
+three (x ∷ []) a b c n first second third = absurd (omega arith)
+three (x ∷ y ∷ []) a b c n first second third = absurd (omega arith)
+three (x ∷ y ∷ z ∷ []) a b c n first second third = cc
+three (x ∷ y ∷ z ∷ u ∷ vs) a b c n first second third = absurd (omega arith)
 
-pub other_length : (vs : List Value) → length vs ≢ 2 → length vs ≢ 3 → expr_at (array (items_view vs)) ≡ None
-other_length vs two three = of_data (map view vs) (λ e. two (omega (arith, length-map vs view))) (λ e. three (omega (arith, length-map vs view)))
+pub as_str-string : (d : Data) (s : List ℕ) → as_str d ≡ Some s → d ≡ string s
+as_str-string (string t) s is = cc
+as_str-string _ s is = cc
+
+pub view-two : (v : Value) (list : Vec Value Global) (a b : Value) → v ≡ Array list → length list.items ≡ 2 → a ≡ get_or list.items 0 a → b ≡ get_or list.items 1 b → view v ≡ array (item (view a) (item (view b) no_items))
+view-two v list a b is n first second = ap view is ∙ view-Array list ∙ ap array (two list.items a b n first second)
+
+pub view-three : (v : Value) (list : Vec Value Global) (a b c : Value) → v ≡ Array list → length list.items ≡ 3 → a ≡ get_or list.items 0 a → b ≡ get_or list.items 1 b → c ≡ get_or list.items 2 c → view v ≡ array (item (view a) (item (view b) (item (view c) no_items)))
+view-three v list a b c is n first second third = ap view is ∙ view-Array list ∙ ap array (three list.items a b c n first second third)
+
+-- ---- lists of another length
+
+other_expr : (ds : List Data) → length ds ≢ 2 → length ds ≢ 3 → expr_at (array (items_of ds)) ≡ None
+other_expr [] two three = refl
+other_expr (string s ∷ []) two three = refl
+other_expr (_ ∷ []) two three = refl
+other_expr (d ∷ e ∷ []) two three = absurd (two (omega arith))
+other_expr (d ∷ e ∷ f ∷ []) two three = absurd (three (omega arith))
+other_expr (string s ∷ e ∷ f ∷ g ∷ ds) two three = refl
+other_expr (_ ∷ e ∷ f ∷ g ∷ ds) two three = refl
+
+pub expr_at-other_length : (v : Value) (list : Vec Value Global) → v ≡ Array list → length list.items ≢ 2 → length list.items ≢ 3 → expr_at (view v) ≡ None
+expr_at-other_length v list is two three =
+    let same = length-map list.items view in
+    ap expr_at (ap view is ∙ view-Array list) ∙ other_expr (map view list.items) (λ e. two (omega arith)) (λ e. three (omega arith))
+
+other_stmt : (ds : List Data) → length ds ≢ 2 → length ds ≢ 3 → stmt_at (array (items_of ds)) ≡ None
+other_stmt [] two three = refl
+other_stmt (string s ∷ []) two three = refl
+other_stmt (_ ∷ []) two three = refl
+other_stmt (d ∷ e ∷ []) two three = absurd (two (omega arith))
+other_stmt (d ∷ e ∷ f ∷ []) two three = absurd (three (omega arith))
+other_stmt (string s ∷ e ∷ f ∷ g ∷ ds) two three = refl
+other_stmt (_ ∷ e ∷ f ∷ g ∷ ds) two three = refl
+
+pub stmt_at-other_length : (v : Value) (list : Vec Value Global) → v ≡ Array list → length list.items ≢ 2 → length list.items ≢ 3 → stmt_at (view v) ≡ None
+stmt_at-other_length v list is two three =
+    let same = length-map list.items view in
+    ap stmt_at (ap view is ∙ view-Array list) ∙ other_stmt (map view list.items) (λ e. two (omega arith)) (λ e. three (omega arith))
+
+other_key : (ds : List Data) → length ds ≢ 3 → key_at (array (items_of ds)) ≡ None
+other_key [] three = refl
+other_key (string s ∷ []) three = refl
+other_key (_ ∷ []) three = refl
+other_key (string s ∷ string t ∷ []) three = refl
+other_key (string s ∷ _ ∷ []) three = refl
+other_key (_ ∷ e ∷ []) three = refl
+other_key (d ∷ e ∷ f ∷ []) three = absurd (three (omega arith))
+other_key (string s ∷ string t ∷ f ∷ g ∷ ds) three = refl
+other_key (string s ∷ _ ∷ f ∷ g ∷ ds) three = refl
+other_key (_ ∷ e ∷ f ∷ g ∷ ds) three = refl
+
+pub key_at-other_length : (v : Value) (list : Vec Value Global) → v ≡ Array list → length list.items ≢ 3 → key_at (view v) ≡ None
+key_at-other_length v list is three =
+    let same = length-map list.items view in
+    ap key_at (ap view is ∙ view-Array list) ∙ other_key (map view list.items) (λ e. three (omega arith))

@@ -1,79 +1,34 @@
--- The numbers of names, as procedures come one after another.
-use Rattle.std.proofs.Common.{◌≡◌, ℕ, suc, ◌+◌, Bool, true, false, ◌||◌, List, [], ◌∷◌, ◌++◌, length, take, drop, take-append-drop, Option, Some, None, refl, sym, ap, ◌∙◌, subst, if◌then◌else◌, cond, arith}
-use Rattle.std.specs.Prelude.{is_some}
-use Rattle.std.specs.List.{list_any}
-use Rattle.std.specs.Str.{bytes_eq}
-use Rattle.std.proofs.lemmas.List.Folds.{list_any-append}
-use Rattle.std.proofs.lemmas.Bool.{false≢true}
-use Rattle.std.proofs.lemmas.Bool.Decides.{same_from_decides}
-use Rattle.std.proofs.lemmas.Slice.Eq.{bytes_eq-Decides}
-use Rattle.vll_proc.specs.declared.syntax.Proc.{Proc}
-use Rattle.vll_server.specs.Calls.{number_from, number_named}
-use Rattle.vll_server.specs.Checked.{has_name_twice}
+-- The members of an object beside the entries of its map.
+use Rattle.std.proofs.Common.{◌≡◌, ℕ, List, [], ◌∷◌, map, Option, Some, None, option_map, is_some, String, BTreeMap, Global, Bor, string_bytes, bytes_eq, nat_cmp, refl, sym, ap, ◌∙◌}
+use Rattle.std.specs.BTreeMap.{get_by}
+use Rattle.std.specs.BTreeMap as tree
+use Rattle.std.specs.Cmp.Lexicographic.{slice_cmp}
+use Rattle.std.specs.List.{list_all, list_any}
+use Rattle.serde_json.specs.Find.{get_member}
+use Rattle.serde_json.specs.View.{members_view, view}
+use Rattle.serde_json.specs.declared.value.Value.{Value}
+use Rattle.serde_json.proofs.Views.{Entry, view-lookup}
+use Rattle.vll_server.specs.Syntax.{has_all, has_only}
 
--- what is found first, or what is found behind
-abbrev pub or_behind : Option ℕ → Option ℕ → Option ℕ
-or_behind None behind = behind
-or_behind (Some n) behind = Some n
+is_some-option_map : {A B : Type 0} (f : A → B) (o : Option A) → is_some (option_map f o) ≡ is_some o
+is_some-option_map f None = refl
+is_some-option_map f (Some a) = refl
 
-by_test : (b : Bool) (n : ℕ) (o behind : Option ℕ) → (if b then Some n else or_behind o behind) ≡ or_behind (if b then Some n else o) behind
-by_test true n o behind = refl
-by_test false n o behind = refl
+-- whether a map has a key, and whether its object has the member
+has_member : (m : BTreeMap (String Global) Value) (name : List ℕ) → is_some (get_by (λ k. slice_cmp nat_cmp name (string_bytes k)) m) ≡ is_some (get_member name (members_view m.entries))
+has_member m name = sym (is_some-option_map view _) ∙ ap is_some (view-lookup name m.entries)
 
-number_from-push : (n : ℕ) (name : List ℕ) (ps : List Proc) (p : Proc) → number_from n name (ps ++ p ∷ []) ≡ or_behind (number_from n name ps) (if bytes_eq name p.name then Some (n + length ps) else None)
-number_from-push n name [] p = ap (λ m. if bytes_eq name p.name then Some m else None) (omega arith)
-number_from-push n name (q ∷ ps) p =
-    let further : suc n + length ps ≡ n + length (q ∷ ps) = omega arith in
-    let rest : number_from (suc n) name (ps ++ p ∷ []) ≡ or_behind (number_from (suc n) name ps) (if bytes_eq name p.name then Some (n + length (q ∷ ps)) else None) =
-    number_from-push (suc n) name ps p ∙ ap (λ m. or_behind (number_from (suc n) name ps) (if bytes_eq name p.name then Some m else None)) further in
-    ap (λ o. if bytes_eq name q.name then Some n else o) rest ∙ by_test (bytes_eq name q.name) n (number_from (suc n) name ps) (if bytes_eq name p.name then Some (n + length (q ∷ ps)) else None)
+pub all-has_all : (m : BTreeMap (String Global) Value) (names : List (Bor (List ℕ))) → list_all (λ (s : Bor (List ℕ)). is_some (get_by (λ k. slice_cmp nat_cmp s.now (string_bytes k)) m)) names ≡ has_all (map (λ s. s.now) names) (members_view m.entries)
+all-has_all m [] = refl
+all-has_all m (s ∷ names) = rw (has_member m s.now, all-has_all m names)
 
-pub number_named-push : (name : List ℕ) (ps : List Proc) (p : Proc) → number_named name (ps ++ p ∷ []) ≡ or_behind (number_named name ps) (if bytes_eq name p.name then Some (length ps) else None)
-number_named-push name ps p = number_from-push 0 name ps p ∙ ap (λ m. or_behind (number_named name ps) (if bytes_eq name p.name then Some m else None)) (omega arith)
+pub any-map : (name : List ℕ) (names : List (Bor (List ℕ))) → list_any (λ (s : Bor (List ℕ)). bytes_eq name s.now) names ≡ list_any (bytes_eq name) (map (λ s. s.now) names)
+any-map name [] = refl
+any-map name (s ∷ names) = rw (any-map name names)
 
-some_or : (b : Bool) (n : ℕ) (o : Option ℕ) → is_some (if b then Some n else o) ≡ (b || is_some o)
-some_or true n o = refl
-some_or false n o = refl
+all_keys : (es : List Entry) (names : List (List ℕ)) → list_all (λ k. list_any (bytes_eq (string_bytes k)) names) (map (λ (e : Entry). e.0) es) ≡ has_only names (members_view es)
+all_keys [] names = refl
+all_keys (e ∷ es) names = rw (all_keys es names)
 
-is_some-number_from : (n : ℕ) (name : List ℕ) (ps : List Proc) → is_some (number_from n name ps) ≡ list_any (λ (p : Proc). bytes_eq name p.name) ps
-is_some-number_from n name [] = refl
-is_some-number_from n name (p ∷ ps) =
-    some_or (bytes_eq name p.name) n (number_from (suc n) name ps) ∙ ap (λ b. bytes_eq name p.name || b) (is_some-number_from (suc n) name ps)
-
-pub is_some-number_named : (name : List ℕ) (ps : List Proc) → is_some (number_named name ps) ≡ list_any (λ (p : Proc). bytes_eq name p.name) ps
-is_some-number_named name ps = is_some-number_from 0 name ps
-
-pub bytes_eq-swap : (xs ys : List ℕ) → bytes_eq xs ys ≡ bytes_eq ys xs
-bytes_eq-swap xs ys =
-    let there = bytes_eq-Decides xs ys in
-    let back = bytes_eq-Decides ys xs in
-    same_from_decides (bytes_eq xs ys) (bytes_eq ys xs) there (λ e. sym (back.0 e), λ e. back.1 (sym e))
-
-regroup : (a s t b : Bool) → ((a || (s || false)) || (t || b)) ≡ ((a || t) || (s || b))
-regroup true s t b = refl
-regroup false true true b = refl
-regroup false true false b = refl
-regroup false false t b = refl
-
--- one more procedure has an earlier one's name, or there was a doubled name before
-pub has_name_twice-push : (ps : List Proc) (p : Proc) → has_name_twice (ps ++ p ∷ []) ≡ (has_name_twice ps || list_any (λ (q : Proc). bytes_eq p.name q.name) ps)
-has_name_twice-push [] p = refl
-has_name_twice-push (q ∷ ps) p =
-    let same = λ (a b : Proc). bytes_eq a.name b.name in
-    rw (list_any-append (same q) ps (p ∷ []), has_name_twice-push ps p, bytes_eq-swap q.name p.name)
-    (regroup (list_any (same q) ps) (same p q) (has_name_twice ps) (list_any (same p) ps))
-
-any_front : {A : Type 0} (test : A → Bool) (xs ys : List A) → list_any test xs ≡ true → list_any test (xs ++ ys) ≡ true
-any_front test xs ys e = rw (list_any-append test xs ys, e) refl
-
-widen : (a b c d : Bool) → (a ≡ true → b ≡ true) → (c ≡ true → d ≡ true) → (a || c) ≡ true → (b || d) ≡ true
-widen true b c d f g e = rw (f refl) refl
-widen false true c d f g e = refl
-widen false false c d f g e = g e
-
--- a name that is doubled at the front is doubled
-pub has_name_twice-front : (ps qs : List Proc) → has_name_twice ps ≡ true → has_name_twice (ps ++ qs) ≡ true
-has_name_twice-front [] qs e = absurd (false≢true e)
-has_name_twice-front (p ∷ ps) qs e =
-    let same = λ (q : Proc). bytes_eq p.name q.name in
-    widen (list_any same ps) (list_any same (ps ++ qs)) (has_name_twice ps) (has_name_twice (ps ++ qs)) (any_front same ps qs) (has_name_twice-front ps qs) e
+pub all-has_only : (m : BTreeMap (String Global) Value) (names : List (List ℕ)) → list_all (λ k. list_any (bytes_eq (string_bytes k)) names) (tree.keys m) ≡ has_only names (members_view m.entries)
+all-has_only m names = all_keys m.entries names

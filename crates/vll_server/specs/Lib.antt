@@ -3,9 +3,12 @@ pub mod Syntax
 pub mod Shape
 pub mod Checked
 pub mod Catalog
+pub mod Making
 pub mod Calls
+pub mod Library
 pub mod Setup
 pub mod Scenario
 pub mod Merge
 pub mod Text
 pub mod Streams
+pub mod Plain

@@ -12,7 +12,8 @@ use Rattle.vll_server.specs.declared.fault.ScenarioFault.TheVariants as fault
 use Rattle.vll_server.specs.Calls.{call_made}
 use Rattle.vll_server.specs.Checked.{check_fault, has_name_twice}
 use Rattle.vll_server.specs.Setup.{Setup, has_sizes}
-use Rattle.vll_server.specs.Shape.{◌>>=◌, Parts, shape_of}
+use Rattle.vll_server.specs.declared.shape.Parts.{Parts}
+use Rattle.vll_server.specs.Shape.{◌>>=◌, shape_of}
 
 abbrev pub or_else : {A : Type 0} → Option A → Option A → Option A
 or_else None b = b

@@ -1,27 +1,21 @@
 -- The parts of a scenario as its JSON tree gives them, or the first fault of their shape.
-use Rattle.std.specs.Prelude.{ℕ, ◌==◌, List, [], ◌∷◌, Option, Some, None, Result, Ok, Err, if◌then◌else◌, codes}
+use Rattle.std.specs.Prelude.{◌≡◌, ℕ, ◌==◌, List, [], ◌∷◌, Option, Some, None, Result, Ok, Err, if◌then◌else◌, codes}
 use Rattle.serde_json.specs.Data.{Data}
 use Rattle.serde_json.specs.Find.{as_str}
-use Rattle.vll_proc.specs.declared.syntax.Proc.{Proc}
 use Rattle.vll_server.specs.declared.asked.Asked.{Asked}
 use Rattle.vll_server.specs.declared.fault.Part.{Part}
 use Rattle.vll_server.specs.declared.fault.Part.TheVariants.{Top, Version, Records, Procs, Clients}
 use Rattle.vll_server.specs.declared.fault.ScenarioFault.{ScenarioFault}
-use Rattle.vll_server.specs.declared.fault.ScenarioFault.TheVariants.{Shape}
-use Rattle.vll_server.specs.Tree.{number_at, list_at}
-use Rattle.vll_server.specs.Syntax.{both_of, has_exactly, member_at, whole, proc_at}
+use Rattle.vll_server.specs.declared.fault.ScenarioFault.TheVariants.{NoMemory, Shape}
+use Rattle.vll_server.specs.declared.shape.Parts.{Parts}
+use Rattle.vll_server.specs.Tree.{number_at, list_at, whole}
+use Rattle.vll_server.specs.Syntax.{both_of, has_exactly, member_at, proc_at}
 
 infixl 10 ◌>>=◌
 -- goes on where there is no fault
 abbrev pub ◌>>=◌ : {A B F : Type 0} → Result A F → (A → Result B F) → Result B F
 (Ok a) >>= go = go a
 (Err why) >>= go = Err why
-
--- the parts, before anything is checked
-pub record Parts : Type 0 where
-  pub records : List ℕ
-  pub procs : List Proc
-  pub scripts : List (List Asked)
 
 abbrev pub shape_fault : Part → ℕ → ScenarioFault
 shape_fault part i = Shape (record { part = part; index = i })
@@ -69,3 +63,8 @@ parts_of d = do
 -- an object with exactly the members of a scenario, and its parts
 abbrev pub shape_of : Data → Result Parts ScenarioFault
 shape_of d = if has_exactly top_names d then parts_of d else Err (shape_fault Top 0)
+
+-- what is answered is the reading, unless memory ran out
+abbrev pub GivesUnlessMemory : {A : Type 0} → Result A ScenarioFault → Result A ScenarioFault → Type 0
+GivesUnlessMemory (Err NoMemory) reading = Unit {0}
+GivesUnlessMemory result reading = reading ≡ result

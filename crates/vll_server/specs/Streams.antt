@@ -1,7 +1,19 @@
 -- What reading and writing did to bytes that are known.
-use Rattle.std.specs.Prelude.{◌≡◌, ℕ, List, ◌++◌, Option}
-use Rattle.std.specs.Io.KnownBytes.{Appends}
+use Rattle.std.specs.Prelude.{◌≡◌, ◌<◌, ◌≤◌, ℕ, List, ◌++◌, length, Option}
+use Rattle.std.specs.Io.KnownBytes.{Appends, Consumes, IsAtEnd}
 
 -- a beginning of the text was appended
 abbrev pub AppendsBeginning : Option (List ℕ) → Option (List ℕ) → List ℕ → Type 0
 AppendsBeginning old new text = (front : List ℕ) × (rest : List ℕ) × (text ≡ front ++ rest) × Appends old new front
+
+-- some bytes were read
+abbrev pub ReadsSome : Option (List ℕ) → Option (List ℕ) → Type 0
+ReadsSome old new = (bytes : List ℕ) × Consumes old new bytes
+
+-- the bytes were read up to the end, and are no more than a scenario may have
+abbrev pub ReadsAll : Option (List ℕ) → Option (List ℕ) → List ℕ → Type 0
+ReadsAll old new bytes = Consumes old new bytes × IsAtEnd new × (length bytes ≤ 16777216)
+
+-- more bytes were read than a scenario may have
+abbrev pub ReadsTooMany : Option (List ℕ) → Option (List ℕ) → Type 0
+ReadsTooMany old new = (bytes : List ℕ) × Consumes old new bytes × (16777216 < length bytes)

@@ -1,5 +1,5 @@
 -- What a JSON tree is as a part of a procedure. A list of another length, and what is not listed here, is none.
-use Rattle.std.specs.Prelude.{ℕ, ◌^◌, Bool, false, ◌&&◌, List, [], ◌∷◌, Option, Some, None, option_and_then, option_map, is_some, Result, Ok, Err, nat_lt, if◌then◌else◌, codes}
+use Rattle.std.specs.Prelude.{ℕ, ◌^◌, Bool, false, ◌&&◌, List, [], ◌∷◌, Option, Some, None, option_and_then, option_map, is_some, nat_lt, if◌then◌else◌, codes}
 use Rattle.std.specs.List.{list_all, list_any}
 use Rattle.std.specs.Str.{bytes_eq}
 use Rattle.serde_json.specs.Data.{Data, null, number, string, array, object, no_items, item, Members, no_members, member}
@@ -13,7 +13,7 @@ use Rattle.vll_proc.specs.declared.syntax.KeyAt.{KeyAt}
 use Rattle.vll_proc.specs.declared.syntax.KeyAt.TheVariants as at
 use Rattle.vll_proc.specs.declared.syntax.KeyDecl.{KeyDecl}
 use Rattle.vll_proc.specs.declared.syntax.Proc.{Proc}
-use Rattle.vll_server.specs.Tree.{number_at, list_at}
+use Rattle.vll_server.specs.Tree.{number_at, list_at, whole}
 
 infixl 10 ◌>>=◌
 -- goes on where something is there
@@ -50,19 +50,31 @@ expr_at (array (item (string word) (item i no_items))) = leaf word i
 expr_at (array (item (string word) (item a (item b no_items)))) = operation word (expr_at a) (expr_at b)
 expr_at _ = None
 
--- ["set", i, e] and ["reply", e]
+-- ["reply", e]
+abbrev pub reply_form : List ℕ → Data → Option Stmt
+reply_form word e = if bytes_eq word (codes "reply") then option_map Reply (expr_at e) else None
+
+-- ["set", i, e]
+abbrev pub set_form : List ℕ → Data → Data → Option Stmt
+set_form word i e = if bytes_eq word (codes "set") then both_of Set (index_at i) (expr_at e) else None
+
+-- the lists of these forms are statements
 abbrev pub stmt_at : Data → Option Stmt
-stmt_at (array (item (string word) (item e no_items))) = if bytes_eq word (codes "reply") then option_map Reply (expr_at e) else None
-stmt_at (array (item (string word) (item i (item e no_items)))) = if bytes_eq word (codes "set") then both_of Set (index_at i) (expr_at e) else None
+stmt_at (array (item (string word) (item e no_items))) = reply_form word e
+stmt_at (array (item (string word) (item i (item e no_items)))) = set_form word i e
 stmt_at _ = None
 
 -- "read" and "write"
 abbrev pub mode_at : List ℕ → Option Mode
 mode_at word = if bytes_eq word (codes "read") then Some Read else (if bytes_eq word (codes "write") then Some Write else None)
 
+-- the number of a record
+abbrev pub record_at : Data → Option ℕ
+record_at d = below (2 ^ 32) (number_at d)
+
 -- where a key is placed: "arg" with an index, or "fixed" with a record
 abbrev pub place_at : List ℕ → Data → Option KeyAt
-place_at word d = if bytes_eq word (codes "arg") then option_map at.Arg (index_at d) else (if bytes_eq word (codes "fixed") then option_map at.Fixed (below (2 ^ 32) (number_at d)) else None)
+place_at word d = if bytes_eq word (codes "arg") then option_map at.Arg (index_at d) else (if bytes_eq word (codes "fixed") then option_map at.Fixed (record_at d) else None)
 
 abbrev pub key_of : Mode → KeyAt → KeyDecl
 key_of mode place = record { mode = mode; at = place }
@@ -77,9 +89,15 @@ abbrev pub names_of : Members → List (List ℕ)
 names_of no_members = []
 names_of (member name d ms) = name ∷ names_of ms
 
+abbrev pub has_all : List (List ℕ) → Members → Bool
+has_all names ms = list_all (λ name. is_some (get_member name ms)) names
+
+abbrev pub has_only : List (List ℕ) → Members → Bool
+has_only names ms = list_all (λ name. list_any (bytes_eq name) names) (names_of ms)
+
 -- an object with these members and no others
 abbrev pub has_exactly : List (List ℕ) → Data → Bool
-has_exactly names (object ms) = list_all (λ name. is_some (get_member name ms)) names && list_all (λ name. list_any (bytes_eq name) names) (names_of ms)
+has_exactly names (object ms) = has_all names ms && has_only names ms
 has_exactly names _ = false
 
 -- what a member is, and `null` where there is none
@@ -89,11 +107,6 @@ member_at name d = or_null (get name d)
     or_null : Option Data → Data
     or_null None = null
     or_null (Some d) = d
-
--- a list, whatever the index of a faulty item would be
-abbrev pub whole : {A : Type 0} → Result A ℕ → Option A
-whole (Ok a) = Some a
-whole (Err i) = None
 
 abbrev pub proc_names : List (List ℕ)
 proc_names = codes "name" ∷ codes "args" ∷ codes "keys" ∷ codes "body" ∷ []

@@ -19,8 +19,12 @@ reason_text Underflow = codes "underflow"
 reason_text ZeroDivisor = codes "zero divisor"
 reason_text (Code n) = codes "code " ++ decimal n
 
+-- an output, behind a space
+abbrev pub output_text : ℕ → Text
+output_text n = 32 ∷ decimal n
+
 abbrev pub reply_text : Reply → Text
-reply_text (Committed outputs) = codes "committed" ++ flat_map (λ n. 32 ∷ decimal n) outputs
+reply_text (Committed outputs) = codes "committed" ++ flat_map output_text outputs
 reply_text (Aborted why) = codes "aborted " ++ reason_text why
 
 -- a reply, or nothing where there is none

@@ -30,6 +30,11 @@ each_of f (Some ds) = each f ds
 abbrev pub list_at : {A : Type 0} → (Data → Option A) → Data → Result (List A) ℕ
 list_at f d = each_of f (as_array d)
 
+-- a list, whatever the index of a faulty item would be
+abbrev pub whole : {A : Type 0} → Result A ℕ → Option A
+whole (Ok a) = Some a
+whole (Err i) = None
+
 -- what is answered is the reading, unless memory ran out
 abbrev pub Gives : {A : Type 0} → Result A Misread → Option A → Type 0
 Gives (Ok a) reading = reading ≡ Some a

@@ -1,10 +1,12 @@
 ghost use Rattle.std.specs.Prelude.{◌≡◌};
+ghost use Rattle.serde_json.specs.Find.{as_str};
 ghost use Rattle.serde_json.specs.View.{view, items_view};
-ghost use Rattle.vll_server.specs.Tree.{each, list_at, number_at, Gives, GivesList};
+ghost use Rattle.vll_server.specs.Tree.{each, list_at, number_at, whole, Gives, GivesList};
 
 use serde_json::Value;
 use sqlite_items::Items;
 use std::alloc::{AllocError, Global};
+use vll_proc::Text;
 
 /// Why a value of a JSON tree was not read.
 #[derive(Debug, Drop)]
@@ -47,6 +49,27 @@ impl Reads for u64 {
 
     fn read(_alloc: Global, value: &Value) -> Result<u64, Misread> {
         value.as_u64().ok_or(Misread::Faulty)
+    }
+}
+
+impl<T: Reads> Reads for Items<T> {
+    ghost reads = { λ d. whole (list_at T.reads d) };
+
+    fn read(alloc: Global, value: &Value) -> Result<Items<T>, Misread> {
+        match list_of(alloc, value) {
+            Ok(items) => Ok(items),
+            Err(FirstFault::NoMemory) => Err(Misread::NoMemory),
+            Err(FirstFault::At(_)) => Err(Misread::Faulty),
+        }
+    }
+}
+
+impl Reads for Text {
+    ghost reads = { as_str };
+
+    fn read(alloc: Global, value: &Value) -> Result<Text, Misread> {
+        let text = value.as_str().ok_or(Misread::Faulty)?;
+        Ok(Text::new(String::from_str(alloc, text)?))
     }
 }
 

@@ -1,5 +1,5 @@
 -- An operand is smaller than the expression, and two operands together are.
-use Rattle.std.proofs.Common.{ℕ, ◌+◌, ◌*◌}
+use Rattle.std.proofs.Common.{◌+◌, ◌*◌}
 use Rattle.vll_proc.proofs.Equations.{size_of}
 use Rattle.vll_proc.proofs.run.Progress.+expression.Given as goal
 

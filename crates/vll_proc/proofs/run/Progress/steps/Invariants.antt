@@ -1,5 +1,5 @@
 -- What is left to run, from where the body stands, comes to what all of it comes to from the start.
-use Rattle.std.proofs.Common.{◌≡◌, ℕ, ◌+◌, ◌≤◌, length, map, drop, count_by}
+use Rattle.std.proofs.Common.{◌≡◌, ◌+◌, ◌≤◌, length, map, drop, count_by}
 use Rattle.vll_proc.specs.Meaning.{effect, in_turn}
 use Rattle.vll_proc.specs.Running.{scene_of}
 use Rattle.vll_proc.specs.WellFormed.{is_reply}

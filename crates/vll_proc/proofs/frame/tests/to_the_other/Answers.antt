@@ -1,0 +1,9 @@
+-- The claims and the cells are those that the keys ask for.
+use Rattle.std.proofs.Common.{refl}
+use Rattle.vll_proc.proofs.frame.tests.to_the_other.Goals as goal
+
+pub returns : goal.returns
+returns c = record {
+  count = refl;
+  made = rw (c.requires.args, c.requires.keys, c.add-2.ensures, c.add.ensures, c.claim.ensures, c.claim-2.ensures, c.new-claims.ensures) refl;
+}

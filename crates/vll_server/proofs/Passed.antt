@@ -1,0 +1,63 @@
+-- What is known of a procedure that passes the tests, and of arguments that place its keys.
+use Rattle.std.proofs.Common.{◌≡◌, ℕ, ◌<◌, ◌≤◌, ◌^◌, Bool, true, false, List, length, get_or, nat_lt, nat_le, refl, sym, ap, ◌∙◌, subst, arith, slice_index, Option, Some, None}
+use Rattle.std.specs.List.{All, list_all}
+use Rattle.std.proofs.lemmas.Bool.{ltb-true}
+use Rattle.std.proofs.lemmas.List.Sums.{AllPass-from_list_all}
+use Rattle.vll_record.specs.declared.claim.Mode.{Mode}
+use Rattle.vll_proc.specs.declared.syntax.KeyAt.{KeyAt}
+use Rattle.vll_proc.specs.declared.syntax.KeyAt.TheVariants as at
+use Rattle.vll_proc.specs.declared.syntax.KeyDecl.{KeyDecl}
+use Rattle.vll_proc.specs.declared.syntax.Proc.{Proc}
+use Rattle.vll_proc.specs.Meaning.{record_named}
+use Rattle.vll_proc.specs.WellFormed as formed
+use Rattle.vll_server.specs.declared.fault.CheckFault.{CheckFault}
+use Rattle.vll_server.specs.Calls.{place_is_there}
+use Rattle.vll_server.specs.Checked.{fault_unless, check_fault}
+use Rattle.vll_server.specs.Making.{IsPlaced}
+
+passed : (b : Bool) (fault : CheckFault) (behind : Option CheckFault) → fault_unless b fault behind ≡ None → (b ≡ true) × (behind ≡ None)
+passed true fault behind e = (refl, e)
+passed false fault behind e = cc
+
+-- a procedure without a fault is well-formed, and its fixed records are there
+pub passed_all : (records : ℕ) (p : Proc) → check_fault records p ≡ None → formed.IsWellFormed p × (formed.has_records records p ≡ true)
+passed_all records p e =
+    let one = passed _ _ _ e in
+    let two = passed _ _ _ one.1 in
+    let three = passed _ _ _ two.1 in
+    let four = passed _ _ _ three.1 in
+    let five = passed _ _ _ four.1 in
+    let six = passed _ _ _ five.1 in
+    let seven = passed _ _ _ six.1 in
+    let eight = passed _ _ _ seven.1 in (
+      record {
+        few_args = one.0;
+        few_keys = two.0;
+        key_args = three.0;
+        known_keys = five.0;
+        writable_keys = six.0;
+        known_args = seven.0;
+        few_replies = eight.0;
+      },
+      four.0,
+    )
+
+-- a key position's record is one of the records
+named_within : (records : ℕ) (args : List ℕ) (mode : Mode) (place : KeyAt) → formed.record_is_there records (record { mode = mode; at = place }) ≡ true
+    → place_is_there records args (record { mode = mode; at = place }) ≡ true → record_named args place < records
+named_within records args mode (at.Fixed r) there given = ltb-true r records there
+named_within records args mode (at.Arg i) there given = ltb-true (slice_index args i) records given
+
+pub named_there : (records : ℕ) (args : List ℕ) (k : KeyDecl) → formed.record_is_there records k ≡ true → place_is_there records args k ≡ true → record_named args k.at < records
+named_there records args k there given = named_within records args k.mode k.at there given
+
+-- the arguments of a call that is in range place each key
+pub placed_all : (records : ℕ) (p : Proc) (args : List ℕ) → records < 2 ^ 32 → check_fault records p ≡ None → length args ≡ p.args → list_all (place_is_there records args) p.keys ≡ true
+    → All (IsPlaced args (length args)) p.keys
+placed_all records p args few e count given k d within =
+    let checks = passed_all records p e in
+    let known = AllPass-from_list_all (formed.argument_is_declared p.args) p.keys checks.0.key_args k d within in
+    let there = AllPass-from_list_all (formed.record_is_there records) p.keys checks.1 k d within in
+    let place = AllPass-from_list_all (place_is_there records args) p.keys given k d within in
+    let below = named_there records args (get_or p.keys k d) there place in
+    record { known = subst (λ n. formed.argument_is_declared n (get_or p.keys k d) ≡ true) (sym count) known; fits = omega arith }

@@ -1,0 +1,12 @@
+use Rattle.std.proofs.Common.{◌≡◌, ◌-◌, false, length}
+use Rattle.std.specs.Io.KnownBytes.{Consumes}
+use Rattle.vll_server.proofs.bytes.read_bytes.Given as goal
+
+abbrev pub invariant-pieces : goal.invariant-pieces
+invariant-pieces g l = record {
+  fine : g.S.Source.failed l.source ≡ false;
+  read : Consumes (g.S.Source.remaining l.fn.source) (g.S.Source.remaining l.source) l.bytes.items;
+}
+
+abbrev pub decreases-pieces : goal.decreases-pieces
+decreases-pieces g l = 16777217 - length l.bytes.items

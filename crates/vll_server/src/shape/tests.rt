@@ -1,0 +1,270 @@
+use super::shape_of;
+use crate::fault::{Part, ScenarioFault, Spot};
+use serde_json::Value;
+use std::alloc::Global;
+use std::test::Fail;
+use vll_proc::{Expr, KeyAt, KeyDecl, Stmt};
+use vll_record::Mode;
+
+// The parts of the scenarios below are put together from these.
+#[derive(Drop)]
+struct Texts<'t> {
+    version: &'t str,
+    records: &'t str,
+    procs: &'t str,
+    clients: &'t str,
+}
+
+const SOUND: Texts<'static> = Texts {
+    version: "1",
+    records: "[0]",
+    procs: "[]",
+    clients: "[]",
+};
+
+// The spot of the fault that a text's shape has.
+fn spot_of(alloc: Global, text: &str) -> Result<Option<(Part, u32)>, Fail> {
+    let tree = Value::from_str(alloc, text)?;
+    match shape_of(alloc, &tree) {
+        Ok(_) => Ok(None),
+        Err(ScenarioFault::Shape(Spot { part, index })) => Ok(Some((part, index))),
+        Err(other) => Err(other.into()),
+    }
+}
+
+fn spot_in(alloc: Global, texts: Texts) -> Result<Option<(Part, u32)>, Fail> {
+    let Texts {
+        version,
+        records,
+        procs,
+        clients,
+    } = texts;
+    let text = format!(in alloc;
+        r#"{{"version":{version},"records":{records},"procs":{procs},"clients":{clients}}}"#
+    )?;
+    spot_of(alloc, text.as_str())
+}
+
+#[test]
+fn top_has_exactly_its_members(rt: HostRuntime) -> Result<(), Fail> {
+    for text in [
+        "null",
+        "1",
+        r#""version""#,
+        "[]",
+        "{}",
+        r#"{"records":[],"procs":[],"clients":[]}"#,
+        r#"{"version":1,"procs":[],"clients":[]}"#,
+        r#"{"version":1,"records":[],"clients":[]}"#,
+        r#"{"version":1,"records":[],"procs":[]}"#,
+        r#"{"version":1,"records":[],"procs":[],"clients":[],"cap":8}"#,
+        r#"{"version":1,"records":[],"procs":[],"clients":[],"":null}"#,
+        r#"{"Version":1,"records":[],"procs":[],"clients":[]}"#,
+        r#"[{"version":1,"records":[],"procs":[],"clients":[]}]"#,
+    ] {
+        assert_eq!(rt; spot_of(rt.alloc(), text)?, Some((Part::Top, 0)), "{text}");
+    }
+    Ok(())
+}
+
+#[test]
+fn members_stand_in_any_order_and_the_last_of_a_name_counts(rt: HostRuntime) -> Result<(), Fail> {
+    for text in [
+        r#"{"clients":[],"procs":[],"records":[],"version":1}"#,
+        r#"{"version":2,"records":[],"procs":[],"clients":[],"version":1}"#,
+    ] {
+        assert_eq!(rt; spot_of(rt.alloc(), text)?, None, "{text}");
+    }
+    let text = r#"{"version":1,"records":[],"procs":[],"clients":[],"version":2}"#;
+    assert_eq!(rt; spot_of(rt.alloc(), text)?, Some((Part::Version, 0)));
+    Ok(())
+}
+
+#[test]
+fn version_is_the_number_one(rt: HostRuntime) -> Result<(), Fail> {
+    for version in [
+        "0",
+        "2",
+        "-1",
+        "1.0",
+        "1e0",
+        r#""1""#,
+        "[1]",
+        "null",
+        "18446744073709551617",
+    ] {
+        let spot = spot_in(rt.alloc(), Texts { version, ..SOUND })?;
+        assert_eq!(rt; spot, Some((Part::Version, 0)), "{version}");
+    }
+    Ok(())
+}
+
+#[test]
+fn first_record_that_is_no_number_is_named(rt: HostRuntime) -> Result<(), Fail> {
+    for (records, index) in [
+        ("null", 0),
+        ("7", 0),
+        (r#"{"0":1}"#, 0),
+        ("[-1]", 0),
+        ("[-0]", 0),
+        ("[5,1.0]", 1),
+        ("[5,6,1e3]", 2),
+        ("[5,6,7,18446744073709551616]", 3),
+        ("[5,1e-400,6]", 1),
+        (r#"[5,"6"]"#, 1),
+        ("[5,[6],null]", 1),
+    ] {
+        let spot = spot_in(rt.alloc(), Texts { records, ..SOUND })?;
+        assert_eq!(rt; spot, Some((Part::Records, index)), "{records}");
+    }
+    let records = "[0,18446744073709551615]";
+    assert_eq!(rt; spot_in(rt.alloc(), Texts { records, ..SOUND })?, None);
+    Ok(())
+}
+
+#[test]
+fn first_faulty_procedure_is_named(rt: HostRuntime) -> Result<(), Fail> {
+    for (procs, index) in [
+        ("null", 0),
+        ("{}", 0),
+        ("7", 0),
+        (r#"{"name":"p","args":0,"keys":[],"body":[]}"#, 0),
+        (
+            r#"[{"name":"p","args":0,"keys":[],"body":[["abort",7]]}]"#,
+            0,
+        ),
+        (r#"[{"name":"p","args":0,"keys":[],"body":[]},null,7]"#, 1),
+        (
+            r#"[{"name":"p","args":0,"keys":[],"body":[]},{"name":"p","args":0,"keys":[]}]"#,
+            1,
+        ),
+    ] {
+        let spot = spot_in(rt.alloc(), Texts { procs, ..SOUND })?;
+        assert_eq!(rt; spot, Some((Part::Procs, index)), "{procs}");
+    }
+    let procs = r#"[{"name":"p","args":0,"keys":[],"body":[]}]"#;
+    assert_eq!(rt; spot_in(rt.alloc(), Texts { procs, ..SOUND })?, None);
+    Ok(())
+}
+
+#[test]
+fn first_client_that_is_no_script_is_named(rt: HostRuntime) -> Result<(), Fail> {
+    for (clients, index) in [
+        ("null", 0),
+        ("{}", 0),
+        ("[{}]", 0),
+        ("[[],null,[]]", 1),
+        (r#"[[{"proc":"p","args":[0]}],[["p",0]]]"#, 1),
+        (
+            r#"[[],[],[{"proc":"p","args":[]},{"proc":"p","args":[],"at":0}]]"#,
+            2,
+        ),
+        (r#"[[],[{"proc":"p"}]]"#, 1),
+        (r#"[[],[{"args":[]}]]"#, 1),
+        (r#"[[],[{"proc":0,"args":[]}]]"#, 1),
+        (r#"[[],[{"proc":"p","args":null}]]"#, 1),
+        (r#"[[],[{"proc":"p","args":{}}]]"#, 1),
+        (r#"[[],[{"proc":"p","args":[0,-1]}]]"#, 1),
+    ] {
+        let spot = spot_in(rt.alloc(), Texts { clients, ..SOUND })?;
+        assert_eq!(rt; spot, Some((Part::Clients, index)), "{clients}");
+    }
+    Ok(())
+}
+
+#[test]
+fn first_faulty_part_is_named(rt: HostRuntime) -> Result<(), Fail> {
+    let texts = Texts {
+        version: "0",
+        records: "[0,-1]",
+        procs: "[null]",
+        clients: "[[],[],0]",
+    };
+    assert_eq!(rt; spot_in(rt.alloc(), texts)?, Some((Part::Version, 0)));
+    let texts = Texts {
+        version: "1",
+        records: "[0,-1]",
+        procs: "[null]",
+        clients: "[[],[],0]",
+    };
+    assert_eq!(rt; spot_in(rt.alloc(), texts)?, Some((Part::Records, 1)));
+    let texts = Texts {
+        version: "1",
+        records: "[0]",
+        procs: "[null]",
+        clients: "[[],[],0]",
+    };
+    assert_eq!(rt; spot_in(rt.alloc(), texts)?, Some((Part::Procs, 0)));
+    let texts = Texts {
+        version: "1",
+        records: "[0]",
+        procs: "[]",
+        clients: "[[],[],0]",
+    };
+    assert_eq!(rt; spot_in(rt.alloc(), texts)?, Some((Part::Clients, 2)));
+    let text = r#"{"version":0,"records":[-1],"procs":[null],"clients":[0],"cap":8}"#;
+    assert_eq!(rt; spot_of(rt.alloc(), text)?, Some((Part::Top, 0)));
+    Ok(())
+}
+
+const TRANSFER: &str = r#"{"version":1,"records":[100,50],
+ "procs":[
+  {"name":"transfer","args":3,"keys":[["write","arg",0],["write","arg",1]],
+   "body":[["set",0,["sub",["key",0],["arg",2]]],
+           ["set",1,["add",["key",1],["arg",2]]],["reply",["key",0]]]},
+  {"name":"sum2","args":2,"keys":[["read","arg",0],["read","arg",1]],
+   "body":[["reply",["add",["key",0],["key",1]]]]}],
+ "clients":[[{"proc":"transfer","args":[0,1,30]},{"proc":"sum2","args":[0,1]}]]}"#;
+
+#[test]
+fn transfer_scenario_is_read_whole(rt: HostRuntime) -> Result<(), Fail> {
+    let tree = Value::from_str(rt.alloc(), TRANSFER)?;
+    let parts = shape_of(rt.alloc(), &tree)?;
+    assert_eq!(rt; parts.records.as_slice(), [100, 50].as_slice());
+    assert_eq!(rt; parts.procs.len(), 2);
+    assert_eq!(rt; parts.scripts.len(), 1);
+    let transfer = parts.procs.get(0).ok_or("transfer")?;
+    assert_eq!(rt; transfer.name.as_str(), "transfer");
+    assert_eq!(rt; transfer.args, 3);
+    assert_eq!(rt; transfer.body.len(), 3);
+    let write = |index| KeyDecl {
+        mode: Mode::Write,
+        at: KeyAt::Arg(index),
+    };
+    assert_eq!(rt; transfer.keys.as_slice(), [write(0), write(1)].as_slice());
+    let sum = parts.procs.get(1).ok_or("sum2")?;
+    assert_eq!(rt; sum.name.as_str(), "sum2");
+    let read = |index| KeyDecl {
+        mode: Mode::Read,
+        at: KeyAt::Arg(index),
+    };
+    assert_eq!(rt; sum.keys.as_slice(), [read(0), read(1)].as_slice());
+    let script = parts.scripts.get(0).ok_or("script")?;
+    assert_eq!(rt; script.len(), 2);
+    let call = script.get(0).ok_or("first call")?;
+    assert_eq!(rt; call.name.as_str(), "transfer");
+    assert_eq!(rt; call.args.as_slice(), [0, 1, 30].as_slice());
+    let call = script.get(1).ok_or("second call")?;
+    assert_eq!(rt; call.name.as_str(), "sum2");
+    assert_eq!(rt; call.args.as_slice(), [0, 1].as_slice());
+    Ok(())
+}
+
+#[test]
+fn operands_and_operations_keep_their_places(rt: HostRuntime) -> Result<(), Fail> {
+    let tree = Value::from_str(rt.alloc(), TRANSFER)?;
+    let parts = shape_of(rt.alloc(), &tree)?;
+    let transfer = parts.procs.get(0).ok_or("transfer")?;
+    let Some(Stmt::Set(0, Expr::Sub(left, right))) = transfer.body.get(0) else {
+        return Err("a difference is set".into());
+    };
+    assert!(rt; matches!(left.get(), Expr::Key(0)));
+    assert!(rt; matches!(right.get(), Expr::Arg(2)));
+    let Some(Stmt::Set(1, Expr::Add(left, right))) = transfer.body.get(1) else {
+        return Err("a sum is set".into());
+    };
+    assert!(rt; matches!(left.get(), Expr::Key(1)));
+    assert!(rt; matches!(right.get(), Expr::Arg(2)));
+    assert!(rt; matches!(transfer.body.get(2), Some(Stmt::Reply(Expr::Key(0)))));
+    Ok(())
+}

@@ -1,0 +1,180 @@
+use super::proc_of;
+use crate::tree::Misread;
+use serde_json::Value;
+use std::alloc::Global;
+use std::test::Fail;
+
+// Whether a text is a procedure.
+fn is_procedure(alloc: Global, text: &str) -> Result<bool, Fail> {
+    let tree = Value::from_str(alloc, text)?;
+    match proc_of(alloc, &tree) {
+        Ok(_) => Ok(true),
+        Err(Misread::Faulty) => Ok(false),
+        Err(other) => Err(other.into()),
+    }
+}
+
+#[test]
+fn procedure_has_exactly_its_members(rt: HostRuntime) -> Result<(), Fail> {
+    for proc in [
+        "null",
+        "[]",
+        r#""p""#,
+        r#"{"args":0,"keys":[],"body":[]}"#,
+        r#"{"name":"p","keys":[],"body":[]}"#,
+        r#"{"name":"p","args":0,"body":[]}"#,
+        r#"{"name":"p","args":0,"keys":[]}"#,
+        r#"{"name":"p","args":0,"keys":[],"body":[],"cap":1}"#,
+        r#"{"name":null,"args":0,"keys":[],"body":[]}"#,
+        r#"{"name":7,"args":0,"keys":[],"body":[]}"#,
+        r#"{"name":"p","args":256,"keys":[],"body":[]}"#,
+        r#"{"name":"p","args":-1,"keys":[],"body":[]}"#,
+        r#"{"name":"p","args":null,"keys":[],"body":[]}"#,
+        r#"{"name":"p","args":0,"keys":null,"body":[]}"#,
+        r#"{"name":"p","args":0,"keys":{},"body":[]}"#,
+        r#"{"name":"p","args":0,"keys":[],"body":null}"#,
+        r#"{"name":"p","args":0,"keys":[],"body":7}"#,
+    ] {
+        assert!(rt; !is_procedure(rt.alloc(), proc)?, "{proc}");
+    }
+    for proc in [
+        r#"{"name":"","args":255,"keys":[],"body":[]}"#,
+        r#"{"body":[],"keys":[],"args":0,"name":"p"}"#,
+    ] {
+        assert!(rt; is_procedure(rt.alloc(), proc)?, "{proc}");
+    }
+    Ok(())
+}
+
+// Whether a text is a key.
+fn is_key(alloc: Global, text: &str) -> Result<bool, Fail> {
+    let proc = format!(in alloc; r#"{{"name":"p","args":0,"keys":[{text}],"body":[]}}"#)?;
+    is_procedure(alloc, proc.as_str())
+}
+
+#[test]
+fn key_has_one_of_its_forms(rt: HostRuntime) -> Result<(), Fail> {
+    for key in [
+        "null",
+        "7",
+        "{}",
+        "[]",
+        r#"["read"]"#,
+        r#"["read","arg"]"#,
+        r#"["read","arg",0,0]"#,
+        r#"["Read","arg",0]"#,
+        r#"["arg","read",0]"#,
+        r#"["read",0,"arg"]"#,
+        r#"[0,"arg",0]"#,
+        r#"["write","args",0]"#,
+        r#"["write","arg",256]"#,
+        r#"["write","arg","0"]"#,
+        r#"["read","fixed",4294967296]"#,
+        r#"["read","fixed",-1]"#,
+        r#"["read","fixed",1.0]"#,
+    ] {
+        assert!(rt; !is_key(rt.alloc(), key)?, "{key}");
+    }
+    for key in [
+        r#"["read","arg",0]"#,
+        r#"["write","arg",255]"#,
+        r#"["read","fixed",4294967295]"#,
+        r#"["write","fixed",0]"#,
+    ] {
+        assert!(rt; is_key(rt.alloc(), key)?, "{key}");
+    }
+    Ok(())
+}
+
+// Whether a text is a statement.
+fn is_statement(alloc: Global, text: &str) -> Result<bool, Fail> {
+    let proc = format!(in alloc; r#"{{"name":"p","args":0,"keys":[],"body":[{text}]}}"#)?;
+    is_procedure(alloc, proc.as_str())
+}
+
+#[test]
+fn statement_has_one_of_its_forms(rt: HostRuntime) -> Result<(), Fail> {
+    for statement in [
+        "null",
+        "7",
+        "[]",
+        r#""reply""#,
+        r#"["reply"]"#,
+        r#"["reply",1,2]"#,
+        r#"["Reply",1]"#,
+        r#"["set",1]"#,
+        r#"["set",0,1,2]"#,
+        r#"["set",256,1]"#,
+        r#"["set","0",1]"#,
+        r#"["let",0,1]"#,
+        r#"["if",1,[],[]]"#,
+        r#"["abort",1]"#,
+        r#"[["reply",1]]"#,
+        r#"[7,1]"#,
+        r#"[7,0,1]"#,
+    ] {
+        assert!(rt; !is_statement(rt.alloc(), statement)?, "{statement}");
+    }
+    for statement in [r#"["set",255,0]"#, r#"["reply",0]"#] {
+        assert!(rt; is_statement(rt.alloc(), statement)?, "{statement}");
+    }
+    Ok(())
+}
+
+// Whether a text is an expression that can be set, and one that can be answered.
+fn is_expression(alloc: Global, text: &str) -> Result<(bool, bool), Fail> {
+    let set = format!(in alloc; r#"["set",0,{text}]"#)?;
+    let reply = format!(in alloc; r#"["reply",{text}]"#)?;
+    Ok((
+        is_statement(alloc, set.as_str())?,
+        is_statement(alloc, reply.as_str())?,
+    ))
+}
+
+#[test]
+fn expression_has_one_of_its_forms(rt: HostRuntime) -> Result<(), Fail> {
+    for expression in [
+        "null",
+        "-1",
+        "1.0",
+        "18446744073709551616",
+        r#""1""#,
+        "{}",
+        "[]",
+        "[1]",
+        r#"["arg"]"#,
+        r#"["arg",256]"#,
+        r#"["arg",-1]"#,
+        r#"["arg","0"]"#,
+        r#"["key",256]"#,
+        r#"["key",1.0]"#,
+        r#"["local",0]"#,
+        r#"["not",0]"#,
+        r#"["add",1]"#,
+        r#"["add",1,2,3]"#,
+        r#"["mul",1,2]"#,
+        r#"["add",1,["sub",2,["local",0]]]"#,
+        r#"["sub",null,2]"#,
+        r#"[1,2,3]"#,
+    ] {
+        assert_eq!(rt;
+            is_expression(rt.alloc(), expression)?,
+            (false, false),
+            "{expression}"
+        );
+    }
+    for expression in [
+        "0",
+        "18446744073709551615",
+        r#"["arg",255]"#,
+        r#"["key",255]"#,
+        r#"["add",["sub",1,2],["key",0]]"#,
+    ] {
+        assert_eq!(rt;
+            is_expression(rt.alloc(), expression)?,
+            (true, true),
+            "{expression}"
+        );
+    }
+    Ok(())
+}

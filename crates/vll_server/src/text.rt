@@ -1,0 +1,102 @@
+ghost use Rattle.std.specs.Prelude.{◌≡◌, ◌++◌, ◌∷◌, [], IfOk, OnOk, map, string_bytes};
+ghost use Rattle.std.specs.List.{enumerate_from, flat_map, zip};
+ghost use Rattle.vll_server.specs.Text.{call_line, closed_text, line_words, output_text, reason_text, record_line, reply_text};
+
+use crate::line::{Closed, Line};
+use std::alloc::{AllocError, Global};
+use vll_proc::{Outputs, Reason, Reply};
+
+// Each of these appends its text. After an error the text is a part of it.
+
+fn push_reason(text: &mut String, why: Reason) -> Result<(), AllocError>
+    ensures { OnOk result (string_bytes text.new ≡ string_bytes text.old ++ reason_text why) }
+{
+    match why {
+        Reason::Code(code) => write!(text, "code {code}"),
+        Reason::Overflow => text.push_str("overflow"),
+        Reason::Underflow => text.push_str("underflow"),
+        Reason::ZeroDivisor => text.push_str("zero divisor"),
+    }
+}
+
+fn push_outputs(text: &mut String, outputs: &Outputs) -> Result<(), AllocError>
+    ensures { OnOk result
+        (string_bytes text.new ≡ string_bytes text.old ++ flat_map output_text outputs.now) }
+{
+    for i in 0..outputs.len() {
+        if let Some(output) = outputs.get(i) {
+            write!(text, " {output}")?;
+        }
+    }
+    Ok(())
+}
+
+fn push_reply(text: &mut String, reply: &Reply) -> Result<(), AllocError>
+    ensures { OnOk result (string_bytes text.new ≡ string_bytes text.old ++ reply_text reply.now) }
+{
+    match reply {
+        Reply::Committed(outputs) => {
+            text.push_str("committed")?;
+            push_outputs(text, outputs)
+        }
+        Reply::Aborted(why) => {
+            text.push_str("aborted ")?;
+            push_reason(text, *why)
+        }
+    }
+}
+
+fn push_call_line(text: &mut String, ticket: usize, line: &Line) -> Result<(), AllocError>
+    ensures { OnOk result (string_bytes text.new
+        ≡ string_bytes text.old ++ call_line (ticket, line_words line.now)) }
+{
+    let client = line.client;
+    write!(text, "call {ticket} client {client} ")?;
+    if let Some(reply) = &line.reply {
+        push_reply(text, reply)?;
+    }
+    text.push_str("\n")
+}
+
+fn push_call_lines(text: &mut String, journal: &[Line]) -> Result<(), AllocError>
+    ensures { OnOk result (string_bytes text.new ≡ string_bytes text.old
+        ++ flat_map call_line (enumerate_from 0 (map line_words journal.now))) }
+{
+    for (ticket, line) in journal.iter().enumerate() {
+        push_call_line(text, ticket, line)?;
+    }
+    Ok(())
+}
+
+fn push_record_line(
+    text: &mut String,
+    index: usize,
+    value: u64,
+    pair: u64,
+) -> Result<(), AllocError>
+    ensures { OnOk result (string_bytes text.new
+        ≡ string_bytes text.old ++ record_line (index, (value, pair))) }
+{
+    writeln!(text, "record {index} value {value} pair {pair}")
+}
+
+fn push_record_lines(text: &mut String, records: &[u64], pairs: &[u64]) -> Result<(), AllocError>
+    ensures { OnOk result (string_bytes text.new ≡ string_bytes text.old
+        ++ flat_map record_line (enumerate_from 0 (zip records.now pairs.now))) }
+{
+    for (index, (value, pair)) in records.iter().zip(pairs).enumerate() {
+        push_record_line(text, index, *value, *pair)?;
+    }
+    Ok(())
+}
+
+// The text of what a run leaves.
+pub(crate) fn closed_text_of(alloc: Global, closed: &Closed) -> Result<String, AllocError>
+    ensures { IfOk result (λ text. string_bytes text ≡ closed_text
+        closed.now.journal.items closed.now.records.items closed.now.pairs.items) }
+{
+    let mut text = String::new(alloc);
+    push_call_lines(&mut text, &closed.journal)?;
+    push_record_lines(&mut text, &closed.records, &closed.pairs)?;
+    Ok(text)
+}
