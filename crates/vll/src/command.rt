@@ -12,8 +12,8 @@ pub(crate) enum Action {
     Run,
 }
 
-/// Reads the command line, whose first word is the program's name. Words that are neither `run` nor a request for
-/// help are `Fault::CommandLine`, and so is want of memory.
+/// Reads the command line, whose first word is the program's name. Words that are neither `run` nor
+/// ask for help are `Fault::CommandLine`, and so is want of memory.
 pub(crate) fn action_of(alloc: Global, words: &[String]) -> Result<Action, Fault> {
     match matches_of(alloc, words) {
         Ok(matches) if matches.subcommand_name() == Some("run") => Ok(Action::Run),
@@ -23,7 +23,9 @@ pub(crate) fn action_of(alloc: Global, words: &[String]) -> Result<Action, Fault
 }
 
 fn matches_of<'a>(alloc: Global, words: &'a [String]) -> Result<ArgMatches<'a>, Error> {
-    let run = Command::new(alloc, "run").about("Runs the scenario on standard input and prints its outcome");
+    let run = Command::new(alloc, "run").about(
+        "Runs the scenario on standard input and prints its outcome",
+    );
     Command::new(alloc, "vll")
         .about("Runs the calls of a scenario as transactions")
         .subcommand_required(true)

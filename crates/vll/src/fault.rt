@@ -1,10 +1,10 @@
 use thiserror::Error;
 use vll_server::{ScenarioFault, ServeFault};
 
-/// Why the program ended without an outcome. Its text is the line that the program prints.
-#[derive(Debug, Drop, Error)]
+/// Why the program ended without an outcome. Its text is the line that is printed.
+#[derive(Clone, Copy, Debug, PartialEq, Eq, Error)]
 pub(crate) enum Fault {
-    /// The words of the command line are none that the program takes, or there was no memory to read them.
+    /// The program does not take these words, or there was no memory to read them.
     #[error("vll: command line")]
     CommandLine,
     #[error("vll: scenario: {0}")]
@@ -22,3 +22,6 @@ impl Fault {
         }
     }
 }
+
+#[cfg(test)]
+mod tests;

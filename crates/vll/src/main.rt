@@ -26,6 +26,7 @@ fn work(rt: &(impl Env + Input + Print + Eprint + AllocGlobal)) -> Result<(), Fa
     let alloc = rt.alloc();
     let words = words_of(rt).map_err(|_| Fault::CommandLine)?;
     match action_of(alloc, words.as_slice())? {
+        // A help text that cannot be printed has no line of its own.
         Action::Help(text) => text.print(rt).map_err(|_| Fault::CommandLine),
         Action::Run => run(rt),
     }

@@ -19,8 +19,17 @@ fn takes_run(rt: HostRuntime) -> Result<(), Fail> {
 
 #[test]
 fn prints_help_where_it_is_asked_for(rt: HostRuntime) -> Result<(), Fail> {
-    for line in ["vll --help", "vll -h", "vll help", "vll run --help", "vll help run"] {
-        assert!(rt; matches!(&action(rt.alloc(), line)?, Ok(Action::Help(_))), "{line}");
+    for line in [
+        "vll --help",
+        "vll -h",
+        "vll help",
+        "vll run --help",
+        "vll help run",
+    ] {
+        assert!(rt;
+            matches!(&action(rt.alloc(), line)?, Ok(Action::Help(_))),
+            "{line}"
+        );
     }
     Ok(())
 }
@@ -28,8 +37,16 @@ fn prints_help_where_it_is_asked_for(rt: HostRuntime) -> Result<(), Fail> {
 #[test]
 fn refuses_other_words(rt: HostRuntime) -> Result<(), Fail> {
     for line in [
-        "vll", "vll walk", "vll replay", "vll run run", "vll run extra", "vll run --workers 3", "vll run --workers 0",
-        "vll run --cap 65537", "vll --version", "vll help walk",
+        "vll",
+        "vll walk",
+        "vll replay",
+        "vll run run",
+        "vll run extra",
+        "vll run --workers 3",
+        "vll run --workers 0",
+        "vll run --cap 65537",
+        "vll --version",
+        "vll help walk",
     ] {
         let given = action(rt.alloc(), line)?;
         assert!(rt; matches!(&given, Err(Fault::CommandLine)), "{line}");
