@@ -6,3 +6,11 @@ pub mod Places
 pub mod Passed
 pub mod Texts
 pub mod Written
+pub mod Given
+pub mod Fitting
+pub mod Sizes
+pub mod Answering
+pub mod Stored
+pub mod Served
+pub mod Merges
+pub mod Rows

@@ -1,5 +1,5 @@
 -- The numbers of names, as procedures come one after another.
-use Rattle.std.proofs.Common.{◌≡◌, ℕ, suc, ◌+◌, ◌<◌, Bool, true, false, ◌||◌, List, [], ◌∷◌, ◌++◌, length, take, drop, take-append-drop, get_or, add-one, length-take, Option, Some, None, refl, sym, ap, ◌∙◌, subst, if◌then◌else◌, cond, arith}
+use Rattle.std.proofs.Common.{◌≡◌, ℕ, suc, ◌+◌, ◌<◌, Bool, true, false, ◌||◌, List, [], ◌∷◌, ◌++◌, length, take, drop, take-append-drop, get_or, add-one, length-take, Option, Some, None, refl, sym, ap, ◌∙◌, subst, if◌then◌else◌, arith}
 use Rattle.std.specs.Prelude.{is_some}
 use Rattle.std.specs.List.{list_any}
 use Rattle.std.specs.Str.{bytes_eq}
@@ -115,7 +115,7 @@ pub next_number : (ps : List Proc) (i : ℕ) (p : Proc) (name : List ℕ) → i 
 next_number ps i p name within is new =
     let whole : length (take i ps) ≡ i = omega (arith, length-take i ps) in
     let same : bytes_eq p.name name ≡ true → number_named name (take i ps) ≡ None =
-      (λ e. none_from (number_named name (take i ps)) (subst (λ n. is_some (number_named n (take i ps)) ≡ false) ((bytes_eq-Decides p.name name).0 e) new)) in
+    (λ e. none_from (number_named name (take i ps)) (subst (λ n. is_some (number_named n (take i ps)) ≡ false) ((bytes_eq-Decides p.name name).0 e) new)) in
     by_name (bytes_eq p.name name) (number_named name (take i ps)) i same
     ∙ sym (rw (take-next ps i p within is, number_named-push name (take i ps) p, whole, bytes_eq-swap name p.name) refl)
 

@@ -7,8 +7,12 @@ pub mod Making
 pub mod Calls
 pub mod Library
 pub mod Setup
+pub mod Kept
+pub mod Bytes
 pub mod Scenario
+pub mod Reading
 pub mod Merge
 pub mod Text
+pub mod Serve
 pub mod Streams
 pub mod Plain

@@ -1,5 +1,5 @@
 -- The scenario that bytes are, or the fault that is answered for them.
-use Rattle.std.specs.Prelude.{◌≡◌, ℕ, suc, Bool, true, false, nat_lt, List, [], ◌∷◌, length, Option, Some, None, option_map, Result, Ok, Err, if◌then◌else◌}
+use Rattle.std.specs.Prelude.{◌≡◌, ℕ, suc, Bool, true, false, List, [], ◌∷◌, length, Option, Some, None, option_map, Result, Ok, Err, if◌then◌else◌}
 use Rattle.std.specs.Str.{IsUtf8}
 use Rattle.serde_json.specs.Data.{Data}
 use Rattle.serde_json.specs.Read.{read}
@@ -40,18 +40,28 @@ abbrev pub refuse_if : {A : Type 0} → Bool → ScenarioFault → Result A Scen
 refuse_if true why go = Err why
 refuse_if false why go = go
 
--- the first procedure that is not well-formed
+-- the fault of the first procedure that is not well-formed, where numbers begin at i
+abbrev pub first_check_from : ℕ → ℕ → List Proc → Option ScenarioFault
+first_check_from records i procs = first_fault (λ n p. option_map (fault.Check n) (check_fault records p)) i procs
+
 abbrev pub first_check : ℕ → List Proc → Option ScenarioFault
-first_check records procs = first_fault (λ i p. option_map (fault.Check i) (check_fault records p)) 0 procs
+first_check records procs = first_check_from records 0 procs
 
 abbrev pub in_call : ℕ → ℕ → Result Call CallFault → Result Call ScenarioFault
 in_call client index (Ok c) = Ok c
 in_call client index (Err why) = Err (fault.Call client index why)
 
--- the calls of the scripts
+-- the call that a client's script asks for at an index
+abbrev pub call_at : ℕ → List Proc → ℕ → ℕ → Asked → Result Call ScenarioFault
+call_at records procs client index a = in_call client index (call_made records procs a)
+
+-- the calls of a client's script
+abbrev pub script_made : ℕ → List Proc → ℕ → List Asked → Result (List Call) ScenarioFault
+script_made records procs client script = each_given (call_at records procs client) 0 script
+
+-- the calls of the scripts, client by client
 abbrev pub scripts_made : ℕ → List Proc → List (List Asked) → Result (List (List Call)) ScenarioFault
-scripts_made records procs scripts =
-    each_given (λ client script. each_given (λ index a. in_call client index (call_made records procs a)) 0 script) 0 scripts
+scripts_made records procs scripts = each_given (script_made records procs) 0 scripts
 
 -- the scenario of its parts: the sizes, then the procedures, then their names, then the calls
 abbrev pub setup_of : Parts → Result Setup ScenarioFault
@@ -64,12 +74,6 @@ setup_of p =
         Ok (record { records = p.records; procs = procs; scripts = scripts })))
     else Err fault.Size
 
--- the scenario of a JSON tree
-abbrev pub scenario_of_tree : Data → Result Setup ScenarioFault
-scenario_of_tree d = do
-  parts ← shape_of d
-  setup_of parts
-
 -- the JSON tree that bytes are, or that they are none
 abbrev pub IsTree : List ℕ → Option Data → Type 0
 IsTree bytes (Some d) = IsUtf8 bytes × (read bytes ≡ Some d)
@@ -79,10 +83,19 @@ IsTree bytes None = IsUtf8 bytes → read bytes ≡ None
 abbrev pub most_bytes : ℕ
 most_bytes = 16777216
 
-abbrev pub scenario_of_tree_or_none : Option Data → Result Setup ScenarioFault
-scenario_of_tree_or_none None = Err fault.Json
-scenario_of_tree_or_none (Some d) = scenario_of_tree d
+-- a tree, or that the bytes are none
+abbrev pub tree_or_json : Option Data → Result Data ScenarioFault
+tree_or_json None = Err fault.Json
+tree_or_json (Some d) = Ok d
 
--- the scenario of bytes and of their tree
-abbrev pub scenario_of : List ℕ → Option Data → Result Setup ScenarioFault
-scenario_of bytes tree = if nat_lt most_bytes (length bytes) then Err fault.Size else scenario_of_tree_or_none tree
+-- the parts of a tree
+abbrev pub parts_at : Option Data → Result Parts ScenarioFault
+parts_at tree = do
+  d ← tree_or_json tree
+  shape_of d
+
+-- the scenario of a tree: the tests are made in this order, and the first fault is answered
+abbrev pub scenario_at : Option Data → Result Setup ScenarioFault
+scenario_at tree = do
+  parts ← parts_at tree
+  setup_of parts

@@ -1,3 +1,6 @@
+use crate::bytes::ReadFault;
+use crate::library::LibraryFault;
+use std::alloc::AllocError;
 use thiserror::Error;
 
 /// A part of a scenario. The parts' shapes are tested in this order.
@@ -103,6 +106,46 @@ pub enum ScenarioFault {
     /// Two procedures have one name.
     #[error("name twice")]
     NameTwice,
+}
+
+impl From<AllocError> for ScenarioFault {
+    ghost use Rattle.std.specs.Prelude.{◌≡◌};
+    ghost use Rattle.vll_server.specs.declared.fault.ScenarioFault.TheVariants.{NoMemory};
+
+    ghost from_gives = { λ _ e. e ≡ NoMemory };
+
+    fn from(_: AllocError) -> ScenarioFault {
+        ScenarioFault::NoMemory
+    }
+}
+
+impl From<ReadFault> for ScenarioFault {
+    ghost use Rattle.std.specs.Prelude.{◌≡◌};
+    ghost use Rattle.vll_server.specs.Bytes.{fault_of};
+
+    ghost from_gives = { λ f e. e ≡ fault_of f };
+
+    fn from(fault: ReadFault) -> ScenarioFault {
+        match fault {
+            ReadFault::Read => ScenarioFault::Read,
+            ReadFault::Size => ScenarioFault::Size,
+            ReadFault::NoMemory => ScenarioFault::NoMemory,
+        }
+    }
+}
+
+impl From<LibraryFault> for ScenarioFault {
+    ghost use Rattle.std.specs.Prelude.{◌≡◌};
+    ghost use Rattle.vll_server.specs.Library.{fault_of};
+
+    ghost from_gives = { λ f e. e ≡ fault_of f };
+
+    fn from(fault: LibraryFault) -> ScenarioFault {
+        match fault {
+            LibraryFault::NoMemory => ScenarioFault::NoMemory,
+            LibraryFault::NameTwice => ScenarioFault::NameTwice,
+        }
+    }
 }
 
 /// Why a text was not written whole. After `NoMemory` nothing has been written, and after `Write` a

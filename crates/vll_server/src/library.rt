@@ -60,6 +60,12 @@ impl Library {
         })
     }
 
+    pub(crate) fn procs(&self) -> &[Proc]
+        ensures { result.now ≡ self.now.procs }
+    {
+        self.procs.as_slice()
+    }
+
     // The call that a script asks for, or the lowest fault that stands.
     pub(crate) fn call(&self, asked: &Asked) -> Result<Call, CallFault>
         ensures { result ≡ call_made self.now.records self.now.procs asked.now }
@@ -68,7 +74,12 @@ impl Library {
             return Err(CallFault::UnknownProc);
         };
         let procs = self.procs.as_slice();
-        call_to(self.records, *number, &procs[*number as usize], asked.args.as_slice())
+        call_to(
+            self.records,
+            *number,
+            &procs[*number as usize],
+            asked.args.as_slice(),
+        )
     }
 }
 

@@ -6,7 +6,7 @@ use crate::line::{Closed, Line};
 use std::alloc::{AllocError, Global};
 use vll_proc::{Outputs, Reason, Reply};
 
-// Each of these appends its text. After an error the text is a part of it.
+// Each of these appends one part of the outcome. After an error a beginning of that part may be there.
 
 fn push_reason(text: &mut String, why: Reason) -> Result<(), AllocError>
     ensures { OnOk result (string_bytes text.new ≡ string_bytes text.old ++ reason_text why) }

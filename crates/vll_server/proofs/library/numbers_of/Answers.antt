@@ -1,4 +1,4 @@
-use Rattle.std.proofs.Common.{◌≡◌, ℕ, false, get_or, take, ap, ◌∙◌, sym, arith}
+use Rattle.std.proofs.Common.{◌≡◌, ℕ, false, take, ap, ◌∙◌, sym, arith}
 use Rattle.std.specs.Prelude.{is_some, Some, string_bytes, List, if◌then◌else◌}
 use Rattle.std.specs.BTreeMap.{get_by_text}
 use Rattle.std.specs.Str.{bytes_eq}
@@ -23,8 +23,8 @@ loop-i-preserved c =
     let new : is_some (number_named p.name earlier) ≡ false = sym found ∙ c.if-contains_key.false in
     let spelled : string_bytes c.in_ok-name.name ≡ p.name = c.in_ok-name.ensures.ok ∙ c.as_str-name.ensures in
     let numbered = λ (name : List ℕ).
-      btree_map_updates_text (string_bytes c.in_ok-name.name) c.loop-i.numbers c.insert.new.self (Some c.loop-i.i) c.in_ok-insert.ensures.updates name
-      ∙ ap (λ bs. if bytes_eq bs name then Some c.loop-i.i else get_by_text c.loop-i.numbers name) spelled
-      ∙ ap (λ o. if bytes_eq p.name name then Some c.loop-i.i else o) (c.loop-i.invariant.0 name)
-      ∙ next_number ps c.loop-i.i p name (omega arith) c.index-procs-i.is new in
+    btree_map_updates_text (string_bytes c.in_ok-name.name) c.loop-i.numbers c.insert.new.self (Some c.loop-i.i) c.in_ok-insert.ensures.updates name
+    ∙ ap (λ bs. if bytes_eq bs name then Some c.loop-i.i else get_by_text c.loop-i.numbers name) spelled
+    ∙ ap (λ o. if bytes_eq p.name name then Some c.loop-i.i else o) (c.loop-i.invariant.0 name)
+    ∙ next_number ps c.loop-i.i p name (omega arith) c.index-procs-i.is new in
     (numbered, next_keeps ps c.loop-i.i p (omega arith) c.index-procs-i.is c.loop-i.invariant.1 new)

@@ -1,4 +1,4 @@
-use Rattle.std.proofs.Common.{◌≡◌, ◌∙◌, ap, ap₂, map, List, ℕ, length}
+use Rattle.std.proofs.Common.{◌∙◌, ap, ap₂, map, List, ℕ, length}
 use Rattle.vll_record.specs.Canon.{laid}
 use Rattle.vll_record.specs.Claim.{claims_of}
 use Rattle.vll_record.specs.declared.claim.Claim.{Claim}

@@ -1,4 +1,4 @@
-use Rattle.std.proofs.Common.{◌≡◌, ◌∙◌, ap, set, arith}
+use Rattle.std.proofs.Common.{◌∙◌, ap, set, arith}
 use Rattle.vll_proc.specs.Made.{place_of}
 use Rattle.vll_server.specs.Making.{cell_of}
 use Rattle.vll_server.proofs.Places.{laid-mapped}

@@ -1,4 +1,4 @@
-use Rattle.std.proofs.Common.{◌≡◌, ◌∙◌, ap, sym, arith}
+use Rattle.std.proofs.Common.{◌∙◌, ap, sym, arith}
 use Rattle.vll_record.specs.declared.claim.Claim.{Claim}
 use Rattle.vll_server.proofs.Places.{place_of-here, place_of-later}
 use Rattle.vll_server.proofs.making.place_of.Goals as goal

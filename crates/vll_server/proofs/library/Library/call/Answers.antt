@@ -1,7 +1,6 @@
-use Rattle.std.proofs.Common.{◌≡◌, ◌<◌, ◌∙◌, ℕ, List, Option, None, Some, length, get_or, ap, sym, subst, arith, slice_get, refl}
+use Rattle.std.proofs.Common.{◌≡◌, ◌∙◌, Some, length, get_or, ap, sym, arith, slice_get, refl}
 use Rattle.std.proofs.lemmas.Option.{slice_get_read}
 use Rattle.std.specs.BTreeMap.{get_by_text}
-use Rattle.vll_proc.specs.declared.syntax.Proc.{Proc}
 use Rattle.vll_server.specs.Calls.{call_made, call_numbered, call_to, number_named}
 use Rattle.vll_server.specs.Catalog.{Catalog}
 use Rattle.vll_server.specs.Checked.{check_fault}

@@ -1,0 +1,39 @@
+use Rattle.std.proofs.Common.{◌≡◌, ◌++◌, List, length, map, replicate, drop, ap, ap₂, ◌∙◌, arith}
+use Rattle.std.proofs.lemmas.List.{take_at}
+use Rattle.vll_proc.specs.declared.call.Call.{Call}
+use Rattle.vll_proc.specs.declared.syntax.Proc.{Proc}
+use Rattle.vll_proc.specs.Serial.{end}
+use Rattle.vll_server.specs.Merge.{in_client_order}
+use Rattle.vll_server.specs.Serve.{words_of}
+use Rattle.vll_server.specs.Setup.{Setup}
+use Rattle.vll_server.specs.Text.{closed_text, line_words}
+use Rattle.vll_server.proofs.Served.{closed_text-serial}
+use Rattle.vll_server.proofs.serve.run.Goals as goal
+
+pub returns : goal.returns
+returns c =
+    let procs = c.args.scenario.procs in
+    let scripts = c.args.scenario.scripts in
+    let opening = c.args.scenario.records in
+    let calls = in_client_order 0 scripts in
+    let begun = c.deref_mut.result.now in
+    let new = c.serve_scripts.new.records in
+    let journal = c.serve_scripts.new.journal.items in
+    let ran = c.in_ok-serve_scripts.ensures in
+    let procs_are : c.procs.result.now ≡ procs = c.procs.ensures ∙ ap (λ (s : Setup). s.procs) c.scenario.view_is in
+    let scripts_are : c.as_slice.result.now ≡ scripts = c.as_slice.ensures ∙ ap (λ (s : Setup). s.scripts) c.scenario.view_is in
+    let begun_is : begun ≡ opening = c.deref_mut.ensures.value ∙ ap (λ (s : Setup). s.records) c.scenario.view_is in
+    let is : new ≡ end procs calls opening =
+    ran.records
+    ∙ ap₂ (λ (ps : List Proc) (ss : List (List Call)). end ps (in_client_order 0 ss) begun) procs_are scripts_are
+    ∙ ap (end procs calls) begun_is in
+    let words : map line_words journal ≡ words_of procs calls opening =
+    ran.journal
+    ∙ ap (λ ls. map line_words ls ++ words_of c.procs.result.now (in_client_order 0 c.as_slice.result.now) begun) c.new-journal.ensures.items
+    ∙ ap₂ (λ (ps : List Proc) (ss : List (List Call)). words_of ps (in_client_order 0 ss) begun) procs_are scripts_are
+    ∙ ap (words_of procs calls) begun_is in
+    let whole : length new ≡ c.scenario.inside.records.len = omega arith in
+    let records = take_at new (drop (length new) c.scenario.inside.records.items) c.scenario.inside.records.len whole in
+    let count : c.len.result ≡ length new = omega arith in
+    let pairs = c.in_ok-pairs.ensures.items_if_clones_equal (λ y e. e) ∙ ap (λ n. replicate n 0) count in
+    ap₂ (closed_text journal) records pairs ∙ closed_text-serial procs calls opening new journal is words

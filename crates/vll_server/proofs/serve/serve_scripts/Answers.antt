@@ -1,0 +1,24 @@
+use Rattle.std.proofs.Common.{◌≡◌, ◌+◌, ◌<◌, drop, length, get_or, arith}
+use Rattle.vll_server.specs.Merge.{in_client_order}
+use Rattle.vll_server.specs.Serve.{made_by}
+use Rattle.vll_server.proofs.Served.{in_client_order-next, end-behind, words_of-behind}
+use Rattle.vll_server.proofs.serve.serve_scripts.Goals as goal
+
+pub loop-client-preserved : goal.loop-client-preserved
+loop-client-preserved c =
+    let procs = c.args.procs.now in
+    let scripts = c.args.scripts.now in
+    let i = c.loop-client.client in
+    let script = c.as_slice.result.now in
+    let now = c.loop-client.records in
+    let new = c.serve_script.new.records in
+    let within : i < length scripts = omega arith in
+    let is : script ≡ get_or scripts i script = cc in
+    let front = made_by i script in
+    let rest = in_client_order (i + 1) (drop (i + 1) scripts) in
+    let next = in_client_order-next scripts i script within is in
+    record {
+      count = omega arith;
+      records = end-behind procs _ front rest now new _ next c.in_ok-serve_script.ensures.records c.loop-client.invariant.records;
+      words = words_of-behind procs _ front rest now new _ _ _ next c.in_ok-serve_script.ensures.records c.in_ok-serve_script.ensures.journal c.loop-client.invariant.words;
+    }

@@ -1,0 +1,6 @@
+use Rattle.std.proofs.Common.{◌≡◌, ◌+◌, length, drop}
+use Rattle.std.specs.Prelude.{sum_by}
+use Rattle.vll_server.proofs.setup.has_few_calls.Given as goal
+
+abbrev pub invariant-loop-script : goal.invariant-loop-script
+invariant-loop-script l = sum_by length l.scripts + l.left ≡ 65536 + sum_by length (drop l.script-index l.scripts)

@@ -1,0 +1,12 @@
+-- What the type of a scenario keeps.
+use Rattle.std.specs.Prelude.{◌≡◌, length}
+use Rattle.vll_server.specs.declared.scenario.Scenario.TheInside.{Inside}
+use Rattle.vll_server.specs.Setup.{Setup, IsSetup}
+
+abbrev pub setup_in : Inside → Setup
+setup_in s = record { records = s.records.items; procs = s.library.procs; scripts = s.scripts }
+
+-- the library is for as many records as there are, and each call is one that it has
+pub record IsScenario (s : Inside) : Type 0 where
+  pub records : s.library.records ≡ length s.records.items
+  pub setup : IsSetup (setup_in s)
