@@ -1,0 +1,46 @@
+//! The program `vll`: reads a scenario from standard input, runs it, and writes its outcome.
+#![tactic(auto)]
+
+mod command;
+mod fault;
+
+use crate::command::{Action, action_of};
+use crate::fault::Fault;
+use std::process::ExitCode;
+use std::rt::Env;
+use std::{env, io};
+use vll_server::{Plain, read_scenario, serve_plain};
+
+fn main(rt: HostRuntime) -> ExitCode {
+    match work(&rt) {
+        Ok(()) => ExitCode::SUCCESS,
+        Err(fault) => {
+            // Where standard output itself has failed, the status alone tells of the fault.
+            let _ = println!(rt; "{fault}");
+            ExitCode::from(fault.status())
+        }
+    }
+}
+
+fn work(rt: &(impl Env + Input + Print + Eprint + AllocGlobal)) -> Result<(), Fault> {
+    let alloc = rt.alloc();
+    let words = words_of(rt).map_err(|_| Fault::CommandLine)?;
+    match action_of(alloc, words.as_slice())? {
+        // A help text that cannot be printed has no line of its own.
+        Action::Help(text) => text.print(rt).map_err(|_| Fault::CommandLine),
+        Action::Run => run(rt),
+    }
+}
+
+// The words of the command line. One that is no text is an error.
+fn words_of(rt: &(impl Env + AllocGlobal)) -> io::Result<Vec<String>> {
+    Ok(env::args(rt)?.collect(rt.alloc())?)
+}
+
+fn run(rt: &(impl Input + Print + AllocGlobal)) -> Result<(), Fault> {
+    let mut reader = Plain::new(rt.reader());
+    let scenario = read_scenario(rt.alloc(), &mut reader)?;
+    let mut writer = Plain::new(io::writer(rt));
+    serve_plain(rt.alloc(), scenario, &mut writer)?;
+    Ok(())
+}

@@ -1,0 +1,2 @@
+# Lists in lists, far past the depth that is read.
+yes '[' | head -n 1000000

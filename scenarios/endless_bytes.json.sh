@@ -1,0 +1,2 @@
+# Spaces without end: the program has to stop reading.
+yes ' '
