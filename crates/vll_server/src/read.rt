@@ -63,3 +63,6 @@ fn tree_of(alloc: Global, bytes: &[u8]) -> Result<Value, ScenarioFault>
         Err(_) => Err(ScenarioFault::Json),
     }
 }
+
+#[cfg(test)]
+mod tests;

@@ -5,6 +5,9 @@ ghost use Rattle.vll_proc.specs.WellFormed.{IsWellFormed};
 
 use crate::call::{Call, Reason, Reply};
 use crate::frame::Frame;
+use crate::laws::{
+    changes_claimed_records_alone, depends_on_claimed_records_alone, keeps_the_number_of_records,
+};
 use crate::syntax::{Expr, KeyAt, KeyDecl, Proc, Stmt, Text};
 use sqlite_items::{Boxed, Items};
 use std::alloc::{AllocError, Global};
@@ -245,4 +248,11 @@ fn sum_reads_the_cells_of_its_keys(rt: HostRuntime) -> Result<(), Fail> {
     assert_eq!(rt; frame.get(0), 70);
     assert_eq!(rt; frame.get(1), 80);
     Ok(())
+}
+
+#[test]
+fn laws_ask_for_nothing() {
+    changes_claimed_records_alone();
+    keeps_the_number_of_records();
+    depends_on_claimed_records_alone();
 }
