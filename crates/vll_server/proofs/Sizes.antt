@@ -7,10 +7,11 @@ use Rattle.json.specs.Token.{Token}
 use Rattle.json.specs.Lex.{Lexeme, token, comma, colon, Class, quote, backslash, operator, space, other, class, Mode, between, in_word, in_string, in_escape, lex_byte, lex, Place, fresh, after_value, after_comma, after_key, begins_colon, may_begin, may_close, if_allowed, place_token, punctuate, tokens}
 use Rattle.json.specs.Json as json
 use Rattle.json.specs.Json.{Parse, parse_map, after_end_array, read_key, items_step, members_step, items, members, value_with, value}
-use Rattle.serde_json.specs.Data.{Data, null, boolean, number, string, array, object, Items, no_items, item, Members, no_members, member, put}
+use Rattle.serde_json.specs.Data.{Data, number, array, object, Items, no_items, item, Members, no_members, member, put}
 use Rattle.serde_json.specs.Events.{items_len}
 use Rattle.serde_json.specs.Find.{get, get_member}
 use Rattle.serde_json.specs.Read.{number_of, of_json, of_items, of_members, max_depth, read}
+use Rattle.vll_server.specs.Longest.{longest_list, longest_in_items, longest_in_members}
 use Rattle.vll_server.specs.Syntax.{member_at}
 use Rattle.vll_server.specs.Tree.{in_front, each, list_at}
 
@@ -197,67 +198,50 @@ AtMost-value n (suc d) =
 
 -- ---- the longest list in the data
 
-abbrev mutual
-  data_longest : Data → ℕ
-  data_longest null = 0
-  data_longest (boolean b) = 0
-  data_longest (number x) = 0
-  data_longest (string s) = 0
-  data_longest (array ds) = max (items_len ds) (each_longest ds)
-  data_longest (object ms) = named_longest ms
-
-  each_longest : Items → ℕ
-  each_longest no_items = 0
-  each_longest (item d ds) = max (data_longest d) (each_longest ds)
-
-  named_longest : Members → ℕ
-  named_longest no_members = 0
-  named_longest (member k d ms) = max (data_longest d) (named_longest ms)
-
 abbrev Within : {A : Type 0} → (A → ℕ) → ℕ → Option A → Type 0
 Within f n None = ⊤
 Within f n (Some a) = f a ≤ n
 
 abbrev ItemsWithin : ℕ → ℕ → Option Items → Type 0
 ItemsWithin m n None = ⊤
-ItemsWithin m n (Some ds) = (items_len ds ≤ m) × (each_longest ds ≤ n)
+ItemsWithin m n (Some ds) = (items_len ds ≤ m) × (longest_in_items ds ≤ n)
 
-named_longest-match_ordering : (o : Ordering) (a b c : Members) (n : ℕ) → named_longest a ≤ n → named_longest b ≤ n → named_longest c ≤ n → named_longest (match_ordering o a b c) ≤ n
-named_longest-match_ordering Less a b c n p q r = p
-named_longest-match_ordering Equal a b c n p q r = q
-named_longest-match_ordering Greater a b c n p q r = r
+longest_in_members-match_ordering : (o : Ordering) (a b c : Members) (n : ℕ) → longest_in_members a ≤ n → longest_in_members b ≤ n → longest_in_members c ≤ n → longest_in_members (match_ordering o a b c) ≤ n
+longest_in_members-match_ordering Less a b c n p q r = p
+longest_in_members-match_ordering Equal a b c n p q r = q
+longest_in_members-match_ordering Greater a b c n p q r = r
 
-named_longest-put : (k : List ℕ) (d : Data) (ms : Members) (n : ℕ) → data_longest d ≤ n → named_longest ms ≤ n → named_longest (put k d ms) ≤ n
-named_longest-put k d no_members n p q = omega arith
-named_longest-put k d (member l e ms) n p q =
-    named_longest-match_ordering _ (member k d (member l e ms)) (member l d ms) (member l e (put k d ms)) n (omega arith) (omega arith) (omega (arith, named_longest-put k d ms n p (omega arith)))
+longest_in_members-put : (k : List ℕ) (d : Data) (ms : Members) (n : ℕ) → longest_list d ≤ n → longest_in_members ms ≤ n → longest_in_members (put k d ms) ≤ n
+longest_in_members-put k d no_members n p q = omega arith
+longest_in_members-put k d (member l e ms) n p q =
+    longest_in_members-match_ordering _ (member k d (member l e ms)) (member l d ms) (member l e (put k d ms)) n (omega arith) (omega arith) (omega (arith, longest_in_members-put k d ms n p (omega arith)))
 
-number_within : (n : ℕ) (o : Option _) → Within data_longest n (option_map number o)
+number_within : (n : ℕ) (o : Option _) → Within longest_list n (option_map number o)
 number_within n None = tt
 number_within n (Some x) = omega arith
 
-array_within : (m n : ℕ) → m ≤ n → (o : Option Items) → ItemsWithin m n o → Within data_longest n (option_map array o)
+array_within : (m n : ℕ) → m ≤ n → (o : Option Items) → ItemsWithin m n o → Within longest_list n (option_map array o)
 array_within m n h None x = tt
 array_within m n h (Some ds) x = omega (arith, x.0, x.1)
 
-object_within : (n : ℕ) (o : Option Members) → Within named_longest n o → Within data_longest n (option_map object o)
+object_within : (n : ℕ) (o : Option Members) → Within longest_in_members n o → Within longest_list n (option_map object o)
 object_within n None x = tt
 object_within n (Some ms) x = x
 
-more_within : (m n : ℕ) (d : Data) → data_longest d ≤ n → (o : Option Items) → ItemsWithin m n o → ItemsWithin (suc m) n (option_map (item d) o)
+more_within : (m n : ℕ) (d : Data) → longest_list d ≤ n → (o : Option Items) → ItemsWithin m n o → ItemsWithin (suc m) n (option_map (item d) o)
 more_within m n d h None x = tt
 more_within m n d h (Some ds) x = (omega (arith, x.0), omega (arith, x.1))
 
-item_within : (m n : ℕ) (more : Option Items) → ItemsWithin m n more → (o : Option Data) → Within data_longest n o → ItemsWithin (suc m) n (option_and_then (λ d. option_map (item d) more) o)
+item_within : (m n : ℕ) (more : Option Items) → ItemsWithin m n more → (o : Option Data) → Within longest_list n o → ItemsWithin (suc m) n (option_and_then (λ d. option_map (item d) more) o)
 item_within m n more x None y = tt
 item_within m n more x (Some d) y = more_within m n d y more x
 
-member_within : (n : ℕ) (more : Data → Option Members) → ((d : Data) → data_longest d ≤ n → Within named_longest n (more d)) → (o : Option Data) → Within data_longest n o → Within named_longest n (option_and_then more o)
+member_within : (n : ℕ) (more : Data → Option Members) → ((d : Data) → longest_list d ≤ n → Within longest_in_members n (more d)) → (o : Option Data) → Within longest_list n o → Within longest_in_members n (option_and_then more o)
 member_within n more x None y = tt
 member_within n more x (Some d) y = x d y
 
 mutual
-  Within-of_json : (j : json.Json) (n : ℕ) → longest j ≤ n → Within data_longest n (of_json j)
+  Within-of_json : (j : json.Json) (n : ℕ) → longest j ≤ n → Within longest_list n (of_json j)
   Within-of_json json.null n h = omega arith
   Within-of_json (json.boolean b) n h = omega arith
   Within-of_json (json.number s) n h = number_within n (number_of s)
@@ -269,12 +253,12 @@ mutual
   Within-of_items json.no_items n h = (omega arith, omega arith)
   Within-of_items (json.item j js) n h = item_within (len js) n _ (Within-of_items js n (omega arith)) _ (Within-of_json j n (omega arith))
 
-  Within-of_members : (ms : json.Members) (found : Members) (n : ℕ) → members_longest ms ≤ n → named_longest found ≤ n → Within named_longest n (of_members ms found)
+  Within-of_members : (ms : json.Members) (found : Members) (n : ℕ) → members_longest ms ≤ n → longest_in_members found ≤ n → Within longest_in_members n (of_members ms found)
   Within-of_members json.no_members found n h k = k
   Within-of_members (json.member name j ms) found n h k =
-      member_within n (λ d. of_members ms (put name d found)) (λ d x. Within-of_members ms (put name d found) n (omega arith) (named_longest-put name d found n x k)) _ (Within-of_json j n (omega arith))
+      member_within n (λ d. of_members ms (put name d found)) (λ d x. Within-of_members ms (put name d found) n (omega arith) (longest_in_members-put name d found n x k)) _ (Within-of_json j n (omega arith))
 
-converted_within : (n : ℕ) (o : Option json.Json) → Within longest n o → Within data_longest n (option_and_then of_json o)
+converted_within : (n : ℕ) (o : Option json.Json) → Within longest n o → Within longest_list n (option_and_then of_json o)
 converted_within n None x = tt
 converted_within n (Some j) x = Within-of_json j n x
 
@@ -283,25 +267,25 @@ last_within n None x = tt
 last_within n (Some (j, [])) x = x.0
 last_within n (Some (j, t ∷ ts)) x = tt
 
-data_longest-read : (text : List ℕ) (d : Data) → read text ≡ Some d → data_longest d ≤ length text
-data_longest-read text d e = subst (Within data_longest (length text)) e (converted_within _ _ (last_within _ _ (AtMost-value (length text) max_depth (tokens text) (length-tokens text))))
+pub longest_list-read : (text : List ℕ) (d : Data) → read text ≡ Some d → longest_list d ≤ length text
+longest_list-read text d e = subst (Within longest_list (length text)) e (converted_within _ _ (last_within _ _ (AtMost-value (length text) max_depth (tokens text) (length-tokens text))))
 
 -- ---- a member's list
 
-found_within : (o : Ordering) (d : Data) (rest : Option Data) (n : ℕ) → data_longest d ≤ n → Within data_longest n rest → Within data_longest n (match_ordering o rest (Some d) rest)
+found_within : (o : Ordering) (d : Data) (rest : Option Data) (n : ℕ) → longest_list d ≤ n → Within longest_list n rest → Within longest_list n (match_ordering o rest (Some d) rest)
 found_within Less d rest n p q = q
 found_within Equal d rest n p q = p
 found_within Greater d rest n p q = q
 
-get_member-within : (name : List ℕ) (ms : Members) (n : ℕ) → named_longest ms ≤ n → Within data_longest n (get_member name ms)
+get_member-within : (name : List ℕ) (ms : Members) (n : ℕ) → longest_in_members ms ≤ n → Within longest_list n (get_member name ms)
 get_member-within name no_members n h = tt
 get_member-within name (member l d ms) n h = found_within (slice_cmp nat_cmp name l) d (get_member name ms) n (omega arith) (get_member-within name ms n (omega arith))
 
-get-within : (name : List ℕ) (d : Data) (n : ℕ) → data_longest d ≤ n → Within data_longest n (get name d)
+get-within : (name : List ℕ) (d : Data) (n : ℕ) → longest_list d ≤ n → Within longest_list n (get name d)
 get-within name (object ms) n h = get_member-within name ms n h
 get-within name _ n h = tt
 
-member-within : (name : List ℕ) (d : Data) (n : ℕ) (o : Option Data) → get name d ≡ o → Within data_longest n o → data_longest (member_at name d) ≤ n
+member-within : (name : List ℕ) (d : Data) (n : ℕ) (o : Option Data) → get name d ≡ o → Within longest_list n o → longest_list (member_at name d) ≤ n
 member-within name d n None e h = rw e (omega arith)
 member-within name d n (Some x) e h = rw e h
 
@@ -320,12 +304,10 @@ fault_in_each f no_items n h = tt
 fault_in_each f (item d ds) zero h = absurd (omega arith)
 fault_in_each f (item d ds) (suc n) h = fault_in_front n (f d) (each f ds) (fault_in_each f ds n (omega arith))
 
-fault_in_list : {A : Type 0} (f : Data → Option A) (d : Data) (n : ℕ) → data_longest d ≤ n → FaultWithin n (list_at f d)
+fault_in_list : {A : Type 0} (f : Data → Option A) (d : Data) (n : ℕ) → longest_list d ≤ n → FaultWithin n (list_at f d)
 fault_in_list f (array ds) n h = fault_in_each f ds n (omega arith)
 fault_in_list f _ n h = omega arith
 
 -- the index of the first faulty item of a member's list
-pub index-read : {A : Type 0} (f : Data → Option A) (text name : List ℕ) (d : Data) (i : ℕ) → read text ≡ Some d → list_at f (member_at name d) ≡ Err i → i ≤ length text
-index-read f text name d i was fault =
-    let within = get-within name d (length text) (data_longest-read text d was) in
-    subst (FaultWithin (length text)) fault (fault_in_list f (member_at name d) (length text) (member-within name d (length text) (get name d) refl within))
+pub index-within : {A : Type 0} (f : Data → Option A) (name : List ℕ) (d : Data) (n i : ℕ) → longest_list d ≤ n → list_at f (member_at name d) ≡ Err i → i ≤ n
+index-within f name d n i few fault = subst (FaultWithin n) fault (fault_in_list f (member_at name d) n (member-within name d n (get name d) refl (get-within name d n few)))

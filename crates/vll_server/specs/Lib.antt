@@ -1,4 +1,5 @@
 pub mod Tree
+pub mod Longest
 pub mod Syntax
 pub mod Shape
 pub mod Checked

@@ -1,6 +1,7 @@
 //! A scenario, read from bytes.
-ghost use Rattle.std.specs.Prelude.{◌≡◌, ◌↔◌, ◌⊎◌, true, false, Some, None, Ok, Err, IfOk, IfErr, OnOk};
+ghost use Rattle.std.specs.Prelude.{◌≡◌, ◌≤◌, ◌↔◌, ◌⊎◌, length, true, false, Some, None, Ok, Err, IfOk, IfErr, OnOk};
 ghost use Rattle.serde_json.specs.View.{view};
+ghost use Rattle.vll_server.specs.Longest.{longest_list};
 ghost use Rattle.vll_server.specs.Scenario.{IsTree, parts_at, scenario_at, tree_or_json};
 ghost use Rattle.vll_server.specs.Reading.{data_of, Reads, Tells};
 ghost use Rattle.vll_server.specs.declared.fault.ScenarioFault.TheVariants as ScenarioFault;
@@ -31,7 +32,7 @@ pub fn read_scenario<S: Source>(alloc: Global, reader: &mut S) -> Result<Scenari
 }
 
 // The parts of the scenario that a reader gives.
-fn read_parts<S: Source>(alloc: Global, reader: &mut S) -> Result<Parts, ScenarioFault>
+pub(crate) fn read_parts<S: Source>(alloc: Global, reader: &mut S) -> Result<Parts, ScenarioFault>
     requires { S.failed reader.old ≡ false }
     ensures parts { Reads parts_at (S.remaining reader.old) (S.remaining reader.new) result }
     ensures failed { (result ≡ Err ScenarioFault.Read) ↔ (S.failed reader.new ≡ true) }
@@ -45,6 +46,7 @@ fn read_tree<S: Source>(alloc: Global, reader: &mut S) -> Result<Value, Scenario
     requires { S.failed reader.old ≡ false }
     ensures tree { Reads tree_or_json (S.remaining reader.old) (S.remaining reader.new)
         (data_of result) }
+    ensures few { IfOk result (λ v. longest_list (view v) ≤ 16777216) }
     ensures failed { (result ≡ Err ScenarioFault.Read) ↔ (S.failed reader.new ≡ true) }
 {
     let bytes = read_bytes(alloc, reader)?;
@@ -53,9 +55,11 @@ fn read_tree<S: Source>(alloc: Global, reader: &mut S) -> Result<Value, Scenario
 
 // The JSON tree of bytes.
 fn tree_of(alloc: Global, bytes: &[u8]) -> Result<Value, ScenarioFault>
+    requires { length bytes.now ≤ 16777216 }
     ensures ok { IfOk result (λ v. IsTree bytes.now (Some (view v))) }
     ensures err { IfErr result (λ e. ((e ≡ ScenarioFault.Json) × IsTree bytes.now None)
         ⊎ (e ≡ ScenarioFault.NoMemory)) }
+    ensures few { IfOk result (λ v. longest_list (view v) ≤ 16777216) }
 {
     match Value::from_slice(alloc, bytes) {
         Ok(tree) => Ok(tree),

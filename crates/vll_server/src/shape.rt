@@ -1,5 +1,6 @@
-ghost use Rattle.std.specs.Prelude.{◌≡◌, Err};
+ghost use Rattle.std.specs.Prelude.{◌≡◌, ◌≤◌};
 ghost use Rattle.serde_json.specs.View.{view};
+ghost use Rattle.vll_server.specs.Longest.{longest_list};
 ghost use Rattle.vll_server.specs.Shape.{asked_at, part_at, shape_fault, shape_of, version_at, GivesUnlessMemory};
 ghost use Rattle.vll_server.specs.Tree.{Gives};
 
@@ -30,6 +31,7 @@ impl Reads for Asked {
 
 /// The parts of a tree, or the first fault of their shape.
 pub fn shape_of(alloc: Global, tree: &Value) -> Result<Parts, ScenarioFault>
+    requires few { longest_list (view tree.now) ≤ 16777216 }
     ensures { GivesUnlessMemory result (shape_of (view tree.now)) }
 {
     if !has_exactly(tree, &["version", "records", "procs", "clients"]) {
@@ -76,6 +78,7 @@ fn part_of<T: Reads>(
     part: Part,
     name: &str,
 ) -> Result<Items<T>, ScenarioFault>
+    requires few { longest_list (view tree.now) ≤ 16777216 }
     ensures { GivesUnlessMemory result (part_at part name.now T.reads (view tree.now)) }
 {
     let Ok(value) = member(tree, name) else {
@@ -84,18 +87,14 @@ fn part_of<T: Reads>(
     match list_of(alloc, value) {
         Ok(items) => Ok(items),
         Err(FirstFault::NoMemory) => Err(ScenarioFault::NoMemory),
-        Err(FirstFault::At(index)) => Err(fault_at(part, index)),
+        Err(FirstFault::At(index)) => Err(fault_at(part, index as u32)),
     }
 }
 
-// No text of at most 16,777,216 bytes has so many items that an index does not fit.
-fn fault_at(part: Part, index: usize) -> ScenarioFault
-    ensures { GivesUnlessMemory {A = Unit {0}} (Err result) (Err (shape_fault part index)) }
+fn fault_at(part: Part, index: u32) -> ScenarioFault
+    ensures { result ≡ shape_fault part index }
 {
-    match u32::try_from(index) {
-        Ok(index) => ScenarioFault::Shape(Spot { part, index }),
-        Err(_) => ScenarioFault::NoMemory,
-    }
+    ScenarioFault::Shape(Spot { part, index })
 }
 
 #[cfg(test)]

@@ -1,6 +1,7 @@
-use super::shape_of;
+use super::Parts;
 use crate::fault::{Part, ScenarioFault, Spot};
-use serde_json::Value;
+use crate::plain::Plain;
+use crate::read::read_parts;
 use std::alloc::Global;
 use std::test::Fail;
 use vll_proc::{Expr, KeyAt, KeyDecl, Stmt};
@@ -22,10 +23,14 @@ const SOUND: Texts<'static> = Texts {
     clients: "[]",
 };
 
+// The parts that a text has.
+fn parts_of(alloc: Global, text: &str) -> Result<Parts, ScenarioFault> {
+    read_parts(alloc, &mut Plain::new(text.as_bytes()))
+}
+
 // The spot of the fault that a text's shape has.
 fn spot_of(alloc: Global, text: &str) -> Result<Option<(Part, u32)>, Fail> {
-    let tree = Value::from_str(alloc, text)?;
-    match shape_of(alloc, &tree) {
+    match parts_of(alloc, text) {
         Ok(_) => Ok(None),
         Err(ScenarioFault::Shape(Spot { part, index })) => Ok(Some((part, index))),
         Err(other) => Err(other.into()),
@@ -218,8 +223,7 @@ const TRANSFER: &str = r#"{"version":1,"records":[100,50],
 
 #[test]
 fn transfer_scenario_is_read_whole(rt: HostRuntime) -> Result<(), Fail> {
-    let tree = Value::from_str(rt.alloc(), TRANSFER)?;
-    let parts = shape_of(rt.alloc(), &tree)?;
+    let parts = parts_of(rt.alloc(), TRANSFER)?;
     assert_eq!(rt; parts.records.as_slice(), [100, 50].as_slice());
     assert_eq!(rt; parts.procs.len(), 2);
     assert_eq!(rt; parts.scripts.len(), 1);
@@ -252,8 +256,7 @@ fn transfer_scenario_is_read_whole(rt: HostRuntime) -> Result<(), Fail> {
 
 #[test]
 fn operands_and_operations_keep_their_places(rt: HostRuntime) -> Result<(), Fail> {
-    let tree = Value::from_str(rt.alloc(), TRANSFER)?;
-    let parts = shape_of(rt.alloc(), &tree)?;
+    let parts = parts_of(rt.alloc(), TRANSFER)?;
     let transfer = parts.procs.get(0).ok_or("transfer")?;
     let Some(Stmt::Set(0, Expr::Sub(left, right))) = transfer.body.get(0) else {
         return Err("a difference is set".into());
