@@ -1,9 +1,16 @@
 use super::Fault;
+use std::alloc::{AllocError, Global};
 use std::test::Fail;
 use vll_server::{CallFault, CheckFault, Part, ScenarioFault, ServeFault, Spot};
 
+// Whether the fault prints this line and ends with this status.
+fn tells(alloc: Global, fault: Fault, line: &str, status: u8) -> Result<bool, AllocError> {
+    let text = fault.to_string(alloc)?;
+    Ok(text.as_str() == line && fault.status() == status)
+}
+
 #[test]
-fn prints_the_line_and_ends_with_the_status(rt: HostRuntime) -> Result<(), Fail> {
+fn refused_scenario_ends_with_2(rt: HostRuntime) -> Result<(), Fail> {
     let spot = Spot {
         part: Part::Procs,
         index: 3,
@@ -17,46 +24,37 @@ fn prints_the_line_and_ends_with_the_status(rt: HostRuntime) -> Result<(), Fail>
         index: 2,
         fault: CallFault::RecordRange,
     };
-    for (fault, line, status) in [
-        (Fault::CommandLine, "vll: command line", 2),
-        (
-            Fault::Scenario(ScenarioFault::Read),
-            "vll: scenario: read",
-            2,
-        ),
-        (
-            Fault::Scenario(ScenarioFault::Json),
-            "vll: scenario: json",
-            2,
-        ),
-        (
-            Fault::Scenario(ScenarioFault::Shape(spot)),
-            "vll: scenario: shape procs 3",
-            2,
-        ),
-        (Fault::Scenario(check), "vll: scenario: check 0 10", 2),
-        (Fault::Scenario(call), "vll: scenario: call 1 2 3", 2),
-        (
-            Fault::Scenario(ScenarioFault::Size),
-            "vll: scenario: size",
-            2,
-        ),
-        (
-            Fault::Scenario(ScenarioFault::NoMemory),
-            "vll: scenario: no memory",
-            2,
-        ),
-        (
-            Fault::Scenario(ScenarioFault::NameTwice),
-            "vll: scenario: name twice",
-            2,
-        ),
-        (Fault::Run(ServeFault::NoMemory), "vll: run: no memory", 1),
-        (Fault::Run(ServeFault::Write), "vll: run: write", 1),
+    for (fault, line) in [
+        (ScenarioFault::Read, "vll: scenario: read"),
+        (ScenarioFault::Json, "vll: scenario: json"),
+        (ScenarioFault::Shape(spot), "vll: scenario: shape procs 3"),
+        (check, "vll: scenario: check 0 10"),
+        (call, "vll: scenario: call 1 2 3"),
+        (ScenarioFault::Size, "vll: scenario: size"),
+        (ScenarioFault::NoMemory, "vll: scenario: no memory"),
+        (ScenarioFault::NameTwice, "vll: scenario: name twice"),
     ] {
-        let text = fault.to_string(rt.alloc())?;
-        assert_eq!(rt; text.as_str(), line);
-        assert_eq!(rt; fault.status(), status);
+        assert!(rt;
+            tells(rt.alloc(), Fault::Scenario(fault), line, 2)?,
+            "{line}"
+        );
+    }
+    Ok(())
+}
+
+#[test]
+fn refused_command_line_ends_with_2(rt: HostRuntime) -> Result<(), Fail> {
+    assert!(rt; tells(rt.alloc(), Fault::CommandLine, "vll: command line", 2)?);
+    Ok(())
+}
+
+#[test]
+fn failed_run_ends_with_1(rt: HostRuntime) -> Result<(), Fail> {
+    for (fault, line) in [
+        (ServeFault::NoMemory, "vll: run: no memory"),
+        (ServeFault::Write, "vll: run: write"),
+    ] {
+        assert!(rt; tells(rt.alloc(), Fault::Run(fault), line, 1)?, "{line}");
     }
     Ok(())
 }
