@@ -11,14 +11,14 @@ use Rattle.vll_record.specs.Claim.{mode_on, stronger_of}
 use Rattle.vll_record.proofs.ClaimsOf.{mode_on-claims_of}
 use Rattle.vll_proc.specs.declared.call.Call.{Call}
 use Rattle.vll_proc.specs.declared.call.Reason.{Reason}
+use Rattle.vll_proc.specs.declared.syntax.Expr.{Expr}
 use Rattle.vll_proc.specs.declared.syntax.KeyDecl.{KeyDecl}
 use Rattle.vll_proc.specs.declared.syntax.Proc.{Proc}
-use Rattle.vll_proc.specs.declared.syntax.Stmt.{Stmt}
-use Rattle.vll_proc.specs.declared.syntax.Stmt.TheVariants.{Set, Reply}
+use Rattle.vll_proc.specs.declared.syntax.Stmt.{Stmt, Row_of-Stmt, end_of-Stmt, more_of-Stmt, Let, Set, If', Abort, Reply}
 use Rattle.vll_proc.specs.Made.{asked, IsCallOf}
-use Rattle.vll_proc.specs.Meaning.{Scene, Action, and_then, value_of, effect, in_turn, record_named, opening_scene, body}
+use Rattle.vll_proc.specs.Meaning.{Scene, Action, and_then, value_of, effect, list_effect, in_turn, record_named, opening_scene, body}
 use Rattle.vll_proc.specs.Serial.{after, applied}
-use Rattle.vll_proc.specs.WellFormed.{IsWellFormed, stmt_keys_below, is_not_read, sets_no_read_key}
+use Rattle.vll_proc.specs.WellFormed.{IsWellFormed, key_is_below, set_is_below, any_leaf, throughout, list_throughout, is_not_read, sets_no_read_key}
 use Rattle.vll_proc.proofs.Called.{claims_made, some_key, key_record}
 use Rattle.vll_proc.proofs.Copy.{both_true}
 
@@ -31,19 +31,35 @@ goes_on_then : (P Q : Scene → Type 0) (r : Result Scene Reason) (go : Action) 
 goes_on_then P Q (Ok s) go h step = step s h
 goes_on_then P Q (Err why) go h step = tt
 
-goes_on_value : (P : Scene → Type 0) (r : Result ℕ Reason) (f : ℕ → Scene) → ((v : ℕ) → P (f v)) → IfGoesOn P (and_then r (λ v. Ok (f v)))
+goes_on_value : (P : Scene → Type 0) (r : Result ℕ Reason) (f : ℕ → Result Scene Reason) → ((v : ℕ) → IfGoesOn P (f v)) → IfGoesOn P (and_then r f)
 goes_on_value P (Ok v) f h = h v
 goes_on_value P (Err why) f h = tt
+
+goes_on_choice : (P : Scene → Type 0) (c : Bool) (r q : Result Scene Reason) → IfGoesOn P r → IfGoesOn P q → IfGoesOn P (if c then r else q)
+goes_on_choice P true r q f g = f
+goes_on_choice P false r q f g = g
 
 -- the number of records
 abbrev HasLength : ℕ → Scene → Type 0
 HasLength n s = length s.records ≡ n
 
-keeps_length : (n : ℕ) (st : Stmt) (s : Scene) → HasLength n s → IfGoesOn (HasLength n) (effect st s)
-keeps_length n (Set i e) s h =
-    goes_on_value (HasLength n) (value_of e s) (λ v. record s { records = slice_set s.records (slice_index s.named i) v }) (λ v. rw length-set h)
-keeps_length n (Reply e) s h =
-    goes_on_value (HasLength n) (value_of e s) (λ v. record s { outputs = s.outputs ++ v ∷ [] }) (λ v. h)
+mutual
+  keeps_length : (n : ℕ) (st : Stmt) (s : Scene) → HasLength n s → IfGoesOn (HasLength n) (effect st s)
+  keeps_length n (Let i e) s h =
+      goes_on_value (HasLength n) (value_of e s) (λ v. Ok (record s { locals = slice_set s.locals i v })) (λ v. h)
+  keeps_length n (Set i e) s h =
+      goes_on_value (HasLength n) (value_of e s) (λ v. Ok (record s { records = slice_set s.records (slice_index s.named i) v })) (λ v. rw length-set h)
+  keeps_length n (If' e k first l second) s h =
+      goes_on_value (HasLength n) (value_of e s) (λ v. if v == 0 then list_effect second s else list_effect first s)
+      (λ v. goes_on_choice (HasLength n) (v == 0) (list_effect second s) (list_effect first s) (list_keeps_length n second s h) (list_keeps_length n first s h))
+  keeps_length n (Abort code) s h = tt
+  keeps_length n (Reply e) s h =
+      goes_on_value (HasLength n) (value_of e s) (λ v. Ok (record s { outputs = s.outputs ++ v ∷ [] })) (λ v. h)
+
+  list_keeps_length : {m : _} → (n : ℕ) (row : Row_of-Stmt m) (s : Scene) → HasLength n s → IfGoesOn (HasLength n) (list_effect row s)
+  list_keeps_length n end_of-Stmt s h = h
+  list_keeps_length n (more_of-Stmt st rest) s h =
+      goes_on_then (HasLength n) (HasLength n) (effect st s) (list_effect rest) (keeps_length n st s h) (λ t k. list_keeps_length n rest t k)
 
 all_keep_length : (n : ℕ) (sts : List Stmt) (s : Scene) → HasLength n s → IfGoesOn (HasLength n) (in_turn (map effect sts) s)
 all_keep_length n [] s h = h
@@ -66,24 +82,49 @@ record StaysAt (r v : ℕ) (named : List ℕ) (s : Scene) : Type 0 where
 NamesNot : (r : ℕ) (keys : List KeyDecl) (named : List ℕ) → Type 0
 NamesNot r keys named = (i : ℕ) → nat_lt i (length keys) ≡ true → is_not_read (slice_get keys i) ≡ true → slice_index named i ≢ r
 
-keeps_value : (r v : ℕ) (keys : List KeyDecl) (named : List ℕ) (st : Stmt) (s : Scene) → NamesNot r keys named → stmt_keys_below (length keys) st ≡ true → sets_no_read_key keys st ≡ true
-    → StaysAt r v named s → IfGoesOn (StaysAt r v named) (effect st s)
-unfolding NamesNot
-keeps_value r v keys named (Set i e) s apart known writable h =
-    let other : slice_index s.named i ≢ r = rw h.names (apart i (both_true _ _ known).0 writable) in
-    goes_on_value (StaysAt r v named) (value_of e s) (λ x. record s { records = slice_set s.records (slice_index s.named i) x })
-    (λ x. record { value = get_or-set_other s.records (slice_index s.named i) r x 0 (λ e. other (sym e)) ∙ h.value; names = h.names })
-keeps_value r v keys named (Reply e) s apart known writable h =
-    goes_on_value (StaysAt r v named) (value_of e s) (λ x. record s { outputs = s.outputs ++ x ∷ [] }) (λ x. record { value = h.value; names = h.names })
+-- what a statement sets is known, and may be set
+abbrev IsAllowed : List KeyDecl → ((Expr → Bool) → (Stmt → Bool) → Bool) → Type 0
+IsAllowed keys all = (all (key_is_below (length keys)) (set_is_below (length keys)) ≡ true) × (all any_leaf (sets_no_read_key keys) ≡ true)
 
-all_keep_value : (r v : ℕ) (keys : List KeyDecl) (named : List ℕ) (sts : List Stmt) (s : Scene) → NamesNot r keys named → list_all (stmt_keys_below (length keys)) sts ≡ true → list_all (sets_no_read_key keys) sts ≡ true
+mutual
+  unfolding NamesNot
+
+  keeps_value : (r v : ℕ) (keys : List KeyDecl) (named : List ℕ) (st : Stmt) (s : Scene) → NamesNot r keys named → IsAllowed keys (λ leaf test. throughout leaf test st)
+      → StaysAt r v named s → IfGoesOn (StaysAt r v named) (effect st s)
+  keeps_value r v keys named (Let i e) s apart k h =
+      goes_on_value (StaysAt r v named) (value_of e s) (λ x. Ok (record s { locals = slice_set s.locals i x })) (λ x. record { value = h.value; names = h.names })
+  keeps_value r v keys named (Set i e) s apart k h =
+      let other : slice_index s.named i ≢ r = rw h.names (apart i (both_true _ _ k.0).0 (both_true _ _ k.1).0) in
+      goes_on_value (StaysAt r v named) (value_of e s) (λ x. Ok (record s { records = slice_set s.records (slice_index s.named i) x }))
+      (λ x. record { value = get_or-set_other s.records (slice_index s.named i) r x 0 (λ e. other (sym e)) ∙ h.value; names = h.names })
+  keeps_value r v keys named (If' e m first n second) s apart k h =
+      let known = both_true _ _ k.0 in
+      let writable = both_true _ _ k.1 in
+      goes_on_value (StaysAt r v named) (value_of e s) (λ x. if x == 0 then list_effect second s else list_effect first s)
+      (λ x. goes_on_choice (StaysAt r v named) (x == 0) (list_effect second s) (list_effect first s)
+      (list_keeps_value r v keys named second s apart (known.1, writable.1) h)
+      (list_keeps_value r v keys named first s apart ((both_true _ _ known.0).1, (both_true _ _ writable.0).1) h))
+  keeps_value r v keys named (Abort code) s apart k h = tt
+  keeps_value r v keys named (Reply e) s apart k h =
+      goes_on_value (StaysAt r v named) (value_of e s) (λ x. Ok (record s { outputs = s.outputs ++ x ∷ [] })) (λ x. record { value = h.value; names = h.names })
+
+  list_keeps_value : {m : _} → (r v : ℕ) (keys : List KeyDecl) (named : List ℕ) (row : Row_of-Stmt m) (s : Scene) → NamesNot r keys named → IsAllowed keys (λ leaf test. list_throughout leaf test row)
+      → StaysAt r v named s → IfGoesOn (StaysAt r v named) (list_effect row s)
+  list_keeps_value r v keys named end_of-Stmt s apart k h = h
+  list_keeps_value r v keys named (more_of-Stmt st rest) s apart k h =
+      let known = both_true _ _ k.0 in
+      let writable = both_true _ _ k.1 in
+      goes_on_then (StaysAt r v named) (StaysAt r v named) (effect st s) (list_effect rest) (keeps_value r v keys named st s apart (known.0, writable.0) h)
+      (λ t more. list_keeps_value r v keys named rest t apart (known.1, writable.1) more)
+
+all_keep_value : (r v : ℕ) (keys : List KeyDecl) (named : List ℕ) (sts : List Stmt) (s : Scene) → NamesNot r keys named → IsAllowed keys (λ leaf test. list_all (throughout leaf test) sts)
     → StaysAt r v named s → IfGoesOn (StaysAt r v named) (in_turn (map effect sts) s)
-all_keep_value r v keys named [] s apart known writable h = h
-all_keep_value r v keys named (st ∷ sts) s apart known writable h =
-    let k = both_true _ _ known in
-    let w = both_true _ _ writable in
-    goes_on_then (StaysAt r v named) (StaysAt r v named) (effect st s) (in_turn (map effect sts)) (keeps_value r v keys named st s apart k.0 w.0 h)
-    (λ t more. all_keep_value r v keys named sts t apart k.1 w.1 more)
+all_keep_value r v keys named [] s apart k h = h
+all_keep_value r v keys named (st ∷ sts) s apart k h =
+    let known = both_true _ _ k.0 in
+    let writable = both_true _ _ k.1 in
+    goes_on_then (StaysAt r v named) (StaysAt r v named) (effect st s) (in_turn (map effect sts)) (keeps_value r v keys named st s apart (known.0, writable.0) h)
+    (λ t more. all_keep_value r v keys named sts t apart (known.1, writable.1) more)
 
 -- a record that some position asks to write is claimed for writing
 stronger_write : (o : Option Mode) → stronger_of Write o ≡ Some Write
@@ -129,7 +170,7 @@ slice_index-applied p c records formed made r free =
     let named : List ℕ = map (λ (d : KeyDecl). record_named c.args d.at) p.keys in
     let apart : NamesNot r p.keys named = λ k lt writable e. free (ap (mode_on c.claims) (sym e) ∙ claimed_for_writing p c formed made k (ltb-true k (length p.keys) lt) writable) in
     ended (body p c.args records)
-    (all_keep_value r (slice_index records r) p.keys named p.body (opening_scene p c.args records) apart formed.known_keys formed.writable_keys (record { value = refl; names = refl }))
+    (all_keep_value r (slice_index records r) p.keys named p.body (opening_scene p c.args records) apart (formed.known_keys, formed.writable_keys) (record { value = refl; names = refl }))
   where
     ended : (q : Result Scene Reason) → IfGoesOn (StaysAt r (slice_index records r) (map (λ (d : KeyDecl). record_named c.args d.at) p.keys)) q → slice_index (after records q).records r ≡ slice_index records r
     ended (Ok s) h = h.value

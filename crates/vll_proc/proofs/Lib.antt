@@ -1,7 +1,10 @@
 pub mod Equations
+pub mod Lists
 pub mod Copy
 pub mod Called
+pub mod Alike
 pub mod Runs
 pub mod Local
 pub mod Kept
+pub mod Declared
 pub mod Rows

@@ -1,20 +1,20 @@
--- What transfer, bump and sum2 answer, computed.
-use Rattle.std.proofs.Common.{◌≡◌, ℕ, List, [], ◌∷◌, refl}
+-- What some procedures answer, computed.
+use Rattle.std.proofs.Common.{◌≡◌, ℕ, false, List, [], ◌∷◌, refl}
 use Rattle.std.specs.Prelude.{codes}
 use denote.Hole.Carrier.{hidden}
 use Rattle.vll_record.specs.declared.claim.Mode.TheVariants.{Read, Write}
-use Rattle.vll_proc.specs.declared.call.Reason.TheVariants.{Overflow, Underflow}
+use Rattle.vll_proc.specs.declared.call.Reason.TheVariants.{Code, Overflow, Underflow, ZeroDivisor}
 use Rattle.vll_proc.specs.declared.call.Reply.TheVariants.{Committed, Aborted}
-use Rattle.vll_proc.specs.declared.syntax.Expr.{Num, Arg, Key, Add, Sub}
+use Rattle.vll_proc.specs.declared.syntax.Expr.{Num, Arg, Key, Local, Add, Sub, Mul, Div, Rem, Min, Max, Equal, Less, Not}
 use Rattle.vll_proc.specs.declared.syntax.Expr.TheBlock.{hidden-the_row-Expr-0}
 use Rattle.vll_proc.specs.declared.syntax.KeyAt.TheVariants as at
 use Rattle.vll_proc.specs.declared.syntax.Proc.{Proc}
-use Rattle.vll_proc.specs.declared.syntax.Stmt.TheVariants.{Set, Reply}
-use Rattle.vll_proc.specs.declared.syntax.Stmt.{Stmt}
+use Rattle.vll_proc.specs.declared.syntax.Stmt.{Stmt, Let, Set, If, Abort, Reply}
+use Rattle.vll_proc.specs.declared.syntax.Stmt.TheBlock.{hidden-the_row-Stmt-0}
 use Rattle.vll_proc.specs.declared.syntax.KeyDecl.{KeyDecl}
 use Rattle.vll_proc.specs.Made.{call_of}
 use Rattle.vll_proc.specs.Serial.{apply}
-use Rattle.vll_proc.specs.WellFormed.{IsWellFormed}
+use Rattle.vll_proc.specs.WellFormed.{IsWellFormed, body_reads_set, nothing_set}
 
 abbrev pub transfer_keys : List KeyDecl
 transfer_keys = record { mode = Write; at = at.Arg 0 } ∷ record { mode = Write; at = at.Arg 1 } ∷ []
@@ -51,8 +51,48 @@ odd_sum = record {
   body = Reply (Sub (Add (Arg 0) (Num 1)) (Sub (Num 0) (Num 1))) ∷ [];
 }
 
+-- each operator that answers a number of any operands
+abbrev operators : Proc
+operators = record {
+  name = codes "operators";
+  args = 0;
+  keys = [];
+  body =
+      Reply (Div (Num 7) (Num 2)) ∷ Reply (Rem (Num 7) (Num 2)) ∷ Reply (Min (Num 3) (Num 9)) ∷ Reply (Max (Num 3) (Num 9))
+      ∷ Reply (Equal (Num 3) (Num 3)) ∷ Reply (Less (Num 3) (Num 3)) ∷ Reply (Not (Num 0)) ∷ [];
+}
+
+abbrev product : Proc
+product = record { name = codes "product"; args = 2; keys = []; body = Reply (Mul (Arg 0) (Arg 1)) ∷ [] }
+
+abbrev odd_quotient : Proc
+odd_quotient = record {
+  name = codes "odd_quotient";
+  args = 0;
+  keys = [];
+  body = Reply (Add (Div (Num 1) (Num 0)) (Sub (Num 0) (Num 1))) ∷ [];
+}
+
+abbrev pub take_keys : List KeyDecl
+take_keys = record { mode = Write; at = at.Arg 0 } ∷ []
+
+abbrev pub take_body : List Stmt
+take_body = If (Less (Key 0) (Arg 1)) (Abort 7 ∷ []) [] ∷ Set 0 (Sub (Key 0) (Arg 1)) ∷ Reply (Key 0) ∷ []
+
+abbrev take : Proc
+take = record { name = codes "take"; args = 2; keys = take_keys; body = take_body }
+
+-- a local that both lists of an `If` set may be read behind it
+abbrev pub choose_body : List Stmt
+choose_body =
+    Let 0 (Num 40) ∷ If (Arg 0) (If (Equal (Arg 0) (Num 2)) (Let 1 (Num 2) ∷ []) (Let 1 (Num 1) ∷ []) ∷ []) (Let 1 (Num 0) ∷ [])
+    ∷ Reply (Add (Local 0) (Local 1)) ∷ []
+
+abbrev choose : Proc
+choose = record { name = codes "choose"; args = 1; keys = []; body = choose_body }
+
 abbrev procs : List Proc
-procs = transfer ∷ bump ∷ sum2 ∷ odd_sum ∷ []
+procs = transfer ∷ bump ∷ sum2 ∷ odd_sum ∷ operators ∷ product ∷ odd_quotient ∷ take ∷ choose ∷ []
 
 transfers : apply procs (call_of 0 transfer (0 ∷ 1 ∷ 30 ∷ [])) (100 ∷ 50 ∷ []) ≡ record { records = 70 ∷ 80 ∷ []; reply = Committed (70 ∷ []) }
 unfolding hidden hidden-the_row-Expr-0
@@ -87,6 +127,47 @@ left_first : apply procs (call_of 3 odd_sum (18446744073709551615 ∷ [])) [] �
 unfolding hidden hidden-the_row-Expr-0
 left_first = refl
 
+operate : apply procs (call_of 4 operators []) [] ≡ record { records = []; reply = Committed (3 ∷ 1 ∷ 3 ∷ 9 ∷ 1 ∷ 0 ∷ 1 ∷ []) }
+unfolding hidden hidden-the_row-Expr-0
+operate = refl
+
+greatest_product : apply procs (call_of 5 product (4294967295 ∷ 4294967297 ∷ [])) [] ≡ record { records = []; reply = Committed (18446744073709551615 ∷ []) }
+unfolding hidden hidden-the_row-Expr-0
+greatest_product = refl
+
+product_overflows : apply procs (call_of 5 product (4294967296 ∷ 4294967296 ∷ [])) [] ≡ record { records = []; reply = Aborted Overflow }
+unfolding hidden hidden-the_row-Expr-0
+product_overflows = refl
+
+zero_divisor_first : apply procs (call_of 6 odd_quotient []) [] ≡ record { records = []; reply = Aborted ZeroDivisor }
+unfolding hidden hidden-the_row-Expr-0
+zero_divisor_first = refl
+
+takes_too_much : apply procs (call_of 7 take (0 ∷ 9 ∷ [])) (5 ∷ []) ≡ record { records = 5 ∷ []; reply = Aborted (Code 7) }
+unfolding hidden hidden-the_row-Expr-0 hidden-the_row-Stmt-0
+takes_too_much = refl
+
+takes_all : apply procs (call_of 7 take (0 ∷ 5 ∷ [])) (5 ∷ []) ≡ record { records = 0 ∷ []; reply = Committed (0 ∷ []) }
+unfolding hidden hidden-the_row-Expr-0 hidden-the_row-Stmt-0
+takes_all = refl
+
+chooses_the_first : apply procs (call_of 8 choose (2 ∷ [])) [] ≡ record { records = []; reply = Committed (42 ∷ []) }
+unfolding hidden hidden-the_row-Expr-0 hidden-the_row-Stmt-0
+chooses_the_first = refl
+
+chooses_the_second : apply procs (call_of 8 choose (1 ∷ [])) [] ≡ record { records = []; reply = Committed (41 ∷ []) }
+unfolding hidden hidden-the_row-Expr-0 hidden-the_row-Stmt-0
+chooses_the_second = refl
+
+chooses_nothing : apply procs (call_of 8 choose (0 ∷ [])) [] ≡ record { records = []; reply = Committed (40 ∷ []) }
+unfolding hidden hidden-the_row-Expr-0 hidden-the_row-Stmt-0
+chooses_nothing = refl
+
+-- a local that one list of an `If` sets is not surely set behind it
+reads_half_set : body_reads_set nothing_set (If (Arg 0) (Let 0 (Num 1) ∷ []) [] ∷ Reply (Local 0) ∷ []) ≡ false
+unfolding hidden hidden-the_row-Expr-0 hidden-the_row-Stmt-0
+reads_half_set = refl
+
 pub transfer_is_well_formed : (name : List ℕ) → IsWellFormed (record { name = name; args = 3; keys = transfer_keys; body = transfer_body })
 unfolding hidden hidden-the_row-Expr-0
 transfer_is_well_formed name = record {
@@ -96,7 +177,11 @@ transfer_is_well_formed name = record {
   known_keys = refl;
   writable_keys = refl;
   known_args = refl;
+  known_locals = refl;
+  set_locals = refl;
   few_replies = refl;
+  shallow = refl;
+  short = refl;
 }
 
 pub bump_is_well_formed : (name : List ℕ) → IsWellFormed (record { name = name; args = 1; keys = bump_keys; body = bump_body })
@@ -108,7 +193,11 @@ bump_is_well_formed name = record {
   known_keys = refl;
   writable_keys = refl;
   known_args = refl;
+  known_locals = refl;
+  set_locals = refl;
   few_replies = refl;
+  shallow = refl;
+  short = refl;
 }
 
 pub sum2_is_well_formed : (name : List ℕ) → IsWellFormed (record { name = name; args = 2; keys = sum2_keys; body = sum2_body })
@@ -120,5 +209,41 @@ sum2_is_well_formed name = record {
   known_keys = refl;
   writable_keys = refl;
   known_args = refl;
+  known_locals = refl;
+  set_locals = refl;
   few_replies = refl;
+  shallow = refl;
+  short = refl;
+}
+
+pub take_is_well_formed : (name : List ℕ) → IsWellFormed (record { name = name; args = 2; keys = take_keys; body = take_body })
+unfolding hidden hidden-the_row-Expr-0 hidden-the_row-Stmt-0
+take_is_well_formed name = record {
+  few_args = refl;
+  few_keys = refl;
+  key_args = refl;
+  known_keys = refl;
+  writable_keys = refl;
+  known_args = refl;
+  known_locals = refl;
+  set_locals = refl;
+  few_replies = refl;
+  shallow = refl;
+  short = refl;
+}
+
+pub choose_is_well_formed : (name : List ℕ) → IsWellFormed (record { name = name; args = 1; keys = []; body = choose_body })
+unfolding hidden hidden-the_row-Expr-0 hidden-the_row-Stmt-0
+choose_is_well_formed name = record {
+  few_args = refl;
+  few_keys = refl;
+  key_args = refl;
+  known_keys = refl;
+  writable_keys = refl;
+  known_args = refl;
+  known_locals = refl;
+  set_locals = refl;
+  few_replies = refl;
+  shallow = refl;
+  short = refl;
 }

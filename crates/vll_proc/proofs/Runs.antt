@@ -1,22 +1,24 @@
 -- A well-formed procedure's body on the cells of a made call: it may run there, and ends as on the records.
-use Rattle.std.proofs.Common.{◌≡◌, ℕ, ◌≤◌, Bool, true, ◌&&◌, nat_lt, List, [], ◌∷◌, length, map, Result, Ok, Err, refl, sym, ap, arith}
+use Rattle.std.proofs.Common.{◌≡◌, ℕ, ◌≤◌, Bool, true, ◌&&◌, nat_lt, List, [], ◌∷◌, length, map, replicate, Result, Ok, Err, slice_index, refl, sym, ap, ◌∙◌, arith}
 use Rattle.std.specs.List.{list_all}
 use Rattle.std.proofs.lemmas.Bool.{ltb-true, lt-ltb, leb-true}
+use Rattle.std.proofs.lemmas.List.{length-set}
 use Rattle.vll_record.specs.declared.claim.Claim.{Claim}
+use Rattle.vll_record.specs.Claim.{IsRising}
 use Rattle.vll_proc.specs.declared.call.Call.{Call}
 use Rattle.vll_proc.specs.declared.call.Reason.{Reason}
 use Rattle.vll_proc.specs.declared.call.Reply.TheVariants.{Committed, Aborted}
-use Rattle.vll_proc.specs.declared.syntax.Expr.{Expr, Row_of-Expr, end_of-Expr, more_of-Expr, Num, Arg, Key, Add', Sub'}
+use Rattle.vll_proc.specs.declared.syntax.Expr.{Expr, Row_of-Expr, end_of-Expr, more_of-Expr, Num, Arg, Key, Local, Add', Sub', Mul', Div', Rem', Min', Max', Equal', Less', Not'}
 use Rattle.vll_proc.specs.declared.syntax.Proc.{Proc}
-use Rattle.vll_proc.specs.declared.syntax.Stmt.{Stmt}
-use Rattle.vll_proc.specs.declared.syntax.Stmt.TheVariants.{Set, Reply}
+use Rattle.vll_proc.specs.declared.syntax.Stmt.{Stmt, Row_of-Stmt, end_of-Stmt, more_of-Stmt, Let, Set, If', Abort, Reply}
 use Rattle.vll_proc.specs.Cells.{Holds}
 use Rattle.vll_proc.specs.Made.{IsCallOf}
 use Rattle.vll_proc.specs.Meaning.{Scene, effect, in_turn, opening_scene, body}
 use Rattle.vll_proc.specs.Serial.{After, after, applied}
-use Rattle.vll_proc.specs.WellFormed.{IsWellFormed, keys_below, operand_keys_below, args_below, operand_args_below, stmt_keys_below, stmt_args_below}
+use Rattle.vll_proc.specs.WellFormed.{IsWellFormed, all_leaves, operand_leaves, throughout, list_throughout, key_is_below, arg_is_below, set_is_below, any_stmt, nothing_set, body_set_behind}
+use Rattle.vll_proc.proofs.Alike.{Bridge, IsAlike, EndAlike, alike_in_turn}
 use Rattle.vll_proc.proofs.Called.{claims_rise, claims_few, key_place}
-use Rattle.vll_proc.proofs.Copy.{IsCopy, EndAlike, both_true, alike_in_turn}
+use Rattle.vll_proc.proofs.Copy.{IsPlaceFor, both_true, Holds-set}
 
 both_still : (a b c d : Bool) → (a ≡ true → c ≡ true) → (b ≡ true → d ≡ true) → (a && b) ≡ true → (c && d) ≡ true
 both_still a b c d f g h = let parts = both_true a b h in rw (f parts.0, g parts.1)
@@ -24,85 +26,141 @@ both_still a b c d f g h = let parts = both_true a b h in rw (f parts.0, g parts
 still_below : (m n i : ℕ) → m ≤ n → nat_lt i m ≡ true → nat_lt i n ≡ true
 still_below m n i le h = let lt = ltb-true i m h in lt-ltb i n (omega arith)
 
--- what is below a number is below a greater one
+-- a test that follows from another holds throughout where that one does
 mutual
-  keys_below_more : (m n : ℕ) (e : Expr) → m ≤ n → keys_below m e ≡ true → keys_below n e ≡ true
-  keys_below_more m n (Num v) le h = refl
-  keys_below_more m n (Arg i) le h = refl
-  keys_below_more m n (Key i) le h = still_below m n i le h
-  keys_below_more m n (Add' p a q b) le h = both_still _ _ _ _ (operand_keys_below_more m n a le) (operand_keys_below_more m n b le) h
-  keys_below_more m n (Sub' p a q b) le h = both_still _ _ _ _ (operand_keys_below_more m n a le) (operand_keys_below_more m n b le) h
+  all_leaves_still : (f g : Expr → Bool) (e : Expr) → ((x : Expr) → f x ≡ true → g x ≡ true) → all_leaves f e ≡ true → all_leaves g e ≡ true
+  all_leaves_still f g (Num v) step h = step (Num v) h
+  all_leaves_still f g (Arg i) step h = step (Arg i) h
+  all_leaves_still f g (Key i) step h = step (Key i) h
+  all_leaves_still f g (Local i) step h = step (Local i) h
+  all_leaves_still f g (Add' p a q b) step h = both_still _ _ _ _ (operand_leaves_still f g a step) (operand_leaves_still f g b step) h
+  all_leaves_still f g (Sub' p a q b) step h = both_still _ _ _ _ (operand_leaves_still f g a step) (operand_leaves_still f g b step) h
+  all_leaves_still f g (Mul' p a q b) step h = both_still _ _ _ _ (operand_leaves_still f g a step) (operand_leaves_still f g b step) h
+  all_leaves_still f g (Div' p a q b) step h = both_still _ _ _ _ (operand_leaves_still f g a step) (operand_leaves_still f g b step) h
+  all_leaves_still f g (Rem' p a q b) step h = both_still _ _ _ _ (operand_leaves_still f g a step) (operand_leaves_still f g b step) h
+  all_leaves_still f g (Min' p a q b) step h = both_still _ _ _ _ (operand_leaves_still f g a step) (operand_leaves_still f g b step) h
+  all_leaves_still f g (Max' p a q b) step h = both_still _ _ _ _ (operand_leaves_still f g a step) (operand_leaves_still f g b step) h
+  all_leaves_still f g (Equal' p a q b) step h = both_still _ _ _ _ (operand_leaves_still f g a step) (operand_leaves_still f g b step) h
+  all_leaves_still f g (Less' p a q b) step h = both_still _ _ _ _ (operand_leaves_still f g a step) (operand_leaves_still f g b step) h
+  all_leaves_still f g (Not' p a) step h = operand_leaves_still f g a step h
 
-  operand_keys_below_more : {k : _} → (m n : ℕ) (row : Row_of-Expr k) → m ≤ n → operand_keys_below m row ≡ true → operand_keys_below n row ≡ true
-  operand_keys_below_more m n end_of-Expr le h = refl
-  operand_keys_below_more m n (more_of-Expr e rest) le h = keys_below_more m n e le h
+  operand_leaves_still : {m : _} → (f g : Expr → Bool) (row : Row_of-Expr m) → ((x : Expr) → f x ≡ true → g x ≡ true) → operand_leaves f row ≡ true → operand_leaves g row ≡ true
+  operand_leaves_still f g end_of-Expr step h = refl
+  operand_leaves_still f g (more_of-Expr e rest) step h = all_leaves_still f g e step h
 
 mutual
-  args_below_more : (m n : ℕ) (e : Expr) → m ≤ n → args_below m e ≡ true → args_below n e ≡ true
-  args_below_more m n (Num v) le h = refl
-  args_below_more m n (Arg i) le h = still_below m n i le h
-  args_below_more m n (Key i) le h = refl
-  args_below_more m n (Add' p a q b) le h = both_still _ _ _ _ (operand_args_below_more m n a le) (operand_args_below_more m n b le) h
-  args_below_more m n (Sub' p a q b) le h = both_still _ _ _ _ (operand_args_below_more m n a le) (operand_args_below_more m n b le) h
+  throughout_still : (f g : Expr → Bool) (p q : Stmt → Bool) (st : Stmt) → ((x : Expr) → f x ≡ true → g x ≡ true) → ((x : Stmt) → p x ≡ true → q x ≡ true) → throughout f p st ≡ true → throughout g q st ≡ true
+  throughout_still f g p q (Let i e) leaf step h = both_still _ _ _ _ (step (Let i e)) (all_leaves_still f g e leaf) h
+  throughout_still f g p q (Set i e) leaf step h = both_still _ _ _ _ (step (Set i e)) (all_leaves_still f g e leaf) h
+  throughout_still f g p q (If' e m first n second) leaf step h =
+      both_still _ _ _ _ (both_still _ _ _ _ (all_leaves_still f g e leaf) (list_throughout_still f g p q first leaf step)) (list_throughout_still f g p q second leaf step) h
+  throughout_still f g p q (Abort code) leaf step h = refl
+  throughout_still f g p q (Reply e) leaf step h = all_leaves_still f g e leaf h
 
-  operand_args_below_more : {k : _} → (m n : ℕ) (row : Row_of-Expr k) → m ≤ n → operand_args_below m row ≡ true → operand_args_below n row ≡ true
-  operand_args_below_more m n end_of-Expr le h = refl
-  operand_args_below_more m n (more_of-Expr e rest) le h = args_below_more m n e le h
-
-stmt_keys_below_more : (m n : ℕ) (st : Stmt) → m ≤ n → stmt_keys_below m st ≡ true → stmt_keys_below n st ≡ true
-stmt_keys_below_more m n (Set i e) le h = both_still _ _ _ _ (still_below m n i le) (keys_below_more m n e le) h
-stmt_keys_below_more m n (Reply e) le h = keys_below_more m n e le h
-
-stmt_args_below_more : (m n : ℕ) (st : Stmt) → m ≤ n → stmt_args_below m st ≡ true → stmt_args_below n st ≡ true
-stmt_args_below_more m n (Set i e) le h = args_below_more m n e le h
-stmt_args_below_more m n (Reply e) le h = args_below_more m n e le h
+  list_throughout_still : {m : _} → (f g : Expr → Bool) (p q : Stmt → Bool) (row : Row_of-Stmt m) → ((x : Expr) → f x ≡ true → g x ≡ true) → ((x : Stmt) → p x ≡ true → q x ≡ true)
+      → list_throughout f p row ≡ true → list_throughout g q row ≡ true
+  list_throughout_still f g p q end_of-Stmt leaf step h = refl
+  list_throughout_still f g p q (more_of-Stmt st rest) leaf step h = both_still _ _ _ _ (throughout_still f g p q st leaf step) (list_throughout_still f g p q rest leaf step) h
 
 still_all : {X : Type 0} (p q : X → Bool) (xs : List X) → ((x : X) → p x ≡ true → q x ≡ true) → list_all p xs ≡ true → list_all q xs ≡ true
 still_all p q [] f h = refl
 still_all p q (x ∷ xs) f h = both_still _ _ _ _ (f x) (still_all p q xs f) h
 
--- a well-formed body reads and sets sixteen key positions at most, and eight arguments
-pub keys_known : (p : Proc) → IsWellFormed p → list_all (stmt_keys_below 16) p.body ≡ true
-keys_known p formed =
-    still_all (stmt_keys_below (length p.keys)) (stmt_keys_below 16) p.body
-    (λ st. stmt_keys_below_more (length p.keys) 16 st (leb-true (length p.keys) 16 formed.few_keys)) formed.known_keys
+key_still_below : (m n : ℕ) (e : Expr) → m ≤ n → key_is_below m e ≡ true → key_is_below n e ≡ true
+key_still_below m n (Key i) le h = still_below m n i le h
+key_still_below m n (Num v) le h = refl
+key_still_below m n (Arg i) le h = refl
+key_still_below m n (Local i) le h = refl
+key_still_below m n (Add' p a q b) le h = refl
+key_still_below m n (Sub' p a q b) le h = refl
+key_still_below m n (Mul' p a q b) le h = refl
+key_still_below m n (Div' p a q b) le h = refl
+key_still_below m n (Rem' p a q b) le h = refl
+key_still_below m n (Min' p a q b) le h = refl
+key_still_below m n (Max' p a q b) le h = refl
+key_still_below m n (Equal' p a q b) le h = refl
+key_still_below m n (Less' p a q b) le h = refl
+key_still_below m n (Not' p a) le h = refl
 
-pub args_known : (p : Proc) → IsWellFormed p → list_all (stmt_args_below 8) p.body ≡ true
+arg_still_below : (m n : ℕ) (e : Expr) → m ≤ n → arg_is_below m e ≡ true → arg_is_below n e ≡ true
+arg_still_below m n (Arg i) le h = still_below m n i le h
+arg_still_below m n (Num v) le h = refl
+arg_still_below m n (Key i) le h = refl
+arg_still_below m n (Local i) le h = refl
+arg_still_below m n (Add' p a q b) le h = refl
+arg_still_below m n (Sub' p a q b) le h = refl
+arg_still_below m n (Mul' p a q b) le h = refl
+arg_still_below m n (Div' p a q b) le h = refl
+arg_still_below m n (Rem' p a q b) le h = refl
+arg_still_below m n (Min' p a q b) le h = refl
+arg_still_below m n (Max' p a q b) le h = refl
+arg_still_below m n (Equal' p a q b) le h = refl
+arg_still_below m n (Less' p a q b) le h = refl
+arg_still_below m n (Not' p a) le h = refl
+
+set_still_below : (m n : ℕ) (st : Stmt) → m ≤ n → set_is_below m st ≡ true → set_is_below n st ≡ true
+set_still_below m n (Set i e) le h = still_below m n i le h
+set_still_below m n (Let i e) le h = refl
+set_still_below m n (If' e k first l second) le h = refl
+set_still_below m n (Abort code) le h = refl
+set_still_below m n (Reply e) le h = refl
+
+-- a well-formed body reads and sets sixteen key positions at most, and eight arguments
+pub keys_known : (p : Proc) → IsWellFormed p → list_all (throughout (key_is_below 16) (set_is_below 16)) p.body ≡ true
+keys_known p formed =
+    let few = leb-true (length p.keys) 16 formed.few_keys in
+    still_all (throughout (key_is_below (length p.keys)) (set_is_below (length p.keys))) (throughout (key_is_below 16) (set_is_below 16)) p.body
+    (λ st. throughout_still _ _ _ _ st (λ e. key_still_below (length p.keys) 16 e few) (λ x. set_still_below (length p.keys) 16 x few)) formed.known_keys
+
+pub args_known : (p : Proc) → IsWellFormed p → list_all (throughout (arg_is_below 8) any_stmt) p.body ≡ true
 args_known p formed =
-    still_all (stmt_args_below p.args) (stmt_args_below 8) p.body
-    (λ st. stmt_args_below_more p.args 8 st (leb-true p.args 8 formed.few_args)) formed.known_args
+    let few = leb-true p.args 8 formed.few_args in
+    still_all (throughout (arg_is_below p.args) any_stmt) (throughout (arg_is_below 8) any_stmt) p.body
+    (λ st. throughout_still _ _ _ _ st (λ e. arg_still_below p.args 8 e few) (λ x h. h)) formed.known_args
+
+-- cells on one side, records on the other: a claim's place stands for its record
+abbrev pub cells_bridge : Proc → (claims : List Claim) → IsRising claims → Bridge
+cells_bridge p claims rising = record {
+  keys = length p.keys;
+  args = p.args;
+  stands_for = IsPlaceFor claims;
+  same = λ cells records. Holds cells claims records × (length claims ≤ length cells);
+  read = λ cells records i r held at. (held.0 i at.claim at.stands).1 ∙ ap (slice_index records) at.is_for;
+  store = λ cells records i r v held at. (rw (← at.is_for) (Holds-set cells claims records i at.claim v rising held.1 at.stands held.0), rw length-set held.1);
+}
 
 -- where a body begins on the cells of a call
 abbrev pub cell_opening : Call → List ℕ → Scene
-cell_opening c cells = record { named = c.cells; args = c.args; records = cells; outputs = [] }
+cell_opening c cells = record { named = c.cells; args = c.args; locals = replicate 8 0; records = cells; outputs = [] }
 
-pub opening_copy : (p : Proc) (c : Call) (cells records : List ℕ) → IsWellFormed p → IsCallOf p c → length c.claims ≤ length cells → Holds cells c.claims records
-    → IsCopy (length p.keys) c.claims (cell_opening c cells) (opening_scene p c.args records)
-opening_copy p c cells records formed made room holds =
-    record { args = refl; outputs = refl; named = key_place p c formed made; values = holds; room = room }
+opening_alike : (p : Proc) (c : Call) (cells records : List ℕ) (formed : IsWellFormed p) (made : IsCallOf p c) → length c.claims ≤ length cells → Holds cells c.claims records
+    → IsAlike (cells_bridge p c.claims (claims_rise p c made)) nothing_set (cell_opening c cells) (opening_scene p c.args records)
+opening_alike p c cells records formed made room holds =
+    record { args = λ i lt. refl; named = key_place p c formed made; locals = λ i is. refl; as_many = refl; values = (holds, room); outputs = refl }
 
 -- the body ends on the cells as on the records
-pub ends_alike : (p : Proc) (c : Call) (cells records : List ℕ) → IsWellFormed p → IsCallOf p c → length c.claims ≤ length cells → Holds cells c.claims records
-    → EndAlike (length p.keys) c.claims (in_turn (map effect p.body) (cell_opening c cells)) (body p c.args records)
+ends_alike : (p : Proc) (c : Call) (cells records : List ℕ) (formed : IsWellFormed p) (made : IsCallOf p c) → length c.claims ≤ length cells → Holds cells c.claims records
+    → EndAlike (cells_bridge p c.claims (claims_rise p c made)) (body_set_behind p.body nothing_set) (in_turn (map effect p.body) (cell_opening c cells)) (body p c.args records)
 ends_alike p c cells records formed made room holds =
-    alike_in_turn (length p.keys) c.claims p.body (cell_opening c cells) (opening_scene p c.args records) (claims_rise p c made)
-    (opening_copy p c cells records formed made room holds) formed.known_keys
+    alike_in_turn (cells_bridge p c.claims (claims_rise p c made)) nothing_set p.body (cell_opening c cells) (opening_scene p c.args records)
+    (opening_alike p c cells records formed made room holds) (formed.known_keys, formed.known_args, formed.set_locals)
 
 -- what an end on cells says of the end on records
 abbrev pub ToldBy : List ℕ → List Claim → Result Scene Reason → After → Type 0
 ToldBy cells claims (Ok s) a = (a.reply ≡ Committed s.outputs) × Holds s.records claims a.records
 ToldBy cells claims (Err why) a = (a.reply ≡ Aborted why) × Holds cells claims a.records
 
-told_by_end : (n : ℕ) (claims : List Claim) (cells records : List ℕ) (r q : Result Scene Reason) → Holds cells claims records → EndAlike n claims r q → ToldBy cells claims r (after records q)
-told_by_end n claims cells records (Ok s) (Ok t) holds h = (ap Committed (sym h.outputs), h.values)
-told_by_end n claims cells records (Err why) (Err reason) holds h = (ap Aborted (sym h), holds)
-told_by_end n claims cells records (Ok s) (Err why) holds h = absurd h
-told_by_end n claims cells records (Err why) (Ok t) holds h = absurd h
+told_by_end : (p : Proc) (claims : List Claim) (rising : IsRising claims) (set : List Bool) (cells records : List ℕ) (r q : Result Scene Reason) → Holds cells claims records
+    → EndAlike (cells_bridge p claims rising) set r q → ToldBy cells claims r (after records q)
+told_by_end p claims rising set cells records (Ok s) (Ok t) holds h = (ap Committed (sym h.outputs), h.values.0)
+told_by_end p claims rising set cells records (Err why) (Err reason) holds h = (ap Aborted (sym h), holds)
+told_by_end p claims rising set cells records (Ok s) (Err why) holds h = absurd h
+told_by_end p claims rising set cells records (Err why) (Ok t) holds h = absurd h
 
 pub told_on : (p : Proc) (c : Call) (cells records : List ℕ) → IsWellFormed p → IsCallOf p c → length c.claims ≤ length cells → Holds cells c.claims records
     → ToldBy cells c.claims (in_turn (map effect p.body) (cell_opening c cells)) (applied p c.args records)
 told_on p c cells records formed made room holds =
-    told_by_end (length p.keys) c.claims cells records (in_turn (map effect p.body) (cell_opening c cells)) (body p c.args records) holds
+    told_by_end p c.claims (claims_rise p c made) (body_set_behind p.body nothing_set) cells records (in_turn (map effect p.body) (cell_opening c cells)) (body p c.args records) holds
     (ends_alike p c cells records formed made room holds)
 
 pub told : (p : Proc) (c : Call) (cells records : List ℕ) (r : Result Scene Reason) → IsWellFormed p → IsCallOf p c → length cells ≡ 16

@@ -5,3 +5,4 @@ pub mod Made
 pub mod Cells
 pub mod Running
 pub mod Kept
+pub mod Undeclared

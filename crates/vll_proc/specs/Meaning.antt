@@ -1,14 +1,13 @@
 -- What a procedure's body means on a whole map of records: by cases on the syntax, operands from left to right, and the first reason ends the call.
-use Rattle.std.specs.Prelude.{ℕ, ◌+◌, ◌-◌, ◌^◌, List, [], ◌∷◌, ◌++◌, map, Result, Ok, Err, nat_lt, if◌then◌else◌, slice_index, slice_set}
+use Rattle.std.specs.Prelude.{ℕ, ◌+◌, ◌-◌, ◌*◌, ◌/◌, ◌%◌, ◌^◌, ◌==◌, min, max, Bool, List, [], ◌∷◌, ◌++◌, map, replicate, Result, Ok, Err, nat_lt, if◌then◌else◌, slice_index, slice_set}
 use Rattle.vll_proc.specs.declared.call.Reason.{Reason}
-use Rattle.vll_proc.specs.declared.call.Reason.TheVariants.{Overflow, Underflow}
+use Rattle.vll_proc.specs.declared.call.Reason.TheVariants.{Code, Overflow, Underflow, ZeroDivisor}
 use Rattle.vll_proc.specs.declared.syntax.KeyAt.{KeyAt}
 use Rattle.vll_proc.specs.declared.syntax.KeyAt.TheVariants as at
 use Rattle.vll_proc.specs.declared.syntax.KeyDecl.{KeyDecl}
 use Rattle.vll_proc.specs.declared.syntax.Proc.{Proc}
-use Rattle.vll_proc.specs.declared.syntax.Expr.{Expr, Row_of-Expr, end_of-Expr, more_of-Expr, Num, Arg, Key, Add', Sub'}
-use Rattle.vll_proc.specs.declared.syntax.Stmt.{Stmt}
-use Rattle.vll_proc.specs.declared.syntax.Stmt.TheVariants.{Set, Reply}
+use Rattle.vll_proc.specs.declared.syntax.Expr.{Expr, Row_of-Expr, end_of-Expr, more_of-Expr, Num, Arg, Key, Local, Add', Sub', Mul', Div', Rem', Min', Max', Equal', Less', Not'}
+use Rattle.vll_proc.specs.declared.syntax.Stmt.{Stmt, Row_of-Stmt, end_of-Stmt, more_of-Stmt, Let, Set, If', Abort, Reply}
 
 -- goes on with a value, or ends with a reason
 abbrev pub and_then : {A B : Type 0} → Result A Reason → (A → Result B Reason) → Result B Reason
@@ -19,13 +18,43 @@ and_then (Err why) go = Err why
 abbrev pub fitting : ℕ → Result ℕ Reason
 fitting n = if nat_lt n (2 ^ 64) then Ok n else Err Overflow
 
+abbrev pub sum : ℕ → ℕ → Result ℕ Reason
+sum x y = fitting (x + y)
+
 abbrev pub difference : ℕ → ℕ → Result ℕ Reason
 difference x y = if nat_lt x y then Err Underflow else Ok (x - y)
+
+abbrev pub product : ℕ → ℕ → Result ℕ Reason
+product x y = fitting (x * y)
+
+-- rounded down
+abbrev pub quotient : ℕ → ℕ → Result ℕ Reason
+quotient x y = if y == 0 then Err ZeroDivisor else Ok (x / y)
+
+abbrev pub remainder : ℕ → ℕ → Result ℕ Reason
+remainder x y = if y == 0 then Err ZeroDivisor else Ok (x % y)
+
+abbrev pub lesser : ℕ → ℕ → Result ℕ Reason
+lesser x y = Ok (min x y)
+
+abbrev pub greater : ℕ → ℕ → Result ℕ Reason
+greater x y = Ok (max x y)
+
+-- 1 where a test holds, else 0
+abbrev pub truth : Bool → ℕ
+truth b = if b then 1 else 0
+
+abbrev pub equality : ℕ → ℕ → Result ℕ Reason
+equality x y = Ok (truth (x == y))
+
+abbrev pub order : ℕ → ℕ → Result ℕ Reason
+order x y = Ok (truth (nat_lt x y))
 
 -- where a body stands: the record that each key position names, the arguments, and then what changes
 pub record Scene : Type 0 where
   pub named : List ℕ
   pub args : List ℕ
+  pub locals : List ℕ
   pub records : List ℕ
   pub outputs : List ℕ
 
@@ -36,13 +65,26 @@ Value = Scene → Result ℕ Reason
 abbrev pub both : (ℕ → ℕ → Result ℕ Reason) → Value → Value → Value
 both f a b s = and_then (a s) (λ x. and_then (b s) (λ y. f x y))
 
+-- 1 where the operand is 0, else 0
+abbrev pub negated : Value → Value
+negated a s = and_then (a s) (λ x. Ok (truth (x == 0)))
+
 abbrev mutual
   pub value_of : Expr → Value
   value_of (Num n) s = Ok n
   value_of (Arg i) s = Ok (slice_index s.args i)
   value_of (Key i) s = Ok (slice_index s.records (slice_index s.named i))
-  value_of (Add' p a q b) s = both (λ x y. fitting (x + y)) (operand a) (operand b) s
+  value_of (Local i) s = Ok (slice_index s.locals i)
+  value_of (Add' p a q b) s = both sum (operand a) (operand b) s
   value_of (Sub' p a q b) s = both difference (operand a) (operand b) s
+  value_of (Mul' p a q b) s = both product (operand a) (operand b) s
+  value_of (Div' p a q b) s = both quotient (operand a) (operand b) s
+  value_of (Rem' p a q b) s = both remainder (operand a) (operand b) s
+  value_of (Min' p a q b) s = both lesser (operand a) (operand b) s
+  value_of (Max' p a q b) s = both greater (operand a) (operand b) s
+  value_of (Equal' p a q b) s = both equality (operand a) (operand b) s
+  value_of (Less' p a q b) s = both order (operand a) (operand b) s
+  value_of (Not' p a) s = negated (operand a) s
 
   -- a boxed operand is a row of one
   pub operand : {m : _} → Row_of-Expr m → Value
@@ -57,9 +99,18 @@ abbrev pub in_turn : List Action → Action
 in_turn [] s = Ok s
 in_turn (act ∷ acts) s = and_then (act s) (in_turn acts)
 
-abbrev pub effect : Stmt → Action
-effect (Set i e) s = and_then (value_of e s) (λ v. Ok (record s { records = slice_set s.records (slice_index s.named i) v }))
-effect (Reply e) s = and_then (value_of e s) (λ v. Ok (record s { outputs = s.outputs ++ v ∷ [] }))
+abbrev mutual
+  pub effect : Stmt → Action
+  effect (Let i e) s = and_then (value_of e s) (λ v. Ok (record s { locals = slice_set s.locals i v }))
+  effect (Set i e) s = and_then (value_of e s) (λ v. Ok (record s { records = slice_set s.records (slice_index s.named i) v }))
+  effect (If' e m first n second) s = and_then (value_of e s) (λ v. if v == 0 then list_effect second s else list_effect first s)
+  effect (Abort code) s = Err (Code code)
+  effect (Reply e) s = and_then (value_of e s) (λ v. Ok (record s { outputs = s.outputs ++ v ∷ [] }))
+
+  -- the statements of an `If`'s list, in turn
+  pub list_effect : {m : _} → Row_of-Stmt m → Action
+  list_effect end_of-Stmt s = Ok s
+  list_effect (more_of-Stmt st rest) s = and_then (effect st s) (list_effect rest)
 
 -- the record that a key position names
 abbrev pub record_named : List ℕ → KeyAt → ℕ
@@ -71,6 +122,7 @@ abbrev pub opening_scene : Proc → List ℕ → List ℕ → Scene
 opening_scene p args records = record {
   named = map (λ (k : KeyDecl). record_named args k.at) p.keys;
   args = args;
+  locals = replicate 8 0;
   records = records;
   outputs = [];
 }

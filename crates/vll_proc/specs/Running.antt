@@ -8,7 +8,7 @@ use Rattle.vll_proc.specs.Meaning.{Scene, and_then, value_of}
 
 -- the scene whose records are the cells: each key position names its claim's cell
 abbrev pub scene_of : Call → Progress → Scene
-scene_of c p = record { named = c.cells; args = c.args; records = p.cells; outputs = p.outputs }
+scene_of c p = record { named = c.cells; args = c.args; locals = p.locals; records = p.cells; outputs = p.outputs }
 
 -- each key position of a call has one of the cells
 abbrev pub HasCells : Call → Type 0

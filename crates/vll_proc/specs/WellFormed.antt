@@ -1,13 +1,12 @@
 -- Which procedures are well-formed: the tests look at the text alone.
-use Rattle.std.specs.Prelude.{◌≡◌, ℕ, Bool, true, false, ◌&&◌, nat_lt, nat_le, List, length, count_by, Option, Some, None, slice_get}
+use Rattle.std.specs.Prelude.{◌≡◌, ℕ, suc, ◌+◌, max, Bool, true, false, ◌&&◌, nat_lt, nat_le, List, [], ◌∷◌, length, replicate, get_or, sum_by, Option, Some, None, slice_get, slice_set}
 use Rattle.std.specs.List.{list_all}
 use Rattle.vll_record.specs.declared.claim.Mode.TheVariants.{Read, Write}
 use Rattle.vll_proc.specs.declared.syntax.KeyAt.TheVariants as at
 use Rattle.vll_proc.specs.declared.syntax.KeyDecl.{KeyDecl}
 use Rattle.vll_proc.specs.declared.syntax.Proc.{Proc}
-use Rattle.vll_proc.specs.declared.syntax.Expr.{Expr, Row_of-Expr, end_of-Expr, more_of-Expr, Num, Arg, Key, Add', Sub'}
-use Rattle.vll_proc.specs.declared.syntax.Stmt.{Stmt}
-use Rattle.vll_proc.specs.declared.syntax.Stmt.TheVariants.{Set, Reply}
+use Rattle.vll_proc.specs.declared.syntax.Expr.{Expr, Row_of-Expr, end_of-Expr, more_of-Expr, Arg, Key, Local, Add', Sub', Mul', Div', Rem', Min', Max', Equal', Less', Not'}
+use Rattle.vll_proc.specs.declared.syntax.Stmt.{Stmt, Row_of-Stmt, end_of-Stmt, more_of-Stmt, Let, Set, If', Abort, Reply}
 
 -- a key that is placed by an argument names one of the declared arguments
 abbrev pub argument_is_declared : ℕ → KeyDecl → Bool
@@ -17,56 +16,212 @@ argument_is_declared args k = elim k.at [ at.Fixed r ↦ true | at.Arg i ↦ nat
 abbrev pub record_is_there : ℕ → KeyDecl → Bool
 record_is_there records k = elim k.at [ at.Fixed r ↦ nat_lt r records | at.Arg i ↦ true ]
 
--- each key position that an expression reads is below a number
+-- a test holds of each number, argument, key position and local in an expression
 abbrev mutual
-  pub keys_below : ℕ → Expr → Bool
-  keys_below n (Num v) = true
-  keys_below n (Arg i) = true
-  keys_below n (Key i) = nat_lt i n
-  keys_below n (Add' p a q b) = operand_keys_below n a && operand_keys_below n b
-  keys_below n (Sub' p a q b) = operand_keys_below n a && operand_keys_below n b
+  pub all_leaves : (Expr → Bool) → Expr → Bool
+  all_leaves test (Add' p a q b) = operand_leaves test a && operand_leaves test b
+  all_leaves test (Sub' p a q b) = operand_leaves test a && operand_leaves test b
+  all_leaves test (Mul' p a q b) = operand_leaves test a && operand_leaves test b
+  all_leaves test (Div' p a q b) = operand_leaves test a && operand_leaves test b
+  all_leaves test (Rem' p a q b) = operand_leaves test a && operand_leaves test b
+  all_leaves test (Min' p a q b) = operand_leaves test a && operand_leaves test b
+  all_leaves test (Max' p a q b) = operand_leaves test a && operand_leaves test b
+  all_leaves test (Equal' p a q b) = operand_leaves test a && operand_leaves test b
+  all_leaves test (Less' p a q b) = operand_leaves test a && operand_leaves test b
+  all_leaves test (Not' p a) = operand_leaves test a
+  all_leaves test leaf = test leaf
 
-  pub operand_keys_below : {m : _} → ℕ → Row_of-Expr m → Bool
-  operand_keys_below n end_of-Expr = true
-  operand_keys_below n (more_of-Expr e rest) = keys_below n e
+  pub operand_leaves : {m : _} → (Expr → Bool) → Row_of-Expr m → Bool
+  operand_leaves test end_of-Expr = true
+  operand_leaves test (more_of-Expr e rest) = all_leaves test e
 
--- each argument that an expression reads is below a number
+-- a test of leaves holds of each expression in a statement, and a test of statements of each `Let` and `Set`
 abbrev mutual
-  pub args_below : ℕ → Expr → Bool
-  args_below n (Num v) = true
-  args_below n (Arg i) = nat_lt i n
-  args_below n (Key i) = true
-  args_below n (Add' p a q b) = operand_args_below n a && operand_args_below n b
-  args_below n (Sub' p a q b) = operand_args_below n a && operand_args_below n b
+  pub throughout : (Expr → Bool) → (Stmt → Bool) → Stmt → Bool
+  throughout leaf test (Let i e) = test (Let i e) && all_leaves leaf e
+  throughout leaf test (Set i e) = test (Set i e) && all_leaves leaf e
+  throughout leaf test (If' e m first n second) = all_leaves leaf e && list_throughout leaf test first && list_throughout leaf test second
+  throughout leaf test (Abort code) = true
+  throughout leaf test (Reply e) = all_leaves leaf e
 
-  pub operand_args_below : {m : _} → ℕ → Row_of-Expr m → Bool
-  operand_args_below n end_of-Expr = true
-  operand_args_below n (more_of-Expr e rest) = args_below n e
+  pub list_throughout : {m : _} → (Expr → Bool) → (Stmt → Bool) → Row_of-Stmt m → Bool
+  list_throughout leaf test end_of-Stmt = true
+  list_throughout leaf test (more_of-Stmt st rest) = throughout leaf test st && list_throughout leaf test rest
 
--- each key position that a statement reads or sets is below a number
-abbrev pub stmt_keys_below : ℕ → Stmt → Bool
-stmt_keys_below n (Set i e) = nat_lt i n && keys_below n e
-stmt_keys_below n (Reply e) = keys_below n e
+-- a key position that is read is below a number
+abbrev pub key_is_below : ℕ → Expr → Bool
+key_is_below n (Key i) = nat_lt i n
+key_is_below n leaf = true
 
--- each argument that a statement reads is below a number
-abbrev pub stmt_args_below : ℕ → Stmt → Bool
-stmt_args_below n (Set i e) = args_below n e
-stmt_args_below n (Reply e) = args_below n e
+-- an argument that is read is below a number
+abbrev pub arg_is_below : ℕ → Expr → Bool
+arg_is_below n (Arg i) = nat_lt i n
+arg_is_below n leaf = true
+
+-- a local that is read is one of the 8
+abbrev pub local_is_known : Expr → Bool
+local_is_known (Local i) = nat_lt i 8
+local_is_known leaf = true
+
+-- a key position that is set is below a number
+abbrev pub set_is_below : ℕ → Stmt → Bool
+set_is_below n (Set i e) = nat_lt i n
+set_is_below n st = true
+
+-- a local that is given a value is one of the 8
+abbrev pub let_is_known : Stmt → Bool
+let_is_known (Let i e) = nat_lt i 8
+let_is_known st = true
 
 -- a key position is not one that is declared Read
 abbrev pub is_not_read : Option KeyDecl → Bool
 is_not_read None = true
 is_not_read (Some k) = elim k.mode [ Read ↦ false | Write ↦ true ]
 
--- what a statement sets is not a key position that is declared Read
+-- what is set is not a key position that is declared Read
 abbrev pub sets_no_read_key : List KeyDecl → Stmt → Bool
 sets_no_read_key keys (Set i e) = is_not_read (slice_get keys i)
-sets_no_read_key keys (Reply e) = true
+sets_no_read_key keys st = true
 
--- how many outputs a statement makes
-abbrev pub is_reply : Stmt → Bool
-is_reply (Set i e) = false
-is_reply (Reply e) = true
+-- each passes
+abbrev pub any_leaf : Expr → Bool
+any_leaf e = true
+
+abbrev pub any_stmt : Stmt → Bool
+any_stmt st = true
+
+-- for each of the 8 locals, whether it is surely set
+abbrev pub Locals : Type 0
+Locals = List Bool
+
+-- none is set
+abbrev pub nothing_set : Locals
+nothing_set = replicate 8 false
+
+-- a local that is read is surely set
+abbrev pub local_is_set : Locals → Expr → Bool
+local_is_set set (Local i) = get_or set i false
+local_is_set set leaf = true
+
+-- what both have
+abbrev pub both_set : Locals → Locals → Locals
+both_set [] b = []
+both_set (x ∷ xs) [] = []
+both_set (x ∷ xs) (y ∷ ys) = (x && y) ∷ both_set xs ys
+
+-- what is surely set behind a statement: `Let` adds its local, and an `If` what both of its lists set
+abbrev mutual
+  pub set_behind : Stmt → Locals → Locals
+  set_behind (Let i e) set = slice_set set i true
+  set_behind (If' e m first n second) set = both_set (list_set_behind first set) (list_set_behind second set)
+  set_behind st set = set
+
+  pub list_set_behind : {m : _} → Row_of-Stmt m → Locals → Locals
+  list_set_behind end_of-Stmt set = set
+  list_set_behind (more_of-Stmt st rest) set = list_set_behind rest (set_behind st set)
+
+-- the same behind a body
+abbrev pub body_set_behind : List Stmt → Locals → Locals
+body_set_behind [] set = set
+body_set_behind (st ∷ sts) set = body_set_behind sts (set_behind st set)
+
+-- each local that a statement reads is surely set before
+abbrev mutual
+  pub reads_set : Locals → Stmt → Bool
+  reads_set set (Let i e) = all_leaves (local_is_set set) e
+  reads_set set (Set i e) = all_leaves (local_is_set set) e
+  reads_set set (If' e m first n second) = all_leaves (local_is_set set) e && list_reads_set set first && list_reads_set set second
+  reads_set set (Abort code) = true
+  reads_set set (Reply e) = all_leaves (local_is_set set) e
+
+  pub list_reads_set : {m : _} → Locals → Row_of-Stmt m → Bool
+  list_reads_set set end_of-Stmt = true
+  list_reads_set set (more_of-Stmt st rest) = reads_set set st && list_reads_set (set_behind st set) rest
+
+-- the same of a body, from what is set before it
+abbrev pub body_reads_set : Locals → List Stmt → Bool
+body_reads_set set [] = true
+body_reads_set set (st ∷ sts) = reads_set set st && body_reads_set (set_behind st set) sts
+
+-- how many outputs a statement makes: of an `If` the greater number of its two lists
+abbrev mutual
+  pub replies : Stmt → ℕ
+  replies (If' e m first n second) = max (list_replies first) (list_replies second)
+  replies (Reply e) = 1
+  replies st = 0
+
+  pub list_replies : {m : _} → Row_of-Stmt m → ℕ
+  list_replies end_of-Stmt = 0
+  list_replies (more_of-Stmt st rest) = replies st + list_replies rest
+
+-- how deep an expression is: an operator is one more than its deepest operand
+abbrev mutual
+  pub depth : Expr → ℕ
+  depth (Add' p a q b) = suc (max (operand_depth a) (operand_depth b))
+  depth (Sub' p a q b) = suc (max (operand_depth a) (operand_depth b))
+  depth (Mul' p a q b) = suc (max (operand_depth a) (operand_depth b))
+  depth (Div' p a q b) = suc (max (operand_depth a) (operand_depth b))
+  depth (Rem' p a q b) = suc (max (operand_depth a) (operand_depth b))
+  depth (Min' p a q b) = suc (max (operand_depth a) (operand_depth b))
+  depth (Max' p a q b) = suc (max (operand_depth a) (operand_depth b))
+  depth (Equal' p a q b) = suc (max (operand_depth a) (operand_depth b))
+  depth (Less' p a q b) = suc (max (operand_depth a) (operand_depth b))
+  depth (Not' p a) = suc (operand_depth a)
+  depth leaf = 1
+
+  pub operand_depth : {m : _} → Row_of-Expr m → ℕ
+  operand_depth end_of-Expr = 0
+  operand_depth (more_of-Expr e rest) = depth e
+
+-- how deep a statement is: one more than the deepest expression and statement in it
+abbrev mutual
+  pub stmt_depth : Stmt → ℕ
+  stmt_depth (Let i e) = suc (depth e)
+  stmt_depth (Set i e) = suc (depth e)
+  stmt_depth (If' e m first n second) = suc (max (depth e) (max (list_depth first) (list_depth second)))
+  stmt_depth (Abort code) = 1
+  stmt_depth (Reply e) = suc (depth e)
+
+  pub list_depth : {m : _} → Row_of-Stmt m → ℕ
+  list_depth end_of-Stmt = 0
+  list_depth (more_of-Stmt st rest) = max (stmt_depth st) (list_depth rest)
+
+-- how deep a body is: its deepest statement
+abbrev pub body_depth : List Stmt → ℕ
+body_depth [] = 0
+body_depth (st ∷ sts) = max (stmt_depth st) (body_depth sts)
+
+-- how many expressions an expression is, with all in it
+abbrev mutual
+  pub nodes : Expr → ℕ
+  nodes (Add' p a q b) = suc (operand_nodes a + operand_nodes b)
+  nodes (Sub' p a q b) = suc (operand_nodes a + operand_nodes b)
+  nodes (Mul' p a q b) = suc (operand_nodes a + operand_nodes b)
+  nodes (Div' p a q b) = suc (operand_nodes a + operand_nodes b)
+  nodes (Rem' p a q b) = suc (operand_nodes a + operand_nodes b)
+  nodes (Min' p a q b) = suc (operand_nodes a + operand_nodes b)
+  nodes (Max' p a q b) = suc (operand_nodes a + operand_nodes b)
+  nodes (Equal' p a q b) = suc (operand_nodes a + operand_nodes b)
+  nodes (Less' p a q b) = suc (operand_nodes a + operand_nodes b)
+  nodes (Not' p a) = suc (operand_nodes a)
+  nodes leaf = 1
+
+  pub operand_nodes : {m : _} → Row_of-Expr m → ℕ
+  operand_nodes end_of-Expr = 0
+  operand_nodes (more_of-Expr e rest) = nodes e
+
+-- how many statements and expressions a statement is, with all in it
+abbrev mutual
+  pub stmt_nodes : Stmt → ℕ
+  stmt_nodes (Let i e) = suc (nodes e)
+  stmt_nodes (Set i e) = suc (nodes e)
+  stmt_nodes (If' e m first n second) = suc (nodes e + (list_nodes first + list_nodes second))
+  stmt_nodes (Abort code) = 1
+  stmt_nodes (Reply e) = suc (nodes e)
+
+  pub list_nodes : {m : _} → Row_of-Stmt m → ℕ
+  list_nodes end_of-Stmt = 0
+  list_nodes (more_of-Stmt st rest) = stmt_nodes st + list_nodes rest
 
 -- the tests, one by one
 abbrev pub has_few_args : Proc → Bool
@@ -82,16 +237,28 @@ abbrev pub has_records : ℕ → Proc → Bool
 has_records records p = list_all (record_is_there records) p.keys
 
 abbrev pub has_known_keys : Proc → Bool
-has_known_keys p = list_all (stmt_keys_below (length p.keys)) p.body
+has_known_keys p = list_all (throughout (key_is_below (length p.keys)) (set_is_below (length p.keys))) p.body
 
 abbrev pub has_writable_keys : Proc → Bool
-has_writable_keys p = list_all (sets_no_read_key p.keys) p.body
+has_writable_keys p = list_all (throughout any_leaf (sets_no_read_key p.keys)) p.body
 
 abbrev pub has_known_args : Proc → Bool
-has_known_args p = list_all (stmt_args_below p.args) p.body
+has_known_args p = list_all (throughout (arg_is_below p.args) any_stmt) p.body
+
+abbrev pub has_known_locals : Proc → Bool
+has_known_locals p = list_all (throughout local_is_known let_is_known) p.body
+
+abbrev pub reads_set_locals : Proc → Bool
+reads_set_locals p = body_reads_set nothing_set p.body
 
 abbrev pub has_few_replies : Proc → Bool
-has_few_replies p = nat_le (count_by is_reply p.body) 8
+has_few_replies p = nat_le (sum_by replies p.body) 8
+
+abbrev pub is_shallow : Proc → Bool
+is_shallow p = nat_le (body_depth p.body) 32
+
+abbrev pub is_short : Proc → Bool
+is_short p = nat_le (sum_by stmt_nodes p.body) 1024
 
 -- well-formed, whatever the number of records
 pub record IsWellFormed (p : Proc) : Type 0 where
@@ -101,4 +268,8 @@ pub record IsWellFormed (p : Proc) : Type 0 where
   pub known_keys : has_known_keys p ≡ true
   pub writable_keys : has_writable_keys p ≡ true
   pub known_args : has_known_args p ≡ true
+  pub known_locals : has_known_locals p ≡ true
+  pub set_locals : reads_set_locals p ≡ true
   pub few_replies : has_few_replies p ≡ true
+  pub shallow : is_shallow p ≡ true
+  pub short : is_short p ≡ true

@@ -53,9 +53,12 @@ impl Frame {
     }
 
     /// Runs the body of a well-formed procedure for a call of it, on the values that the frame's
-    /// cells have, one for each of the call's claims, in order. Operands are evaluated from left to
-    /// right, and the first reason ends the body. After `Committed` the cells hold the records' new
-    /// values, after `Aborted` they are as before. It takes no memory.
+    /// cells have, one for each of the call's claims, in order. Statements run in order, an `If`
+    /// chooses one of its lists, and operands are evaluated from left to right, each expression
+    /// once. The first reason ends the body: the procedure's own code by `Abort`, `Overflow` by a
+    /// sum or a product, `Underflow` by a difference, `ZeroDivisor` by a quotient or a remainder.
+    /// After `Committed` the cells hold the records' new values, after `Aborted` they are as
+    /// before. It takes no memory.
     pub fn run(&mut self, procedure: &Proc, call: &Call) -> Reply
         requires formed { IsWellFormed procedure.now }
         requires made { IsCallOf procedure.now call.now }
@@ -70,6 +73,7 @@ impl Frame {
         let _ = &self.cells;
         let mut progress = Progress {
             cells: *self,
+            locals: [0; 8],
             outputs: Outputs::new(),
         };
         match progress.steps(procedure.body.as_slice(), call) {

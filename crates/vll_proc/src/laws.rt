@@ -1,13 +1,15 @@
 //! What holds of each call of a well-formed procedure, stated once for those who apply calls.
 
-ghost use Rattle.std.specs.Prelude.{◌≡◌, ◌≢◌, ℕ, List, length, Some, slice_index};
+ghost use Rattle.std.specs.Prelude.{◌≡◌, ◌≢◌, ℕ, List, length, map, Some, slice_index};
 ghost use Rattle.vll_record.specs.Claim.{mode_on};
 ghost use Rattle.vll_record.specs.declared.claim.Mode.TheVariants.{Write};
 ghost use Rattle.vll_proc.specs.declared.call.Call.{Call};
 ghost use Rattle.vll_proc.specs.declared.syntax.Proc.{Proc};
 ghost use Rattle.vll_proc.specs.Cells.{AgreeAt};
 ghost use Rattle.vll_proc.specs.Made.{IsCallOf};
+ghost use Rattle.vll_proc.specs.Meaning.{Scene, effect, in_turn};
 ghost use Rattle.vll_proc.specs.Serial.{applied};
+ghost use Rattle.vll_proc.specs.Undeclared.{AgreeOnDeclared, EndsAlike};
 ghost use Rattle.vll_proc.specs.WellFormed.{IsWellFormed};
 
 /// A call changes no record that it does not claim for writing.
@@ -31,4 +33,11 @@ pub fn depends_on_claimed_records_alone()
     ensures values { (p : Proc) (c : Call) (m n : List ℕ) → IsWellFormed p → IsCallOf p c
         → AgreeAt c.claims m n
         → AgreeAt c.claims (applied p c.args m).records (applied p c.args n).records }
+{}
+
+/// A well-formed procedure meets no key position and no argument beyond those that it declares, and
+/// no local that it has not set: whatever stands there, its body ends alike.
+pub fn meets_nothing_undeclared()
+    ensures { (p : Proc) (s t : Scene) → IsWellFormed p → AgreeOnDeclared p s t
+        → EndsAlike (in_turn (map effect p.body) s) (in_turn (map effect p.body) t) }
 {}

@@ -12,6 +12,7 @@ pub use call::{Call, Reason, Reply};
 pub use frame::Frame;
 pub use laws::{
     changes_claimed_records_alone, depends_on_claimed_records_alone, keeps_the_number_of_records,
+    meets_nothing_undeclared,
 };
 pub use outputs::Outputs;
 pub use syntax::{Expr, KeyAt, KeyDecl, Proc, Stmt, Text};

@@ -1,8 +1,8 @@
-ghost use Rattle.std.specs.Prelude.{◌≡◌, ◌+◌, ◌≤◌, ◌&&◌, true, length, map, count_by, OnOk, if◌then◌else◌};
+ghost use Rattle.std.specs.Prelude.{◌≡◌, ◌+◌, ◌<◌, ◌≤◌, ◌&&◌, ◌^◌, ◌==◌, true, length, map, sum_by, nat_lt, OnOk};
 ghost use Rattle.std.specs.List.{list_all};
-ghost use Rattle.vll_proc.specs.Meaning.{fitting, difference, value_of, effect, in_turn};
+ghost use Rattle.vll_proc.specs.Meaning.{sum, difference, product, quotient, remainder, value_of, effect, in_turn};
 ghost use Rattle.vll_proc.specs.Running.{scene_of, HasCells, ended, both_values};
-ghost use Rattle.vll_proc.specs.WellFormed.{keys_below, args_below, stmt_keys_below, stmt_args_below, is_reply};
+ghost use Rattle.vll_proc.specs.WellFormed.{all_leaves, throughout, key_is_below, arg_is_below, local_is_known, set_is_below, let_is_known, any_stmt, replies};
 
 use crate::call::{Call, Reason};
 use crate::frame::Frame;
@@ -13,18 +13,23 @@ use crate::syntax::{Expr, Stmt};
 #[derive(Clone, Copy)]
 pub(crate) struct Progress {
     pub(crate) cells: Frame,
+    pub(crate) locals: [u64; 8],
     pub(crate) outputs: Outputs,
 }
 
 impl Progress {
     // Runs statements in order, up to the first reason.
+    #[cycle(statement)]
     pub(crate) fn steps(&mut self, statements: &[Stmt], call: &Call) -> Result<(), Reason>
         requires cells { HasCells call.now }
-        requires keys { list_all (stmt_keys_below 16) statements.now ≡ true }
-        requires args { list_all (stmt_args_below 8) statements.now ≡ true }
-        requires room { length self.old.outputs + count_by is_reply statements.now ≤ 8 }
-        ensures { in_turn (map effect statements.now) (scene_of call.now self.old)
+        requires keys { list_all (throughout (key_is_below 16) (set_is_below 16)) statements.now ≡ true }
+        requires args { list_all (throughout (arg_is_below 8) any_stmt) statements.now ≡ true }
+        requires locals { list_all (throughout local_is_known let_is_known) statements.now ≡ true }
+        requires room { length self.old.outputs + sum_by replies statements.now ≤ 8 }
+        ensures effect { in_turn (map effect statements.now) (scene_of call.now self.old)
             ≡ ended result (scene_of call.now self.new) }
+        ensures outputs { OnOk result
+            (length self.new.outputs ≤ length self.old.outputs + sum_by replies statements.now) }
     {
         for statement in statements {
             self.step(statement, call)?;
@@ -33,28 +38,44 @@ impl Progress {
     }
 
     // Runs one statement.
+    #[cycle(statement)]
+    #[tactic(auto, using(crate::proofs::Lists::branches))]
     fn step(&mut self, statement: &Stmt, call: &Call) -> Result<(), Reason>
         requires cells { HasCells call.now }
-        requires keys { stmt_keys_below 16 statement.now ≡ true }
-        requires args { stmt_args_below 8 statement.now ≡ true }
-        requires room { length self.old.outputs + (if is_reply statement.now then 1 else 0) ≤ 8 }
+        requires keys { throughout (key_is_below 16) (set_is_below 16) statement.now ≡ true }
+        requires args { throughout (arg_is_below 8) any_stmt statement.now ≡ true }
+        requires locals { throughout local_is_known let_is_known statement.now ≡ true }
+        requires room { length self.old.outputs + replies statement.now ≤ 8 }
         ensures effect { effect statement.now (scene_of call.now self.old)
             ≡ ended result (scene_of call.now self.new) }
         ensures outputs { OnOk result
-            (length self.new.outputs
-            ≡ length self.old.outputs + (if is_reply statement.now then 1 else 0)) }
+            (length self.new.outputs ≤ length self.old.outputs + replies statement.now) }
     {
         match statement {
+            Stmt::Let(i, expr) => {
+                let value = self.value(expr, call)?;
+                self.locals[*i as usize] = value;
+                Ok(())
+            }
             Stmt::Set(i, expr) => {
                 let value = self.value(expr, call)?;
                 self.cells.put(call.cells[*i as usize] as usize, value);
+                Ok(())
             }
+            Stmt::If(expr, first, second) => {
+                if self.value(expr, call)? != 0 {
+                    self.steps(first.as_slice(), call)
+                } else {
+                    self.steps(second.as_slice(), call)
+                }
+            }
+            Stmt::Abort(code) => Err(Reason::Code(*code)),
             Stmt::Reply(expr) => {
                 let value = self.value(expr, call)?;
                 self.outputs.push(value);
+                Ok(())
             }
         }
-        Ok(())
     }
 
     // The value of an expression.
@@ -62,14 +83,16 @@ impl Progress {
     #[tactic(auto, using(crate::proofs::Equations::forms))]
     fn value(&self, expr: &Expr, call: &Call) -> Result<u64, Reason>
         requires cells { HasCells call.now }
-        requires keys { keys_below 16 expr.now ≡ true }
-        requires args { args_below 8 expr.now ≡ true }
+        requires keys { all_leaves (key_is_below 16) expr.now ≡ true }
+        requires args { all_leaves (arg_is_below 8) expr.now ≡ true }
+        requires locals { all_leaves local_is_known expr.now ≡ true }
         ensures { result ≡ value_of expr.now (scene_of call.now self.now) }
     {
         match expr {
             Expr::Num(n) => Ok(*n),
             Expr::Arg(i) => Ok(call.args[*i as usize]),
             Expr::Key(i) => Ok(self.cells.get(call.cells[*i as usize] as usize)),
+            Expr::Local(i) => Ok(self.locals[*i as usize]),
             Expr::Add(a, b) => {
                 let (x, y) = self.values(a.get(), b.get(), call)?;
                 sum(x, y)
@@ -78,6 +101,38 @@ impl Progress {
                 let (x, y) = self.values(a.get(), b.get(), call)?;
                 difference(x, y)
             }
+            Expr::Mul(a, b) => {
+                let (x, y) = self.values(a.get(), b.get(), call)?;
+                product(x, y)
+            }
+            Expr::Div(a, b) => {
+                let (x, y) = self.values(a.get(), b.get(), call)?;
+                quotient(x, y)
+            }
+            Expr::Rem(a, b) => {
+                let (x, y) = self.values(a.get(), b.get(), call)?;
+                remainder(x, y)
+            }
+            Expr::Min(a, b) => {
+                let (x, y) = self.values(a.get(), b.get(), call)?;
+                Ok(x.min(y))
+            }
+            Expr::Max(a, b) => {
+                let (x, y) = self.values(a.get(), b.get(), call)?;
+                Ok(x.max(y))
+            }
+            Expr::Equal(a, b) => {
+                let (x, y) = self.values(a.get(), b.get(), call)?;
+                Ok(u64::from(x == y))
+            }
+            Expr::Less(a, b) => {
+                let (x, y) = self.values(a.get(), b.get(), call)?;
+                Ok(u64::from(x < y))
+            }
+            Expr::Not(a) => {
+                let x = self.value(a.get(), call)?;
+                Ok(u64::from(x == 0))
+            }
         }
     }
 
@@ -85,8 +140,9 @@ impl Progress {
     #[cycle(expression)]
     fn values(&self, left: &Expr, right: &Expr, call: &Call) -> Result<(u64, u64), Reason>
         requires cells { HasCells call.now }
-        requires keys { (keys_below 16 left.now && keys_below 16 right.now) ≡ true }
-        requires args { (args_below 8 left.now && args_below 8 right.now) ≡ true }
+        requires keys { (all_leaves (key_is_below 16) left.now && all_leaves (key_is_below 16) right.now) ≡ true }
+        requires args { (all_leaves (arg_is_below 8) left.now && all_leaves (arg_is_below 8) right.now) ≡ true }
+        requires locals { (all_leaves local_is_known left.now && all_leaves local_is_known right.now) ≡ true }
         ensures { result ≡ both_values left.now right.now (scene_of call.now self.now) }
     {
         let x = self.value(left, call)?;
@@ -96,7 +152,7 @@ impl Progress {
 }
 
 fn sum(x: u64, y: u64) -> Result<u64, Reason>
-    ensures { result ≡ fitting (x + y) }
+    ensures { result ≡ sum x y }
 {
     x.checked_add(y).ok_or(Reason::Overflow)
 }
@@ -105,4 +161,29 @@ fn difference(x: u64, y: u64) -> Result<u64, Reason>
     ensures { result ≡ difference x y }
 {
     x.checked_sub(y).ok_or(Reason::Underflow)
+}
+
+fn product(x: u64, y: u64) -> Result<u64, Reason>
+    ensures { result ≡ product x y }
+{
+    x.checked_mul(y).ok_or(Reason::Overflow)
+}
+
+// Rounded down.
+fn quotient(x: u64, y: u64) -> Result<u64, Reason>
+    ensures { result ≡ quotient x y }
+{
+    if y == 0 {
+        return Err(Reason::ZeroDivisor);
+    }
+    Ok(x / y)
+}
+
+fn remainder(x: u64, y: u64) -> Result<u64, Reason>
+    ensures { result ≡ remainder x y }
+{
+    if y == 0 {
+        return Err(Reason::ZeroDivisor);
+    }
+    Ok(x % y)
 }

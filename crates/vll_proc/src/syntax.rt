@@ -4,7 +4,7 @@ use sqlite_items::{Boxed, Items};
 use std::marker::Model;
 use vll_record::Mode;
 
-/// An expression over numbers of 64 bits.
+/// An expression over numbers of 64 bits. Operands are evaluated from left to right.
 #[derive(Drop)]
 pub enum Expr {
     /// A number.
@@ -13,17 +13,41 @@ pub enum Expr {
     Arg(u8),
     /// The present value of the record that a key position names.
     Key(u8),
+    /// A local, by its place from 0 to 7.
+    Local(u8),
     /// The sum. Over 18446744073709551615 the call is aborted with `Overflow`.
     Add(Boxed<Expr>, Boxed<Expr>),
     /// Left minus right. Where right is greater, the call is aborted with `Underflow`.
     Sub(Boxed<Expr>, Boxed<Expr>),
+    /// The product. Over 18446744073709551615 the call is aborted with `Overflow`.
+    Mul(Boxed<Expr>, Boxed<Expr>),
+    /// The quotient, rounded down. Where right is 0, the call is aborted with `ZeroDivisor`.
+    Div(Boxed<Expr>, Boxed<Expr>),
+    /// The remainder. Where right is 0, the call is aborted with `ZeroDivisor`.
+    Rem(Boxed<Expr>, Boxed<Expr>),
+    /// The lesser operand.
+    Min(Boxed<Expr>, Boxed<Expr>),
+    /// The greater operand.
+    Max(Boxed<Expr>, Boxed<Expr>),
+    /// 1 where the operands are equal, else 0.
+    Equal(Boxed<Expr>, Boxed<Expr>),
+    /// 1 where left is less than right, else 0.
+    Less(Boxed<Expr>, Boxed<Expr>),
+    /// 1 where the operand is 0, else 0.
+    Not(Boxed<Expr>),
 }
 
 /// A statement of a procedure's body.
 #[derive(Drop)]
 pub enum Stmt {
+    /// Gives a local, from 0 to 7, a value.
+    Let(u8, Expr),
     /// Gives the record that a key position names a new value.
     Set(u8, Expr),
+    /// Runs its first list where the expression is not 0, else its second.
+    If(Expr, Items<Stmt>, Items<Stmt>),
+    /// Aborts the call with the procedure's own code.
+    Abort(u16),
     /// Appends an output.
     Reply(Expr),
 }

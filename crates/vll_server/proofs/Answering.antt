@@ -5,13 +5,15 @@ use Rattle.serde_json.specs.View.{view}
 use Rattle.serde_json.specs.declared.value.Value.{Value}
 use Rattle.vll_proc.specs.declared.call.Call.{Call}
 use Rattle.vll_proc.specs.declared.syntax.Proc.{Proc}
-use Rattle.vll_server.specs.declared.fault.CallFault.{CallFault}
-use Rattle.vll_server.specs.declared.fault.CheckFault.{CheckFault}
+use Rattle.vll_check.specs.declared.fault.CallFault.{CallFault}
+use Rattle.vll_check.specs.declared.fault.CheckFault.{CheckFault}
+use Rattle.vll_check.specs.Calls.{call_made}
+use Rattle.vll_check.specs.Catalog.{Catalog}
+use Rattle.vll_check.specs.Faults.{check_fault}
+use Rattle.vll_check.specs.Names.{has_name_twice}
 use Rattle.vll_server.specs.declared.fault.ScenarioFault.{ScenarioFault}
 use Rattle.vll_server.specs.declared.fault.ScenarioFault.TheVariants as fault
 use Rattle.vll_server.specs.declared.shape.Parts.{Parts}
-use Rattle.vll_server.specs.Checked.{check_fault, has_name_twice}
-use Rattle.vll_server.specs.Calls.{call_made}
 use Rattle.vll_server.specs.Reading.{IsAnswerBy, ReadsEnough, Reads, Tells, data_of}
 use Rattle.vll_server.specs.Scenario.{IsTree, call_at, each_given, first_check, first_check_from, in_call, most_bytes, ok_unless, or_else, refuse_if, script_made, scripts_made, setup_of, tree_or_json}
 use Rattle.vll_server.specs.Setup.{Setup, has_sizes}
@@ -151,8 +153,9 @@ other_setup p =
     other_choice (has_sizes p.records p.procs p.scripts) _
     (other_then (ok_unless (first_check (length p.records) p.procs) p.procs) _ (other_checks (length p.records) 0 p.procs p.procs) (λ procs.
     other_refused (has_name_twice procs) _
-    (other_then (scripts_made (length p.records) procs p.scripts) _
-    (other_each (script_made (length p.records) procs) (λ client script. other_each (call_at (length p.records) procs client) (λ index a. other_call client index (call_made (length p.records) procs a)) 0 script) 0 p.scripts)
+    (let catalog : Catalog = record { records = length p.records; procs = procs } in
+    other_then (scripts_made catalog p.scripts) _
+    (other_each (script_made catalog) (λ client script. other_each (call_at catalog client) (λ index a. other_call client index (call_made catalog a.name a.args)) 0 script) 0 p.scripts)
     (λ scripts. tt))))
 
 none_other : (r : Result Setup ScenarioFault) → IsOther r → r ≡ Err fault.Read → ⊥

@@ -8,7 +8,7 @@ use Rattle.serde_json.proofs.Views.{view-Array}
 use Rattle.std.proofs.lemmas.List.{length-map}
 use Rattle.vll_server.specs.Syntax.{expr_at, key_at, stmt_at}
 
--- ---- the items of a list of two or three
+-- ---- the items of a list of two, three or four
 
 two : (vs : List Value) (a b : Value) → length vs ≡ 2 → a ≡ get_or vs 0 a → b ≡ get_or vs 1 b → items_view vs ≡ item (view a) (item (view b) no_items)
 two [] a b n first second = absurd (omega arith)
@@ -23,6 +23,14 @@ three (x ∷ y ∷ []) a b c n first second third = absurd (omega arith)
 three (x ∷ y ∷ z ∷ []) a b c n first second third = cc
 three (x ∷ y ∷ z ∷ u ∷ vs) a b c n first second third = absurd (omega arith)
 
+four : (vs : List Value) (a b c d : Value) → length vs ≡ 4 → a ≡ get_or vs 0 a → b ≡ get_or vs 1 b → c ≡ get_or vs 2 c → d ≡ get_or vs 3 d → items_view vs ≡ item (view a) (item (view b) (item (view c) (item (view d) no_items)))
+four [] a b c d n first second third fourth = absurd (omega arith)
+four (x ∷ []) a b c d n first second third fourth = absurd (omega arith)
+four (x ∷ y ∷ []) a b c d n first second third fourth = absurd (omega arith)
+four (x ∷ y ∷ z ∷ []) a b c d n first second third fourth = absurd (omega arith)
+four (x ∷ y ∷ z ∷ u ∷ []) a b c d n first second third fourth = cc
+four (x ∷ y ∷ z ∷ u ∷ v ∷ vs) a b c d n first second third fourth = absurd (omega arith)
+
 pub as_str-string : (d : Data) (s : List ℕ) → as_str d ≡ Some s → d ≡ string s
 as_str-string (string t) s is = cc
 as_str-string _ s is = cc
@@ -32,6 +40,9 @@ view-two v list a b is n first second = ap view is ∙ view-Array list ∙ ap ar
 
 pub view-three : (v : Value) (list : Vec Value Global) (a b c : Value) → v ≡ Array list → length list.items ≡ 3 → a ≡ get_or list.items 0 a → b ≡ get_or list.items 1 b → c ≡ get_or list.items 2 c → view v ≡ array (item (view a) (item (view b) (item (view c) no_items)))
 view-three v list a b c is n first second third = ap view is ∙ view-Array list ∙ ap array (three list.items a b c n first second third)
+
+pub view-four : (v : Value) (list : Vec Value Global) (a b c d : Value) → v ≡ Array list → length list.items ≡ 4 → a ≡ get_or list.items 0 a → b ≡ get_or list.items 1 b → c ≡ get_or list.items 2 c → d ≡ get_or list.items 3 d → view v ≡ array (item (view a) (item (view b) (item (view c) (item (view d) no_items))))
+view-four v list a b c d is n first second third fourth = ap view is ∙ view-Array list ∙ ap array (four list.items a b c d n first second third fourth)
 
 -- ---- lists of another length
 
@@ -49,19 +60,20 @@ expr_at-other_length v list is two three =
     let same = length-map list.items view in
     ap expr_at (ap view is ∙ view-Array list) ∙ other_expr (map view list.items) (λ e. two (omega arith)) (λ e. three (omega arith))
 
-other_stmt : (ds : List Data) → length ds ≢ 2 → length ds ≢ 3 → stmt_at (array (items_of ds)) ≡ None
-other_stmt [] two three = refl
-other_stmt (string s ∷ []) two three = refl
-other_stmt (_ ∷ []) two three = refl
-other_stmt (d ∷ e ∷ []) two three = absurd (two (omega arith))
-other_stmt (d ∷ e ∷ f ∷ []) two three = absurd (three (omega arith))
-other_stmt (string s ∷ e ∷ f ∷ g ∷ ds) two three = refl
-other_stmt (_ ∷ e ∷ f ∷ g ∷ ds) two three = refl
+other_stmt : (ds : List Data) → length ds ≢ 2 → length ds ≢ 3 → length ds ≢ 4 → stmt_at (array (items_of ds)) ≡ None
+other_stmt [] two three four = refl
+other_stmt (string s ∷ []) two three four = refl
+other_stmt (_ ∷ []) two three four = refl
+other_stmt (d ∷ e ∷ []) two three four = absurd (two (omega arith))
+other_stmt (d ∷ e ∷ f ∷ []) two three four = absurd (three (omega arith))
+other_stmt (d ∷ e ∷ f ∷ g ∷ []) two three four = absurd (four (omega arith))
+other_stmt (string s ∷ e ∷ f ∷ g ∷ h ∷ ds) two three four = refl
+other_stmt (_ ∷ e ∷ f ∷ g ∷ h ∷ ds) two three four = refl
 
-pub stmt_at-other_length : (v : Value) (list : Vec Value Global) → v ≡ Array list → length list.items ≢ 2 → length list.items ≢ 3 → stmt_at (view v) ≡ None
-stmt_at-other_length v list is two three =
+pub stmt_at-other_length : (v : Value) (list : Vec Value Global) → v ≡ Array list → length list.items ≢ 2 → length list.items ≢ 3 → length list.items ≢ 4 → stmt_at (view v) ≡ None
+stmt_at-other_length v list is two three four =
     let same = length-map list.items view in
-    ap stmt_at (ap view is ∙ view-Array list) ∙ other_stmt (map view list.items) (λ e. two (omega arith)) (λ e. three (omega arith))
+    ap stmt_at (ap view is ∙ view-Array list) ∙ other_stmt (map view list.items) (λ e. two (omega arith)) (λ e. three (omega arith)) (λ e. four (omega arith))
 
 other_key : (ds : List Data) → length ds ≢ 3 → key_at (array (items_of ds)) ≡ None
 other_key [] three = refl

@@ -1,13 +1,11 @@
 pub mod Lists
 pub mod Forms
 pub mod Names
-pub mod Numbers
-pub mod Places
-pub mod Passed
 pub mod Texts
 pub mod Written
 pub mod Given
 pub mod Fitting
+pub mod Checking
 pub mod Sizes
 pub mod Answering
 pub mod Stored

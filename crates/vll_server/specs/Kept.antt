@@ -6,7 +6,7 @@ use Rattle.vll_server.specs.Setup.{Setup, IsSetup}
 abbrev pub setup_in : Inside → Setup
 setup_in s = record { records = s.records.items; procs = s.library.procs; scripts = s.scripts }
 
--- the library is for as many records as there are, and each call is one that it has
+-- the library is for as many records as there are, and it makes each call
 pub record IsScenario (s : Inside) : Type 0 where
   pub records : s.library.records ≡ length s.records.items
   pub setup : IsSetup (setup_in s)

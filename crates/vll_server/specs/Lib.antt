@@ -2,11 +2,6 @@ pub mod Tree
 pub mod Longest
 pub mod Syntax
 pub mod Shape
-pub mod Checked
-pub mod Catalog
-pub mod Making
-pub mod Calls
-pub mod Library
 pub mod Setup
 pub mod Kept
 pub mod Bytes

@@ -5,12 +5,14 @@ use Rattle.serde_json.specs.Data.{Data}
 use Rattle.serde_json.specs.Read.{read}
 use Rattle.vll_proc.specs.declared.call.Call.{Call}
 use Rattle.vll_proc.specs.declared.syntax.Proc.{Proc}
+use Rattle.vll_check.specs.declared.fault.CallFault.{CallFault}
+use Rattle.vll_check.specs.Calls.{call_made}
+use Rattle.vll_check.specs.Catalog.{Catalog}
+use Rattle.vll_check.specs.Faults.{check_fault}
+use Rattle.vll_check.specs.Names.{has_name_twice}
 use Rattle.vll_server.specs.declared.asked.Asked.{Asked}
-use Rattle.vll_server.specs.declared.fault.CallFault.{CallFault}
 use Rattle.vll_server.specs.declared.fault.ScenarioFault.{ScenarioFault}
 use Rattle.vll_server.specs.declared.fault.ScenarioFault.TheVariants as fault
-use Rattle.vll_server.specs.Calls.{call_made}
-use Rattle.vll_server.specs.Checked.{check_fault, has_name_twice}
 use Rattle.vll_server.specs.Setup.{Setup, has_sizes}
 use Rattle.vll_server.specs.declared.shape.Parts.{Parts}
 use Rattle.vll_server.specs.Shape.{◌>>=◌, shape_of}
@@ -52,16 +54,16 @@ in_call client index (Ok c) = Ok c
 in_call client index (Err why) = Err (fault.Call client index why)
 
 -- the call that a client's script asks for at an index
-abbrev pub call_at : ℕ → List Proc → ℕ → ℕ → Asked → Result Call ScenarioFault
-call_at records procs client index a = in_call client index (call_made records procs a)
+abbrev pub call_at : Catalog → ℕ → ℕ → Asked → Result Call ScenarioFault
+call_at catalog client index a = in_call client index (call_made catalog a.name a.args)
 
 -- the calls of a client's script
-abbrev pub script_made : ℕ → List Proc → ℕ → List Asked → Result (List Call) ScenarioFault
-script_made records procs client script = each_given (call_at records procs client) 0 script
+abbrev pub script_made : Catalog → ℕ → List Asked → Result (List Call) ScenarioFault
+script_made catalog client script = each_given (call_at catalog client) 0 script
 
 -- the calls of the scripts, client by client
-abbrev pub scripts_made : ℕ → List Proc → List (List Asked) → Result (List (List Call)) ScenarioFault
-scripts_made records procs scripts = each_given (script_made records procs) 0 scripts
+abbrev pub scripts_made : Catalog → List (List Asked) → Result (List (List Call)) ScenarioFault
+scripts_made catalog scripts = each_given (script_made catalog) 0 scripts
 
 -- the scenario of its parts: the sizes, then the procedures, then their names, then the calls
 abbrev pub setup_of : Parts → Result Setup ScenarioFault
@@ -70,7 +72,7 @@ setup_of p =
     (do
       procs ← ok_unless (first_check (length p.records) p.procs) p.procs
       refuse_if (has_name_twice procs) fault.NameTwice (do
-        scripts ← scripts_made (length p.records) procs p.scripts
+        scripts ← scripts_made (record { records = length p.records; procs = procs }) p.scripts
         Ok (record { records = p.records; procs = procs; scripts = scripts })))
     else Err fault.Size
 

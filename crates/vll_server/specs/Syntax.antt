@@ -2,13 +2,12 @@
 use Rattle.std.specs.Prelude.{ℕ, ◌^◌, Bool, false, ◌&&◌, List, [], ◌∷◌, Option, Some, None, option_and_then, option_map, is_some, nat_lt, if◌then◌else◌, codes}
 use Rattle.std.specs.List.{list_all, list_any}
 use Rattle.std.specs.Str.{bytes_eq}
-use Rattle.serde_json.specs.Data.{Data, null, number, string, array, object, no_items, item, Members, no_members, member}
+use Rattle.serde_json.specs.Data.{Data, null, number, string, array, object, Items, no_items, item, Members, no_members, member}
 use Rattle.serde_json.specs.Find.{as_u64, as_str, get, get_member}
 use Rattle.vll_record.specs.declared.claim.Mode.{Mode}
 use Rattle.vll_record.specs.declared.claim.Mode.TheVariants.{Read, Write}
-use Rattle.vll_proc.specs.declared.syntax.Expr.{Expr, Num, Arg, Key, Add, Sub}
-use Rattle.vll_proc.specs.declared.syntax.Stmt.{Stmt}
-use Rattle.vll_proc.specs.declared.syntax.Stmt.TheVariants.{Set, Reply}
+use Rattle.vll_proc.specs.declared.syntax.Expr.{Expr, Num, Arg, Key, Local, Add, Sub, Mul, Div, Rem, Min, Max, Equal, Less, Not}
+use Rattle.vll_proc.specs.declared.syntax.Stmt.{Stmt, Let, Set, If, Abort, Reply}
 use Rattle.vll_proc.specs.declared.syntax.KeyAt.{KeyAt}
 use Rattle.vll_proc.specs.declared.syntax.KeyAt.TheVariants as at
 use Rattle.vll_proc.specs.declared.syntax.KeyDecl.{KeyDecl}
@@ -24,7 +23,7 @@ o >>= go = option_and_then go o
 abbrev pub below : ℕ → Option ℕ → Option ℕ
 below limit o = option_and_then (λ n. if nat_lt n limit then Some n else None) o
 
--- an index of an argument or a key, or a count of arguments
+-- an index of an argument, a key or a local, or a count of arguments
 abbrev pub index_at : Data → Option ℕ
 index_at d = below (2 ^ 8) (number_at d)
 
@@ -35,34 +34,81 @@ both_of f a b = do
   y ← b
   Some (f x y)
 
--- ["arg", i] and ["key", i]
-abbrev pub leaf : List ℕ → Data → Option Expr
-leaf word i = if bytes_eq word (codes "arg") then option_map Arg (index_at i) else (if bytes_eq word (codes "key") then option_map Key (index_at i) else None)
+-- words, and what each is for
+abbrev pub Table : Type 0 → Type 0
+Table A = List (List ℕ × A)
 
--- ["add", e, e] and ["sub", e, e]
+-- what a word is for
+abbrev pub find_word : {A : Type 0} → List ℕ → Table A → Option A
+find_word word [] = None
+find_word word (row ∷ rows) = if bytes_eq word row.0 then Some row.1 else find_word word rows
+
+-- the words that an index follows
+abbrev pub leaves : Table (ℕ → Expr)
+leaves = (codes "arg", Arg) ∷ (codes "key", Key) ∷ (codes "local", Local) ∷ []
+
+-- the words that two expressions follow
+abbrev pub operations : Table (Expr → Expr → Expr)
+operations =
+    (codes "add", Add) ∷ (codes "sub", Sub) ∷ (codes "mul", Mul) ∷ (codes "div", Div) ∷ (codes "rem", Rem) ∷
+    (codes "min", Min) ∷ (codes "max", Max) ∷ (codes "equal", Equal) ∷ (codes "less", Less) ∷ []
+
+-- ["arg", i], ["key", i] and ["local", i]
+abbrev pub leaf : List ℕ → Option ℕ → Option Expr
+leaf word i = do
+  make ← find_word word leaves
+  option_map make i
+
+-- ["add", e, e] and the like
 abbrev pub operation : List ℕ → Option Expr → Option Expr → Option Expr
-operation word a b = if bytes_eq word (codes "add") then both_of Add a b else (if bytes_eq word (codes "sub") then both_of Sub a b else None)
+operation word a b = do
+  make ← find_word word operations
+  both_of make a b
 
 -- a number is an expression, and so are the lists of these forms
 abbrev pub expr_at : Data → Option Expr
 expr_at (number n) = option_map Num (as_u64 n)
-expr_at (array (item (string word) (item i no_items))) = leaf word i
+expr_at (array (item (string word) (item d no_items))) = if bytes_eq word (codes "not") then option_map Not (expr_at d) else leaf word (index_at d)
 expr_at (array (item (string word) (item a (item b no_items)))) = operation word (expr_at a) (expr_at b)
 expr_at _ = None
 
--- ["reply", e]
-abbrev pub reply_form : List ℕ → Data → Option Stmt
-reply_form word e = if bytes_eq word (codes "reply") then option_map Reply (expr_at e) else None
+-- the code of an abort
+abbrev pub code_at : Data → Option ℕ
+code_at d = below (2 ^ 16) (number_at d)
 
--- ["set", i, e]
-abbrev pub set_form : List ℕ → Data → Data → Option Stmt
-set_form word i e = if bytes_eq word (codes "set") then both_of Set (index_at i) (expr_at e) else None
+-- ["abort", code] and ["reply", e]
+abbrev pub abort_or_reply : List ℕ → Data → Option Stmt
+abort_or_reply word d = if bytes_eq word (codes "abort") then option_map Abort (code_at d) else (if bytes_eq word (codes "reply") then option_map Reply (expr_at d) else None)
 
--- the lists of these forms are statements
-abbrev pub stmt_at : Data → Option Stmt
-stmt_at (array (item (string word) (item e no_items))) = reply_form word e
-stmt_at (array (item (string word) (item i (item e no_items)))) = set_form word i e
-stmt_at _ = None
+-- ["let", i, e] and ["set", i, e]
+abbrev pub let_or_set : List ℕ → Data → Data → Option Stmt
+let_or_set word i e = if bytes_eq word (codes "let") then both_of Let (index_at i) (expr_at e) else (if bytes_eq word (codes "set") then both_of Set (index_at i) (expr_at e) else None)
+
+-- ["if", e, [..], [..]]
+abbrev pub branch : List ℕ → Option Expr → Option (List Stmt) → Option (List Stmt) → Option Stmt
+branch word test first second = do
+  e ← test
+  xs ← first
+  ys ← second
+  if bytes_eq word (codes "if") then Some (If e xs ys) else None
+
+abbrev mutual
+  -- the lists of these forms are statements
+  pub stmt_at : Data → Option Stmt
+  stmt_at (array (item (string word) (item d no_items))) = abort_or_reply word d
+  stmt_at (array (item (string word) (item i (item e no_items)))) = let_or_set word i e
+  stmt_at (array (item (string word) (item e (item first (item second no_items))))) = branch word (expr_at e) (stmts_at first) (stmts_at second)
+  stmt_at _ = None
+
+  -- a list of statements
+  pub stmts_at : Data → Option (List Stmt)
+  stmts_at (array ds) = each_stmt ds
+  stmts_at _ = None
+
+  -- all statements of a list, if each is one
+  pub each_stmt : Items → Option (List Stmt)
+  each_stmt no_items = Some []
+  each_stmt (item d ds) = both_of (λ x xs. x ∷ xs) (stmt_at d) (each_stmt ds)
 
 -- "read" and "write"
 abbrev pub mode_at : List ℕ → Option Mode
@@ -120,5 +166,5 @@ proc_at d = if has_exactly proc_names d then parts_of d else None
       name ← as_str (member_at (codes "name") d)
       args ← index_at (member_at (codes "args") d)
       keys ← whole (list_at key_at (member_at (codes "keys") d))
-      body ← whole (list_at stmt_at (member_at (codes "body") d))
+      body ← stmts_at (member_at (codes "body") d)
       Some (record { name = name; args = args; keys = keys; body = body })

@@ -1,7 +1,7 @@
 use crate::bytes::ReadFault;
-use crate::library::LibraryFault;
-use std::alloc::AllocError;
+use std::alloc::{AllocError, AllocFailed};
 use thiserror::Error;
+use vll_check::{CallFault, CheckFault, NameTwice};
 
 /// A part of a scenario. The parts' shapes are tested in this order.
 #[derive(Clone, Copy, PartialEq, Eq, Debug, Error)]
@@ -26,49 +26,6 @@ pub enum Part {
 pub struct Spot {
     pub part: Part,
     pub index: u32,
-}
-
-/// Why a procedure is not well-formed: the lowest number whose test fails.
-#[derive(Clone, Copy, PartialEq, Eq, Debug, Error)]
-pub enum CheckFault {
-    /// More than 8 arguments.
-    #[error("1")]
-    TooManyArgs,
-    /// More than 16 key positions.
-    #[error("2")]
-    TooManyKeys,
-    /// A key is placed by an argument that is not declared.
-    #[error("3")]
-    KeyArg,
-    /// A fixed record is not one of the records.
-    #[error("4")]
-    FixedRecord,
-    /// A key position that is not declared is read or set.
-    #[error("5")]
-    UnknownKey,
-    /// A key position is set that is declared Read.
-    #[error("6")]
-    NotWritable,
-    /// An argument is read that is not declared.
-    #[error("7")]
-    UnknownArg,
-    /// More than 8 replies.
-    #[error("10")]
-    TooManyReplies,
-}
-
-/// Why a call cannot be made: the lowest number that stands.
-#[derive(Clone, Copy, PartialEq, Eq, Debug, Error)]
-pub enum CallFault {
-    /// No procedure has the name.
-    #[error("1")]
-    UnknownProc,
-    /// Not the declared number of arguments.
-    #[error("2")]
-    ArgCount,
-    /// An argument that places a key is not below the number of records.
-    #[error("3")]
-    RecordRange,
 }
 
 /// Why a scenario was refused. Reading and the number of bytes are tested first, then `Json`, `Shape`,
@@ -119,6 +76,17 @@ impl From<AllocError> for ScenarioFault {
     }
 }
 
+impl<T: Drop> From<AllocFailed<T>> for ScenarioFault {
+    ghost use Rattle.std.specs.Prelude.{◌≡◌};
+    ghost use Rattle.vll_server.specs.declared.fault.ScenarioFault.TheVariants.{NoMemory};
+
+    ghost from_gives = { λ _ e. e ≡ NoMemory };
+
+    fn from(_: AllocFailed<T>) -> ScenarioFault {
+        ScenarioFault::NoMemory
+    }
+}
+
 impl From<ReadFault> for ScenarioFault {
     ghost use Rattle.std.specs.Prelude.{◌≡◌};
     ghost use Rattle.vll_server.specs.Bytes.{fault_of};
@@ -134,17 +102,14 @@ impl From<ReadFault> for ScenarioFault {
     }
 }
 
-impl From<LibraryFault> for ScenarioFault {
+impl From<NameTwice> for ScenarioFault {
     ghost use Rattle.std.specs.Prelude.{◌≡◌};
-    ghost use Rattle.vll_server.specs.Library.{fault_of};
+    ghost use Rattle.vll_server.specs.declared.fault.ScenarioFault.TheVariants as fault;
 
-    ghost from_gives = { λ f e. e ≡ fault_of f };
+    ghost from_gives = { λ _ e. e ≡ fault.NameTwice };
 
-    fn from(fault: LibraryFault) -> ScenarioFault {
-        match fault {
-            LibraryFault::NoMemory => ScenarioFault::NoMemory,
-            LibraryFault::NameTwice => ScenarioFault::NameTwice,
-        }
+    fn from(_: NameTwice) -> ScenarioFault {
+        ScenarioFault::NameTwice
     }
 }
 

@@ -4,12 +4,9 @@
 mod apply;
 mod asked;
 mod bytes;
-mod check;
 mod fault;
 mod laws;
-mod library;
 mod line;
-mod making;
 mod members;
 mod outcome;
 mod plain;
@@ -23,7 +20,7 @@ mod syntax;
 mod text;
 mod tree;
 
-pub use fault::{CallFault, CheckFault, Part, ScenarioFault, ServeFault, Spot, WriteFault};
+pub use fault::{Part, ScenarioFault, ServeFault, Spot, WriteFault};
 pub use laws::client_order_is_a_merge;
 pub use line::{Closed, Line};
 pub use outcome::write_outcome;
@@ -32,3 +29,4 @@ pub use read::read_scenario;
 pub use scenario::Scenario;
 pub use serve::serve_plain;
 pub use stream::{Sink, Source};
+pub use vll_check::{CallFault, CheckFault};

@@ -1,6 +1,6 @@
-use crate::library::Library;
 use sqlite_items::Items;
 use std::marker::Model;
+use vll_check::Library;
 use vll_proc::Call;
 
 /// A scenario: the records' first values, the procedures, and each client's script of calls.
@@ -17,12 +17,13 @@ pub struct Scenario {
 
 impl Model for Scenario {
     ghost use Rattle.vll_proc.specs.contracts.syntax.Expr as expr;
+    ghost use Rattle.vll_proc.specs.contracts.syntax.Stmt as stmt;
     ghost use Rattle.std.specs.Coded.{codes};
     ghost use Rattle.vll_server.specs.Setup.{Setup};
 
     ghost Value = { Setup };
 
-    ghost coded = { Prim.hlevel (codes, expr.the_row.coded) };
+    ghost coded = { Prim.hlevel (codes, expr.the_row.coded, stmt.the_row.coded) };
 
     ghost use Rattle.vll_server.specs.Kept.{setup_in, IsScenario};
 

@@ -3,7 +3,7 @@ ghost use Rattle.std.specs.Io.KnownBytes.{Appends};
 ghost use Rattle.vll_proc.specs.Serial.{end};
 ghost use Rattle.vll_server.specs.Merge.{in_client_order};
 ghost use Rattle.vll_server.specs.Serve.{made_by, words_of};
-ghost use Rattle.vll_server.specs.Setup.{Fits};
+ghost use Rattle.vll_check.specs.Calls.{Fits};
 ghost use Rattle.vll_server.specs.Streams.{AppendsBeginning};
 ghost use Rattle.vll_server.specs.Text.{closed_text, line_words, serial_text};
 
@@ -15,7 +15,8 @@ use crate::scenario::Scenario;
 use crate::stream::Sink;
 use sqlite_items::Items;
 use std::alloc::{AllocError, Global};
-use vll_proc::{Call, Proc};
+use vll_check::Library;
+use vll_proc::Call;
 
 /// Runs a scenario's calls one at a time, client 0's script first and then the next client's, and writes
 /// the text of the outcome: a line for each call, in that order, and then one for each record. After
@@ -55,12 +56,7 @@ fn run(alloc: Global, scenario: Scenario) -> Result<Closed, AllocError>
     let mut records = records;
     let pairs = vec![in alloc; 0; records.len()]?;
     let mut journal = Vec::new(alloc);
-    serve_scripts(
-        library.procs(),
-        scripts.as_slice(),
-        &mut records,
-        &mut journal,
-    )?;
+    serve_scripts(&library, scripts.as_slice(), &mut records, &mut journal)?;
     Ok(Closed {
         records,
         pairs,
@@ -70,40 +66,43 @@ fn run(alloc: Global, scenario: Scenario) -> Result<Closed, AllocError>
 
 // Runs the scripts one after the other, and says in the journal what came of each call.
 fn serve_scripts(
-    procs: &[Proc],
+    library: &Library,
     scripts: &[Items<Call>],
     records: &mut [u64],
     journal: &mut Vec<Line>,
 ) -> Result<(), AllocError>
     requires few { length scripts.now ≤ 1024 }
-    requires fits { All (λ script. All (Fits (length records.old) procs.now) script) scripts.now }
+    requires fits { All (λ script. All (Fits library.now) script) scripts.now }
+    requires count { library.now.records ≡ length records.old }
     ensures records { OnOk result
-        (records.new ≡ end procs.now (in_client_order 0 scripts.now) records.old) }
+        (records.new ≡ end library.now.procs (in_client_order 0 scripts.now) records.old) }
     ensures journal { OnOk result (map line_words journal.new.items ≡ map line_words
-        journal.old.items ++ words_of procs.now (in_client_order 0 scripts.now) records.old) }
+        journal.old.items ++ words_of library.now.procs (in_client_order 0 scripts.now) records.old) }
 {
     for (client, script) in scripts.iter().enumerate() {
-        serve_script(procs, client as u32, script.as_slice(), records, journal)?;
+        serve_script(library, client as u32, script.as_slice(), records, journal)?;
     }
     Ok(())
 }
 
 // Runs one client's script, and says in the journal what came of each call.
 fn serve_script(
-    procs: &[Proc],
+    library: &Library,
     client: u32,
     script: &[Call],
     records: &mut [u64],
     journal: &mut Vec<Line>,
 ) -> Result<(), AllocError>
-    requires { All (Fits (length records.old) procs.now) script.now }
+    requires fits { All (Fits library.now) script.now }
+    requires count { library.now.records ≡ length records.old }
     ensures records { OnOk result
-        (records.new ≡ end procs.now (made_by client script.now) records.old) }
+        (records.new ≡ end library.now.procs (made_by client script.now) records.old) }
     ensures journal { OnOk result (map line_words journal.new.items ≡ map line_words
-        journal.old.items ++ words_of procs.now (made_by client script.now) records.old) }
+        journal.old.items ++ words_of library.now.procs (made_by client script.now) records.old) }
 {
     for call in script {
-        let reply = apply(&procs[call.number as usize], call, records);
+        let procedure = library.proc(call.number).unwrap();
+        let reply = apply(procedure, call, records);
         journal.push(Line {
             client,
             call: *call,

@@ -1,18 +1,17 @@
 //! A scenario, made of the parts of its tree.
-ghost use Rattle.std.specs.Prelude.{◌≡◌, ◌≤◌, ◌+◌, ◌<◌, ◌^◌, ℕ, List, Result, Ok, Err, None, true, length, sum_by, All, IfOk, IsTrue, ◌↔◌};
-ghost use Rattle.vll_server.specs.Checked.{check_fault};
-ghost use Rattle.vll_server.specs.Scenario.{first_check, ok_unless, script_made, scripts_made, setup_of};
+ghost use Rattle.std.specs.Prelude.{◌≡◌, ◌≤◌, ◌⊎◌, ◌↔◌, ℕ, Some, None, length, map, sum_by, All, IfOk, IfErr, IsTrue};
+ghost use Rattle.vll_server.specs.Scenario.{first_check, script_made, scripts_made, setup_of};
 ghost use Rattle.vll_server.specs.Setup.{has_sizes};
 ghost use Rattle.vll_server.specs.Shape.{GivesUnlessMemory};
+ghost use Rattle.vll_server.specs.declared.fault.ScenarioFault.TheVariants as ScenarioFault;
 
 use crate::asked::Asked;
-use crate::check::check;
 use crate::fault::ScenarioFault;
-use crate::library::Library;
 use crate::scenario::Scenario;
 use crate::shape::Parts;
 use sqlite_items::Items;
 use std::alloc::Global;
+use vll_check::{Checked, Library, check};
 use vll_proc::{Call, Proc};
 
 const MOST_RECORDS: usize = 65_536;
@@ -36,8 +35,8 @@ pub(crate) fn setup_of(alloc: Global, parts: Parts) -> Result<Scenario, Scenario
         return Err(ScenarioFault::Size);
     }
     let count = records.len() as u32;
-    check_all(count, procs.as_slice())?;
-    let library = Library::new(alloc, count, procs)?;
+    let checked = checked_of(alloc, count, procs)?;
+    let library = Library::new(count, checked)?;
     let scripts = scripts_of(alloc, &library, scripts.as_slice())?;
     let records = Vec::from_slice(alloc, records.as_slice())?;
     Ok(Scenario {
@@ -72,20 +71,39 @@ fn has_few_calls(scripts: &[Items<Asked>]) -> bool
     true
 }
 
-// The first procedure that is not well-formed.
-fn check_all(records: u32, procs: &[Proc]) -> Result<(), ScenarioFault>
-    requires { length procs.now ≤ 1048576 }
-    ensures { result ≡ ok_unless (first_check records procs.now) tt }
+// The procedures, checked, or the fault of the first that is not well-formed. A list gives up its items
+// from the end, so all of them are checked and the last fault that is met is the first one's.
+fn checked_of(
+    alloc: Global,
+    records: u32,
+    procs: Items<Proc>,
+) -> Result<Vec<Checked>, ScenarioFault>
+    requires { length procs ≤ 1048576 }
+    ensures passed { IfOk result (λ cs. first_check records procs ≡ None) }
+    ensures procs { IfOk result (λ cs. map (λ c. c.procedure) cs.items ≡ procs) }
+    ensures records { IfOk result (λ cs. All (λ c. c.records ≡ records) cs.items) }
+    ensures fault { IfErr result (λ e. (e ≡ ScenarioFault.NoMemory)
+        ⊎ (first_check records procs ≡ Some e)) }
 {
-    for (i, procedure) in procs.iter().enumerate() {
-        if let Some(fault) = check(procedure, records) {
-            return Err(ScenarioFault::Check {
-                index: i as u32,
-                fault,
-            });
+    let mut procs = procs;
+    let mut checked = Vec::new(alloc);
+    let mut first = None;
+    while let Some(procedure) = procs.pop() {
+        match check(procedure, records) {
+            Ok(passed) => checked.push(passed)?,
+            Err(fault) => {
+                first = Some(ScenarioFault::Check {
+                    index: procs.len() as u32,
+                    fault,
+                });
+            }
         }
     }
-    Ok(())
+    if let Some(fault) = first {
+        return Err(fault);
+    }
+    checked.reverse();
+    Ok(checked)
 }
 
 // The calls of the scripts, client by client.
@@ -97,7 +115,7 @@ fn scripts_of(
     requires clients { length scripts.now ≤ 1024 }
     requires calls { sum_by length scripts.now ≤ 65536 }
     ensures { GivesUnlessMemory result
-        (scripts_made library.now.records library.now.procs scripts.now) }
+        (scripts_made library.now scripts.now) }
 {
     let mut made = Items::new(alloc);
     for (client, script) in scripts.iter().enumerate() {
@@ -115,11 +133,11 @@ fn script_of(
 ) -> Result<Items<Call>, ScenarioFault>
     requires { length script.now ≤ 65536 }
     ensures { GivesUnlessMemory result
-        (script_made library.now.records library.now.procs client script.now) }
+        (script_made library.now client script.now) }
 {
     let mut calls = Items::new(alloc);
     for (index, asked) in script.iter().enumerate() {
-        match library.call(asked) {
+        match library.call(asked.name.as_str(), asked.args.as_slice()) {
             Ok(call) => calls.push(call)?,
             Err(fault) => {
                 return Err(ScenarioFault::Call {

@@ -7,6 +7,7 @@ use crate::call::{Call, Reason, Reply};
 use crate::frame::Frame;
 use crate::laws::{
     changes_claimed_records_alone, depends_on_claimed_records_alone, keeps_the_number_of_records,
+    meets_nothing_undeclared,
 };
 use crate::syntax::{Expr, KeyAt, KeyDecl, Proc, Stmt, Text};
 use sqlite_items::{Boxed, Items};
@@ -43,6 +44,25 @@ fn sub(alloc: Global, left: Expr, right: Expr) -> Result<Expr, AllocError>
     ensures { IfOk result (λ e. e ≡ Expr.Sub left right) }
 {
     Ok(Expr::Sub(Boxed::new(alloc, left)?, Boxed::new(alloc, right)?))
+}
+
+fn equal(alloc: Global, left: Expr, right: Expr) -> Result<Expr, AllocError>
+    ensures { IfOk result (λ e. e ≡ Expr.Equal left right) }
+{
+    Ok(Expr::Equal(Boxed::new(alloc, left)?, Boxed::new(alloc, right)?))
+}
+
+fn less(alloc: Global, left: Expr, right: Expr) -> Result<Expr, AllocError>
+    ensures { IfOk result (λ e. e ≡ Expr.Less left right) }
+{
+    Ok(Expr::Less(Boxed::new(alloc, left)?, Boxed::new(alloc, right)?))
+}
+
+// A list of one statement.
+fn alone(alloc: Global, statement: Stmt) -> Result<Items<Stmt>, AllocError>
+    ensures { IfOk result (λ list. list ≡ statement ∷ []) }
+{
+    Ok(Items::from_vec(vec![in alloc; statement]?))
 }
 
 // Moves an amount from one record to another, and replies what is left of the first.
@@ -99,6 +119,54 @@ fn sum2(alloc: Global) -> Result<Proc, AllocError>
         name: Text::new(String::from_str(alloc, "sum2")?),
         args: 2,
         keys: Items::from_slice(alloc, &keys)?,
+        body: Items::from_vec(body),
+    })
+}
+
+// Takes an amount from a record, and replies what is left; aborts with code 7 where there is less.
+fn take(alloc: Global) -> Result<Proc, AllocError>
+    ensures formed { IfOk result (λ p. IsWellFormed p) }
+    ensures args { IfOk result (λ p. p.args ≡ 2) }
+    ensures keys { IfOk result (λ p. p.keys
+        ≡ record { mode = Mode.Write; at = KeyAt.Arg 0 } ∷ []) }
+{
+    let too_much = less(alloc, Expr::Key(0), Expr::Arg(1))?;
+    let left = sub(alloc, Expr::Key(0), Expr::Arg(1))?;
+    let refuse = alone(alloc, Stmt::Abort(7))?;
+    let body = vec![in alloc;
+        Stmt::If(too_much, refuse, Items::new(alloc)),
+        Stmt::Set(0, left),
+        Stmt::Reply(Expr::Key(0)),
+    ]?;
+    Ok(Proc {
+        name: Text::new(String::from_str(alloc, "take")?),
+        args: 2,
+        keys: Items::from_slice(alloc, &[key(Mode::Write, 0)])?,
+        body: Items::from_vec(body),
+    })
+}
+
+// Replies 40 and what its argument chooses: 2 for a 2, 0 for a 0, else 1.
+fn choose(alloc: Global) -> Result<Proc, AllocError>
+    ensures formed { IfOk result (λ p. IsWellFormed p) }
+    ensures args { IfOk result (λ p. p.args ≡ 1) }
+    ensures keys { IfOk result (λ p. p.keys ≡ []) }
+{
+    let is_two = equal(alloc, Expr::Arg(0), Expr::Num(2))?;
+    let two = alone(alloc, Stmt::Let(1, Expr::Num(2)))?;
+    let one = alone(alloc, Stmt::Let(1, Expr::Num(1)))?;
+    let zero = alone(alloc, Stmt::Let(1, Expr::Num(0)))?;
+    let inner = alone(alloc, Stmt::If(is_two, two, one))?;
+    let sum = add(alloc, Expr::Local(0), Expr::Local(1))?;
+    let body = vec![in alloc;
+        Stmt::Let(0, Expr::Num(40)),
+        Stmt::If(Expr::Arg(0), inner, zero),
+        Stmt::Reply(sum),
+    ]?;
+    Ok(Proc {
+        name: Text::new(String::from_str(alloc, "choose")?),
+        args: 1,
+        keys: Items::from_slice(alloc, &[])?,
         body: Items::from_vec(body),
     })
 }
@@ -178,6 +246,39 @@ fn of_records_4_and_2(procedure: &Proc) -> Call
     }
 }
 
+// An amount taken from record 3.
+fn of_record_3(procedure: &Proc, amount: u64) -> Call
+    requires args { procedure.now.args ≡ 2 }
+    requires keys { procedure.now.keys
+        ≡ record { mode = Mode.Write; at = KeyAt.Arg 0 } ∷ [] }
+    ensures { IsCallOf procedure.now result }
+{
+    let mut claims = Claims::new();
+    claims.add(claim(3, Mode::Write));
+    Call {
+        number: 3,
+        arg_count: procedure.args,
+        args: [3, amount, 0, 0, 0, 0, 0, 0],
+        claims,
+        cells: [0; 16],
+    }
+}
+
+// A choice, which claims nothing.
+fn of_no_record(procedure: &Proc, argument: u64) -> Call
+    requires args { procedure.now.args ≡ 1 }
+    requires keys { procedure.now.keys ≡ [] }
+    ensures { IsCallOf procedure.now result }
+{
+    Call {
+        number: 4,
+        arg_count: procedure.args,
+        args: [argument, 0, 0, 0, 0, 0, 0, 0],
+        claims: Claims::new(),
+        cells: [0; 16],
+    }
+}
+
 // How many outputs there are and the first two places, or why the call was aborted.
 fn replied(reply: Reply) -> Result<(usize, Option<u64>, Option<u64>), Reason> {
     match reply {
@@ -251,8 +352,36 @@ fn sum_reads_the_cells_of_its_keys(rt: HostRuntime) -> Result<(), Fail> {
 }
 
 #[test]
+fn take_of_too_much_ends_with_its_code(rt: HostRuntime) -> Result<(), Fail> {
+    let procedure = take(rt.alloc())?;
+    let mut frame = Frame::new();
+    frame.put(0, 5);
+    let reply = frame.run(&procedure, &of_record_3(&procedure, 9));
+    assert!(rt; replied(reply) == Err(Reason::Code(7)));
+    assert_eq!(rt; frame.get(0), 5);
+    let reply = frame.run(&procedure, &of_record_3(&procedure, 5));
+    assert!(rt; replied(reply) == Ok((1, Some(0), None)));
+    assert_eq!(rt; frame.get(0), 0);
+    Ok(())
+}
+
+#[test]
+fn choice_runs_one_list(rt: HostRuntime) -> Result<(), Fail> {
+    let procedure = choose(rt.alloc())?;
+    let mut frame = Frame::new();
+    let reply = frame.run(&procedure, &of_no_record(&procedure, 2));
+    assert!(rt; replied(reply) == Ok((1, Some(42), None)));
+    let reply = frame.run(&procedure, &of_no_record(&procedure, 9));
+    assert!(rt; replied(reply) == Ok((1, Some(41), None)));
+    let reply = frame.run(&procedure, &of_no_record(&procedure, 0));
+    assert!(rt; replied(reply) == Ok((1, Some(40), None)));
+    Ok(())
+}
+
+#[test]
 fn laws_ask_for_nothing() {
     changes_claimed_records_alone();
     keeps_the_number_of_records();
     depends_on_claimed_records_alone();
+    meets_nothing_undeclared();
 }

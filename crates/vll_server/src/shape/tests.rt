@@ -135,7 +135,7 @@ fn first_faulty_procedure_is_named(rt: HostRuntime) -> Result<(), Fail> {
         ("7", 0),
         (r#"{"name":"p","args":0,"keys":[],"body":[]}"#, 0),
         (
-            r#"[{"name":"p","args":0,"keys":[],"body":[["abort",7]]}]"#,
+            r#"[{"name":"p","args":0,"keys":[],"body":[["abort",65536]]}]"#,
             0,
         ),
         (r#"[{"name":"p","args":0,"keys":[],"body":[]},null,7]"#, 1),

@@ -7,7 +7,7 @@ use Rattle.vll_server.proofs.serve.serve_script.Given as goal
 abbrev pub invariant-loop-call : goal.invariant-loop-call
 invariant-loop-call l = record {
   count : length l.records ≡ length l.initial.records;
-  records : end l.procs (made_by l.client (drop l.call-index l.script)) l.records ≡ end l.procs (made_by l.client l.script) l.initial.records;
-  words : map line_words l.journal.items ++ words_of l.procs (made_by l.client (drop l.call-index l.script)) l.records
-      ≡ map line_words l.initial.journal.items ++ words_of l.procs (made_by l.client l.script) l.initial.records;
+  records : end l.library.procs (made_by l.client (drop l.call-index l.script)) l.records ≡ end l.library.procs (made_by l.client l.script) l.initial.records;
+  words : map line_words l.journal.items ++ words_of l.library.procs (made_by l.client (drop l.call-index l.script)) l.records
+      ≡ map line_words l.initial.journal.items ++ words_of l.library.procs (made_by l.client l.script) l.initial.records;
 }

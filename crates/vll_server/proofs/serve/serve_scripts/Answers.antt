@@ -1,12 +1,19 @@
-use Rattle.std.proofs.Common.{◌≡◌, ◌+◌, ◌<◌, drop, length, get_or, arith}
+use Rattle.std.proofs.Common.{◌≡◌, ◌+◌, ◌<◌, drop, length, get_or, sym, subst, ◌∙◌, arith}
+use Rattle.std.specs.List.{All}
+use Rattle.vll_check.specs.Calls.{Fits}
 use Rattle.vll_server.specs.Merge.{in_client_order}
 use Rattle.vll_server.specs.Serve.{made_by}
 use Rattle.vll_server.proofs.Served.{in_client_order-next, end-behind, words_of-behind}
 use Rattle.vll_server.proofs.serve.serve_scripts.Goals as goal
 
+pub serve_script-requires-clause-fits : goal.serve_script-requires-clause-fits
+serve_script-requires-clause-fits c =
+    let script = c.index-scripts-client.result in
+    subst (All (Fits c.args.library.now)) (sym (c.as_slice.ensures ∙ c.index-scripts-client.is)) (c.requires.fits c.loop-client.client script c.loop-client-test.true)
+
 pub loop-client-preserved : goal.loop-client-preserved
 loop-client-preserved c =
-    let procs = c.args.procs.now in
+    let procs = c.args.library.now.procs in
     let scripts = c.args.scripts.now in
     let i = c.loop-client.client in
     let script = c.as_slice.result.now in

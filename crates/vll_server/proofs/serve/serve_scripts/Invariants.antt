@@ -8,7 +8,7 @@ use Rattle.vll_server.proofs.serve.serve_scripts.Given as goal
 abbrev pub invariant-loop-client : goal.invariant-loop-client
 invariant-loop-client l = record {
   count : length l.records ≡ length l.initial.records;
-  records : end l.procs (in_client_order l.client (drop l.client l.scripts)) l.records ≡ end l.procs (in_client_order 0 l.scripts) l.initial.records;
-  words : map line_words l.journal.items ++ words_of l.procs (in_client_order l.client (drop l.client l.scripts)) l.records
-      ≡ map line_words l.initial.journal.items ++ words_of l.procs (in_client_order 0 l.scripts) l.initial.records;
+  records : end l.library.procs (in_client_order l.client (drop l.client l.scripts)) l.records ≡ end l.library.procs (in_client_order 0 l.scripts) l.initial.records;
+  words : map line_words l.journal.items ++ words_of l.library.procs (in_client_order l.client (drop l.client l.scripts)) l.records
+      ≡ map line_words l.initial.journal.items ++ words_of l.library.procs (in_client_order 0 l.scripts) l.initial.records;
 }

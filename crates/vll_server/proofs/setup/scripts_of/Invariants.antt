@@ -5,4 +5,4 @@ use Rattle.vll_server.proofs.setup.scripts_of.Given as goal
 
 abbrev pub invariant-loop-client : goal.invariant-loop-client
 invariant-loop-client l =
-    after_those l.made (each_given (script_made l.library.records l.library.procs) l.client (drop l.client l.scripts)) ≡ scripts_made l.library.records l.library.procs l.scripts
+    after_those l.made (each_given (script_made l.library) l.client (drop l.client l.scripts)) ≡ scripts_made l.library l.scripts

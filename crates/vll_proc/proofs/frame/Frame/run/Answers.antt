@@ -15,20 +15,20 @@ steps-requires-clause-args c = rw c.as_slice.ensures (args_known c.args.procedur
 
 pub returns-in-Ok-clause-reply : goal.returns-in-Ok-clause-reply
 returns-in-Ok-clause-reply c = λ records holds.
-    let ended = rw (c.as_slice.ensures, c.new.ensures) at c.in-Ok.ensures in
+    let ended = rw (c.as_slice.ensures, c.new.ensures) at c.in-Ok.ensures.effect in
     sym (told c.args.procedure.now c.args.call.now c.self.inside.cells records _ c.requires.formed c.requires.made c.self.told ended (rw c.self.view_is holds)).0
 
 pub returns-in-Ok-clause-cells : goal.returns-in-Ok-clause-cells
 returns-in-Ok-clause-cells c = λ records holds.
-    let ended = rw (c.as_slice.ensures, c.new.ensures) at c.in-Ok.ensures in
+    let ended = rw (c.as_slice.ensures, c.new.ensures) at c.in-Ok.ensures.effect in
     rw c.self-in-Ok.view_is (told c.args.procedure.now c.args.call.now c.self.inside.cells records _ c.requires.formed c.requires.made c.self.told ended (rw c.self.view_is holds)).1
 
 pub returns-in-Err-clause-reply : goal.returns-in-Err-clause-reply
 returns-in-Err-clause-reply c = λ records holds.
-    let ended = rw (c.as_slice.ensures, c.new.ensures) at c.in-Err.ensures in
+    let ended = rw (c.as_slice.ensures, c.new.ensures) at c.in-Err.ensures.effect in
     sym (told c.args.procedure.now c.args.call.now c.self.inside.cells records _ c.requires.formed c.requires.made c.self.told ended (rw c.self.view_is holds)).0
 
 pub returns-in-Err-clause-cells : goal.returns-in-Err-clause-cells
 returns-in-Err-clause-cells c = λ records holds.
-    let ended = rw (c.as_slice.ensures, c.new.ensures) at c.in-Err.ensures in
+    let ended = rw (c.as_slice.ensures, c.new.ensures) at c.in-Err.ensures.effect in
     rw (← c.self.view_is) (told c.args.procedure.now c.args.call.now c.self.inside.cells records _ c.requires.formed c.requires.made c.self.told ended (rw c.self.view_is holds)).1

@@ -1,0 +1,72 @@
+-- Short lists in arrays, item by item, and the place of a claim.
+use Rattle.std.proofs.Common.{◌≡◌, ℕ, zero, suc, ◌+◌, ◌-◌, ◌<◌, List, [], ◌∷◌, ◌++◌, length, take, drop, set, get_or, replicate, refl, sym, ap, ◌∙◌, arith, append_assoc, length-append, add-one, if◌then◌else◌, ◌==◌, slice_get, Some, map}
+use Rattle.std.proofs.Math.Seq.{take-suc, drop-cons}
+use Rattle.std.proofs.lemmas.Bool.{cond-true, cond-false, eq-eqb, ne_eqb}
+use Rattle.std.proofs.lemmas.List.{length-map, map-append, length-take-le}
+use Rattle.std.proofs.lemmas.Option.{slice_get_within, get_or_from_slice_get}
+use Rattle.vll_record.specs.Canon.{laid}
+use Rattle.vll_record.specs.declared.claim.Claim.{Claim}
+use Rattle.vll_proc.specs.Made.{place_of}
+
+set-behind : {A : Type 0} (xs ys : List A) (b y : A) → set (xs ++ b ∷ ys) (length xs) y ≡ xs ++ y ∷ ys
+set-behind [] ys b y = refl
+set-behind (x ∷ xs) ys b y = ap (λ zs. x ∷ zs) (set-behind xs ys b y)
+
+fill-cons : {A : Type 0} (m : ℕ) (b : A) → 0 < m → replicate m b ≡ b ∷ replicate (m - 1) b
+fill-cons zero b some = absurd (omega arith)
+fill-cons (suc m) b some = ap (λ n. b ∷ replicate n b) (omega arith)
+
+-- one more item, in the first place that has none
+pub laid-push : {A : Type 0} (n : ℕ) (b y : A) (xs : List A) → length xs < n → set (laid n b xs) (length xs) y ≡ laid n b (xs ++ y ∷ [])
+laid-push n b y xs room =
+    let fewer : n - length xs - 1 ≡ n - length (xs ++ y ∷ []) = omega (arith, length-append xs (y ∷ [])) in
+    ap (λ ys. set (xs ++ ys) (length xs) y) (fill-cons (n - length xs) b (omega arith))
+    ∙ set-behind xs (replicate (n - length xs - 1) b) b y
+    ∙ sym (append_assoc xs (y ∷ []) (replicate (n - length xs - 1) b))
+    ∙ ap (λ m. (xs ++ y ∷ []) ++ replicate m b) fewer
+
+from_place : (cs : List Claim) (i r : ℕ) (c : Claim) → slice_get cs i ≡ Some c → place_of (drop i cs) r ≡ (if c.id == r then 0 else suc (place_of (drop (i + 1) cs) r))
+from_place cs i r c at =
+    let within : i < length cs = slice_get_within cs i c at in
+    let first : get_or cs i c ≡ c = get_or_from_slice_get cs i c c at in
+    ap (λ ds. place_of ds r) (drop-cons cs i c within) ∙ ap (λ (d : Claim). if d.id == r then 0 else suc (place_of (drop (suc i) cs) r)) first
+    ∙ ap (λ n. if c.id == r then 0 else suc (place_of (drop n cs) r)) (sym (add-one i))
+
+-- the claim at a place is of the record
+pub place_of-here : (cs : List Claim) (i r : ℕ) (c : Claim) → slice_get cs i ≡ Some c → c.id ≡ r → place_of (drop i cs) r ≡ 0
+place_of-here cs i r c at same = from_place cs i r c at ∙ cond-true (c.id == r) 0 (suc (place_of (drop (i + 1) cs) r)) (eq-eqb c.id r same)
+
+-- it is of another record
+pub place_of-later : (cs : List Claim) (i r : ℕ) (c : Claim) → slice_get cs i ≡ Some c → (c.id ≡ r → ⊥) → place_of (drop i cs) r ≡ suc (place_of (drop (i + 1) cs) r)
+place_of-later cs i r c at other = from_place cs i r c at ∙ cond-false (c.id == r) 0 (suc (place_of (drop (i + 1) cs) r)) (ne_eqb c.id r other)
+
+-- the next of the items that are laid
+pub laid-next : (n : ℕ) (xs : List ℕ) (i y : ℕ) → i < length xs → i < n → y ≡ get_or xs i 0 → set (laid n 0 (take i xs)) i y ≡ laid n 0 (take (i + 1) xs)
+laid-next n xs i y within room is =
+    let whole : length (take i xs) ≡ i = length-take-le i xs (omega arith) in
+    let more : take (i + 1) xs ≡ take i xs ++ y ∷ [] = ap (λ m. take m xs) (add-one i) ∙ take-suc xs i 0 within ∙ ap (λ z. take i xs ++ z ∷ []) (sym is) in
+    ap (λ m. set (laid n 0 (take i xs)) m y) (sym whole) ∙ laid-push n 0 y (take i xs) (omega arith) ∙ ap (laid n 0) (sym more)
+
+-- the same of the items under f
+pub laid-mapped : {A : Type 0} (f : A → ℕ) (n : ℕ) (xs : List A) (i : ℕ) (d : A) (y : ℕ) → i < length xs → i < n → y ≡ f (get_or xs i d) → set (laid n 0 (map f (take i xs))) i y ≡ laid n 0 (map f (take (i + 1) xs))
+laid-mapped f n xs i d y within room is =
+    let whole : length (map f (take i xs)) ≡ i = length-map (take i xs) f ∙ length-take-le i xs (omega arith) in
+    let more : map f (take (i + 1) xs) ≡ map f (take i xs) ++ y ∷ [] =
+    ap (map f) (ap (λ m. take m xs) (add-one i) ∙ take-suc xs i d within) ∙ map-append f (take i xs) (get_or xs i d ∷ []) ∙ ap (λ z. map f (take i xs) ++ z ∷ []) (sym is) in
+    ap (λ m. set (laid n 0 (map f (take i xs))) m y) (sym whole) ∙ laid-push n 0 y (map f (take i xs)) (omega arith) ∙ ap (laid n 0) (sym more)
+
+same_front : {A : Type 0} (xs ys : List A) (i : ℕ) → take i xs ≡ take i ys → slice_get xs i ≡ slice_get ys i → take (suc i) xs ≡ take (suc i) ys
+same_front [] [] i front next = refl
+same_front [] (y ∷ ys) zero front next = cc
+same_front [] (y ∷ ys) (suc i) front next = cc
+same_front (x ∷ xs) [] zero front next = cc
+same_front (x ∷ xs) [] (suc i) front next = cc
+same_front (x ∷ xs) (y ∷ ys) zero front next = let same : x ≡ y = cc in ap (λ z. z ∷ []) same
+same_front (x ∷ xs) (y ∷ ys) (suc i) front next =
+    let same : x ≡ y = cc in
+    let rest : take i xs ≡ take i ys = cc in
+    ap (λ z. z ∷ take (suc i) xs) same ∙ ap (λ zs. y ∷ zs) (same_front xs ys i rest next)
+
+-- two lists that are the same so far, and in the next item
+pub take_same_next : {A : Type 0} (xs ys : List A) (i : ℕ) → take i xs ≡ take i ys → slice_get xs i ≡ slice_get ys i → take (i + 1) xs ≡ take (i + 1) ys
+take_same_next xs ys i front next = ap (λ n. take n xs) (add-one i) ∙ same_front xs ys i front next ∙ ap (λ n. take n ys) (sym (add-one i))

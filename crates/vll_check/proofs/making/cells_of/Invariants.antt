@@ -1,0 +1,7 @@
+use Rattle.std.proofs.Common.{◌≡◌, map, take}
+use Rattle.vll_record.specs.Canon.{laid}
+use Rattle.vll_check.specs.Making.{cell_of}
+use Rattle.vll_check.proofs.making.cells_of.Given as goal
+
+abbrev pub invariant-loop-i : goal.invariant-loop-i
+invariant-loop-i l = l.cells ≡ laid 16 0 (map (cell_of l.claims l.args) (take l.i l.keys))

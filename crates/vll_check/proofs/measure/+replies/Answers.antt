@@ -1,0 +1,23 @@
+use Rattle.std.proofs.Common.{ap, ◌∙◌, arith}
+use Rattle.std.proofs.lemmas.Grind.{common_steps}
+use Rattle.vll_proc.specs.WellFormed.{replies}
+use Rattle.vll_proc.proofs.Lists.{replies_if}
+use Rattle.vll_check.proofs.measure.+replies.Goals as goal
+
+pub statement_replies_left-returns-in_err-behind_first-in-If-clause-over :
+    goal.statement_replies_left-returns-in_err-behind_first-in-If-clause-over
+statement_replies_left-returns-in_err-behind_first-in-If-clause-over t c =
+    let both = ap replies c.in-If.is ∙ replies_if c.in-If.field-0 c.in-If.first c.in-If.second in
+    grind (arith, common_steps)
+
+pub statement_replies_left-returns-in_err-behind_second-in-If-clause-over :
+    goal.statement_replies_left-returns-in_err-behind_second-in-If-clause-over
+statement_replies_left-returns-in_err-behind_second-in-If-clause-over t c =
+    let both = ap replies c.in-If.is ∙ replies_if c.in-If.field-0 c.in-If.first c.in-If.second in
+    grind (arith, common_steps)
+
+pub statement_replies_left-returns-in_ok-behind_second-in-If-clause-enough :
+    goal.statement_replies_left-returns-in_ok-behind_second-in-If-clause-enough
+statement_replies_left-returns-in_ok-behind_second-in-If-clause-enough t c =
+    let both = ap replies c.in-If.is ∙ replies_if c.in-If.field-0 c.in-If.first c.in-If.second in
+    grind (arith, common_steps)

@@ -1,0 +1,15 @@
+use Rattle.std.proofs.Common.{rules}
+use Rattle.std.specs.Cmp.Lexicographic.{nat_list_cmp_total}
+use Rattle.std.specs.Ordering.{is_lt}
+use Rattle.std.proofs.lemmas.List.MinMax.{ranks_by}
+use Rattle.std.proofs.lemmas.List.Sorted.{answers_always}
+use Rattle.vll_check.specs.Entry.{Entry}
+use Rattle.vll_check.specs.Order.{by_name}
+use Rattle.vll_check.proofs.order.sort_by_name.Goals as goal
+
+-- the closure compares the names
+pub returns-clause-sorted : goal.returns-clause-sorted
+returns-clause-sorted c =
+    c.sort_unstable_by.ensures.sorted (λ d e. is_lt (by_name d e))
+    (ranks_by nat_list_cmp_total (λ (e : Entry). e.procedure.name))
+    (answers_always _ _ _ (λ f a r g called. search rules))

@@ -1,0 +1,8 @@
+-- What is behind the place in the list passes.
+use Rattle.std.proofs.Common.{◌≡◌, true, take}
+use Rattle.std.specs.List.{list_all}
+use Rattle.vll_proc.specs.WellFormed.{throughout}
+use Rattle.vll_check.proofs.walk.+throughout.Given as goal
+
+abbrev pub invariant-list_throughout-loop-statement : goal.invariant-list_throughout-loop-statement
+invariant-list_throughout-loop-statement g l = list_all (throughout (g.T.LeafTest.passes_leaf l.test) (g.T.Test.passes_statement l.test)) (take l.statement-index l.statements) ≡ true

@@ -1,0 +1,16 @@
+-- What a library holds: its procedures, and for how many records they were checked.
+use Rattle.std.specs.Prelude.{◌≡◌, ℕ, ◌<◌, ◌^◌, false, List, length, None, All}
+use Rattle.vll_proc.specs.declared.syntax.Proc.{Proc}
+use Rattle.vll_check.specs.Faults.{check_fault}
+use Rattle.vll_check.specs.Names.{has_name_twice}
+
+pub record Catalog : Type 0 where
+  pub records : ℕ
+  pub procs : List Proc
+
+-- a number of 32 bits counts the procedures, each passes the tests, and no two have one name
+pub record IsCatalog (c : Catalog) : Type 0 where
+  pub few : length c.procs < 2 ^ 32
+  pub range : c.records < 2 ^ 32
+  pub passed : All (λ (p : Proc). check_fault c.records p ≡ None) c.procs
+  pub once : has_name_twice c.procs ≡ false

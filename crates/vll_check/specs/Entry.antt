@@ -1,0 +1,9 @@
+-- A checked procedure, and what a library keeps beside it.
+use Rattle.std.specs.Prelude.{ℕ}
+use Rattle.vll_proc.specs.declared.syntax.Proc.{Proc}
+
+pub record Entry : Type 0 where
+  pub procedure : Proc
+  pub records : ℕ
+  pub number : ℕ
+  pub place : ℕ

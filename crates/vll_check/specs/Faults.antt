@@ -1,0 +1,32 @@
+-- Which fault a procedure has: the lowest number whose test fails.
+use Rattle.std.specs.Prelude.{ℕ, Bool, true, false, Option, Some, None, Result, Ok, Err}
+use Rattle.vll_proc.specs.declared.syntax.Proc.{Proc}
+use Rattle.vll_proc.specs.WellFormed.{has_few_args, has_few_keys, has_declared_key_args, has_records, has_known_keys, has_writable_keys, has_known_args, has_known_locals, reads_set_locals, has_few_replies, is_shallow, is_short}
+use Rattle.vll_check.specs.declared.fault.CheckFault.{CheckFault}
+use Rattle.vll_check.specs.declared.fault.CheckFault.TheVariants.{TooManyArgs, TooManyKeys, KeyArg, FixedRecord, UnknownKey, NotWritable, UnknownArg, UnknownLocal, UnsetLocal, TooManyReplies, TooDeep, TooLong}
+
+-- the fault of a test that fails, or what comes behind it
+abbrev pub fault_unless : Bool → CheckFault → Option CheckFault → Option CheckFault
+fault_unless true fault behind = behind
+fault_unless false fault behind = Some fault
+
+-- the tests in order
+abbrev pub check_fault : ℕ → Proc → Option CheckFault
+check_fault records p =
+    fault_unless (has_few_args p) TooManyArgs
+    (fault_unless (has_few_keys p) TooManyKeys
+    (fault_unless (has_declared_key_args p) KeyArg
+    (fault_unless (has_records records p) FixedRecord
+    (fault_unless (has_known_keys p) UnknownKey
+    (fault_unless (has_writable_keys p) NotWritable
+    (fault_unless (has_known_args p) UnknownArg
+    (fault_unless (has_known_locals p) UnknownLocal
+    (fault_unless (reads_set_locals p) UnsetLocal
+    (fault_unless (has_few_replies p) TooManyReplies
+    (fault_unless (is_shallow p) TooDeep
+    (fault_unless (is_short p) TooLong None)))))))))))
+
+-- the fault that an answer tells
+abbrev pub fault_in : {A : Type 0} → Result A CheckFault → Option CheckFault
+fault_in (Ok made) = None
+fault_in (Err fault) = Some fault

@@ -1,0 +1,161 @@
+//! The tests of a procedure, in the order of their numbers.
+ghost use Rattle.std.specs.Prelude.{◌≡◌, IfOk};
+ghost use Rattle.vll_proc.specs.WellFormed as formed;
+ghost use Rattle.vll_check.specs.Faults.{check_fault, fault_in};
+
+use crate::checked::Checked;
+use crate::fault::CheckFault;
+use crate::locals::{Locals, list_set_behind};
+use crate::measure::{is_within, nodes_left, replies_left};
+use crate::places::{KnownArgs, KnownKeys, KnownLocals, WritableKeys};
+use crate::walk::list_throughout;
+use vll_proc::{KeyAt, KeyDecl, Proc};
+
+/// Tests whether a procedure is well-formed for a number of records.
+///
+/// It consumes the procedure: an `Ok` gives it back, checked, and an `Err` drops it. The tests run in
+/// the order of their numbers, so an `Err` is the lowest number whose test fails. It takes no memory.
+pub fn check(procedure: Proc, records: u32) -> Result<Checked, CheckFault>
+    ensures ok { IfOk result (λ c. (c.procedure ≡ procedure) × (c.records ≡ records)) }
+    ensures answer { check_fault records procedure ≡ fault_in result }
+{
+    match fault_of(&procedure, records) {
+        Some(fault) => Err(fault),
+        None => Ok(Checked {
+            procedure,
+            records,
+            number: 0,
+            place: 0,
+        }),
+    }
+}
+
+// The first test that the procedure fails.
+fn fault_of(procedure: &Proc, records: u32) -> Option<CheckFault>
+    ensures { result ≡ check_fault records procedure.now }
+{
+    if procedure.args > 8 {
+        return Some(CheckFault::TooManyArgs);
+    }
+    if procedure.keys.len() > 16 {
+        return Some(CheckFault::TooManyKeys);
+    }
+    if !has_declared_key_args(procedure) {
+        return Some(CheckFault::KeyArg);
+    }
+    if !has_records(procedure, records) {
+        return Some(CheckFault::FixedRecord);
+    }
+    if !has_known_keys(procedure) {
+        return Some(CheckFault::UnknownKey);
+    }
+    if !has_writable_keys(procedure) {
+        return Some(CheckFault::NotWritable);
+    }
+    if !has_known_args(procedure) {
+        return Some(CheckFault::UnknownArg);
+    }
+    if !has_known_locals(procedure) {
+        return Some(CheckFault::UnknownLocal);
+    }
+    if !reads_set_locals(procedure) {
+        return Some(CheckFault::UnsetLocal);
+    }
+    if !has_few_replies(procedure) {
+        return Some(CheckFault::TooManyReplies);
+    }
+    if !is_shallow(procedure) {
+        return Some(CheckFault::TooDeep);
+    }
+    if !is_short(procedure) {
+        return Some(CheckFault::TooLong);
+    }
+    None
+}
+
+fn has_declared_key_args(procedure: &Proc) -> bool
+    ensures { result ≡ formed.has_declared_key_args procedure.now }
+{
+    let args = procedure.args;
+    let keys = procedure.keys.as_slice();
+    keys.iter().all(|key| argument_is_declared(key, args))
+}
+
+fn argument_is_declared(key: &KeyDecl, args: u8) -> bool
+    ensures { result ≡ formed.argument_is_declared args key.now }
+{
+    match key.at {
+        KeyAt::Fixed(_) => true,
+        KeyAt::Arg(i) => i < args,
+    }
+}
+
+fn has_records(procedure: &Proc, records: u32) -> bool
+    ensures { result ≡ formed.has_records records procedure.now }
+{
+    let keys = procedure.keys.as_slice();
+    keys.iter().all(|key| record_is_there(key, records))
+}
+
+fn record_is_there(key: &KeyDecl, records: u32) -> bool
+    ensures { result ≡ formed.record_is_there records key.now }
+{
+    match key.at {
+        KeyAt::Fixed(r) => r < records,
+        KeyAt::Arg(_) => true,
+    }
+}
+
+fn has_known_keys(procedure: &Proc) -> bool
+    ensures { result ≡ formed.has_known_keys procedure.now }
+{
+    let count = procedure.keys.len();
+    list_throughout(&KnownKeys { count }, procedure.body.as_slice())
+}
+
+fn has_writable_keys(procedure: &Proc) -> bool
+    ensures { result ≡ formed.has_writable_keys procedure.now }
+{
+    let keys = procedure.keys.as_slice();
+    list_throughout(&WritableKeys { keys }, procedure.body.as_slice())
+}
+
+fn has_known_args(procedure: &Proc) -> bool
+    ensures { result ≡ formed.has_known_args procedure.now }
+{
+    let count = procedure.args;
+    list_throughout(&KnownArgs { count }, procedure.body.as_slice())
+}
+
+fn has_known_locals(procedure: &Proc) -> bool
+    ensures { result ≡ formed.has_known_locals procedure.now }
+{
+    list_throughout(&KnownLocals, procedure.body.as_slice())
+}
+
+fn reads_set_locals(procedure: &Proc) -> bool
+    ensures { result ≡ formed.reads_set_locals procedure.now }
+{
+    list_set_behind(procedure.body.as_slice(), Locals::new()).is_some()
+}
+
+fn has_few_replies(procedure: &Proc) -> bool
+    ensures { result ≡ formed.has_few_replies procedure.now }
+{
+    replies_left(procedure.body.as_slice(), 8).is_some()
+}
+
+fn is_shallow(procedure: &Proc) -> bool
+    ensures { result ≡ formed.is_shallow procedure.now }
+{
+    is_within(procedure.body.as_slice(), 32)
+}
+
+fn is_short(procedure: &Proc) -> bool
+    ensures { result ≡ formed.is_short procedure.now }
+{
+    nodes_left(procedure.body.as_slice(), 1024).is_some()
+}
+
+#[cfg(test)]
+mod tests;

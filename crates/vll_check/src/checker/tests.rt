@@ -1,0 +1,243 @@
+use super::check;
+use crate::fault::CheckFault;
+use crate::fault::CheckFault::{
+    FixedRecord, KeyArg, NotWritable, TooDeep, TooLong, TooManyArgs, TooManyKeys, TooManyReplies,
+    UnknownArg, UnknownKey, UnknownLocal, UnsetLocal,
+};
+use sqlite_items::{Boxed, Items};
+use std::alloc::{AllocError, Global};
+use std::test::Fail;
+use vll_proc::{Expr, KeyAt, KeyDecl, Proc, Stmt, Text};
+use vll_record::Mode;
+
+// The fault of a procedure, on 2 records.
+fn fault(
+    alloc: Global,
+    args: u8,
+    keys: &[KeyDecl],
+    body: Vec<Stmt>,
+) -> Result<Option<CheckFault>, AllocError> {
+    let procedure = Proc {
+        name: Text::new(String::from_str(alloc, "p")?),
+        args,
+        keys: Items::from_slice(alloc, keys)?,
+        body: Items::from_vec(body),
+    };
+    match check(procedure, 2) {
+        Ok(_) => Ok(None),
+        Err(fault) => Ok(Some(fault)),
+    }
+}
+
+fn key(mode: Mode, at: KeyAt) -> KeyDecl {
+    KeyDecl { mode, at }
+}
+
+fn not(alloc: Global, operand: Expr) -> Result<Expr, AllocError> {
+    Ok(Expr::Not(Boxed::new(alloc, operand)?))
+}
+
+fn add(alloc: Global, left: Expr, right: Expr) -> Result<Expr, AllocError> {
+    Ok(Expr::Add(Boxed::new(alloc, left)?, Boxed::new(alloc, right)?))
+}
+
+// If 1, then one list, else another.
+fn if_one(first: Vec<Stmt>, second: Vec<Stmt>) -> Stmt {
+    Stmt::If(
+        Expr::Num(1),
+        Items::from_vec(first),
+        Items::from_vec(second),
+    )
+}
+
+// Some replies of a number.
+fn replies(alloc: Global, count: usize) -> Result<Vec<Stmt>, AllocError> {
+    let mut body = Vec::new(alloc);
+    for _ in 0..count {
+        body.push(Stmt::Reply(Expr::Num(1)))?;
+    }
+    Ok(body)
+}
+
+// Some statements of two nodes each.
+fn lets(alloc: Global, count: usize) -> Result<Vec<Stmt>, AllocError> {
+    let mut body = Vec::new(alloc);
+    for _ in 0..count {
+        body.push(Stmt::Let(0, Expr::Num(1)))?;
+    }
+    Ok(body)
+}
+
+// Some `Not` over a number.
+fn nots(alloc: Global, count: usize) -> Result<Expr, AllocError> {
+    let mut expr = Expr::Num(1);
+    for _ in 0..count {
+        expr = not(alloc, expr)?;
+    }
+    Ok(expr)
+}
+
+#[test]
+fn checked_procedure_is_the_one_that_was_given(rt: HostRuntime) -> Result<(), Fail> {
+    let alloc = rt.alloc();
+    let procedure = Proc {
+        name: Text::new(String::from_str(alloc, "p")?),
+        args: 3,
+        keys: Items::new(alloc),
+        body: Items::new(alloc),
+    };
+    let checked = check(procedure, 2)?;
+    assert_eq!(rt; checked.records(), 2);
+    assert_eq!(rt; checked.proc().args, 3);
+    assert_eq!(rt; checked.proc().name.as_str(), "p");
+    Ok(())
+}
+
+#[test]
+fn arguments_and_keys_are_few(rt: HostRuntime) -> Result<(), Fail> {
+    let alloc = rt.alloc();
+    let keys = [key(Mode::Read, KeyAt::Fixed(0)); 17];
+    for (args, keys, want) in [
+        (8, &keys[..16], None),
+        (0, &keys[..17], Some(TooManyKeys)),
+        (9, &keys[..0], Some(TooManyArgs)),
+        (9, &keys[..17], Some(TooManyArgs)),
+    ] {
+        assert_eq!(rt; fault(alloc, args, keys, Vec::new(alloc))?, want);
+    }
+    Ok(())
+}
+
+#[test]
+fn keys_are_placed(rt: HostRuntime) -> Result<(), Fail> {
+    let alloc = rt.alloc();
+    for (at, want) in [
+        (KeyAt::Arg(0), None),
+        (KeyAt::Arg(1), Some(KeyArg)),
+        (KeyAt::Fixed(1), None),
+        (KeyAt::Fixed(2), Some(FixedRecord)),
+    ] {
+        let keys = [key(Mode::Write, at)];
+        assert_eq!(rt; fault(alloc, 1, &keys, Vec::new(alloc))?, want, "{at:?}");
+    }
+    Ok(())
+}
+
+#[test]
+fn body_names_what_is_declared(rt: HostRuntime) -> Result<(), Fail> {
+    let alloc = rt.alloc();
+    let none: &[KeyDecl] = &[];
+    let read: &[KeyDecl] = &[key(Mode::Read, KeyAt::Fixed(0))];
+    let write: &[KeyDecl] = &[key(Mode::Write, KeyAt::Fixed(0))];
+    for (keys, statement, want) in [
+        (none, Stmt::Reply(Expr::Key(0)), Some(UnknownKey)),
+        (read, Stmt::Reply(Expr::Key(0)), None),
+        (read, Stmt::Set(0, Expr::Num(1)), Some(NotWritable)),
+        (write, Stmt::Set(0, Expr::Num(1)), None),
+        (write, Stmt::Set(1, Expr::Num(1)), Some(UnknownKey)),
+        (none, Stmt::Reply(Expr::Arg(0)), Some(UnknownArg)),
+        (none, Stmt::Let(7, Expr::Num(1)), None),
+        (none, Stmt::Let(8, Expr::Num(1)), Some(UnknownLocal)),
+        (none, Stmt::Reply(Expr::Local(8)), Some(UnknownLocal)),
+        (none, Stmt::Reply(Expr::Local(0)), Some(UnsetLocal)),
+    ] {
+        let body = vec![in alloc; statement]?;
+        assert_eq!(rt; fault(alloc, 0, keys, body)?, want);
+    }
+    Ok(())
+}
+
+#[test]
+fn local_is_surely_set_where_both_lists_set_it(rt: HostRuntime) -> Result<(), Fail> {
+    let alloc = rt.alloc();
+    let unset = Some(UnsetLocal);
+    for (first, second, want) in [(0, 0, unset), (1, 0, unset), (0, 1, unset), (1, 1, None)] {
+        let choice = if_one(lets(alloc, first)?, lets(alloc, second)?);
+        let body = vec![in alloc; choice, Stmt::Reply(Expr::Local(0))]?;
+        assert_eq!(rt; fault(alloc, 0, &[], body)?, want, "{first} {second}");
+    }
+    Ok(())
+}
+
+#[test]
+fn replies_are_few_along_both_lists(rt: HostRuntime) -> Result<(), Fail> {
+    let alloc = rt.alloc();
+    let over = Some(TooManyReplies);
+    for (first, second, behind, want) in [
+        (8, 8, 0, None),
+        (8, 0, 1, over),
+        (0, 8, 1, over),
+        (9, 0, 0, over),
+        (0, 9, 0, over),
+        (0, 0, 8, None),
+        (0, 0, 9, over),
+    ] {
+        let mut body = vec![in alloc; if_one(replies(alloc, first)?, replies(alloc, second)?)]?;
+        body.append(&mut replies(alloc, behind)?)?;
+        assert_eq!(rt;
+            fault(alloc, 0, &[], body)?,
+            want,
+            "{first} {second} {behind}"
+        );
+    }
+    Ok(())
+}
+
+#[test]
+fn body_is_shallow(rt: HostRuntime) -> Result<(), Fail> {
+    let alloc = rt.alloc();
+    let deep = Some(TooDeep);
+    for (count, want) in [(30, None), (31, deep)] {
+        let body = vec![in alloc; Stmt::Reply(nots(alloc, count)?)]?;
+        assert_eq!(rt; fault(alloc, 0, &[], body)?, want, "{count}");
+    }
+    for (count, want) in [(29, None), (30, deep)] {
+        let inner = vec![in alloc; Stmt::Reply(nots(alloc, count)?)]?;
+        let body = vec![in alloc; if_one(Vec::new(alloc), inner)]?;
+        assert_eq!(rt; fault(alloc, 0, &[], body)?, want, "{count} in an if");
+    }
+    Ok(())
+}
+
+#[test]
+fn body_is_short(rt: HostRuntime) -> Result<(), Fail> {
+    let alloc = rt.alloc();
+    assert_eq!(rt; fault(alloc, 0, &[], lets(alloc, 512)?)?, None);
+    let mut body = lets(alloc, 512)?;
+    body.push(Stmt::Abort(1))?;
+    assert_eq!(rt; fault(alloc, 0, &[], body)?, Some(TooLong));
+    let body = vec![in alloc; if_one(lets(alloc, 255)?, lets(alloc, 256)?)]?;
+    assert_eq!(rt; fault(alloc, 0, &[], body)?, None);
+    let body = vec![in alloc; if_one(lets(alloc, 256)?, lets(alloc, 256)?)]?;
+    assert_eq!(rt; fault(alloc, 0, &[], body)?, Some(TooLong));
+    Ok(())
+}
+
+#[test]
+fn lowest_number_is_answered(rt: HostRuntime) -> Result<(), Fail> {
+    let alloc = rt.alloc();
+    let keys = [
+        key(Mode::Read, KeyAt::Fixed(2)),
+        key(Mode::Read, KeyAt::Arg(1)),
+    ];
+    assert_eq!(rt; fault(alloc, 1, &keys, Vec::new(alloc))?, Some(KeyArg));
+    let read = [key(Mode::Read, KeyAt::Fixed(0))];
+    let body = vec![in alloc; Stmt::Let(8, Expr::Arg(0)), Stmt::Set(0, Expr::Key(1))]?;
+    assert_eq!(rt; fault(alloc, 0, &read, body)?, Some(UnknownKey));
+    let body = vec![in alloc; Stmt::Let(8, Expr::Arg(0)), Stmt::Set(0, Expr::Num(1))]?;
+    assert_eq!(rt; fault(alloc, 0, &read, body)?, Some(NotWritable));
+    let sum = add(alloc, Expr::Local(0), Expr::Arg(0))?;
+    let body = vec![in alloc; Stmt::Reply(sum)]?;
+    assert_eq!(rt; fault(alloc, 0, &[], body)?, Some(UnknownArg));
+    let mut body = replies(alloc, 600)?;
+    body.push(Stmt::Reply(Expr::Local(0)))?;
+    assert_eq!(rt; fault(alloc, 0, &[], body)?, Some(UnsetLocal));
+    assert_eq!(rt;
+        fault(alloc, 0, &[], replies(alloc, 600)?)?,
+        Some(TooManyReplies)
+    );
+    let mut body = lets(alloc, 512)?;
+    body.push(Stmt::Reply(nots(alloc, 31)?))?;
+    assert_eq!(rt; fault(alloc, 0, &[], body)?, Some(TooDeep));
+    Ok(())
+}

@@ -1,0 +1,108 @@
+ghost use Rattle.std.specs.Prelude.{◌≡◌, ◌<◌, ◌^◌, All, length, map, slice_get, IfOk, is_err, option_map, IfSome, IsTrue, Some, ◌↔◌};
+ghost use Rattle.vll_check.specs.Calls.{call_made, Fits};
+ghost use Rattle.vll_check.specs.Catalog.{IsCatalog};
+ghost use Rattle.vll_check.specs.Names.{has_name_twice, number_named};
+ghost use Rattle.vll_check.specs.Order.{procedure_of};
+
+use crate::call::{call_to, is_made_for};
+use crate::checked::Checked;
+use crate::fault::{CallFault, NameTwice};
+use crate::order::arrange;
+use std::marker::Model;
+use vll_proc::{Call, Proc};
+
+/// The procedures of a server, checked for its number of records, each with a name of its own.
+#[derive(Drop)]
+pub struct Library {
+    records: u32,
+    // In the order of the names.
+    procs: Vec<Checked>,
+}
+
+impl Model for Library {
+    ghost use Rattle.vll_proc.specs.contracts.syntax.Expr as expr;
+    ghost use Rattle.vll_proc.specs.contracts.syntax.Stmt as stmt;
+    ghost use Rattle.std.specs.Coded.{codes};
+    ghost use Rattle.vll_check.specs.Catalog.{Catalog};
+
+    ghost Value = { Catalog };
+
+    ghost coded = { Prim.hlevel (codes, expr.the_row.coded, stmt.the_row.coded) };
+
+    ghost use Rattle.vll_check.specs.Library.{catalog_of, IsLibrary};
+
+    ghost view = { catalog_of };
+
+    ghost invariant = { IsLibrary };
+}
+
+impl Library {
+    /// The library of these procedures, each checked for this number of records. Their numbers are their places
+    /// in the list, from 0. It refuses exactly a list in which two have one name, and drops it. It takes no memory.
+    pub fn new(records: u32, mut procs: Vec<Checked>) -> Result<Library, NameTwice>
+        requires for_records { All (λ c. c.records ≡ records) procs.items }
+        requires few { length procs.items < 2 ^ 32 }
+        ensures ok { IfOk result (λ l. l ≡ record { records = records; procs = map procedure_of procs.items }) }
+        ensures twice { is_err result ≡ has_name_twice (map procedure_of procs.items) }
+    {
+        arrange(&mut procs)?;
+        Ok(Library { records, procs })
+    }
+
+    /// The number of records for which the procedures were checked.
+    pub fn records(&self) -> u32
+        ensures records { result ≡ self.now.records }
+        ensures catalog { IsCatalog self.now }
+    {
+        self.records
+    }
+
+    /// The procedure with a number, and `None` exactly from the number of procedures on. It takes no memory.
+    pub fn proc(&self, number: u32) -> Option<&Proc>
+        ensures procedure { option_map (λ p. p.now) result ≡ slice_get self.now.procs number }
+        ensures catalog { IsCatalog self.now }
+    {
+        let entry = self.procs.get(number as usize)?;
+        Some(self.procs[entry.place() as usize].proc())
+    }
+
+    /// The procedure with a name, after its number. It takes no memory, and about log n comparisons for n procedures.
+    pub(crate) fn find(&self, name: &str) -> Option<(u32, &Proc)>
+        ensures number { option_map (λ found. found.0) result ≡ number_named name.now self.now.procs }
+        ensures procedure { IfSome result (λ found. slice_get self.now.procs found.0 ≡ Some found.1.now) }
+        ensures catalog { IsCatalog self.now }
+    {
+        match self.procs.binary_search_by(|entry| entry.name().cmp(name)) {
+            Ok(place) => {
+                let entry = &self.procs[place];
+                Some((entry.number(), entry.proc()))
+            }
+            Err(_) => None,
+        }
+    }
+
+    /// The call of the procedure with a name, or the lowest fault that stands: `UnknownProc` where no
+    /// procedure has the name, `ArgCount` where there are not as many arguments as it declares, and
+    /// `RecordRange` where an argument that places a key is not below the number of records. It takes no memory.
+    pub fn call(&self, name: &str, args: &[u64]) -> Result<Call, CallFault>
+        ensures { result ≡ call_made self.now name.now args.now }
+    {
+        let Some((number, procedure)) = self.find(name) else {
+            return Err(CallFault::UnknownProc);
+        };
+        call_to(self.records(), number, procedure, args)
+    }
+
+    /// Whether a call is one that `call` answers for this library. It takes no memory.
+    pub fn fits(&self, call: &Call) -> bool
+        ensures { IsTrue result ↔ Fits self.now call.now }
+    {
+        match self.proc(call.number) {
+            Some(procedure) => is_made_for(self.records(), procedure, call),
+            None => false,
+        }
+    }
+}
+
+#[cfg(test)]
+mod tests;

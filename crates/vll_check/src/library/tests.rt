@@ -1,0 +1,206 @@
+ghost use Rattle.std.specs.Prelude.{◌≡◌, IfOk};
+
+use super::Library;
+use crate::checked::Checked;
+use crate::checker::check;
+use crate::fault::{CallFault, NameTwice};
+use sqlite_items::Items;
+use std::alloc::Global;
+use std::test::Fail;
+use vll_proc::{Call, KeyAt, KeyDecl, Proc, Text};
+use vll_record::{Claim, Claims, Mode, RecordId};
+
+// A procedure with a name, checked for 2 records.
+fn named(alloc: Global, name: &str) -> Result<Checked, Fail>
+    ensures { IfOk result (λ c. c.records ≡ 2) }
+{
+    let procedure = Proc {
+        name: Text::new(String::from_str(alloc, name)?),
+        args: 0,
+        keys: Items::new(alloc),
+        body: Items::new(alloc),
+    };
+    Ok(check(procedure, 2)?)
+}
+
+// A procedure with 3 arguments, of which the first places a key to be written and the second one to be
+// read, checked for 2 records.
+fn transfer(alloc: Global) -> Result<Checked, Fail>
+    ensures { IfOk result (λ c. c.records ≡ 2) }
+{
+    let keys = [key(Mode::Write, 0), key(Mode::Read, 1)];
+    let procedure = Proc {
+        name: Text::new(String::from_str(alloc, "transfer")?),
+        args: 3,
+        keys: Items::from_slice(alloc, &keys)?,
+        body: Items::new(alloc),
+    };
+    Ok(check(procedure, 2)?)
+}
+
+fn key(mode: Mode, argument: u8) -> KeyDecl {
+    KeyDecl {
+        mode,
+        at: KeyAt::Arg(argument),
+    }
+}
+
+fn claim(record: u32, mode: Mode) -> Claim {
+    Claim {
+        id: RecordId(record),
+        mode,
+    }
+}
+
+fn number_of(library: &Library, name: &str) -> Option<u32> {
+    library.find(name).map(|found| found.0)
+}
+
+fn name_at(library: &Library, number: u32) -> Option<&str> {
+    library
+        .proc(number)
+        .map(|procedure| procedure.name.as_str())
+}
+
+#[test]
+fn procedures_keep_the_numbers_of_their_list(rt: HostRuntime) -> Result<(), Fail> {
+    let alloc = rt.alloc();
+    let procs = vec![in alloc;
+        named(alloc, "transfer")?,
+        named(alloc, "audit")?,
+        named(alloc, "open")?,
+        named(alloc, "au")?,
+    ]?;
+    let library = Library::new(2, procs)?;
+    assert_eq!(rt; library.records(), 2);
+    assert_eq!(rt; number_of(&library, "transfer"), Some(0));
+    assert_eq!(rt; number_of(&library, "audit"), Some(1));
+    assert_eq!(rt; number_of(&library, "open"), Some(2));
+    assert_eq!(rt; number_of(&library, "au"), Some(3));
+    assert_eq!(rt; name_at(&library, 0), Some("transfer"));
+    assert_eq!(rt; name_at(&library, 1), Some("audit"));
+    assert_eq!(rt; name_at(&library, 2), Some("open"));
+    assert_eq!(rt; name_at(&library, 3), Some("au"));
+    assert_eq!(rt; name_at(&library, 4), None);
+    Ok(())
+}
+
+#[test]
+fn unknown_name_is_not_found(rt: HostRuntime) -> Result<(), Fail> {
+    let alloc = rt.alloc();
+    let procs = vec![in alloc; named(alloc, "b")?, named(alloc, "d")?]?;
+    let library = Library::new(2, procs)?;
+    assert_eq!(rt; number_of(&library, "a"), None);
+    assert_eq!(rt; number_of(&library, "c"), None);
+    assert_eq!(rt; number_of(&library, "e"), None);
+    assert_eq!(rt; number_of(&library, ""), None);
+    assert_eq!(rt; number_of(&library, "bb"), None);
+    Ok(())
+}
+
+#[test]
+fn name_that_stands_twice_is_refused(rt: HostRuntime) -> Result<(), Fail> {
+    let alloc = rt.alloc();
+    let procs = vec![in alloc;
+        named(alloc, "b")?,
+        named(alloc, "a")?,
+        named(alloc, "c")?,
+        named(alloc, "b")?,
+    ]?;
+    assert_eq!(rt; Library::new(2, procs).err(), Some(NameTwice));
+    Ok(())
+}
+
+#[test]
+fn empty_library_has_no_procedure(rt: HostRuntime) -> Result<(), Fail> {
+    let library = Library::new(2, Vec::new(rt.alloc()))?;
+    assert_eq!(rt; library.records(), 2);
+    assert_eq!(rt; number_of(&library, ""), None);
+    assert_eq!(rt; name_at(&library, 0), None);
+    Ok(())
+}
+
+#[test]
+fn lowest_fault_of_a_call_is_answered(rt: HostRuntime) -> Result<(), Fail> {
+    let alloc = rt.alloc();
+    let library = Library::new(2, vec![in alloc; transfer(alloc)?]?)?;
+    let far = 4_294_967_296;
+    for (name, args, want) in [
+        ("nope", &[0, 2][..], Some(CallFault::UnknownProc)),
+        ("transfer", &[0, 1], Some(CallFault::ArgCount)),
+        ("transfer", &[2, 2, 1, 1], Some(CallFault::ArgCount)),
+        ("transfer", &[0, 2, 1], Some(CallFault::RecordRange)),
+        ("transfer", &[far, 0, 1], Some(CallFault::RecordRange)),
+        ("transfer", &[0, 1, far], None),
+    ] {
+        assert!(rt; library.call(name, args).err() == want, "{name}");
+    }
+    Ok(())
+}
+
+#[test]
+fn call_names_its_procedure_and_claims(rt: HostRuntime) -> Result<(), Fail> {
+    let alloc = rt.alloc();
+    let procs = vec![in alloc; named(alloc, "z")?, transfer(alloc)?]?;
+    let library = Library::new(2, procs)?;
+    let call = library.call("transfer", &[1, 0, 7])?;
+    assert_eq!(rt; (call.number, call.arg_count), (1, 3));
+    assert!(rt; call.args == [1, 0, 7, 0, 0, 0, 0, 0]);
+    assert_eq!(rt; call.claims.len(), 2);
+    assert_eq!(rt; call.claims.get(0), Some(claim(0, Mode::Read)));
+    assert_eq!(rt; call.claims.get(1), Some(claim(1, Mode::Write)));
+    assert!(rt; call.cells == [1, 0, 0, 0, 0, 0, 0, 0, 0, 0, 0, 0, 0, 0, 0, 0]);
+    let call = library.call("transfer", &[1, 1, 7])?;
+    assert_eq!(rt; call.claims.len(), 1);
+    assert_eq!(rt; call.claims.get(0), Some(claim(1, Mode::Write)));
+    assert!(rt; call.cells == [0; 16]);
+    Ok(())
+}
+
+#[test]
+fn made_call_fits_and_no_other(rt: HostRuntime) -> Result<(), Fail> {
+    let alloc = rt.alloc();
+    let procs = vec![in alloc; named(alloc, "z")?, transfer(alloc)?]?;
+    let library = Library::new(2, procs)?;
+    let call = library.call("transfer", &[1, 0, 7])?;
+    assert!(rt; library.fits(&call));
+    assert!(rt; library.fits(&library.call("z", &[])?));
+    for (case, other) in [
+        Call { number: 0, ..call },
+        Call { number: 2, ..call },
+        Call {
+            arg_count: 2,
+            ..call
+        },
+        Call {
+            arg_count: 9,
+            ..call
+        },
+        Call {
+            args: [1, 0, 7, 1, 0, 0, 0, 0],
+            ..call
+        },
+        Call {
+            args: [0, 1, 7, 0, 0, 0, 0, 0],
+            ..call
+        },
+        Call {
+            args: [2, 0, 7, 0, 0, 0, 0, 0],
+            ..call
+        },
+        Call {
+            claims: Claims::new(),
+            ..call
+        },
+        Call {
+            cells: [0; 16],
+            ..call
+        },
+    ]
+    .iter()
+    .enumerate()
+    {
+        assert!(rt; !library.fits(other), "{case}");
+    }
+    Ok(())
+}

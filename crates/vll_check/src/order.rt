@@ -1,0 +1,69 @@
+//! The order in which a library keeps its procedures: by their names, each with its number.
+ghost use Rattle.std.specs.Prelude.{◌≡◌, ◌<◌, ◌^◌, length, map, IfOk, is_err};
+ghost use Rattle.std.specs.List.Sorted.{IsPermutation};
+ghost use Rattle.vll_check.specs.Names.{has_name_twice};
+ghost use Rattle.vll_check.specs.Order.{procedure_of, IsInOrder, AllPassed, AreNumbered, HaveNumbers, ArePlaced, AreArranged};
+
+use crate::checked::Checked;
+use crate::fault::NameTwice;
+
+// Numbers the procedures by their places, and puts them in the order of their names, ready to be found by name
+// and by number. It takes no memory, and about n log n comparisons for n procedures. An `Err` leaves them in
+// some order.
+pub(crate) fn arrange(entries: &mut [Checked]) -> Result<(), NameTwice>
+    requires few { length entries.old < 2 ^ 32 }
+    ensures ok { IfOk result (λ _. AreArranged entries.old entries.new) }
+    ensures twice { is_err result ≡ has_name_twice (map procedure_of entries.old) }
+    ensures passed { AllPassed entries.old }
+{
+    set_numbers(entries);
+    sort_by_name(entries);
+    if has_equal_neighbours(entries) {
+        return Err(NameTwice);
+    }
+    set_places(entries);
+    Ok(())
+}
+
+// Gives each procedure its place as its number.
+fn set_numbers(entries: &mut [Checked])
+    requires few { length entries.old < 2 ^ 32 }
+    ensures numbered { AreNumbered entries.old entries.new }
+    ensures passed { AllPassed entries.old }
+{
+    for i in 0..entries.len() {
+        entries[i].set_number(i as u32);
+    }
+}
+
+fn sort_by_name(entries: &mut [Checked])
+    ensures moved { IsPermutation entries.old entries.new }
+    ensures sorted { IsInOrder entries.new }
+{
+    entries.sort_unstable_by(|a, b| a.name().cmp(b.name()));
+}
+
+// Equal names are neighbours here.
+fn has_equal_neighbours(entries: &[Checked]) -> bool
+    requires { IsInOrder entries.now }
+    ensures { result ≡ has_name_twice (map procedure_of entries.now) }
+{
+    for i in 1..entries.len() {
+        if entries[i - 1].name() == entries[i].name() {
+            return true;
+        }
+    }
+    false
+}
+
+// Says at each number where the procedure with that number stands.
+fn set_places(entries: &mut [Checked])
+    requires few { length entries.old < 2 ^ 32 }
+    requires numbers { HaveNumbers entries.old }
+    ensures { ArePlaced entries.old entries.new }
+{
+    for i in 0..entries.len() {
+        let number = entries[i].number() as usize;
+        entries[number].set_place(i as u32);
+    }
+}

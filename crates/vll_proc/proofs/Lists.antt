@@ -1,0 +1,82 @@
+-- What the definitions say of a list of statements, and so of an `If` as it is built.
+use Rattle.std.proofs.Common.{◌≡◌, ℕ, suc, ◌+◌, max, Bool, ◌==◌, ◌&&◌, refl, ap, Result, Ok, Err, List, [], ◌∷◌, map, sum_by, if◌then◌else◌}
+use Rattle.std.specs.List.{list_all}
+use Rattle.std.proofs.lemmas.List.Sums.{sum_by-cons}
+use denote.Hole.Carrier.{hidden}
+use Rattle.vll_proc.specs.declared.call.Reason.{Reason}
+use Rattle.vll_proc.specs.declared.syntax.Expr.{Expr}
+use Rattle.vll_proc.specs.declared.syntax.Stmt.{Stmt, If}
+use Rattle.vll_proc.specs.declared.syntax.Stmt.TheBlock.{hidden-the_row-Stmt-0}
+use Rattle.vll_proc.specs.Meaning.{Scene, Action, and_then, value_of, effect, in_turn, list_effect}
+use Rattle.vll_proc.specs.WellFormed.{Locals, local_is_set, all_leaves, throughout, list_throughout, both_set, set_behind, list_set_behind, body_set_behind, reads_set, list_reads_set, body_reads_set, replies, list_replies, depth, stmt_depth, list_depth, body_depth, nodes, stmt_nodes, list_nodes}
+
+same_then : (r : Result Scene Reason) (f g : Action) → ((s : Scene) → f s ≡ g s) → and_then r f ≡ and_then r g
+same_then (Ok s) f g h = h s
+same_then (Err why) f g h = refl
+
+list_effect-row : (xs : List Stmt) (s : Scene) → list_effect (hidden-the_row-Stmt-0 xs) s ≡ in_turn (map effect xs) s
+unfolding hidden hidden-the_row-Stmt-0
+list_effect-row [] s = refl
+list_effect-row (x ∷ xs) s = same_then (effect x s) (list_effect (hidden-the_row-Stmt-0 xs)) (in_turn (map effect xs)) (list_effect-row xs)
+
+pub effect_if : (e : Expr) (xs ys : List Stmt) (s : Scene) → effect (If e xs ys) s ≡ and_then (value_of e s) (λ v. if v == 0 then in_turn (map effect ys) s else in_turn (map effect xs) s)
+unfolding hidden hidden-the_row-Stmt-0
+effect_if e xs ys s = rw (← list_effect-row xs s, ← list_effect-row ys s) refl
+
+list_throughout-row : (leaf : Expr → Bool) (test : Stmt → Bool) (xs : List Stmt) → list_throughout leaf test (hidden-the_row-Stmt-0 xs) ≡ list_all (throughout leaf test) xs
+unfolding hidden hidden-the_row-Stmt-0
+list_throughout-row leaf test [] = refl
+list_throughout-row leaf test (x ∷ xs) = ap (λ (b : Bool). throughout leaf test x && b) (list_throughout-row leaf test xs)
+
+pub throughout_if : (leaf : Expr → Bool) (test : Stmt → Bool) (e : Expr) (xs ys : List Stmt)
+    → throughout leaf test (If e xs ys) ≡ (all_leaves leaf e && list_all (throughout leaf test) xs && list_all (throughout leaf test) ys)
+unfolding hidden hidden-the_row-Stmt-0
+throughout_if leaf test e xs ys = rw (← list_throughout-row leaf test xs, ← list_throughout-row leaf test ys) refl
+
+list_set_behind-row : (xs : List Stmt) (set : Locals) → list_set_behind (hidden-the_row-Stmt-0 xs) set ≡ body_set_behind xs set
+unfolding hidden hidden-the_row-Stmt-0
+list_set_behind-row [] set = refl
+list_set_behind-row (x ∷ xs) set = list_set_behind-row xs (set_behind x set)
+
+pub set_behind_if : (e : Expr) (xs ys : List Stmt) (set : Locals) → set_behind (If e xs ys) set ≡ both_set (body_set_behind xs set) (body_set_behind ys set)
+unfolding hidden hidden-the_row-Stmt-0
+set_behind_if e xs ys set = rw (← list_set_behind-row xs set, ← list_set_behind-row ys set) refl
+
+list_reads_set-row : (set : Locals) (xs : List Stmt) → list_reads_set set (hidden-the_row-Stmt-0 xs) ≡ body_reads_set set xs
+unfolding hidden hidden-the_row-Stmt-0
+list_reads_set-row set [] = refl
+list_reads_set-row set (x ∷ xs) = ap (λ (b : Bool). reads_set set x && b) (list_reads_set-row (set_behind x set) xs)
+
+pub reads_set_if : (set : Locals) (e : Expr) (xs ys : List Stmt)
+    → reads_set set (If e xs ys) ≡ (all_leaves (local_is_set set) e && body_reads_set set xs && body_reads_set set ys)
+unfolding hidden hidden-the_row-Stmt-0
+reads_set_if set e xs ys = rw (← list_reads_set-row set xs, ← list_reads_set-row set ys) refl
+
+list_replies-row : (xs : List Stmt) → list_replies (hidden-the_row-Stmt-0 xs) ≡ sum_by replies xs
+unfolding hidden hidden-the_row-Stmt-0
+list_replies-row [] = refl
+list_replies-row (x ∷ xs) = rw (sum_by-cons replies x xs, list_replies-row xs) refl
+
+pub replies_if : (e : Expr) (xs ys : List Stmt) → replies (If e xs ys) ≡ max (sum_by replies xs) (sum_by replies ys)
+unfolding hidden hidden-the_row-Stmt-0
+replies_if e xs ys = rw (← list_replies-row xs, ← list_replies-row ys) refl
+
+list_depth-row : (xs : List Stmt) → list_depth (hidden-the_row-Stmt-0 xs) ≡ body_depth xs
+unfolding hidden hidden-the_row-Stmt-0
+list_depth-row [] = refl
+list_depth-row (x ∷ xs) = ap (λ (n : ℕ). max (stmt_depth x) n) (list_depth-row xs)
+
+pub stmt_depth_if : (e : Expr) (xs ys : List Stmt) → stmt_depth (If e xs ys) ≡ suc (max (depth e) (max (body_depth xs) (body_depth ys)))
+unfolding hidden hidden-the_row-Stmt-0
+stmt_depth_if e xs ys = rw (← list_depth-row xs, ← list_depth-row ys) refl
+
+list_nodes-row : (xs : List Stmt) → list_nodes (hidden-the_row-Stmt-0 xs) ≡ sum_by stmt_nodes xs
+unfolding hidden hidden-the_row-Stmt-0
+list_nodes-row [] = refl
+list_nodes-row (x ∷ xs) = rw (sum_by-cons stmt_nodes x xs, list_nodes-row xs) refl
+
+pub stmt_nodes_if : (e : Expr) (xs ys : List Stmt) → stmt_nodes (If e xs ys) ≡ suc (nodes e + (sum_by stmt_nodes xs + sum_by stmt_nodes ys))
+unfolding hidden hidden-the_row-Stmt-0
+stmt_nodes_if e xs ys = rw (← list_nodes-row xs, ← list_nodes-row ys) refl
+
+pub ruleset branches = (effect_if, throughout_if, set_behind_if, reads_set_if, replies_if, stmt_depth_if, stmt_nodes_if)

@@ -1,0 +1,7 @@
+# An If, its condition, and 511 statements of 2 nodes each in its two lists, and an Abort: 1,025 nodes.
+let='["let",0,1]'
+printf '{"version":1,"records":[0],"procs":[{"name":"p","args":0,"keys":[],"body":[["if",1,['
+yes "$let" | head -n 255 | paste -sd, -
+printf '],['
+yes "$let" | head -n 256 | paste -sd, -
+printf ']],["abort",0]]}],"clients":[[{"proc":"p","args":[]}]]}'
