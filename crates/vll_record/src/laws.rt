@@ -1,7 +1,11 @@
 // Laws about the definitions, each the contract of a function that does nothing.
-ghost use Rattle.std.specs.Prelude.{◌≡◌, List};
-ghost use Rattle.vll_record.specs.Claim.{AreClaimsOf, claims_of};
+ghost use Rattle.std.specs.Prelude.{◌≡◌, ◌≢◌, ℕ, ◌+◌, ◌*◌, ◌/◌, ◌%◌, ◌^◌, ◌<◌, ◌≤◌, ◌==◌, not, if◌then◌else◌, List, [], ◌∷◌, ◌++◌, length, count_by};
+ghost use Rattle.vll_record.specs.Claim.{AreClaimsOf, claims_of, is_write, conflict};
+ghost use Rattle.vll_record.specs.Counter.{delta_of, claims_on, pair_word_of, pair_of, word_of, is_granted};
+ghost use Rattle.vll_record.specs.Word.{value_word_of, pair_word_of_record};
 ghost use Rattle.vll_record.specs.declared.claim.Claim.{Claim};
+ghost use Rattle.vll_record.specs.declared.claim.Mode.{Mode};
+ghost use Rattle.vll_record.specs.declared.pair.Pair.{Pair};
 
 /// The claims of what was asked for name each record once, as strongly as it was asked for,
 /// in rising order.
@@ -14,3 +18,60 @@ pub fn claims_are_of_what_was_asked()
 pub fn claims_are_the_only_ones()
     ensures { (asked cs : List Claim) → AreClaimsOf asked cs → cs ≡ claims_of asked }
 {}
+
+/// A word is the word of its pair, and a pair is the pair of its word.
+pub fn pair_and_word_tell_each_other()
+    ensures word { (word : ℕ) → word_of (pair_of word) ≡ word }
+    ensures pair { (p : Pair) → p.cs < 2 ^ 32 → pair_of (word_of p) ≡ p }
+{}
+
+/// The halves of a pair word count the Write claims and the Read claims. With fewer than 2^32
+/// claims neither half runs over, and the word is one of 64 bits.
+pub fn halves_count_the_claims()
+    ensures cx { (cs : List Claim) → length cs < 2 ^ 32
+        → pair_word_of cs / 2 ^ 32 ≡ count_by is_write cs }
+    ensures cs { (cs : List Claim) → length cs < 2 ^ 32
+        → pair_word_of cs % 2 ^ 32 ≡ count_by (λ c. not (is_write c)) cs }
+    ensures few_cx { (cs : List Claim) → length cs < 2 ^ 32
+        → pair_word_of cs / 2 ^ 32 ≤ length cs }
+    ensures few_cs { (cs : List Claim) → length cs < 2 ^ 32
+        → pair_word_of cs % 2 ^ 32 ≤ length cs }
+    ensures word { (cs : List Claim) → length cs < 2 ^ 32 → pair_word_of cs < 2 ^ 64 }
+{}
+
+/// A request opens its claim after those that are open. That adds its delta to the pair word of
+/// its record, and leaves that of each other record.
+pub fn request_adds_its_delta()
+    ensures { (r : ℕ) (cs : List Claim) (c : Claim)
+        → pair_word_of (claims_on r (cs ++ c ∷ []))
+        ≡ pair_word_of (claims_on r cs) + (if c.id == r then delta_of c.mode else 0) }
+{}
+
+/// A release closes a claim that stands anywhere among those that are open. That takes its delta
+/// from the pair word of its record, and leaves that of each other record.
+pub fn release_takes_its_delta()
+    ensures { (r : ℕ) (xs ys : List Claim) (c : Claim)
+        → pair_word_of (claims_on r (xs ++ c ∷ ys))
+        ≡ pair_word_of (claims_on r (xs ++ ys)) + (if c.id == r then delta_of c.mode else 0) }
+{}
+
+/// What the pair word of a record grants is right: a request is granted exactly where no open
+/// claim conflicts with it. There are fewer than 2^32 claims on the record.
+pub fn granted_where_no_claim_conflicts()
+    ensures { (m : Mode) (r : ℕ) (cs : List Claim) → length (claims_on r cs) < 2 ^ 32
+        → is_granted m (pair_word_of (claims_on r cs))
+        ≡ not (conflict cs (record { id = r; mode = m } ∷ [])) }
+{}
+
+/// No two words stand at one place: the value words of two records, their pair words, a value
+/// word and a pair word. None stands at 0, the place of the turn word.
+pub fn words_stand_apart()
+    ensures values { (r s : ℕ) → r ≢ s → value_word_of r ≢ value_word_of s }
+    ensures pairs { (r s : ℕ) → r ≢ s → pair_word_of_record r ≢ pair_word_of_record s }
+    ensures kinds { (r s : ℕ) → value_word_of r ≢ pair_word_of_record s }
+    ensures no_value_is_the_turn { (r : ℕ) → value_word_of r ≢ 0 }
+    ensures no_pair_is_the_turn { (r : ℕ) → pair_word_of_record r ≢ 0 }
+{}
+
+#[cfg(test)]
+mod tests;

@@ -6,7 +6,7 @@ use Rattle.vll_proc.specs.declared.call.Call.{Call}
 use Rattle.vll_proc.specs.declared.call.Reply.{Reply}
 use Rattle.vll_proc.specs.declared.syntax.Proc.{Proc}
 use Rattle.vll_proc.specs.Serial.{Made, apply, applied, applied_at, end, answer}
-use Rattle.vll_server.specs.declared.line.Line.{Line}
+use Rattle.vll_core.specs.declared.line.Line.{Line}
 use Rattle.vll_server.specs.Merge.{in_client_order}
 use Rattle.vll_server.specs.Serve.{made_by, words_of}
 use Rattle.vll_server.specs.Text.{Text, answer_text, line_words, reply_text, closed_text, serial_text}

@@ -8,7 +8,7 @@ use Rattle.vll_proc.specs.declared.call.Reply.{Reply}
 use Rattle.vll_proc.specs.declared.call.Reply.TheVariants.{Committed, Aborted}
 use Rattle.vll_proc.specs.declared.syntax.Proc.{Proc}
 use Rattle.vll_proc.specs.Serial.{Made, answer, end}
-use Rattle.vll_server.specs.declared.line.Line.{Line}
+use Rattle.vll_core.specs.declared.line.Line.{Line}
 
 abbrev pub Text : Type 0
 Text = List ℕ

@@ -22,7 +22,7 @@ mod tree;
 
 pub use fault::{Part, ScenarioFault, ServeFault, Spot, WriteFault};
 pub use laws::client_order_is_a_merge;
-pub use line::{Closed, Line};
+pub use line::Closed;
 pub use outcome::write_outcome;
 pub use plain::Plain;
 pub use read::read_scenario;
@@ -30,3 +30,4 @@ pub use scenario::Scenario;
 pub use serve::serve_plain;
 pub use stream::{Sink, Source};
 pub use vll_check::{CallFault, CheckFault};
+pub use vll_core::Line;

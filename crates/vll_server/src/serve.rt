@@ -9,13 +9,14 @@ ghost use Rattle.vll_server.specs.Text.{closed_text, line_words, serial_text};
 
 use crate::apply::apply;
 use crate::fault::{ServeFault, WriteFault};
-use crate::line::{Closed, Line};
+use crate::line::Closed;
 use crate::outcome::write_outcome;
 use crate::scenario::Scenario;
 use crate::stream::Sink;
 use sqlite_items::Items;
 use std::alloc::{AllocError, Global};
 use vll_check::Library;
+use vll_core::Line;
 use vll_proc::Call;
 
 /// Runs a scenario's calls one at a time, client 0's script first and then the next client's, and writes

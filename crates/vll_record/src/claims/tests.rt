@@ -2,7 +2,6 @@
 
 use super::Claims;
 use crate::claim::{Claim, Mode, RecordId};
-use crate::laws::{claims_are_of_what_was_asked, claims_are_the_only_ones};
 
 fn read(id: u32) -> Claim {
     Claim {
@@ -51,10 +50,4 @@ fn no_claim_stands_from_len_on(rt: HostRuntime) {
     assert_eq!(rt; claims.len(), 2);
     assert_eq!(rt; claims.get(2), None);
     assert_eq!(rt; claims.get(16), None);
-}
-
-#[test]
-fn laws_ask_for_nothing() {
-    claims_are_of_what_was_asked();
-    claims_are_the_only_ones();
 }

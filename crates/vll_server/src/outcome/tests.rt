@@ -1,12 +1,13 @@
 use super::write_outcome;
 use crate::fault::WriteFault;
-use crate::line::{Closed, Line};
+use crate::line::Closed;
 use crate::plain::Plain;
 use crate::stream::Sink;
 use std::alloc::{AllocError, Global};
 use std::io;
 use std::io::Write;
 use std::test::Fail;
+use vll_core::Line;
 use vll_proc::{Call, Reason, Reply};
 use vll_record::Claims;
 

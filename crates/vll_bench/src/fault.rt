@@ -1,0 +1,66 @@
+use std::alloc::{AllocError, AllocFailed};
+use std::io;
+use vll_check::{CallFault, CheckFault, NameTwice};
+use vll_core::{OpenFault, Refusal};
+
+/// Why nothing could be measured.
+#[derive(Clone, Copy, Debug, PartialEq, Eq)]
+pub(crate) enum Fault {
+    NoMemory,
+    /// The command line, the clock or standard output failed.
+    System,
+    /// The procedure was not accepted.
+    Check(CheckFault),
+    NameTwice,
+    Call(CallFault),
+    Open(OpenFault),
+    Refused(Refusal),
+}
+
+impl From<AllocError> for Fault {
+    fn from(_: AllocError) -> Fault {
+        Fault::NoMemory
+    }
+}
+
+impl<T: Drop> From<AllocFailed<T>> for Fault {
+    fn from(_: AllocFailed<T>) -> Fault {
+        Fault::NoMemory
+    }
+}
+
+impl From<io::Error> for Fault {
+    fn from(_: io::Error) -> Fault {
+        Fault::System
+    }
+}
+
+impl From<CheckFault> for Fault {
+    fn from(fault: CheckFault) -> Fault {
+        Fault::Check(fault)
+    }
+}
+
+impl From<NameTwice> for Fault {
+    fn from(_: NameTwice) -> Fault {
+        Fault::NameTwice
+    }
+}
+
+impl From<CallFault> for Fault {
+    fn from(fault: CallFault) -> Fault {
+        Fault::Call(fault)
+    }
+}
+
+impl From<OpenFault> for Fault {
+    fn from(fault: OpenFault) -> Fault {
+        Fault::Open(fault)
+    }
+}
+
+impl From<Refusal> for Fault {
+    fn from(refusal: Refusal) -> Fault {
+        Fault::Refused(refusal)
+    }
+}

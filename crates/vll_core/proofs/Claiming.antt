@@ -1,0 +1,192 @@
+-- A request by the open turn of a core: what it finds, and what the core is after it.
+use Rattle.std.proofs.Common.{◌≡◌, ◌≢◌, ℕ, ◌+◌, ◌<◌, ◌≤◌, ◌^◌, Bool, ◌&&◌, ◌==◌, not, List, [], ◌∷◌, length, Option, Some, Result, Ok, IfSome, slice_get, slice_index, slice_index_or, slice_set, refl, sym, ap, ◌∙◌, subst, arith}
+use Rattle.std.specs.Global.{Vec}
+use Rattle.std.proofs.lemmas.Bool.{eq-eqb, ne_eqb, cond-true, cond-false}
+use Rattle.std.proofs.lemmas.Option.{slice_get_within}
+use Rattle.vll_record.specs.declared.claim.Claim.{Claim}
+use Rattle.vll_record.specs.Claim.{conflict}
+use Rattle.vll_record.specs.Counter.{claims_on, delta_of, is_granted}
+use Rattle.vll_record.specs.Word.{pair_word_of_record}
+use Rattle.vll_record.proofs.Counted.{pair_word_of-below, is_granted-no_conflict}
+use Rattle.vll_proc.proofs.Called.{claims_few}
+use Rattle.vll_check.specs.Calls.{Fits, CallsProcedure}
+use Rattle.vll_check.proofs.Fitting.{fits_well}
+use Rattle.vll_core.specs.declared.event.Event.TheVariants as event
+use Rattle.vll_core.specs.declared.machine.OpenTurn.{OpenTurn}
+use Rattle.vll_core.specs.declared.machine.Core.TheInside.{Inside}
+use Rattle.vll_core.specs.declared.refusal.Refusal.{Refusal}
+use Rattle.vll_core.specs.declared.refusal.Refusal.TheVariants.{NoTurn, OutOfStep}
+use Rattle.vll_core.specs.declared.seen.Seen.{Seen}
+use Rattle.vll_core.specs.declared.seen.Seen.TheVariants.{Claimed}
+use Rattle.vll_core.specs.State.{Opening, State, Turn, open_claims, counter, value, delta_on}
+use Rattle.vll_core.specs.Machine.{step, told, request, or_refuse}
+use Rattle.vll_core.specs.Moves.{by_event, moved, IsReached}
+use Rattle.vll_core.specs.Shown.{AreWords, after, opening_of}
+use Rattle.vll_core.specs.View.{shown, turn_of}
+use Rattle.vll_core.specs.CoreKept.{IsCore}
+use Rattle.vll_core.proofs.Counters.{counters_within}
+use Rattle.vll_core.proofs.Deltas.{counter_request}
+use Rattle.vll_core.proofs.Places.{all_at}
+use Rattle.vll_core.proofs.Values.{others_stay}
+use Rattle.vll_core.proofs.CorePairs.{pair_word_within, word_read, words_set_pair}
+
+-- ---- the plain machine
+
+-- a claim's delta on its own record, and on another
+pub delta_here : (c : Claim) → delta_on c.id c ≡ delta_of c.mode
+delta_here c = cond-true (c.id == c.id) (delta_of c.mode) 0 (eq-eqb c.id c.id refl)
+
+pub delta_elsewhere : (r : ℕ) (c : Claim) → r ≢ c.id → delta_on r c ≡ 0
+delta_elsewhere r c other = cond-false (c.id == r) (delta_of c.mode) 0 (ne_eqb c.id r (λ e. other (sym e)))
+
+-- the turn after a request
+abbrev pub asked : State → Turn → Claim → Turn
+asked s turn c = record turn { requested = turn.requested + 1; granted = turn.granted && not (conflict (open_claims s) (c ∷ [])) }
+
+abbrev pub after_request : State → Turn → Claim → State
+after_request s turn c = record s { turn = Some (asked s turn c) }
+
+-- an open turn with a claim left requests it
+pub claim_step : (o : Opening) (s : State) (turn : Turn) (c : Claim) → s.turn ≡ Some turn → slice_get turn.call.claims turn.requested ≡ Some c → step o s event.Claim ≡ request s turn c
+claim_step o s turn c is at =
+    ap (λ (x : Option Turn). or_refuse x NoTurn (λ t. or_refuse (slice_get t.call.claims t.requested) OutOfStep (request s t))) is
+    ∙ ap (λ (x : Option Claim). or_refuse x OutOfStep (request s turn)) at
+
+pub request_reached : (o : Opening) (s : State) (turn : Turn) (c : Claim)
+    → IsReached o s → s.turn ≡ Some turn → slice_get turn.call.claims turn.requested ≡ Some c → IsReached o (after_request s turn c)
+request_reached o s turn c reached is at = moved s (by_event event.Claim) _ _ reached tt (claim_step o s turn c is at)
+
+-- a request adds its delta to its record's counter
+pub counter_asked : (s : State) (turn : Turn) (c : Claim) → s.turn ≡ Some turn → slice_get turn.call.claims turn.requested ≡ Some c
+    → counter (after_request s turn c) c.id ≡ counter s c.id + delta_of c.mode
+counter_asked s turn c is at = counter_request s turn c (asked s turn c).granted c.id is at ∙ ap (λ (n : ℕ). counter s c.id + n) (delta_here c)
+
+-- and changes no other
+counter_other : (s : State) (turn : Turn) (c : Claim) (r : ℕ) → s.turn ≡ Some turn → slice_get turn.call.claims turn.requested ≡ Some c
+    → r ≢ c.id → counter (after_request s turn c) r ≡ counter s r
+counter_other s turn c r is at other = omega (arith, counter_request s turn c (asked s turn c).granted r is at, delta_elsewhere r c other)
+
+-- nor any value
+value_other : (o : Opening) (s : State) (turn : Turn) (c : Claim) (r : ℕ) → IsReached o s → s.turn ≡ Some turn → slice_get turn.call.claims turn.requested ≡ Some c
+    → value o.base (after_request s turn c) r ≡ value o.base s r
+value_other o s turn c r reached is at = others_stay o s (after_request s turn c) (by_event event.Claim) _ r reached (claim_step o s turn c is at) refl
+
+-- the words after a request
+pub words_asked : (o : Opening) (s : State) (turn : Turn) (c : Claim) (words : List ℕ) → IsReached o s → s.turn ≡ Some turn → slice_get turn.call.claims turn.requested ≡ Some c
+    → c.id < length o.base.records → AreWords o.base s words
+    → AreWords o.base (after_request s turn c) (slice_set words (pair_word_of_record c.id) (counter s c.id + delta_of c.mode))
+words_asked o s turn c words reached is at there are =
+    words_set_pair o.base s (after_request s turn c) words c.id _ there (counter_asked s turn c is at)
+    (λ r other. counter_other s turn c r is at other) (λ r. value_other o s turn c r reached is at) are
+
+-- with few calls a counter is a number of 64 bits
+pub counter_fits : (o : Opening) (s : State) (r : ℕ) → IsReached o s → o.limit ≤ 65536 → counter s r < 2 ^ 64
+counter_fits o s r reached few =
+    pair_word_of-below (claims_on r (open_claims s)) (omega (arith, few, (counters_within o s r reached).0))
+
+-- ---- the core
+
+-- what a request by the open turn finds
+pub record Finds (a : Inside) (turn : OpenTurn) (c : Claim) : Type 0 where
+  pub record_there : c.id < length a.opening.items
+  pub word_there : pair_word_of_record c.id < length a.words.items
+  pub is_counter : slice_index a.words.items (pair_word_of_record c.id) ≡ counter (shown a).state c.id
+  pub few : turn.requested < 16
+  pub reached : IsReached (opening_of (shown a)) (shown a).state
+  pub open_turn : (shown a).state.turn ≡ turn_of (Some turn)
+  pub limit : a.queue.limit ≤ 65536
+  pub fits : Fits a.library turn.call
+
+pub finds : (a : Inside) (turn : OpenTurn) (c : Claim) → IsCore a → a.turn ≡ Some turn → slice_get turn.call.claims turn.requested ≡ Some c → Finds a turn c
+finds a turn c kept is at =
+    let fits : Fits a.library turn.call = subst (λ (x : Option OpenTurn). IfSome x (λ (t : OpenTurn). Fits a.library t.call)) is kept.turn_fits in
+    let well : CallsProcedure a.library turn.call = fits_well a.library turn.call kept.catalog fits in
+    let within : c.id < a.library.records = all_at (λ (d : Claim). d.id < a.library.records) turn.call.claims turn.requested c well.within at in
+    let there : c.id < length a.opening.items = omega (arith, within, kept.records) in
+    let claims = claims_few well.procedure turn.call well.formed well.made in
+    let before = slice_get_within turn.call.claims turn.requested c at in
+    record {
+      record_there = there;
+      word_there = pair_word_within (shown a).base (shown a).state a.words.items c.id kept.words there;
+      is_counter = kept.words.pairs c.id there;
+      few = omega (arith, claims, before);
+      reached = kept.reached;
+      open_turn = ap turn_of is;
+      limit = kept.queue.few_calls;
+      fits = fits;
+    }
+
+-- the word that is read is the counter
+pub read_counter : (a : Inside) (turn : OpenTurn) (c : Claim) (place old : ℕ) → Finds a turn c → place ≡ pair_word_of_record c.id → old ≡ slice_index_or a.words.items place old
+    → old ≡ counter (shown a).state c.id
+read_counter a turn c place old found is read =
+    word_read a.words.items (pair_word_of_record c.id) place _ old found.word_there found.is_counter is read
+
+-- the request is granted by what the word says
+pub granted_right : (a : Inside) (turn : OpenTurn) (c : Claim) (old : ℕ) → Finds a turn c → old ≡ counter (shown a).state c.id
+    → is_granted c.mode old ≡ not (conflict (open_claims (shown a).state) (c ∷ []))
+granted_right a turn c old found is =
+    ap (is_granted c.mode) is
+    ∙ is_granted-no_conflict c.mode c.id (open_claims (shown a).state)
+    (omega (arith, found.limit, (counters_within (opening_of (shown a)) (shown a).state c.id found.reached).0))
+
+-- the sum in the word fits
+pub sum_fits : (a : Inside) (turn : OpenTurn) (c : Claim) → Finds a turn c → slice_get turn.call.claims turn.requested ≡ Some c
+    → counter (shown a).state c.id + delta_of c.mode < 2 ^ 64
+sum_fits a turn c found at =
+    let s : State = (shown a).state in
+    let t : Turn = record { client = turn.client; call = turn.call; requested = turn.requested; granted = turn.granted } in
+    let next = request_reached (opening_of (shown a)) s t c found.reached found.open_turn at in
+    omega (arith, counter_asked s t c found.open_turn at, counter_fits (opening_of (shown a)) (after_request s t c) c.id next found.limit)
+
+-- the core after a request
+abbrev pub claimed : Inside → Vec ℕ → OpenTurn → Bool → Inside
+claimed a words turn granted = record a { words = words; turn = Some (record turn { requested = turn.requested + 1; granted = granted }) }
+
+-- what is shown of it
+pub claimed_shown : (a : Inside) (turn : OpenTurn) (c : Claim) (words : Vec ℕ) (granted : Bool)
+    → Finds a turn c → slice_get turn.call.claims turn.requested ≡ Some c → granted ≡ (turn.granted && not (conflict (open_claims (shown a).state) (c ∷ [])))
+    → shown (claimed a words turn granted) ≡ after (shown a) (step (opening_of (shown a)) (shown a).state event.Claim)
+claimed_shown a turn c words granted found at is =
+    let s : State = (shown a).state in
+    let t : Turn = record { client = turn.client; call = turn.call; requested = turn.requested; granted = turn.granted } in
+    ap (λ (g : Bool). shown (claimed a words turn g)) is ∙ sym (ap (after (shown a)) (claim_step (opening_of (shown a)) s t c found.open_turn at))
+
+-- what it answers
+pub claimed_told : (a : Inside) (turn : OpenTurn) (c : Claim) (old : ℕ) (granted : Bool)
+    → Finds a turn c → slice_get turn.call.claims turn.requested ≡ Some c → old ≡ counter (shown a).state c.id → granted ≡ not (conflict (open_claims (shown a).state) (c ∷ []))
+    → ◌≡◌ {A = Result Seen Refusal} (Ok (Claimed old granted)) (told (step (opening_of (shown a)) (shown a).state event.Claim))
+claimed_told a turn c old granted found at was is =
+    let s : State = (shown a).state in
+    let t : Turn = record { client = turn.client; call = turn.call; requested = turn.requested; granted = turn.granted } in
+    ap (λ (n : ℕ). Ok (Claimed n granted)) was ∙ ap (λ (g : Bool). Ok (Claimed (counter s c.id) g)) is
+    ∙ sym (ap told (claim_step (opening_of (shown a)) s t c found.open_turn at))
+
+-- what the type of a core keeps
+pub kept_claimed : (a : Inside) (turn : OpenTurn) (c : Claim) (words : Vec ℕ) (granted : Bool)
+    → IsCore a → Finds a turn c → slice_get turn.call.claims turn.requested ≡ Some c → granted ≡ (turn.granted && not (conflict (open_claims (shown a).state) (c ∷ [])))
+    → words.items ≡ slice_set a.words.items (pair_word_of_record c.id) (counter (shown a).state c.id + delta_of c.mode)
+    → IsCore (claimed a words turn granted)
+kept_claimed a turn c words granted kept found at is written =
+    let o : Opening = opening_of (shown a) in
+    let s : State = (shown a).state in
+    let t : Turn = record { client = turn.client; call = turn.call; requested = turn.requested; granted = turn.granted } in
+    let next : after_request s t c ≡ (shown (claimed a words turn granted)).state = ap (λ (g : Bool). (shown (claimed a words turn g)).state) (sym is) in
+    record {
+      reached = subst (IsReached o) next (request_reached o s t c found.reached found.open_turn at);
+      words = subst (λ (n : State). AreWords o.base n words.items) next
+          (subst (AreWords o.base (after_request s t c)) (sym written) (words_asked o s t c a.words.items found.reached found.open_turn at found.record_there kept.words));
+      some_records = kept.some_records;
+      few_records = kept.few_records;
+      records = kept.records;
+      catalog = kept.catalog;
+      queue = kept.queue;
+      works = kept.works;
+      room = kept.room;
+      nexts = kept.nexts;
+      entries_fit = kept.entries_fit;
+      turn_fits = found.fits;
+      scripts_fit = kept.scripts_fit;
+      at_work = kept.at_work;
+      replied = kept.replied;
+    }

@@ -1,0 +1,96 @@
+-- What a core tells of its entered calls: where each stands, and the lines of the journal.
+use Rattle.std.proofs.Common.{◌≡◌, ℕ, zero, suc, ◌+◌, ◌<◌, Bool, true, false, List, [], ◌∷◌, length, map, refl, sym, ap, zero-add, add-zero, ◌∙◌, arith, slice_get, Option, Some, None, is_some, if◌then◌else◌}
+use Rattle.std.specs.List.{enumerate_from}
+use Rattle.std.specs.Option.{option_map}
+use Rattle.std.proofs.lemmas.Bool.{eqb-true}
+use Rattle.std.proofs.lemmas.Option.{same_Some, slice_get-map}
+use Rattle.vll_proc.specs.declared.call.Reply.{Reply}
+use Rattle.vll_proc.specs.Serial.{Made, apply, before}
+use Rattle.vll_core.specs.declared.line.Line.{Line}
+use Rattle.vll_core.specs.declared.machine.Core.TheInside.{Inside}
+use Rattle.vll_core.specs.declared.status.Status.{Status}
+use Rattle.vll_core.specs.declared.work.Work.{Work}
+use Rattle.vll_core.specs.Status.{is_gone}
+use Rattle.vll_core.specs.State.{Base, Entered, reply_at}
+use Rattle.vll_core.specs.Queue.{QueueEntry, lines, statuses, has_reply}
+use Rattle.vll_core.specs.Journal.{reply_of, line_of, journal_of}
+use Rattle.vll_core.specs.Shown.{Shown, opening_of}
+use Rattle.vll_core.specs.View.{shown, entered_of, entries_of}
+use Rattle.vll_core.specs.CoreKept.{IsCore}
+use Rattle.vll_core.proofs.Tests.{both_true}
+use Rattle.vll_core.proofs.Kept.{IsEntryKept}
+use Rattle.vll_core.proofs.Reached.{kept_reached}
+use Rattle.vll_core.proofs.CoreState.{statuses_shown, entry_shown, made_shown}
+
+-- where a ticket's call stands
+pub status_shown : (c : Inside) (s : Shown) (t : ℕ) → IsCore c → shown c ≡ s → slice_get (statuses c.queue) t ≡ option_map (λ (e : Entered). e.status) (slice_get s.state.entries t)
+status_shown c s t core is =
+    ap (λ (ss : List Status). slice_get ss t) (sym (statuses_shown c.queue.entries c.work.items core.works))
+    ∙ slice_get-map (λ (e : Entered). e.status) (entries_of c.queue.entries c.work.items) t
+    ∙ ap (λ (x : Shown). option_map (λ (e : Entered). e.status) (slice_get x.state.entries t)) is
+
+-- all loads of a call that is gone are made
+gone_loads : (o : Base) (now : List ℕ) (e : Entered) → IsEntryKept o now e → is_gone e.status ≡ true → e.loads ≡ length e.call.claims
+gone_loads o now e kept gone =
+    let released = kept.gone gone in
+    let loads = kept.loads in
+    by_claims (length e.call.claims) refl
+  where
+    by_claims : (n : ℕ) → length e.call.claims ≡ n → e.loads ≡ length e.call.claims
+    by_claims zero none = let loads = kept.loads in omega (arith, loads, none)
+    by_claims (suc n) some =
+        let released = kept.gone gone in
+        let began : 0 < e.releases = omega (arith, released, some) in
+        eqb-true e.loads (length e.call.claims) (both_true _ _ (kept.released began)).0
+
+-- a line has a reply exactly where its call is gone
+has_reply_at : (es : List QueueEntry) (t : ℕ) (e : QueueEntry)
+    → map has_reply (map (λ (d : QueueEntry). d.line) es) ≡ map is_gone (map (λ (d : QueueEntry). d.status) es) → slice_get es t ≡ Some e → is_some e.line.reply ≡ is_gone e.status
+has_reply_at [] t e same at = absurd (cc at)
+has_reply_at (d ∷ es) zero e same at = rw (← same_Some d e at) (let h : has_reply d.line ≡ is_gone d.status = cc same in h)
+has_reply_at (d ∷ es) (suc t) e same at = has_reply_at es t e (cc same) at
+
+no_reply : (r : Option Reply) → is_some r ≡ false → r ≡ None
+no_reply None none = refl
+no_reply (Some a) none = absurd (cc none)
+
+-- the reply on a line is that of the plain machine
+reply_shown : (c : Inside) (t : ℕ) (e : QueueEntry) (w : Work) → IsCore c → slice_get c.queue.entries t ≡ Some e → slice_get c.work.items t ≡ Some w
+    → e.line.reply ≡ reply_of (shown c).base (shown c).state t (entered_of e w)
+reply_shown c t e w core at has = by_status (is_gone e.status) refl
+  where
+    base : Base
+    base = record { procs = c.library.procs; records = c.opening.items }
+
+    by_status : (gone : Bool) → is_gone e.status ≡ gone → e.line.reply ≡ (if gone then Some (reply_at (shown c).base (shown c).state t (entered_of e w)) else None)
+    by_status true gone =
+        let kept = (kept_reached (opening_of (shown c)) (shown c).state core.reached).entries t (entered_of e w) (entry_shown c.queue.entries c.work.items t e w at has) in
+        let loads = gone_loads (shown c).base _ (entered_of e w) kept gone in
+        core.replied t e w at has gone ∙ (core.at_work t e w at has).ran loads
+        ∙ ap (λ (made : List Made). Some (apply c.library.procs e.line.call (before c.library.procs made c.opening.items t)).reply) (sym (made_shown c.queue.entries c.work.items core.works))
+    by_status false left = no_reply e.line.reply (has_reply_at c.queue.entries t e core.queue.answered at ∙ left)
+
+-- lines, each told of its ticket and entry
+lines_are : (f : ℕ × Entered → Line) (n : ℕ) (es : List QueueEntry) (ws : List Work) → length ws ≡ length es
+    → ((t : ℕ) (e : QueueEntry) (w : Work) → slice_get es t ≡ Some e → slice_get ws t ≡ Some w → e.line ≡ f (n + t, entered_of e w))
+    → map (λ (e : QueueEntry). e.line) es ≡ map f (enumerate_from n (entries_of es ws))
+lines_are f n [] ws same are = refl
+lines_are f n (e ∷ es) [] same are = absurd (omega (arith, same))
+lines_are f n (e ∷ es) (w ∷ ws) same are =
+    let first : e.line ≡ f (n, entered_of e w) = are 0 e w refl refl ∙ ap (λ m. f (m, entered_of e w)) (add-zero n) in
+    let rest = lines_are f (n + 1) es ws (omega (arith, same)) (λ t d v at has. are (suc t) d v at has ∙ ap (λ m. f (m, entered_of d v)) (next t)) in
+    cc (first, rest)
+  where
+    next : (t : ℕ) → n + suc t ≡ (n + 1) + t
+    next t = omega arith
+
+-- a line with another reply
+abbrev with_reply : Line → Option Reply → Line
+with_reply l r = record l { reply = r }
+
+-- the journal
+pub lines_shown : (c : Inside) (s : Shown) → IsCore c → shown c ≡ s → lines c.queue ≡ journal_of s.base s.state
+lines_shown c s core is =
+    lines_are (line_of (shown c).base (shown c).state) 0 c.queue.entries c.work.items core.works
+    (λ t e w at has. ap (with_reply e.line) (reply_shown c t e w core at has) ∙ ap (λ m. line_of (shown c).base (shown c).state (m, entered_of e w)) (sym (zero-add t)))
+    ∙ ap (λ (x : Shown). journal_of x.base x.state) is

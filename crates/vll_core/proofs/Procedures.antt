@@ -1,0 +1,57 @@
+-- The procedures of the worked rows, calls of them, and openings.
+use Rattle.std.proofs.Common.{ℕ, List, [], ◌∷◌}
+use Rattle.std.specs.Prelude.{codes}
+use Rattle.vll_record.specs.declared.claim.Mode.TheVariants.{Read, Write}
+use Rattle.vll_proc.specs.declared.call.Call.{Call}
+use Rattle.vll_proc.specs.declared.syntax.KeyAt.TheVariants as at
+use Rattle.vll_proc.specs.declared.syntax.Proc.{Proc}
+use Rattle.vll_proc.specs.declared.syntax.Expr.{Num, Arg, Key, Add, Sub}
+use Rattle.vll_proc.specs.declared.syntax.Stmt.{Set, Reply}
+use Rattle.vll_proc.specs.Made.{call_of}
+use Rattle.vll_core.specs.State.{Opening}
+
+abbrev pub transfer : Proc
+transfer = record {
+  name = codes "transfer";
+  args = 3;
+  keys = record { mode = Write; at = at.Arg 0 } ∷ record { mode = Write; at = at.Arg 1 } ∷ [];
+  body = Set 0 (Sub (Key 0) (Arg 2)) ∷ Set 1 (Add (Key 1) (Arg 2)) ∷ Reply (Key 0) ∷ [];
+}
+
+abbrev pub bump : Proc
+bump = record {
+  name = codes "bump";
+  args = 1;
+  keys = record { mode = Write; at = at.Arg 0 } ∷ [];
+  body = Set 0 (Add (Key 0) (Num 1)) ∷ Reply (Key 0) ∷ [];
+}
+
+abbrev pub read : Proc
+read = record {
+  name = codes "read";
+  args = 1;
+  keys = record { mode = Read; at = at.Arg 0 } ∷ [];
+  body = Reply (Key 0) ∷ [];
+}
+
+abbrev pub seven : Proc
+seven = record { name = codes "seven"; args = 0; keys = []; body = Reply (Num 7) ∷ [] }
+
+abbrev pub transfer_call : ℕ → ℕ → ℕ → Call
+transfer_call a b n = call_of 0 transfer (a ∷ b ∷ n ∷ [])
+
+abbrev pub bump_call : ℕ → Call
+bump_call r = call_of 1 bump (r ∷ [])
+
+abbrev pub read_call : ℕ → Call
+read_call r = call_of 2 read (r ∷ [])
+
+abbrev pub seven_call : Call
+seven_call = call_of 3 seven []
+
+-- these procedures on the given records, for at most `limit` calls
+abbrev pub opening : List ℕ → ℕ → Opening
+opening records limit = record {
+  base = record { procs = transfer ∷ bump ∷ read ∷ seven ∷ []; records = records };
+  limit = limit;
+}

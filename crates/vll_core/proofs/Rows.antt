@@ -1,0 +1,157 @@
+-- Worked lists of events: what each is answered, and the words at the end.
+use Rattle.std.proofs.Common.{◌≡◌, ℕ, List, [], ◌∷◌, map, refl, Ok, Err, true, false}
+use Rattle.vll_proc.specs.declared.call.Reply.TheVariants.{Committed}
+use Rattle.vll_proc.specs.declared.syntax.Expr.TheBlock.{hidden-the_row-Expr-0}
+use Rattle.vll_proc.specs.declared.syntax.Stmt.TheBlock.{hidden-the_row-Stmt-0}
+use denote.Hole.Carrier.{hidden}
+use Rattle.vll_core.specs.declared.event.Event.{Event}
+use Rattle.vll_core.specs.declared.event.Event.TheVariants as ev
+use Rattle.vll_core.specs.declared.seen.Seen.TheVariants.{Opened, Claimed, Free, Blocked, Run, Loaded, Stored, Released, Replied}
+use Rattle.vll_core.specs.declared.refusal.Refusal.TheVariants.{TurnOpen, NoTurn, NoCall, Spent, NotRunning, OutOfStep, Idle}
+use Rattle.vll_core.specs.Machine.{answers, opened}
+use Rattle.vll_core.specs.declared.status.Status.TheVariants.{Running, Waiting}
+use Rattle.vll_core.specs.State.{State, Opening, Entered, counter, value}
+use Rattle.vll_core.specs.Machine.{run}
+use Rattle.vll_core.proofs.Procedures.{opening, bump_call, read_call, transfer_call, seven_call}
+
+-- the value and the pair word of a record at the end of a list of events
+abbrev word_pair : Opening → State → List Event → ℕ → ℕ × ℕ
+word_pair o s es r = let end = run o s es in (value o.base end r, counter end r)
+
+-- two bumps of one record: the second is blocked until the first is done
+abbrev one_record_two_bumps : List Event
+one_record_two_bumps =
+    ev.Enter 0 ∷ ev.Claim ∷ ev.Admit ∷ ev.Enter 0 ∷ ev.Claim ∷ ev.Admit ∷ ev.Front ∷ ev.Load 0 ∷ ev.Store 0 ∷ ev.Release 0 ∷ ev.Finish 0
+    ∷ ev.Front ∷ ev.Load 1 ∷ ev.Store 1 ∷ ev.Release 1 ∷ ev.Finish 1 ∷ []
+
+blocked_bump_runs_after_the_first : answers (opening (0 ∷ []) 2) (opened ((bump_call 0 ∷ bump_call 0 ∷ []) ∷ [])) one_record_two_bumps
+    ≡ Ok Opened ∷ Ok (Claimed 0 true) ∷ Ok (Free 0) ∷ Ok Opened ∷ Ok (Claimed 4294967296 false) ∷ Ok (Blocked 1) ∷ Err Idle
+    ∷ Ok (Loaded 0) ∷ Ok Stored ∷ Ok (Released 8589934592) ∷ Ok (Replied (Committed (1 ∷ [])))
+    ∷ Ok (Run 1) ∷ Ok (Loaded 1) ∷ Ok Stored ∷ Ok (Released 4294967296) ∷ Ok (Replied (Committed (2 ∷ []))) ∷ []
+unfolding hidden hidden-the_row-Expr-0 hidden-the_row-Stmt-0
+blocked_bump_runs_after_the_first = refl
+
+blocked_bump_runs_after_the_first-end : word_pair (opening (0 ∷ []) 2) (opened ((bump_call 0 ∷ bump_call 0 ∷ []) ∷ [])) one_record_two_bumps 0 ≡ (2, 0)
+unfolding hidden hidden-the_row-Expr-0 hidden-the_row-Stmt-0
+blocked_bump_runs_after_the_first-end = refl
+
+-- a transfer that has stored and released its first record lets another client's call on that record in
+abbrev transfer_and_two_bumps : State
+transfer_and_two_bumps = opened ((transfer_call 0 1 5 ∷ []) ∷ (bump_call 0 ∷ bump_call 1 ∷ []) ∷ [])
+
+abbrev half_released_events : List Event
+half_released_events =
+    ev.Enter 0 ∷ ev.Claim ∷ ev.Claim ∷ ev.Admit ∷ ev.Load 0 ∷ ev.Load 0 ∷ ev.Store 0 ∷ ev.Store 0 ∷ ev.Release 0
+    ∷ ev.Enter 1 ∷ ev.Claim ∷ ev.Admit ∷ ev.Enter 1 ∷ ev.Claim ∷ ev.Admit ∷ ev.Front ∷ []
+
+released_record_is_free : answers (opening (10 ∷ 20 ∷ []) 3) transfer_and_two_bumps half_released_events
+    ≡ Ok Opened ∷ Ok (Claimed 0 true) ∷ Ok (Claimed 0 true) ∷ Ok (Free 0) ∷ Ok (Loaded 10) ∷ Ok (Loaded 20) ∷ Ok Stored ∷ Ok Stored ∷ Ok (Released 4294967296)
+    ∷ Ok Opened ∷ Ok (Claimed 0 true) ∷ Ok (Free 1) ∷ Ok Opened ∷ Ok (Claimed 4294967296 false) ∷ Ok (Blocked 2) ∷ Err Idle ∷ []
+unfolding hidden hidden-the_row-Expr-0 hidden-the_row-Stmt-0
+released_record_is_free = refl
+
+released_record_is_free-end : (word_pair (opening (10 ∷ 20 ∷ []) 3) transfer_and_two_bumps half_released_events 0 ≡ (5, 4294967296))
+    × (word_pair (opening (10 ∷ 20 ∷ []) 3) transfer_and_two_bumps half_released_events 1 ≡ (25, 8589934592))
+unfolding hidden hidden-the_row-Expr-0 hidden-the_row-Stmt-0
+released_record_is_free-end = (refl, refl)
+
+released_record_is_free-statuses : map (λ (e : Entered). e.status) (run (opening (10 ∷ 20 ∷ []) 3) transfer_and_two_bumps half_released_events).entries ≡ Running ∷ Running ∷ Waiting ∷ []
+unfolding hidden hidden-the_row-Expr-0 hidden-the_row-Stmt-0
+released_record_is_free-statuses = refl
+
+-- a blocked call's claims, granted or denied, hold back a later call
+abbrev bump_transfer_bump : State
+bump_transfer_bump = opened ((bump_call 0 ∷ transfer_call 0 1 0 ∷ bump_call 1 ∷ []) ∷ [])
+
+abbrev blocked_chain : List Event
+blocked_chain =
+    ev.Enter 0 ∷ ev.Claim ∷ ev.Admit ∷ ev.Enter 0 ∷ ev.Claim ∷ ev.Claim ∷ ev.Admit ∷ ev.Enter 0 ∷ ev.Claim ∷ ev.Admit ∷ ev.Front ∷ []
+
+blocked_call_keeps_its_claims : answers (opening (0 ∷ 0 ∷ []) 3) bump_transfer_bump blocked_chain
+    ≡ Ok Opened ∷ Ok (Claimed 0 true) ∷ Ok (Free 0) ∷ Ok Opened ∷ Ok (Claimed 4294967296 false) ∷ Ok (Claimed 0 true) ∷ Ok (Blocked 1)
+    ∷ Ok Opened ∷ Ok (Claimed 4294967296 false) ∷ Ok (Blocked 2) ∷ Err Idle ∷ []
+unfolding hidden hidden-the_row-Expr-0 hidden-the_row-Stmt-0
+blocked_call_keeps_its_claims = refl
+
+blocked_call_keeps_its_claims-end : (word_pair (opening (0 ∷ 0 ∷ []) 3) bump_transfer_bump blocked_chain 0 ≡ (0, 8589934592))
+    × (word_pair (opening (0 ∷ 0 ∷ []) 3) bump_transfer_bump blocked_chain 1 ≡ (0, 8589934592))
+unfolding hidden hidden-the_row-Expr-0 hidden-the_row-Stmt-0
+blocked_call_keeps_its_claims-end = (refl, refl)
+
+-- four calls on one record: two readers are free, a writer and a later reader are blocked
+abbrev readers_and_a_bump : State
+readers_and_a_bump = opened ((read_call 0 ∷ read_call 0 ∷ bump_call 0 ∷ read_call 0 ∷ []) ∷ [])
+
+abbrev four_entries : List Event
+four_entries =
+    ev.Enter 0 ∷ ev.Claim ∷ ev.Admit ∷ ev.Enter 0 ∷ ev.Claim ∷ ev.Admit ∷ ev.Enter 0 ∷ ev.Claim ∷ ev.Admit ∷ ev.Enter 0 ∷ ev.Claim ∷ ev.Admit ∷ []
+
+reader_behind_a_blocked_writer_is_blocked : answers (opening (0 ∷ []) 4) readers_and_a_bump four_entries
+    ≡ Ok Opened ∷ Ok (Claimed 0 true) ∷ Ok (Free 0) ∷ Ok Opened ∷ Ok (Claimed 1 true) ∷ Ok (Free 1)
+    ∷ Ok Opened ∷ Ok (Claimed 2 false) ∷ Ok (Blocked 2) ∷ Ok Opened ∷ Ok (Claimed 4294967298 false) ∷ Ok (Blocked 3) ∷ []
+unfolding hidden hidden-the_row-Expr-0 hidden-the_row-Stmt-0
+reader_behind_a_blocked_writer_is_blocked = refl
+
+reader_behind_a_blocked_writer_is_blocked-end : word_pair (opening (0 ∷ []) 4) readers_and_a_bump four_entries 0 ≡ (0, 4294967299)
+unfolding hidden hidden-the_row-Expr-0 hidden-the_row-Stmt-0
+reader_behind_a_blocked_writer_is_blocked-end = refl
+
+-- as many calls as the limit have been entered, before and after the first has finished
+abbrev one_call_of_two : List Event
+one_call_of_two = ev.Enter 0 ∷ ev.Claim ∷ ev.Admit ∷ ev.Enter 0 ∷ ev.Load 0 ∷ ev.Store 0 ∷ ev.Release 0 ∷ ev.Finish 0 ∷ ev.Enter 0 ∷ []
+
+limit_counts_finished_calls : answers (opening (0 ∷ []) 1) (opened ((bump_call 0 ∷ bump_call 0 ∷ []) ∷ [])) one_call_of_two
+    ≡ Ok Opened ∷ Ok (Claimed 0 true) ∷ Ok (Free 0) ∷ Err Spent ∷ Ok (Loaded 0) ∷ Ok Stored ∷ Ok (Released 4294967296) ∷ Ok (Replied (Committed (1 ∷ []))) ∷ Err Spent ∷ []
+unfolding hidden hidden-the_row-Expr-0 hidden-the_row-Stmt-0
+limit_counts_finished_calls = refl
+
+limit_counts_finished_calls-end : word_pair (opening (0 ∷ []) 1) (opened ((bump_call 0 ∷ bump_call 0 ∷ []) ∷ [])) one_call_of_two 0 ≡ (1, 0)
+unfolding hidden hidden-the_row-Expr-0 hidden-the_row-Stmt-0
+limit_counts_finished_calls-end = refl
+
+-- a store during the loads is refused, and changes no word
+store_before_the_loads_is_refused : answers (opening (5 ∷ []) 1) (opened ((bump_call 0 ∷ []) ∷ [])) (ev.Enter 0 ∷ ev.Claim ∷ ev.Admit ∷ ev.Store 0 ∷ ev.Load 0 ∷ [])
+    ≡ Ok Opened ∷ Ok (Claimed 0 true) ∷ Ok (Free 0) ∷ Err OutOfStep ∷ Ok (Loaded 5) ∷ []
+unfolding hidden hidden-the_row-Expr-0 hidden-the_row-Stmt-0
+store_before_the_loads_is_refused = refl
+
+store_before_the_loads_is_refused-end : word_pair (opening (5 ∷ []) 1) (opened ((bump_call 0 ∷ []) ∷ [])) (ev.Enter 0 ∷ ev.Claim ∷ ev.Admit ∷ ev.Store 0 ∷ ev.Load 0 ∷ []) 0 ≡ (5, 4294967296)
+unfolding hidden hidden-the_row-Expr-0 hidden-the_row-Stmt-0
+store_before_the_loads_is_refused-end = refl
+
+-- a turn stays open while another call releases
+abbrev release_in_a_turn : List Event
+release_in_a_turn =
+    ev.Enter 0 ∷ ev.Claim ∷ ev.Admit ∷ ev.Load 0 ∷ ev.Store 0 ∷ ev.Enter 1 ∷ ev.Enter 1 ∷ ev.Release 0 ∷ ev.Claim ∷ ev.Admit ∷ []
+
+release_during_a_turn_is_seen : answers (opening (0 ∷ []) 2) (opened ((bump_call 0 ∷ []) ∷ (bump_call 0 ∷ []) ∷ [])) release_in_a_turn
+    ≡ Ok Opened ∷ Ok (Claimed 0 true) ∷ Ok (Free 0) ∷ Ok (Loaded 0) ∷ Ok Stored
+    ∷ Ok Opened ∷ Err TurnOpen ∷ Ok (Released 4294967296) ∷ Ok (Claimed 0 true) ∷ Ok (Free 1) ∷ []
+unfolding hidden hidden-the_row-Expr-0 hidden-the_row-Stmt-0
+release_during_a_turn_is_seen = refl
+
+release_during_a_turn_is_seen-end : word_pair (opening (0 ∷ []) 2) (opened ((bump_call 0 ∷ []) ∷ (bump_call 0 ∷ []) ∷ [])) release_in_a_turn 0 ≡ (1, 4294967296)
+unfolding hidden hidden-the_row-Expr-0 hidden-the_row-Stmt-0
+release_during_a_turn_is_seen-end = refl
+
+-- a call without claims has its reply as soon as it is entered
+call_without_claims : answers (opening (0 ∷ []) 1) (opened ((seven_call ∷ []) ∷ [])) (ev.Enter 0 ∷ ev.Claim ∷ ev.Admit ∷ ev.Load 0 ∷ ev.Finish 0 ∷ [])
+    ≡ Ok Opened ∷ Err OutOfStep ∷ Ok (Free 0) ∷ Err OutOfStep ∷ Ok (Replied (Committed (7 ∷ []))) ∷ []
+unfolding hidden hidden-the_row-Expr-0 hidden-the_row-Stmt-0
+call_without_claims = refl
+
+call_without_claims-end : word_pair (opening (0 ∷ []) 1) (opened ((seven_call ∷ []) ∷ [])) (ev.Enter 0 ∷ ev.Claim ∷ ev.Admit ∷ ev.Load 0 ∷ ev.Finish 0 ∷ []) 0 ≡ (0, 0)
+unfolding hidden hidden-the_row-Expr-0 hidden-the_row-Stmt-0
+call_without_claims-end = refl
+
+-- what is refused where nothing is entered
+refused_with_nothing_entered : answers (opening (0 ∷ []) 1) (opened ((bump_call 0 ∷ []) ∷ []))
+    (ev.Claim ∷ ev.Load 0 ∷ ev.Front ∷ ev.Enter 9 ∷ ev.Enter 0 ∷ ev.Finish 9 ∷ [])
+    ≡ Err NoTurn ∷ Err NotRunning ∷ Err Idle ∷ Err NoCall ∷ Ok Opened ∷ Err TurnOpen ∷ []
+unfolding hidden hidden-the_row-Expr-0 hidden-the_row-Stmt-0
+refused_with_nothing_entered = refl
+
+refused_with_nothing_entered-end : word_pair (opening (0 ∷ []) 1) (opened ((bump_call 0 ∷ []) ∷ []))
+    (ev.Claim ∷ ev.Load 0 ∷ ev.Front ∷ ev.Enter 9 ∷ ev.Enter 0 ∷ ev.Finish 9 ∷ []) 0 ≡ (0, 0)
+unfolding hidden hidden-the_row-Expr-0 hidden-the_row-Stmt-0
+refused_with_nothing_entered-end = refl

@@ -1,0 +1,24 @@
+use Rattle.std.proofs.Common.{arith}
+use Rattle.vll_core.proofs.Entries.{Starts, starts, shown_status, kept_started, shown_started}
+use Rattle.vll_core.proofs.queue.Queue.start.Goals as goal
+
+pub index_mut-requires : goal.index_mut-requires
+index_mut-requires c =
+    let change : Starts c.self.inside.statuses.items c.ticket.inside.0 =
+    starts _ _ (shown_status _ _ _ _ _ c.self.invariant c.self.view_is c.ticket.view_is c.requires)
+    in
+    omega (arith, change.within)
+
+pub overflow_sub-self : goal.overflow_sub-self
+overflow_sub-self c =
+    let change : Starts c.self.inside.statuses.items c.ticket.inside.0 =
+    starts _ _ (shown_status _ _ _ _ _ c.self.invariant c.self.view_is c.ticket.view_is c.requires)
+    in
+    omega (arith, c.self.invariant.waiting, change.waiting)
+
+pub invariant_of-self : goal.invariant_of-self
+invariant_of-self c =
+    kept_started _ _ c.self.invariant (shown_status _ _ _ _ _ c.self.invariant c.self.view_is c.ticket.view_is c.requires)
+
+pub returns : goal.returns
+returns c = shown_started _ _ _ _ c.self.invariant c.self.view_is c.ticket.view_is

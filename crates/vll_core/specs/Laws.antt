@@ -1,0 +1,70 @@
+-- What holds in every state that lawful moves reach.
+use Rattle.std.specs.Prelude.{◌≡◌, ℕ, suc, ◌+◌, ◌≤◌, true, false, not, List, length, count_by, Some, Ok, slice_get, slice_index}
+use Rattle.vll_record.specs.declared.claim.Claim.{Claim}
+use Rattle.vll_record.specs.Claim.{is_write}
+use Rattle.vll_record.specs.Counter.{claims_on}
+use Rattle.vll_proc.specs.declared.call.Call.{Call}
+use Rattle.vll_core.specs.declared.event.Event.{Event}
+use Rattle.vll_core.specs.declared.event.Event.TheVariants as event
+use Rattle.vll_core.specs.declared.seen.Seen.{Seen}
+use Rattle.vll_core.specs.declared.seen.Seen.TheVariants.{Loaded}
+use Rattle.vll_core.specs.Status.{is_waiting}
+use Rattle.vll_core.specs.State.{Opening, Entered, State, open_claims, counter, writes, records_before, value, is_clear}
+use Rattle.vll_core.specs.Machine.{front, step, opened, run}
+use Rattle.vll_core.specs.Moves.{Move, move, AreProper, IsReached, requested_by, stored_by, released_by, delta_if, is_on}
+
+-- every list of events, refused ones among them, reaches such a state
+abbrev pub EventListsReach : Type 0
+EventListsReach = (o : Opening) (scripts : List (List Call)) (events : List Event) → AreProper o.base scripts → IsReached o (run o (opened scripts) events)
+
+-- each ticket that is running or gone is clear
+abbrev pub RunningTicketsAreClear : Type 0
+RunningTicketsAreClear =
+    (o : Opening) (s : State) (t : ℕ) (e : Entered)
+    → IsReached o s → slice_get s.entries t ≡ Some e → is_waiting e.status ≡ false → is_clear s t e.call.claims ≡ true
+
+-- the ticket that Front picks waits, and is clear
+abbrev pub FrontTicketIsClear : Type 0
+FrontTicketIsClear =
+    (o : Opening) (s : State) (t : ℕ) (e : Entered)
+    → IsReached o s → front s ≡ Some t → slice_get s.entries t ≡ Some e → (is_waiting e.status ≡ true) × (is_clear s t e.call.claims ≡ true)
+
+-- a load by ticket t gives the record as it is before ticket t, where the calls run one at a time
+abbrev pub LoadsSeeTheSerialState : Type 0
+LoadsSeeTheSerialState =
+    (o : Opening) (s next : State) (t v : ℕ) (e : Entered) (c : Claim)
+    → IsReached o s → slice_get s.entries t ≡ Some e → slice_get e.call.claims e.loads ≡ Some c → step o s (event.Load t) ≡ Ok (Loaded v, next)
+    → v ≡ slice_index (records_before o.base s t) c.id
+
+-- a move adds the delta of the claim that it requests, takes that of the claim that it releases, and changes no other counter
+abbrev pub CountersChangeByDeltas : Type 0
+CountersChangeByDeltas =
+    (o : Opening) (s next : State) (m : Move) (seen : Seen) (r : ℕ)
+    → move o s m ≡ Ok (seen, next) → counter next r + delta_if r (released_by s m) ≡ counter s r + delta_if r (requested_by s m)
+
+-- a store by ticket t makes the record what it is behind ticket t, where the calls run one at a time
+abbrev pub StoresMakeTheSerialState : Type 0
+StoresMakeTheSerialState =
+    (o : Opening) (s next : State) (t : ℕ) (e : Entered) (c : Claim) (seen : Seen)
+    → IsReached o s → slice_get s.entries t ≡ Some e → slice_get (writes e.call) e.stores ≡ Some c → step o s (event.Store t) ≡ Ok (seen, next)
+    → value o.base next c.id ≡ slice_index (records_before o.base next (suc t)) c.id
+
+-- a move changes no value but that of the record that it stores
+abbrev pub OtherValuesStay : Type 0
+OtherValuesStay =
+    (o : Opening) (s next : State) (m : Move) (seen : Seen) (r : ℕ)
+    → IsReached o s → move o s m ≡ Ok (seen, next) → is_on r (stored_by s m) ≡ false → value o.base next r ≡ value o.base s r
+
+-- a move changes no record before a ticket that has been given or comes next, where the calls run one at a time
+abbrev pub SerialStatesStay : Type 0
+SerialStatesStay =
+    (o : Opening) (s next : State) (m : Move) (seen : Seen) (t : ℕ)
+    → move o s m ≡ Ok (seen, next) → t ≤ length s.entries → records_before o.base next t ≡ records_before o.base s t
+
+-- no record has more open claims, nor more of either mode, than the limit of calls
+abbrev pub CountersStayWithinTheLimit : Type 0
+CountersStayWithinTheLimit =
+    (o : Opening) (s : State) (r : ℕ) → IsReached o s
+    → (length (claims_on r (open_claims s)) ≤ o.limit)
+    × (count_by is_write (claims_on r (open_claims s)) ≤ o.limit)
+    × (count_by (λ c. not (is_write c)) (claims_on r (open_claims s)) ≤ o.limit)

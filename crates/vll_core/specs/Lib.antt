@@ -1,0 +1,12 @@
+pub mod Status
+pub mod State
+pub mod Machine
+pub mod Moves
+pub mod Laws
+pub mod Queue
+pub mod QueueKept
+pub mod Journal
+pub mod Shown
+pub mod Work
+pub mod View
+pub mod CoreKept

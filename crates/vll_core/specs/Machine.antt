@@ -1,0 +1,144 @@
+-- The plain machine: each event is refused, by the lowest number that stands, or has an answer and a next state.
+use Rattle.std.specs.Prelude.{ℕ, ◌+◌, Bool, true, false, ◌&&◌, ◌||◌, ◌==◌, not, nat_lt, nat_le, List, [], ◌∷◌, ◌++◌, length, position, Option, Some, None, is_some, slice_get, slice_set, Result, Ok, Err, if◌then◌else◌}
+use Rattle.vll_record.specs.declared.claim.Claim.{Claim}
+use Rattle.vll_record.specs.Claim.{conflict}
+use Rattle.vll_proc.specs.declared.call.Call.{Call}
+use Rattle.vll_core.specs.declared.status.Status.{Status}
+use Rattle.vll_core.specs.declared.status.Status.TheVariants.{Running, Waiting, Gone}
+use Rattle.vll_core.specs.Status.{is_waiting, is_running, is_gone}
+use Rattle.vll_core.specs.declared.event.Event.{Event}
+use Rattle.vll_core.specs.declared.event.Event.TheVariants as event
+use Rattle.vll_core.specs.declared.seen.Seen.{Seen}
+use Rattle.vll_core.specs.declared.seen.Seen.TheVariants.{Opened, Claimed, Free, Blocked, Run, Loaded, Stored, Released, Replied}
+use Rattle.vll_core.specs.declared.refusal.Refusal.{Refusal}
+use Rattle.vll_core.specs.declared.refusal.Refusal.TheVariants.{TurnOpen, NoTurn, NoCall, Spent, NotRunning, OutOfStep, Idle}
+use Rattle.vll_core.specs.State.{Base, Opening, Entered, Turn, State, open_claims, counter, writes, reply_at, has_aborted, value}
+
+-- a refusal, or an answer and the next state
+abbrev pub Outcome : Type 0
+Outcome = Result (Seen × State) Refusal
+
+-- refused where a test holds
+abbrev pub refuse_if : Bool → Refusal → Outcome → Outcome
+refuse_if true why go = Err why
+refuse_if false why go = go
+
+-- refused where there is nothing to go on with
+abbrev pub or_refuse : {A : Type 0} → Option A → Refusal → (A → Outcome) → Outcome
+or_refuse None why go = Err why
+or_refuse (Some a) why go = go a
+
+-- the first call of a script, if there is a script and a call left of it
+abbrev pub first_call : Option (List Call) → Option Call
+first_call None = None
+first_call (Some []) = None
+first_call (Some (call ∷ more)) = Some call
+
+-- the first call left of a client's script
+abbrev pub next_call : State → ℕ → Option Call
+next_call s c = first_call (slice_get s.scripts c)
+
+-- a list without its first item
+abbrev pub rest_of : {A : Type 0} → List A → List A
+rest_of [] = []
+rest_of (x ∷ xs) = xs
+
+-- the scripts without that call
+abbrev pub used : State → ℕ → List (List Call)
+used s c = elim (slice_get s.scripts c) [ None ↦ s.scripts | Some script ↦ slice_set s.scripts c (rest_of script) ]
+
+-- an entry, if it is Running
+abbrev pub if_running : Option Entered → Option Entered
+if_running None = None
+if_running (Some e) = if is_running e.status then Some e else None
+
+-- the entry of a ticket that is Running
+abbrev pub running : State → ℕ → Option Entered
+running s t = if_running (slice_get s.entries t)
+
+-- the state with another entry for a ticket
+abbrev pub with_entry : State → ℕ → Entered → State
+with_entry s t e = record s { entries = slice_set s.entries t e }
+
+-- the state with another status for a ticket
+abbrev pub with_status : State → ℕ → Status → State
+with_status s t status = elim (slice_get s.entries t) [ None ↦ s | Some e ↦ with_entry s t (record e { status = status }) ]
+
+-- the lowest ticket that is not Gone, where it is Waiting
+abbrev pub front : State → Option ℕ
+front s = elim (position (λ (e : Entered). not (is_gone e.status)) s.entries) [
+  | None ↦ None
+  | Some t ↦ elim (slice_get s.entries t) [ None ↦ None | Some e ↦ if is_waiting e.status then Some t else None ]
+]
+
+-- all loads and stores of a call are made; an aborted call has no stores
+abbrev pub has_stored : Base → State → ℕ → Entered → Bool
+has_stored o s t e =
+    (e.loads == length e.call.claims) && (has_aborted o s t e || (e.stores == length (writes e.call)))
+
+-- a turn opens for a call
+abbrev pub enter : Opening → State → ℕ → Call → List (List Call) → Outcome
+enter o s c call scripts =
+    refuse_if (nat_le o.limit (length s.entries)) Spent
+    (Ok (Opened, record s { turn = Some (record { client = c; call = call; requested = 0; granted = true }); scripts = scripts }))
+
+-- a request is granted where no open claim conflicts with it
+abbrev pub request : State → Turn → Claim → Outcome
+request s turn c =
+    let granted = not (conflict (open_claims s) (c ∷ [])) in
+    Ok (Claimed (counter s c.id) granted, record s { turn = Some (record turn { requested = turn.requested + 1; granted = turn.granted && granted }) })
+
+-- the call gets the next ticket
+abbrev pub admit : State → Turn → Outcome
+admit s turn =
+    let entry : Status → Entered = λ status. record { client = turn.client; call = turn.call; status = status; loads = 0; stores = 0; releases = 0 } in
+    let with : Status → State = λ status. record s { entries = s.entries ++ entry status ∷ []; turn = None } in
+    if turn.granted then Ok (Free (length s.entries), with Running) else Ok (Blocked (length s.entries), with Waiting)
+
+-- what an event is answered, and the next state
+abbrev pub step : Opening → State → Event → Outcome
+step o s (event.Enter c) = refuse_if (is_some s.turn) TurnOpen (or_refuse (next_call s c) NoCall (λ call. enter o s c call (used s c)))
+step o s event.Claim = or_refuse s.turn NoTurn (λ turn. or_refuse (slice_get turn.call.claims turn.requested) OutOfStep (request s turn))
+step o s event.Admit = or_refuse s.turn NoTurn (λ turn. refuse_if (nat_lt turn.requested (length turn.call.claims)) OutOfStep (admit s turn))
+step o s event.Front = refuse_if (is_some s.turn) TurnOpen (or_refuse (front s) Idle (λ t. Ok (Run t, with_status s t Running)))
+step o s (event.Load t) =
+    or_refuse (running s t) NotRunning (λ e.
+    or_refuse (slice_get e.call.claims e.loads) OutOfStep (λ c.
+    Ok (Loaded (value o.base s c.id), with_entry s t (record e { loads = e.loads + 1 }))))
+step o s (event.Store t) =
+    or_refuse (running s t) NotRunning (λ e.
+    refuse_if (nat_lt e.loads (length e.call.claims) || has_stored o.base s t e) OutOfStep
+    (Ok (Stored, with_entry s t (record e { stores = e.stores + 1 }))))
+step o s (event.Release t) =
+    or_refuse (running s t) NotRunning (λ e.
+    refuse_if (not (has_stored o.base s t e)) OutOfStep
+    (or_refuse (slice_get e.call.claims e.releases) OutOfStep (λ c.
+    Ok (Released (counter s c.id), with_entry s t (record e { releases = e.releases + 1 })))))
+step o s (event.Finish t) =
+    refuse_if (is_some s.turn) TurnOpen (or_refuse (running s t) NotRunning (λ e.
+    refuse_if (not (has_stored o.base s t e) || nat_lt e.releases (length e.call.claims)) OutOfStep
+    (Ok (Replied (reply_at o.base s t e), with_entry s t (record e { status = Gone })))))
+
+-- the machine begins with nothing entered
+abbrev pub opened : List (List Call) → State
+opened scripts = record { entries = []; turn = None; scripts = scripts }
+
+-- the state after an event: a refusal changes nothing
+abbrev pub state_after : State → Outcome → State
+state_after s (Ok seen) = seen.1
+state_after s (Err why) = s
+
+-- what is told of an outcome
+abbrev pub told : Outcome → Result Seen Refusal
+told (Ok seen) = Ok seen.0
+told (Err why) = Err why
+
+-- what a list of events is answered
+abbrev pub answers : Opening → State → List Event → List (Result Seen Refusal)
+answers o s [] = []
+answers o s (e ∷ es) = let out = step o s e in told out ∷ answers o (state_after s out) es
+
+-- the state after a list of events
+abbrev pub run : Opening → State → List Event → State
+run o s [] = s
+run o s (e ∷ es) = run o (state_after s (step o s e)) es

@@ -1,0 +1,62 @@
+// Laws of the machine of atomic steps, each the contract of a function that does nothing. A lawful
+// move is an event of the machine, the start of any waiting ticket that is clear, or the opening of
+// a turn for a call that is handed in.
+ghost use Rattle.vll_core.specs.Laws.{EventListsReach, RunningTicketsAreClear, FrontTicketIsClear, LoadsSeeTheSerialState, CountersChangeByDeltas, StoresMakeTheSerialState, OtherValuesStay, SerialStatesStay, CountersStayWithinTheLimit};
+
+/// Every list of events, refused ones among them, reaches a state of which the other laws hold.
+#[tactic(auto, using(crate::proofs::Reached::lists_reach))]
+pub fn event_lists_reach()
+    ensures { EventListsReach }
+{}
+
+/// In every state that lawful moves reach, a ticket that is running or gone is clear: no claim that
+/// a lower ticket has requested and not released conflicts with a claim of its own.
+#[tactic(auto, using(crate::proofs::Reached::clear_reached))]
+pub fn running_tickets_are_clear()
+    ensures { RunningTicketsAreClear }
+{}
+
+/// The ticket that Front picks, in a state that lawful moves reach, waits and is clear.
+pub fn front_ticket_is_clear()
+    ensures { FrontTicketIsClear }
+{}
+
+/// A load by ticket t answers the record as it is before ticket t, where the entered calls run one
+/// at a time.
+#[tactic(auto, using(crate::proofs::Reached::load_reached))]
+pub fn loads_see_the_serial_state()
+    ensures { LoadsSeeTheSerialState }
+{}
+
+/// A request adds its claim's delta to the counter of its record, a release takes it, and nothing
+/// else changes a counter.
+#[tactic(auto, using(crate::proofs::Counters::counters_change))]
+pub fn counters_change_by_deltas()
+    ensures { CountersChangeByDeltas }
+{}
+
+/// A store by ticket t makes its record what it is behind ticket t, where the entered calls run one
+/// at a time.
+#[tactic(auto, using(crate::proofs::Values::store_reached))]
+pub fn stores_make_the_serial_state()
+    ensures { StoresMakeTheSerialState }
+{}
+
+/// No move changes a value, but a store that of its own record.
+#[tactic(auto, using(crate::proofs::Values::others_stay))]
+pub fn other_values_stay()
+    ensures { OtherValuesStay }
+{}
+
+/// What the records are before a ticket, where the entered calls run one at a time, never changes
+/// once the lower tickets are given.
+#[tactic(auto, using(crate::proofs::Reached::serial_stays))]
+pub fn serial_states_stay()
+    ensures { SerialStatesStay }
+{}
+
+/// No record has more open claims than the limit of calls, so neither half of its counter exceeds
+/// it.
+pub fn counters_stay_within_the_limit()
+    ensures { CountersStayWithinTheLimit }
+{}

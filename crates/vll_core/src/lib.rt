@@ -1,0 +1,29 @@
+//! The queue of entered calls and the machine of atomic steps.
+#![tactic(auto)]
+
+mod config;
+mod event;
+mod laws;
+mod line;
+mod machine;
+mod queue;
+mod refusal;
+mod seen;
+mod status;
+mod ticket;
+mod work;
+
+pub use config::{Config, OpenFault};
+pub use event::Event;
+pub use laws::{
+    counters_change_by_deltas, counters_stay_within_the_limit, event_lists_reach,
+    front_ticket_is_clear, loads_see_the_serial_state, other_values_stay,
+    running_tickets_are_clear, serial_states_stay, stores_make_the_serial_state,
+};
+pub use line::Line;
+pub use machine::Core;
+pub use queue::Queue;
+pub use refusal::Refusal;
+pub use seen::Seen;
+pub use status::Status;
+pub use ticket::Ticket;

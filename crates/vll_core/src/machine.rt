@@ -1,0 +1,177 @@
+ghost use Rattle.std.specs.Prelude.{◌≡◌, ◌≤◌, ◌<◌, ℕ, All, Err, length, map, IfOk, option_map, slice_get, ◌↔◌};
+ghost use Rattle.vll_check.specs.Calls.{Fits};
+ghost use Rattle.vll_core.specs.Journal.{journal_of};
+ghost use Rattle.vll_core.specs.Machine.{step, told};
+ghost use Rattle.vll_core.specs.Moves.{IsReached};
+ghost use Rattle.vll_core.specs.Shown.{AreFirstWords, AreWords, after, begun, opening_of};
+ghost use Rattle.vll_core.specs.declared.config.OpenFault.TheVariants as OpenFault;
+ghost use Rattle.vll_core.specs.State.{Entered};
+
+use crate::config::{Config, OpenFault};
+use crate::event::Event;
+use crate::line::Line;
+use crate::queue::Queue;
+use crate::refusal::Refusal;
+use crate::seen::Seen;
+use crate::status::Status;
+use crate::ticket::Ticket;
+use crate::work::Work;
+use std::alloc::{AllocError, Global};
+use std::marker::Model;
+use vll_check::Library;
+use vll_proc::Call;
+
+mod finish;
+mod load;
+mod release;
+mod run;
+mod store;
+mod turn;
+
+// The call whose turn is open.
+#[derive(Clone, Copy)]
+pub(crate) struct OpenTurn {
+    pub(crate) client: u32,
+    pub(crate) call: Call,
+    // How many of its claims have been requested.
+    pub(crate) requested: u8,
+    // Whether all of these were granted.
+    pub(crate) granted: bool,
+}
+
+/// The machine of atomic steps. It takes one event at a time, and keeps a value word and a pair word for
+/// each record, and the entered calls in a queue. Contracts see what was handed in at the opening, and the
+/// state of the plain machine.
+#[derive(Drop)]
+pub struct Core {
+    library: Library,
+    // The records as they were handed in.
+    opening: Vec<u64>,
+    words: Vec<u64>,
+    queue: Queue,
+    // What each entered call has done, by ticket.
+    work: Vec<Work>,
+    turn: Option<OpenTurn>,
+    scripts: Vec<Vec<Call>>,
+    // The place of each script's next call.
+    next: Vec<usize>,
+}
+
+impl Model for Core {
+    ghost use Rattle.vll_proc.specs.contracts.syntax.Expr as expr;
+    ghost use Rattle.vll_proc.specs.contracts.syntax.Stmt as stmt;
+    ghost use Rattle.std.specs.Coded.{codes};
+    ghost use Rattle.vll_core.specs.Shown.{Shown};
+
+    ghost Value = { Shown };
+
+    ghost coded = { Prim.hlevel (codes, expr.the_row.coded, stmt.the_row.coded) };
+
+    ghost use Rattle.vll_core.specs.View.{shown};
+    ghost use Rattle.vll_core.specs.CoreKept.{IsCore};
+
+    ghost view = { shown };
+
+    ghost invariant = { IsCore };
+}
+
+impl Core {
+    /// A machine over these records with nothing entered. The list handed in is kept as the records of the
+    /// opening. `Records` comes where there are not 1 to 65,536 records, and else `Limit` where the limit is
+    /// not 1 to 65,536; `NoMemory` comes only where memory was refused. All memory is taken here.
+    pub fn open(
+        alloc: Global,
+        records: Vec<u64>,
+        library: Library,
+        scripts: Vec<Vec<Call>>,
+        config: Config,
+    ) -> Result<Core, OpenFault>
+        requires records { library.records ≡ length records.items }
+        requires fits { All (λ script. All (Fits library) script.items) scripts.items }
+        ensures records { result ≡ Err OpenFault.Records
+            ↔ ¬ ((1 ≤ length records.items) × (length records.items ≤ 65536)) }
+        ensures limit { result ≡ Err OpenFault.Limit
+            ↔ ((1 ≤ length records.items) × (length records.items ≤ 65536)
+            × (¬ ((1 ≤ config.limit) × (config.limit ≤ 65536)))) }
+        ensures opened { IfOk result (λ c. c ≡ begun library records.items scripts.items config.limit) }
+    {
+        if records.is_empty() || records.len() > 65_536 {
+            return Err(OpenFault::Records);
+        }
+        let queue = Queue::open(alloc, config)?;
+        let words = words_of(alloc, &records).map_err(|_| OpenFault::NoMemory)?;
+        let work = Vec::with_capacity(alloc, config.limit as usize).map_err(
+            |_| OpenFault::NoMemory,
+        )?;
+        let next = vec![in alloc; 0; scripts.len()].map_err(|_| OpenFault::NoMemory)?;
+        Ok(Core {
+            library,
+            opening: records,
+            words,
+            queue,
+            work,
+            turn: None,
+            scripts,
+            next,
+        })
+    }
+
+    /// Takes one step of the machine, or refuses it by the lowest refusal that stands. A refused event
+    /// changes nothing. It takes no memory.
+    pub fn step(&mut self, event: Event) -> Result<Seen, Refusal>
+        ensures answer { result ≡ told (step (opening_of self.old) self.old.state event) }
+        ensures state { self.new ≡ after self.old (step (opening_of self.old) self.old.state event) }
+    {
+        match event {
+            Event::Enter(client) => self.enter(client),
+            Event::Claim => self.claim(),
+            Event::Admit => self.admit(),
+            Event::Front => self.front(),
+            Event::Load(ticket) => self.load(ticket),
+            Event::Store(ticket) => self.store(ticket),
+            Event::Release(ticket) => self.release(ticket),
+            Event::Finish(ticket) => self.finish(ticket),
+        }
+    }
+
+    /// Where the call of a ticket stands, and `None` exactly where no call has the ticket.
+    pub fn state(&self, ticket: Ticket) -> Option<Status>
+        ensures { result ≡ option_map (λ (e : Entered). e.status) (slice_get self.now.state.entries ticket) }
+    {
+        self.queue.status(ticket)
+    }
+
+    /// The journal: each entered call with its client, in order of entry. Where a call is finished its line has
+    /// the reply that it answers where the calls run one at a time in this order, and else no reply.
+    pub fn journal(&self) -> &[Line]
+        ensures { result.now ≡ journal_of self.now.base self.now.state }
+    {
+        self.queue.journal()
+    }
+
+    /// The words: the turn word 0, and then each record's value and its pair word. The state is one that
+    /// lawful moves reach, so the laws of the machine hold of it.
+    pub fn words(&self) -> &[u64]
+        ensures words { AreWords self.now.base self.now.state result.now }
+        ensures reached { IsReached (opening_of self.now) self.now.state }
+    {
+        &self.words
+    }
+}
+
+// The words at the opening: word 0, and each record's value with pair word 0.
+fn words_of(alloc: Global, records: &[u64]) -> Result<Vec<u64>, AllocError>
+    requires { length records.now ≤ 65536 }
+    ensures { IfOk result (λ words. AreFirstWords records.now words.items) }
+{
+    let mut words = Vec::with_capacity(alloc, 1 + 2 * records.len())?;
+    words.push_reserved(0);
+    for value in records {
+        words.push_reserved(*value);
+        words.push_reserved(0);
+    }
+    Ok(words)
+}
+
+#[cfg(test)]
+mod tests;

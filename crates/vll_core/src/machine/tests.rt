@@ -1,0 +1,7 @@
+mod blocking;
+mod opening;
+mod procedures;
+mod refusals;
+mod running;
+mod turns;
+mod words;

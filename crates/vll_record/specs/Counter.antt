@@ -1,0 +1,33 @@
+-- The pair word of a record, CX * 2^32 + CS: what it counts, and which requests it grants.
+use Rattle.std.specs.Prelude.{ℕ, ◌+◌, ◌*◌, ◌/◌, ◌%◌, ◌^◌, Bool, ◌==◌, nat_lt, not, List, count_by, filter}
+use Rattle.vll_record.specs.declared.claim.Mode.{Mode}
+use Rattle.vll_record.specs.declared.claim.Mode.TheVariants.{Read, Write}
+use Rattle.vll_record.specs.declared.claim.Claim.{Claim}
+use Rattle.vll_record.specs.declared.pair.Pair.{Pair}
+use Rattle.vll_record.specs.Claim.{is_write}
+
+-- what a request adds to a pair word, and a release takes from it
+abbrev pub delta_of : Mode → ℕ
+delta_of Read = 1
+delta_of Write = 2 ^ 32
+
+-- the claims of a list on one record
+abbrev pub claims_on : ℕ → List Claim → List Claim
+claims_on r cs = filter (λ (c : Claim). c.id == r) cs
+
+-- the Write claims times 2^32, and the Read claims
+abbrev pub pair_word_of : List Claim → ℕ
+pair_word_of cs = count_by is_write cs * 2 ^ 32 + count_by (λ c. not (is_write c)) cs
+
+-- the pair that a word holds: CX above, CS in the low 32 bits
+abbrev pub pair_of : ℕ → Pair
+pair_of word = record { cx = word / 2 ^ 32; cs = word % 2 ^ 32 }
+
+-- the word that holds a pair
+abbrev pub word_of : Pair → ℕ
+word_of p = p.cx * 2 ^ 32 + p.cs
+
+-- a request is granted by the word that it found: an exclusive one where that was 0, a shared one where its CX was 0
+abbrev pub is_granted : Mode → ℕ → Bool
+is_granted Read old = nat_lt old (2 ^ 32)
+is_granted Write old = old == 0

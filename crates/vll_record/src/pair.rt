@@ -1,0 +1,62 @@
+ghost use Rattle.std.specs.Prelude.{◌≡◌, ◌+◌, ◌*◌, ◌/◌, ◌%◌, ◌^◌};
+ghost use Rattle.vll_record.specs.Counter.{delta_of, is_granted};
+
+use crate::claim::Mode;
+
+// One Write claim, as a pair word counts it.
+const ONE_WRITE: u64 = 1 << 32;
+
+/// How many claims are open on a record: CX counts the Write claims, CS the Read claims.
+///
+/// Both counters stand in one word, `CX * 2^32 + CS`, so that one step changes and reads both.
+#[derive(Clone, Copy, PartialEq, Eq, Debug)]
+pub struct Pair {
+    /// Open Write claims.
+    pub cx: u32,
+    /// Open Read claims.
+    pub cs: u32,
+}
+
+impl Pair {
+    /// The pair that a word holds.
+    pub fn of(word: u64) -> Pair
+        ensures cx { result.cx ≡ word / 2 ^ 32 }
+        ensures cs { result.cs ≡ word % 2 ^ 32 }
+    {
+        Pair {
+            cx: (word / ONE_WRITE) as u32,
+            cs: (word % ONE_WRITE) as u32,
+        }
+    }
+
+    /// The word that holds the pair.
+    pub fn word(self) -> u64
+        ensures { result ≡ self.cx * 2 ^ 32 + self.cs }
+    {
+        u64::from(self.cx) * ONE_WRITE + u64::from(self.cs)
+    }
+}
+
+/// What a request of this mode adds to a record's pair word, and its release takes away.
+pub fn delta(mode: Mode) -> u64
+    ensures { result ≡ delta_of mode }
+{
+    match mode {
+        Mode::Read => 1,
+        Mode::Write => ONE_WRITE,
+    }
+}
+
+/// Whether a request of this mode is granted, by the pair word that stood before it: an exclusive
+/// request where no claim was open, a shared one where no Write claim was.
+pub fn granted(mode: Mode, old: u64) -> bool
+    ensures { result ≡ is_granted mode old }
+{
+    match mode {
+        Mode::Read => old < ONE_WRITE,
+        Mode::Write => old == 0,
+    }
+}
+
+#[cfg(test)]
+mod tests;

@@ -1,0 +1,22 @@
+ghost use Rattle.std.specs.Prelude.{◌≡◌};
+ghost use Rattle.vll_record.specs.Word.{value_word_of, pair_word_of_record};
+
+use crate::claim::RecordId;
+
+/// The place of a record's value word. Word 0 is the turn word, and each record has two words
+/// after it: its value, then its pair.
+pub fn value_word(id: RecordId) -> usize
+    ensures { result ≡ value_word_of id }
+{
+    1 + 2 * id.0 as usize
+}
+
+/// The place of a record's pair word, right after its value word.
+pub fn pair_word(id: RecordId) -> usize
+    ensures { result ≡ pair_word_of_record id }
+{
+    2 + 2 * id.0 as usize
+}
+
+#[cfg(test)]
+mod tests;
