@@ -1,5 +1,5 @@
 use thiserror::Error;
-use vll_server::{ScenarioFault, ServeFault};
+use vll_server::{ReplayFault, ScenarioFault, ServeFault};
 
 /// Why the program ended without an outcome. Its text is the line that is printed.
 #[derive(Clone, Copy, Debug, PartialEq, Eq, Error)]
@@ -11,14 +11,16 @@ pub(crate) enum Fault {
     Scenario(#[from] ScenarioFault),
     #[error("vll: run: {0}")]
     Run(#[from] ServeFault),
+    #[error("vll: {0}")]
+    Replay(#[from] ReplayFault),
 }
 
 impl Fault {
-    /// The program's exit status: 2 where what was given is refused, and 1 where the run failed.
+    /// The program's exit status: 2 where what was given is refused, and 1 where the run or the replay failed.
     pub(crate) fn status(&self) -> u8 {
         match self {
-            Fault::CommandLine | Fault::Scenario(_) => 2,
-            Fault::Run(_) => 1,
+            Fault::CommandLine | Fault::Scenario(_) | Fault::Replay(ReplayFault::Scenario(_)) => 2,
+            Fault::Run(_) | Fault::Replay(_) => 1,
         }
     }
 }

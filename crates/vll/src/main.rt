@@ -1,4 +1,5 @@
-//! The program `vll`: reads a scenario from standard input, runs it, and writes its outcome.
+//! The program `vll`: reads a scenario from standard input, runs it or replays its schedule, and writes what came
+//! of it.
 #![tactic(auto)]
 
 mod command;
@@ -9,7 +10,7 @@ use crate::fault::Fault;
 use std::process::ExitCode;
 use std::rt::Env;
 use std::{env, io};
-use vll_server::{Plain, read_scenario, serve_plain};
+use vll_server::{Plain, read_scenario, replay, serve_plain};
 
 fn main(rt: HostRuntime) -> ExitCode {
     match work(&rt) {
@@ -29,6 +30,7 @@ fn work(rt: &(impl Env + Input + Print + Eprint + AllocGlobal)) -> Result<(), Fa
         // A help text that cannot be printed has no line of its own.
         Action::Help(text) => text.print(rt).map_err(|_| Fault::CommandLine),
         Action::Run => run(rt),
+        Action::Replay => replay_schedule(rt),
     }
 }
 
@@ -42,5 +44,12 @@ fn run(rt: &(impl Input + Print + AllocGlobal)) -> Result<(), Fault> {
     let scenario = read_scenario(rt.alloc(), &mut reader)?;
     let mut writer = Plain::new(io::writer(rt));
     serve_plain(rt.alloc(), scenario, &mut writer)?;
+    Ok(())
+}
+
+fn replay_schedule(rt: &(impl Input + Print + AllocGlobal)) -> Result<(), Fault> {
+    let mut reader = Plain::new(rt.reader());
+    let mut writer = Plain::new(io::writer(rt));
+    replay(rt.alloc(), &mut reader, &mut writer)?;
     Ok(())
 }

@@ -15,6 +15,8 @@ pub(crate) enum Fault {
     Call(CallFault),
     Open(OpenFault),
     Refused(Refusal),
+    /// A scan found a call where each is held back.
+    Found,
 }
 
 impl From<AllocError> for Fault {

@@ -2,22 +2,28 @@ ghost use Rattle.std.specs.Prelude.{◌≡◌, All, IfOk};
 ghost use Rattle.vll_check.specs.Calls.{Fits};
 
 use crate::fault::Fault;
-use crate::workload::Workload;
 use sqlite_items::{Boxed, Items};
 use std::alloc::{AllocError, Global};
 use vll_check::{Library, check};
 use vll_core::{Config, Core};
 use vll_proc::{Call, Expr, KeyAt, KeyDecl, Proc, Stmt, Text};
 use vll_record::Mode;
+use vll_sca::Placing;
 
-/// A machine over records that hold 0, with one client whose script has so many calls.
-pub(crate) fn core(alloc: Global, workload: Workload, calls: u32) -> Result<Core, Fault> {
-    let records = vec![in alloc; 0; workload.records() as usize]?;
+/// A machine over so many records that hold 0, with one client whose script has so many calls: the first bumps
+/// record 0, the next one record 1, and so on, and all that are left the last record.
+pub(crate) fn core(alloc: Global, records: u32, calls: u32) -> Result<Core<Placing>, Fault> {
+    let records = vec![in alloc; 0; records as usize]?;
     let library = library(alloc, records.len() as u32)?;
     let script = script(alloc, &library, calls)?;
     let mut scripts = Vec::new(alloc);
     scripts.push(script)?;
-    Ok(Core::open(alloc, records, library, scripts, Config { limit: calls })?)
+    let config = Config {
+        cap: 65_536,
+        limit: calls,
+        bits: 4_096,
+    };
+    Ok(Core::open(alloc, records, library, scripts, config, Placing::Modulo)?)
 }
 
 // Adds 1 to the record that the argument names, and replies the sum.
@@ -47,14 +53,14 @@ fn library(alloc: Global, records: u32) -> Result<Library, Fault>
     Ok(Library::new(records, procs)?)
 }
 
-// So many bumps, of one record after the other.
+// So many bumps, of one record after the other, and then of the last.
 fn script(alloc: Global, library: &Library, calls: u32) -> Result<Vec<Call>, Fault>
     ensures { IfOk result (λ script. All (Fits library.now) script.items) }
 {
-    let records = library.records().max(1);
+    let last = library.records().saturating_sub(1);
     let mut script = Vec::with_capacity(alloc, calls as usize)?;
     for i in 0..calls {
-        script.push(library.call("bump", &[u64::from(i % records)])?)?;
+        script.push(library.call("bump", &[u64::from(i.min(last))])?)?;
     }
     Ok(script)
 }

@@ -1,5 +1,6 @@
 use crate::fault::Fault;
-use vll_core::{Core, Event, Status, Ticket};
+use vll_core::{Core, Event, Refusal, Ticket};
+use vll_sca::{Placing, Status};
 
 /// Which records the calls bump, and in which order they run once all have entered.
 #[derive(Clone, Copy, PartialEq, Eq)]
@@ -46,7 +47,7 @@ impl Workload {
 }
 
 /// Enters so many calls of client 0.
-pub(crate) fn enter_all(core: &mut Core, calls: u32) -> Result<(), Fault> {
+pub(crate) fn enter_all(core: &mut Core<Placing>, calls: u32) -> Result<(), Fault> {
     for _ in 0..calls {
         take(core, Event::Enter(0))?;
         take(core, Event::Claim)?;
@@ -56,7 +57,11 @@ pub(crate) fn enter_all(core: &mut Core, calls: u32) -> Result<(), Fault> {
 }
 
 /// Runs so many entered calls, one at a time.
-pub(crate) fn run_all(core: &mut Core, workload: Workload, calls: u32) -> Result<(), Fault> {
+pub(crate) fn run_all(
+    core: &mut Core<Placing>,
+    workload: Workload,
+    calls: u32,
+) -> Result<(), Fault> {
     for i in 0..calls {
         let place = match workload {
             Workload::OneRecord | Workload::OwnRecords => i,
@@ -68,7 +73,7 @@ pub(crate) fn run_all(core: &mut Core, workload: Workload, calls: u32) -> Result
 }
 
 // Runs one call from its first load to its end. One that waits has to be the front.
-fn run(core: &mut Core, ticket: Ticket) -> Result<(), Fault> {
+fn run(core: &mut Core<Placing>, ticket: Ticket) -> Result<(), Fault> {
     if core.state(ticket) == Some(Status::Waiting) {
         take(core, Event::Front)?;
     }
@@ -78,9 +83,18 @@ fn run(core: &mut Core, ticket: Ticket) -> Result<(), Fault> {
     take(core, Event::Finish(ticket))
 }
 
-fn take(core: &mut Core, event: Event) -> Result<(), Fault> {
+fn take(core: &mut Core<Placing>, event: Event) -> Result<(), Fault> {
     match core.step(event) {
         Ok(_) => Ok(()),
         Err(refusal) => Err(Fault::Refused(refusal)),
+    }
+}
+
+/// Scans the waiting calls, each of which an earlier one holds back.
+pub(crate) fn scan_in_vain(core: &mut Core<Placing>) -> Result<(), Fault> {
+    match core.step(Event::Scan) {
+        Err(Refusal::Idle) => Ok(()),
+        Err(refusal) => Err(Fault::Refused(refusal)),
+        Ok(_) => Err(Fault::Found),
     }
 }

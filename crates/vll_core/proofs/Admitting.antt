@@ -1,5 +1,5 @@
 -- The call of the open turn gets the next ticket.
-use Rattle.std.proofs.Common.{◌≡◌, ℕ, ◌<◌, ◌≤◌, ◌⊎◌, inl, inr, Bool, true, false, nat_lt, refl, sym, ap, ◌∙◌, subst, arith, List, [], ◌∷◌, ◌++◌, length, slice_get, Bor, Option, Some, None, Ok, All, IfSome, vec_capacity, length-append, if◌then◌else◌}
+use Rattle.std.proofs.Common.{◌≡◌, ℕ, ◌<◌, ◌≤◌, ◌⊎◌, inl, inr, Bool, true, false, nat_lt, refl, sym, ap, ◌∙◌, subst, arith, List, [], ◌∷◌, ◌++◌, length, count_by, slice_get, Bor, Option, Some, None, Ok, All, IfSome, vec_capacity, length-append, if◌then◌else◌}
 use Rattle.std.specs.Global.{Vec}
 use Rattle.std.specs.Option.{option_map}
 use Rattle.std.proofs.lemmas.Bool.Decides.{nat_tests}
@@ -9,31 +9,31 @@ use Rattle.vll_proc.specs.Made.{IsCallOf}
 use Rattle.vll_proc.specs.Serial.{before}
 use Rattle.vll_proc.specs.WellFormed.{IsWellFormed}
 use Rattle.vll_check.specs.Calls.{Fits, CallsProcedure}
+use Rattle.vll_check.specs.Catalog.{Catalog}
 use Rattle.vll_check.proofs.Fitting.{fits_well}
 use Rattle.vll_core.specs.declared.event.Event.TheVariants as event
-use Rattle.vll_core.specs.declared.machine.Core.TheInside.{Inside}
+use Rattle.vll_core.specs.declared.machine.Machine.TheInside.{Inside}
 use Rattle.vll_core.specs.declared.machine.OpenTurn.{OpenTurn}
 use Rattle.vll_core.specs.declared.refusal.Refusal.TheVariants.{NoTurn, OutOfStep}
 use Rattle.vll_core.specs.declared.seen.Seen.{Seen}
 use Rattle.vll_core.specs.declared.seen.Seen.TheVariants.{Free, Blocked}
-use Rattle.vll_core.specs.declared.status.Status.{Status}
-use Rattle.vll_core.specs.declared.status.Status.TheVariants.{Running, Waiting}
+use Rattle.vll_sca.specs.declared.status.Status.{Status}
+use Rattle.vll_sca.specs.declared.status.Status.TheVariants.{Running, Waiting}
 use Rattle.vll_core.specs.declared.work.Work.{Work}
-use Rattle.vll_core.specs.Status.{is_gone}
+use Rattle.vll_sca.specs.Status.{is_waiting, is_gone}
 use Rattle.vll_core.specs.State.{Opening, Entered, Turn, State}
 use Rattle.vll_core.specs.Machine.{Outcome, refuse_if, or_refuse, admit, step}
-use Rattle.vll_core.specs.Queue.{QueueEntry, admitted, entry}
-use Rattle.vll_core.specs.Shown.{opening_of}
+use Rattle.vll_core.specs.Queue.{QueueEntry, admitted, entry, statuses}
+use Rattle.vll_core.specs.Shown.{Shown, library_of, opening_of}
 use Rattle.vll_core.specs.View.{entered_of, entries_of, turn_of, shown}
 use Rattle.vll_core.specs.Work.{IsAtWork}
-use Rattle.vll_core.specs.CoreKept.{IsCore, made_of, AreAtWork, AreReplied}
+use Rattle.vll_core.specs.MachineKept.{IsMachine, made_of, AreAtWork, AreReplied}
 use Rattle.vll_core.proofs.Places.{all_at, at_push}
 use Rattle.vll_core.proofs.AtWork.{procedure_fits}
-use Rattle.vll_core.proofs.Kept.{IsTurnKept}
-use Rattle.vll_core.proofs.Reached.{kept_reached}
+use Rattle.vll_core.proofs.Reached.{turn_has_room}
 use Rattle.vll_core.proofs.SerialRun.{length_before}
-use Rattle.vll_core.proofs.CoreState.{length_shown, entry_pushed, all_from, at_work_pushed, replied_pushed, queued_admitted}
-use Rattle.vll_core.proofs.CoreSteps.{Takes, taken_reached, taken_words}
+use Rattle.vll_core.proofs.CoreState.{length_shown, waiting_shown, entry_pushed, all_from, at_work_pushed, replied_pushed, queued_admitted}
+use Rattle.vll_core.proofs.CoreSteps.{library_same, Takes, taken_reached, taken_words}
 
 -- ---- the plain machine
 
@@ -68,14 +68,14 @@ admit_is s turn = by_grant turn.granted
     by_grant true = refl
     by_grant false = refl
 
--- ---- the core
+-- ---- the machine
 
 -- the entry of an open turn's call
 abbrev pub turn_entry : OpenTurn → QueueEntry
 turn_entry turn = entry turn.client turn.call turn.granted
 
--- all claims of the open turn are requested, and the works of a core have that of its call at their end, which has done nothing
-pub record HasWork (a : Inside) (turn : OpenTurn) (works : Vec Work) (w : Work) : Type 0 where
+-- all claims of the open turn are requested, and the works of a machine have that of its call at their end, which has done nothing
+pub record HasWork {H : Type 0} (a : Inside H) (turn : OpenTurn) (works : Vec Work) (w : Work) : Type 0 where
   pub opened : a.turn ≡ Some turn
   pub asked : length turn.call.claims ≤ turn.requested
   pub pushed : works.items ≡ a.work.items ++ w ∷ []
@@ -83,38 +83,48 @@ pub record HasWork (a : Inside) (turn : OpenTurn) (works : Vec Work) (w : Work) 
   pub loads : w.loads ≡ 0
   pub stores : w.stores ≡ 0
   pub releases : w.releases ≡ 0
-  pub at_work : (records : List ℕ) → All (λ (d : Claim). d.id < length records) turn.call.claims → IsAtWork a.library.procs turn.call records w
+  pub at_work : (records : List ℕ) → All (λ (d : Claim). d.id < length records) turn.call.claims → IsAtWork a.library.value.procs turn.call records w
 
--- the fields of a core once the call of its open turn has a ticket
-abbrev pub entered_turn : Inside → OpenTurn → Vec Work → Inside
+-- the fields of a machine once the call of its open turn has a ticket
+abbrev pub entered_turn : {H : Type 0} → Inside H → OpenTurn → Vec Work → Inside H
 entered_turn a turn works = record a { queue = admitted a.queue (turn_entry turn); work = works; turn = None }
 
 -- the call of an open turn is one that the library makes
-pub turn_fits : (a : Inside) (turn : OpenTurn) → IsCore a → a.turn ≡ Some turn → Fits a.library turn.call
-turn_fits a turn core opened = subst (λ (x : Option OpenTurn). IfSome x (λ (t : OpenTurn). Fits a.library t.call)) opened core.turn_fits
+pub turn_fits : {H : Type 0} {places : H → ℕ → ℕ} (a : Inside H) (turn : OpenTurn) → IsMachine places a → a.turn ≡ Some turn → Fits a.library.value turn.call
+turn_fits a turn core opened = subst (λ (x : Option OpenTurn). IfSome x (λ (t : OpenTurn). Fits a.library.value t.call)) opened core.turn_fits
 
 -- the procedure of an open turn's call
-pub record IsTurnProcedure (a : Inside) (turn : OpenTurn) (p : Proc) : Type 0 where
-  pub found : slice_get a.library.procs turn.call.number ≡ Some p
+pub record IsTurnProcedure {H : Type 0} (a : Inside H) (turn : OpenTurn) (p : Proc) : Type 0 where
+  pub found : slice_get a.library.value.procs turn.call.number ≡ Some p
   pub formed : IsWellFormed p
   pub made : IsCallOf p turn.call
 
-pub turn_procedure : (a : Inside) (turn : OpenTurn) (lent : Option (Bor Proc)) (p : Bor Proc)
-    → IsCore a → a.turn ≡ Some turn → option_map (λ (q : Bor Proc). q.now) lent ≡ slice_get a.library.procs turn.call.number → lent ≡ Some p → IsTurnProcedure a turn p.now
-turn_procedure a turn lent p core opened at is =
-    let found : slice_get a.library.procs turn.call.number ≡ Some p.now = sym at ∙ ap (λ (o : Option (Bor Proc)). option_map (λ (q : Bor Proc). q.now) o) is in
-    let suits : IsWellFormed p.now × IsCallOf p.now turn.call = procedure_fits a.library turn.call p.now core.catalog (turn_fits a turn core opened) found in
+pub turn_procedure : {H : Type 0} {places : H → ℕ → ℕ} (a : Inside H) (s : Shown H) (turn : OpenTurn) (library : Catalog) (lent : Option (Bor Proc)) (p : Bor Proc)
+    → IsMachine places a → shown a ≡ s → library ≡ library_of s → a.turn ≡ Some turn
+    → option_map (λ (q : Bor Proc). q.now) lent ≡ slice_get library.procs turn.call.number → lent ≡ Some p → IsTurnProcedure a turn p.now
+turn_procedure a s turn library lent p core view same opened at is =
+    let here : slice_get library.procs turn.call.number ≡ Some p.now = sym at ∙ ap (λ (o : Option (Bor Proc)). option_map (λ (q : Bor Proc). q.now) o) is in
+    let found : slice_get a.library.value.procs turn.call.number ≡ Some p.now = subst (λ (c : Catalog). slice_get c.procs turn.call.number ≡ Some p.now) (library_same a s library core view same) here in
+    let suits : IsWellFormed p.now × IsCallOf p.now turn.call = procedure_fits a.library.value turn.call p.now core.catalog (turn_fits a turn core opened) found in
     record { found = found; formed = suits.0; made = suits.1 }
 
 -- where a turn is open, there is room for its call
-pub turn_room : (a : Inside) (turn : OpenTurn) → IsCore a → a.turn ≡ Some turn → length a.queue.entries < a.queue.limit
-turn_room a turn core opened =
-    let kept : IsTurnKept (opening_of (shown a)) (shown a).state.entries (turn_shown turn) = (kept_reached (opening_of (shown a)) (shown a).state core.reached).turn (turn_shown turn) (ap turn_of opened) in
-    omega (arith, kept.room, length_shown a.queue.entries a.work.items core.works)
+pub turn_room : {H : Type 0} {places : H → ℕ → ℕ} (a : Inside H) (turn : OpenTurn) → IsMachine places a → a.turn ≡ Some turn → length a.queue.entries < a.queue.limit
+turn_room {H} {places} a turn core opened =
+    let room = turn_has_room (opening_of places (shown a)) (shown a).state (turn_shown turn) core.reached (ap turn_of opened) in
+    let left = room.0 in
+    omega (arith, left, length_shown a.queue.entries a.work.items core.works)
 
-pub taken_admit : (a : Inside) (turn : OpenTurn) (works : Vec Work) (w : Work) → IsCore a → HasWork a turn works w
-    → Takes a (entered_turn a turn works) event.Admit (ticket_seen turn.granted (length a.queue.entries))
-taken_admit a turn works w core has =
+-- and one more call may wait
+pub turn_idle : {H : Type 0} {places : H → ℕ → ℕ} (a : Inside H) (turn : OpenTurn) → IsMachine places a → a.turn ≡ Some turn → count_by is_waiting (statuses a.queue) < a.queue.cap
+turn_idle {H} {places} a turn core opened =
+    let room = turn_has_room (opening_of places (shown a)) (shown a).state (turn_shown turn) core.reached (ap turn_of opened) in
+    let few = room.1 in
+    omega (arith, few, waiting_shown a.queue.entries a.work.items core.works)
+
+pub taken_admit : {H : Type 0} {places : H → ℕ → ℕ} (a : Inside H) (turn : OpenTurn) (works : Vec Work) (w : Work) → IsMachine places a → HasWork a turn works w
+    → Takes places a (entered_turn a turn works) event.Admit (ticket_seen turn.granted (length a.queue.entries))
+taken_admit {H} {places} a turn works w core has =
     let s : State = (shown a).state in
     let long : length s.entries ≡ length a.queue.entries = length_shown a.queue.entries a.work.items core.works in
     let blank : entered_of (turn_entry turn) w ≡ entered_by (turn_shown turn) = rw (has.loads, has.stores, has.releases) refl in
@@ -124,7 +134,7 @@ taken_admit a turn works w core has =
     record {
       fixed = refl;
       is =
-          admit_step (opening_of (shown a)) s (turn_shown turn) (ap turn_of has.opened) has.asked
+          admit_step (opening_of places (shown a)) s (turn_shown turn) (ap turn_of has.opened) has.asked
           ∙ (admit_is s (turn_shown turn)
           ∙ (ap (λ (n : ℕ). let out : Outcome = Ok (ticket_seen turn.granted n, record s { entries = s.entries ++ entered_by (turn_shown turn) ∷ []; turn = None }) in out) long
           ∙ ap (λ (es : List Entered). let out : Outcome = Ok (ticket_seen turn.granted (length a.queue.entries), record s { entries = es; turn = None }) in out) (sym entries)));
@@ -134,17 +144,17 @@ here_still : (free : Bool) → is_gone (if free then Running else Waiting) ≡ f
 here_still true = refl
 here_still false = refl
 
-pub core_admit : (a : Inside) (turn : OpenTurn) (works : Vec Work) (w : Work) → IsCore a → HasWork a turn works w → IsCore (entered_turn a turn works)
-core_admit a turn works w core has =
-    let b : Inside = entered_turn a turn works in
+pub core_admit : {H : Type 0} {places : H → ℕ → ℕ} (a : Inside H) (turn : OpenTurn) (works : Vec Work) (w : Work) → IsMachine places a → HasWork a turn works w → IsMachine places (entered_turn a turn works)
+core_admit {H} {places} a turn works w core has =
+    let b : Inside H = entered_turn a turn works in
     let seen : Seen = ticket_seen turn.granted (length a.queue.entries) in
-    let takes : Takes a b event.Admit seen = taken_admit a turn works w core has in
+    let takes : Takes places a b event.Admit seen = taken_admit a turn works w core has in
     let last : QueueEntry = turn_entry turn in
-    let calls : CallsProcedure a.library turn.call = fits_well a.library turn.call core.catalog (turn_fits a turn core has.opened) in
-    let now : List ℕ = before a.library.procs (made_of a.queue.entries) a.opening.items (length a.queue.entries) in
+    let calls : CallsProcedure a.library.value turn.call = fits_well a.library.value turn.call core.catalog (turn_fits a turn core has.opened) in
+    let now : List ℕ = before a.library.value.procs (made_of a.queue.entries) a.opening.items (length a.queue.entries) in
     let within : All (λ (d : Claim). d.id < length now) turn.call.claims =
     subst (λ (n : ℕ). All (λ (d : Claim). d.id < n) turn.call.claims)
-    (core.records ∙ sym (length_before a.library.procs (made_of a.queue.entries) a.opening.items (length a.queue.entries))) calls.within in
+    (core.records ∙ sym (length_before a.library.value.procs (made_of a.queue.entries) a.opening.items (length a.queue.entries))) calls.within in
     record {
       reached = taken_reached a b event.Admit seen takes core.reached;
       words = taken_words a b event.Admit seen takes core.reached refl refl refl core.words;
@@ -152,24 +162,24 @@ core_admit a turn works w core has =
       few_records = core.few_records;
       records = core.records;
       catalog = core.catalog;
-      queue = queued_admitted a.queue last (turn_room a turn core has.opened) refl (here_still turn.granted) core.queue;
+      queue = queued_admitted a.queue last (turn_room a turn core has.opened) (turn_idle a turn core has.opened) refl (here_still turn.granted) core.queue;
       works =
           ap (λ (ws : List Work). length ws) has.pushed
           ∙ omega (arith, core.works, length-append a.work.items (w ∷ []), length-append a.queue.entries (last ∷ []));
       room = omega (arith, core.room, has.room);
       nexts = core.nexts;
-      entries_fit = all_from (λ (e : QueueEntry). Fits a.library e.line.call) b.queue.entries (λ t e at. fits t e (at_push a.queue.entries last t e at));
+      entries_fit = all_from (λ (e : QueueEntry). Fits a.library.value e.line.call) b.queue.entries (λ t e at. fits t e (at_push a.queue.entries last t e at));
       turn_fits = tt;
       scripts_fit = core.scripts_fit;
       at_work =
-          subst (AreAtWork a.library a.opening.items b.queue.entries) (sym has.pushed)
-          (at_work_pushed a.library a.opening.items a.queue.entries a.work.items last w core.works (has.at_work now within) core.at_work);
+          subst (AreAtWork a.library.value a.opening.items b.queue.entries) (sym has.pushed)
+          (at_work_pushed a.library.value a.opening.items a.queue.entries a.work.items last w core.works (has.at_work now within) core.at_work);
       replied =
           subst (AreReplied b.queue.entries) (sym has.pushed)
           (replied_pushed a.queue.entries a.work.items last w core.works (here_still turn.granted) core.replied);
     }
   where
-    fits : (t : ℕ) (e : QueueEntry) → (slice_get a.queue.entries t ≡ Some e) ⊎ ((t ≡ length a.queue.entries) × (e ≡ turn_entry turn)) → Fits a.library e.line.call
-    fits t e (inl at) = all_at (λ (d : QueueEntry). Fits a.library d.line.call) a.queue.entries t e core.entries_fit at
+    fits : (t : ℕ) (e : QueueEntry) → (slice_get a.queue.entries t ≡ Some e) ⊎ ((t ≡ length a.queue.entries) × (e ≡ turn_entry turn)) → Fits a.library.value e.line.call
+    fits t e (inl at) = all_at (λ (d : QueueEntry). Fits a.library.value d.line.call) a.queue.entries t e core.entries_fit at
     fits t e (inr new) =
-        subst (λ (d : QueueEntry). Fits a.library d.line.call) (sym new.1) (turn_fits a turn core has.opened)
+        subst (λ (d : QueueEntry). Fits a.library.value d.line.call) (sym new.1) (turn_fits a turn core has.opened)

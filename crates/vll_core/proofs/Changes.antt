@@ -1,33 +1,36 @@
 -- What a lawful move that is not refused changes, case by case.
-use Rattle.std.proofs.Common.{◌≡◌, ℕ, Bool, true, false, ◌&&◌, not, refl, sym, ◌||◌, nat_lt, nat_le, ◌+◌, [], ◌∷◌, length, ap, ◌∙◌, subst, slice_get, Some, ◌++◌, Option, None, if◌then◌else◌, Ok, is_some}
+use Rattle.std.proofs.Common.{◌≡◌, ℕ, Bool, true, false, ◌&&◌, not, refl, sym, ◌||◌, nat_lt, nat_le, ◌+◌, [], ◌∷◌, length, ap, ◌∙◌, subst, slice_get, Some, ◌++◌, map, Option, None, if◌then◌else◌, Ok, is_some}
 use Rattle.std.proofs.lemmas.Option.{same_Some, same_Some}
-use Rattle.vll_core.specs.Machine.{step, with_entry, has_stored, running, next_call, used, front, Outcome, refuse_if, or_refuse, if_running, with_status, admit}
+use Rattle.vll_core.specs.Machine.{step, with_entry, has_stored, running, next_call, used, front, scanned, waiting, Outcome, refuse_if, or_refuse, if_running, with_status, admit}
 use Rattle.vll_core.specs.State.{Entered, State, Turn, is_clear, value, Opening, open_claims}
 use Rattle.vll_record.specs.declared.claim.Claim.{Claim}
 use Rattle.vll_record.specs.Claim.{conflict}
 use Rattle.std.proofs.lemmas.Bool.{or_parts}
 use Rattle.vll_core.specs.Moves.{Move, by_event, wake, hand, if_waiting, move}
 use Rattle.vll_proc.specs.declared.call.Call.{Call}
-use Rattle.vll_core.specs.declared.status.Status.{Status}
-use Rattle.vll_core.specs.Status.{is_waiting, is_gone, is_running}
-use Rattle.vll_core.specs.declared.status.Status.TheVariants.{Running, Gone, Waiting}
+use Rattle.vll_sca.specs.declared.status.Status.{Status}
+use Rattle.vll_sca.specs.Status.{is_waiting, is_gone, is_running}
+use Rattle.vll_sca.specs.declared.status.Status.TheVariants.{Running, Gone, Waiting}
 use Rattle.vll_core.specs.declared.refusal.Refusal.{Refusal}
 use Rattle.vll_core.specs.declared.seen.Seen.TheVariants.{Loaded, Free, Blocked}
 use Rattle.vll_core.specs.declared.seen.Seen.{Seen}
 use Rattle.vll_core.specs.declared.event.Event.TheVariants as event
 use Rattle.vll_core.proofs.Tests.{not_no}
+use Rattle.vll_sca.specs.Scan.{scan}
 use Rattle.vll_core.proofs.Events.{IsFront, front_is}
+use Rattle.vll_core.proofs.Picked.{IsPicked, picked_is}
 
 pub data Change (o : Opening) (s : State) : Move → State → Type 0 where
-  entered_by : (client : ℕ) (call : Call) → s.turn ≡ None → next_call s client ≡ Some call → nat_le o.limit (length s.entries) ≡ false
+  entered_by : (client : ℕ) (call : Call) → s.turn ≡ None → next_call s client ≡ Some call → nat_le o.limit (length s.entries) ≡ false → nat_le o.cap (waiting s) ≡ false
       → Change o s (by_event (event.Enter client)) (record s { turn = Some (record { client = client; call = call; requested = 0; granted = true }); scripts = used s client })
-  handed : (client : ℕ) (call : Call) → s.turn ≡ None → nat_le o.limit (length s.entries) ≡ false
+  handed : (client : ℕ) (call : Call) → s.turn ≡ None → nat_le o.limit (length s.entries) ≡ false → nat_le o.cap (waiting s) ≡ false
       → Change o s (hand client call) (record s { turn = Some (record { client = client; call = call; requested = 0; granted = true }); scripts = s.scripts })
   requested : (turn : Turn) (c : Claim) → s.turn ≡ Some turn → slice_get turn.call.claims turn.requested ≡ Some c
       → Change o s (by_event event.Claim) (record s { turn = Some (record turn { requested = turn.requested + 1; granted = turn.granted && not (conflict (open_claims s) (c ∷ [])) }) })
   admitted : (turn : Turn) (status : Status) → s.turn ≡ Some turn → nat_lt turn.requested (length turn.call.claims) ≡ false → is_gone status ≡ false → (is_waiting status ≡ false → turn.granted ≡ true)
       → Change o s (by_event event.Admit) (record s { entries = s.entries ++ record { client = turn.client; call = turn.call; status = status; loads = 0; stores = 0; releases = 0 } ∷ []; turn = None })
   fronted : (t : ℕ) (f : IsFront s t) → Change o s (by_event event.Front) (with_entry s t (record f.entry { status = Running }))
+  picked : (t : ℕ) (p : IsPicked s t) → Change o s (by_event event.Scan) (with_entry s t (record p.entry { status = Running }))
   woken : (t : ℕ) (e : Entered) → slice_get s.entries t ≡ Some e → is_clear s t e.call.claims ≡ true → Change o s (wake t) (with_entry s t (record e { status = Running }))
   loaded : (t : ℕ) (e : Entered) (c : Claim) → slice_get s.entries t ≡ Some e → is_running e.status ≡ true → slice_get e.call.claims e.loads ≡ Some c
       → Change o s (by_event (event.Load t)) (with_entry s t (record e { loads = e.loads + 1 }))
@@ -79,6 +82,11 @@ status_put s t e status at = step (slice_get s.entries t) at
     step : (x : Option Entered) → x ≡ Some e → elim x as (λ _. State) [ None ↦ s | Some d ↦ with_entry s t (record d { status = status }) ] ≡ with_entry s t (record e { status = status })
     step None h = absurd (cc h)
     step (Some d) h = ap (λ (x : Entered). with_entry s t (record x { status = status })) (same_Some d e h)
+
+-- a ticket begins to run
+run_change : (o : Opening) (s : State) (m : Move) (t : ℕ) (e : Entered) (seen : Seen) (out : Seen × State) → slice_get s.entries t ≡ Some e
+    → Change o s m (with_entry s t (record e { status = Running })) → ◌≡◌ {A = Outcome} (Ok (seen, with_status s t Running)) (Ok out) → Change o s m out.1
+run_change o s m t e seen out at change h = subst (Change o s m) (sym (status_put s t e Running at) ∙ same_state seen (with_status s t Running) out h) change
 
 -- what a load answers
 pub record IsLoad (o : Opening) (s : State) (t : ℕ) (out : Seen × State) : Type 0 where
@@ -134,7 +142,8 @@ change_of o s (by_event (event.Enter client)) out h =
     let a = refused_not (is_some s.turn) _ _ out h in
     let b = found (next_call s client) _ _ out a.1 in
     let c = refused_not (nat_le o.limit (length s.entries)) _ _ out b.2 in
-    subst (Change o s (by_event (event.Enter client))) (same_state _ _ out c.1) (entered_by client b.0 (no_turn s.turn a.0) b.1 c.0)
+    let d = refused_not (nat_le o.cap (waiting s)) _ _ out c.1 in
+    subst (Change o s (by_event (event.Enter client))) (same_state _ _ out d.1) (entered_by client b.0 (no_turn s.turn a.0) b.1 c.0 d.0)
 change_of o s (by_event event.Claim) out h =
     let a = found s.turn _ _ out h in
     let b = found (slice_get a.0.call.claims a.0.requested) _ _ out a.2 in
@@ -147,7 +156,12 @@ change_of o s (by_event event.Front) out h =
     let a = refused_not (is_some s.turn) _ _ out h in
     let b = found (front s) _ _ out a.1 in
     let f = front_is s b.0 b.1 in
-    subst (Change o s (by_event event.Front)) (sym (status_put s b.0 f.entry Running f.at) ∙ same_state _ _ out b.2) (fronted b.0 f)
+    run_change o s (by_event event.Front) b.0 f.entry _ out f.at (fronted b.0 f) b.2
+change_of o s (by_event event.Scan) out h =
+    let a = refused_not (is_some s.turn) _ _ out h in
+    let b = found (scan o.place o.bits (map scanned s.entries)) _ _ out a.1 in
+    let p = picked_is o s b.0 b.1 in
+    run_change o s (by_event event.Scan) b.0 p.entry _ out p.at (picked b.0 p) b.2
 change_of o s (by_event (event.Load t)) out h =
     let l = load_is o s t out h in
     subst (Change o s (by_event (event.Load t))) (ap (λ (x : Seen × State). x.1) (sym l.seen)) (loaded t l.entry l.claim l.at l.runs l.next)
@@ -170,8 +184,9 @@ change_of o s (wake t) out h =
     let a = found (if_waiting (slice_get s.entries t)) _ _ out h in
     let at = entry_waits (slice_get s.entries t) a.0 a.1 in
     let b = refused_not (not (is_clear s t a.0.call.claims)) _ _ out a.2 in
-    subst (Change o s (wake t)) (sym (status_put s t a.0 Running at) ∙ same_state _ _ out b.1) (woken t a.0 at (not_no _ b.0))
+    run_change o s (wake t) t a.0 _ out at (woken t a.0 at (not_no _ b.0)) b.1
 change_of o s (hand client call) out h =
     let a = refused_not (is_some s.turn) _ _ out h in
     let c = refused_not (nat_le o.limit (length s.entries)) _ _ out a.1 in
-    subst (Change o s (hand client call)) (same_state _ _ out c.1) (handed client call (no_turn s.turn a.0) c.0)
+    let d = refused_not (nat_le o.cap (waiting s)) _ _ out c.1 in
+    subst (Change o s (hand client call)) (same_state _ _ out d.1) (handed client call (no_turn s.turn a.0) c.0 d.0)

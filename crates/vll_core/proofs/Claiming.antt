@@ -1,4 +1,4 @@
--- A request by the open turn of a core: what it finds, and what the core is after it.
+-- A request by the open turn of a machine: what it finds, and what the machine is after it.
 use Rattle.std.proofs.Common.{◌≡◌, ◌≢◌, ℕ, ◌+◌, ◌<◌, ◌≤◌, ◌^◌, Bool, ◌&&◌, ◌==◌, not, List, [], ◌∷◌, length, Option, Some, Result, Ok, IfSome, slice_get, slice_index, slice_index_or, slice_set, refl, sym, ap, ◌∙◌, subst, arith}
 use Rattle.std.specs.Global.{Vec}
 use Rattle.std.proofs.lemmas.Bool.{eq-eqb, ne_eqb, cond-true, cond-false}
@@ -13,7 +13,7 @@ use Rattle.vll_check.specs.Calls.{Fits, CallsProcedure}
 use Rattle.vll_check.proofs.Fitting.{fits_well}
 use Rattle.vll_core.specs.declared.event.Event.TheVariants as event
 use Rattle.vll_core.specs.declared.machine.OpenTurn.{OpenTurn}
-use Rattle.vll_core.specs.declared.machine.Core.TheInside.{Inside}
+use Rattle.vll_core.specs.declared.machine.Machine.TheInside.{Inside}
 use Rattle.vll_core.specs.declared.refusal.Refusal.{Refusal}
 use Rattle.vll_core.specs.declared.refusal.Refusal.TheVariants.{NoTurn, OutOfStep}
 use Rattle.vll_core.specs.declared.seen.Seen.{Seen}
@@ -23,7 +23,7 @@ use Rattle.vll_core.specs.Machine.{step, told, request, or_refuse}
 use Rattle.vll_core.specs.Moves.{by_event, moved, IsReached}
 use Rattle.vll_core.specs.Shown.{AreWords, after, opening_of}
 use Rattle.vll_core.specs.View.{shown, turn_of}
-use Rattle.vll_core.specs.CoreKept.{IsCore}
+use Rattle.vll_core.specs.MachineKept.{IsMachine}
 use Rattle.vll_core.proofs.Counters.{counters_within}
 use Rattle.vll_core.proofs.Deltas.{counter_request}
 use Rattle.vll_core.proofs.Places.{all_at}
@@ -84,24 +84,24 @@ pub counter_fits : (o : Opening) (s : State) (r : ℕ) → IsReached o s → o.l
 counter_fits o s r reached few =
     pair_word_of-below (claims_on r (open_claims s)) (omega (arith, few, (counters_within o s r reached).0))
 
--- ---- the core
+-- ---- the machine
 
 -- what a request by the open turn finds
-pub record Finds (a : Inside) (turn : OpenTurn) (c : Claim) : Type 0 where
+pub record Finds {H : Type 0} (places : H → ℕ → ℕ) (a : Inside H) (turn : OpenTurn) (c : Claim) : Type 0 where
   pub record_there : c.id < length a.opening.items
   pub word_there : pair_word_of_record c.id < length a.words.items
   pub is_counter : slice_index a.words.items (pair_word_of_record c.id) ≡ counter (shown a).state c.id
   pub few : turn.requested < 16
-  pub reached : IsReached (opening_of (shown a)) (shown a).state
+  pub reached : IsReached (opening_of places (shown a)) (shown a).state
   pub open_turn : (shown a).state.turn ≡ turn_of (Some turn)
   pub limit : a.queue.limit ≤ 65536
-  pub fits : Fits a.library turn.call
+  pub fits : Fits a.library.value turn.call
 
-pub finds : (a : Inside) (turn : OpenTurn) (c : Claim) → IsCore a → a.turn ≡ Some turn → slice_get turn.call.claims turn.requested ≡ Some c → Finds a turn c
+pub finds : {H : Type 0} {places : H → ℕ → ℕ} (a : Inside H) (turn : OpenTurn) (c : Claim) → IsMachine places a → a.turn ≡ Some turn → slice_get turn.call.claims turn.requested ≡ Some c → Finds places a turn c
 finds a turn c kept is at =
-    let fits : Fits a.library turn.call = subst (λ (x : Option OpenTurn). IfSome x (λ (t : OpenTurn). Fits a.library t.call)) is kept.turn_fits in
-    let well : CallsProcedure a.library turn.call = fits_well a.library turn.call kept.catalog fits in
-    let within : c.id < a.library.records = all_at (λ (d : Claim). d.id < a.library.records) turn.call.claims turn.requested c well.within at in
+    let fits : Fits a.library.value turn.call = subst (λ (x : Option OpenTurn). IfSome x (λ (t : OpenTurn). Fits a.library.value t.call)) is kept.turn_fits in
+    let well : CallsProcedure a.library.value turn.call = fits_well a.library.value turn.call kept.catalog fits in
+    let within : c.id < a.library.value.records = all_at (λ (d : Claim). d.id < a.library.value.records) turn.call.claims turn.requested c well.within at in
     let there : c.id < length a.opening.items = omega (arith, within, kept.records) in
     let claims = claims_few well.procedure turn.call well.formed well.made in
     let before = slice_get_within turn.call.claims turn.requested c at in
@@ -117,58 +117,58 @@ finds a turn c kept is at =
     }
 
 -- the word that is read is the counter
-pub read_counter : (a : Inside) (turn : OpenTurn) (c : Claim) (place old : ℕ) → Finds a turn c → place ≡ pair_word_of_record c.id → old ≡ slice_index_or a.words.items place old
+pub read_counter : {H : Type 0} {places : H → ℕ → ℕ} (a : Inside H) (turn : OpenTurn) (c : Claim) (place old : ℕ) → Finds places a turn c → place ≡ pair_word_of_record c.id → old ≡ slice_index_or a.words.items place old
     → old ≡ counter (shown a).state c.id
 read_counter a turn c place old found is read =
     word_read a.words.items (pair_word_of_record c.id) place _ old found.word_there found.is_counter is read
 
 -- the request is granted by what the word says
-pub granted_right : (a : Inside) (turn : OpenTurn) (c : Claim) (old : ℕ) → Finds a turn c → old ≡ counter (shown a).state c.id
+pub granted_right : {H : Type 0} {places : H → ℕ → ℕ} (a : Inside H) (turn : OpenTurn) (c : Claim) (old : ℕ) → Finds places a turn c → old ≡ counter (shown a).state c.id
     → is_granted c.mode old ≡ not (conflict (open_claims (shown a).state) (c ∷ []))
-granted_right a turn c old found is =
+granted_right {H} {places} a turn c old found is =
     ap (is_granted c.mode) is
     ∙ is_granted-no_conflict c.mode c.id (open_claims (shown a).state)
-    (omega (arith, found.limit, (counters_within (opening_of (shown a)) (shown a).state c.id found.reached).0))
+    (omega (arith, found.limit, (counters_within (opening_of places (shown a)) (shown a).state c.id found.reached).0))
 
 -- the sum in the word fits
-pub sum_fits : (a : Inside) (turn : OpenTurn) (c : Claim) → Finds a turn c → slice_get turn.call.claims turn.requested ≡ Some c
+pub sum_fits : {H : Type 0} {places : H → ℕ → ℕ} (a : Inside H) (turn : OpenTurn) (c : Claim) → Finds places a turn c → slice_get turn.call.claims turn.requested ≡ Some c
     → counter (shown a).state c.id + delta_of c.mode < 2 ^ 64
-sum_fits a turn c found at =
+sum_fits {H} {places} a turn c found at =
     let s : State = (shown a).state in
     let t : Turn = record { client = turn.client; call = turn.call; requested = turn.requested; granted = turn.granted } in
-    let next = request_reached (opening_of (shown a)) s t c found.reached found.open_turn at in
-    omega (arith, counter_asked s t c found.open_turn at, counter_fits (opening_of (shown a)) (after_request s t c) c.id next found.limit)
+    let next = request_reached (opening_of places (shown a)) s t c found.reached found.open_turn at in
+    omega (arith, counter_asked s t c found.open_turn at, counter_fits (opening_of places (shown a)) (after_request s t c) c.id next found.limit)
 
--- the core after a request
-abbrev pub claimed : Inside → Vec ℕ → OpenTurn → Bool → Inside
+-- the machine after a request
+abbrev pub claimed : {H : Type 0} → Inside H → Vec ℕ → OpenTurn → Bool → Inside H
 claimed a words turn granted = record a { words = words; turn = Some (record turn { requested = turn.requested + 1; granted = granted }) }
 
 -- what is shown of it
-pub claimed_shown : (a : Inside) (turn : OpenTurn) (c : Claim) (words : Vec ℕ) (granted : Bool)
-    → Finds a turn c → slice_get turn.call.claims turn.requested ≡ Some c → granted ≡ (turn.granted && not (conflict (open_claims (shown a).state) (c ∷ [])))
-    → shown (claimed a words turn granted) ≡ after (shown a) (step (opening_of (shown a)) (shown a).state event.Claim)
-claimed_shown a turn c words granted found at is =
+pub claimed_shown : {H : Type 0} {places : H → ℕ → ℕ} (a : Inside H) (turn : OpenTurn) (c : Claim) (words : Vec ℕ) (granted : Bool)
+    → Finds places a turn c → slice_get turn.call.claims turn.requested ≡ Some c → granted ≡ (turn.granted && not (conflict (open_claims (shown a).state) (c ∷ [])))
+    → shown (claimed a words turn granted) ≡ after (shown a) (step (opening_of places (shown a)) (shown a).state event.Claim)
+claimed_shown {H} {places} a turn c words granted found at is =
     let s : State = (shown a).state in
     let t : Turn = record { client = turn.client; call = turn.call; requested = turn.requested; granted = turn.granted } in
-    ap (λ (g : Bool). shown (claimed a words turn g)) is ∙ sym (ap (after (shown a)) (claim_step (opening_of (shown a)) s t c found.open_turn at))
+    ap (λ (g : Bool). shown (claimed a words turn g)) is ∙ sym (ap (after (shown a)) (claim_step (opening_of places (shown a)) s t c found.open_turn at))
 
 -- what it answers
-pub claimed_told : (a : Inside) (turn : OpenTurn) (c : Claim) (old : ℕ) (granted : Bool)
-    → Finds a turn c → slice_get turn.call.claims turn.requested ≡ Some c → old ≡ counter (shown a).state c.id → granted ≡ not (conflict (open_claims (shown a).state) (c ∷ []))
-    → ◌≡◌ {A = Result Seen Refusal} (Ok (Claimed old granted)) (told (step (opening_of (shown a)) (shown a).state event.Claim))
-claimed_told a turn c old granted found at was is =
+pub claimed_told : {H : Type 0} {places : H → ℕ → ℕ} (a : Inside H) (turn : OpenTurn) (c : Claim) (old : ℕ) (granted : Bool)
+    → Finds places a turn c → slice_get turn.call.claims turn.requested ≡ Some c → old ≡ counter (shown a).state c.id → granted ≡ not (conflict (open_claims (shown a).state) (c ∷ []))
+    → ◌≡◌ {A = Result Seen Refusal} (Ok (Claimed old granted)) (told (step (opening_of places (shown a)) (shown a).state event.Claim))
+claimed_told {H} {places} a turn c old granted found at was is =
     let s : State = (shown a).state in
     let t : Turn = record { client = turn.client; call = turn.call; requested = turn.requested; granted = turn.granted } in
     ap (λ (n : ℕ). Ok (Claimed n granted)) was ∙ ap (λ (g : Bool). Ok (Claimed (counter s c.id) g)) is
-    ∙ sym (ap told (claim_step (opening_of (shown a)) s t c found.open_turn at))
+    ∙ sym (ap told (claim_step (opening_of places (shown a)) s t c found.open_turn at))
 
--- what the type of a core keeps
-pub kept_claimed : (a : Inside) (turn : OpenTurn) (c : Claim) (words : Vec ℕ) (granted : Bool)
-    → IsCore a → Finds a turn c → slice_get turn.call.claims turn.requested ≡ Some c → granted ≡ (turn.granted && not (conflict (open_claims (shown a).state) (c ∷ [])))
+-- what the type of a machine keeps
+pub kept_claimed : {H : Type 0} {places : H → ℕ → ℕ} (a : Inside H) (turn : OpenTurn) (c : Claim) (words : Vec ℕ) (granted : Bool)
+    → IsMachine places a → Finds places a turn c → slice_get turn.call.claims turn.requested ≡ Some c → granted ≡ (turn.granted && not (conflict (open_claims (shown a).state) (c ∷ [])))
     → words.items ≡ slice_set a.words.items (pair_word_of_record c.id) (counter (shown a).state c.id + delta_of c.mode)
-    → IsCore (claimed a words turn granted)
-kept_claimed a turn c words granted kept found at is written =
-    let o : Opening = opening_of (shown a) in
+    → IsMachine places (claimed a words turn granted)
+kept_claimed {H} {places} a turn c words granted kept found at is written =
+    let o : Opening = opening_of places (shown a) in
     let s : State = (shown a).state in
     let t : Turn = record { client = turn.client; call = turn.call; requested = turn.requested; granted = turn.granted } in
     let next : after_request s t c ≡ (shown (claimed a words turn granted)).state = ap (λ (g : Bool). (shown (claimed a words turn g)).state) (sym is) in

@@ -70,3 +70,10 @@ none_open es zero h = refl
 none_open [] (suc t) h = refl
 none_open (e ∷ es) (suc t) h =
     flat_map-cons open_of e (take t es) ∙ (ap (λ xs. xs ++ flat_map open_of (take t es)) (h 0 e (omega arith) refl) ∙ none_open es t (λ v d low at. h (suc v) d (omega (arith, low)) at))
+
+-- what meets an open claim of none of the first t entries meets none of these
+pub none_met : (p : Claim → Bool) (es : List Entered) (t : ℕ) → ((v : ℕ) (e : Entered) → v < t → slice_get es v ≡ Some e → list_any p (open_of e) ≡ false)
+    → list_any p (flat_map open_of (take t es)) ≡ false
+none_met p es zero h = refl
+none_met p [] (suc t) h = refl
+none_met p (e ∷ es) (suc t) h = none_in p e (take t es) (h 0 e (omega arith) refl) (none_met p es t (λ v d low at. h (suc v) d (omega (arith, low)) at))

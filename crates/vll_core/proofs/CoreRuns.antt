@@ -5,17 +5,17 @@ use Rattle.std.proofs.lemmas.Option.{same_Some, slice_get_read, slice_get_within
 use Rattle.vll_proc.specs.declared.call.Call.{Call}
 use Rattle.vll_proc.specs.declared.call.Reply.{Reply}
 use Rattle.vll_check.specs.Calls.{CallsProcedure}
-use Rattle.vll_core.specs.declared.machine.Core.TheInside.{Inside}
-use Rattle.vll_core.specs.declared.status.Status.{Status}
+use Rattle.vll_core.specs.declared.machine.Machine.TheInside.{Inside}
+use Rattle.vll_sca.specs.declared.status.Status.{Status}
 use Rattle.vll_core.specs.declared.work.Work.{Work}
-use Rattle.vll_core.specs.Status.{is_running}
+use Rattle.vll_sca.specs.Status.{is_running}
 use Rattle.vll_core.specs.Queue.{QueueEntry}
 use Rattle.vll_core.specs.State.{Entered, records_before}
 use Rattle.vll_core.specs.Machine.{running, if_running}
 use Rattle.vll_core.specs.Shown.{Shown}
 use Rattle.vll_core.specs.View.{shown}
 use Rattle.vll_core.specs.Work.{IsAtWork}
-use Rattle.vll_core.specs.CoreKept.{IsCore}
+use Rattle.vll_core.specs.MachineKept.{IsMachine}
 use Rattle.vll_core.proofs.CoreRunning.{RunsAt, runs_told, read_work, work_there, now_shown}
 use Rattle.vll_core.proofs.CoreState.{entry_shown}
 
@@ -24,7 +24,7 @@ abbrev pub entered_as : ℕ → Call → Status → Work → Entered
 entered_as client call status w = record { client = client; call = call; status = status; loads = w.loads; stores = w.stores; releases = w.releases }
 
 -- the call of a ticket runs, and this is its work
-pub record Runs (a : Inside) (t : ℕ) (call : Call) (w : Work) : Type 0 where
+pub record Runs {H : Type 0} (a : Inside H) (t : ℕ) (call : Call) (w : Work) : Type 0 where
   pub client : ℕ
   pub reply : Option Reply
   pub status : Status
@@ -33,20 +33,20 @@ pub record Runs (a : Inside) (t : ℕ) (call : Call) (w : Work) : Type 0 where
   pub runs : is_running status ≡ true
   pub at : slice_get (shown a).state.entries t ≡ Some (entered_as client call status w)
   pub found : running (shown a).state t ≡ Some (entered_as client call status w)
-  pub work : IsAtWork a.library.procs call (records_before (shown a).base (shown a).state t) w
-  pub well : CallsProcedure a.library call
+  pub work : IsAtWork a.library.value.procs call (records_before (shown a).base (shown a).state t) w
+  pub well : CallsProcedure a.library.value call
 
 -- an entry that runs is found
 pub runs_found : (x : Option Entered) (e : Entered) → x ≡ Some e → is_running e.status ≡ true → if_running x ≡ Some e
 runs_found x e is runs = ap if_running is ∙ rw runs refl
 
 -- a call that runs has a work
-pub work_within : (a : Inside) (s : Shown) (t : ℕ) (call : Call) → IsCore a → shown a ≡ s → Some call ≡ option_map (λ (e : Entered). e.call) (running s.state t)
+pub work_within : {H : Type 0} {places : H → ℕ → ℕ} (a : Inside H) (s : Shown H) (t : ℕ) (call : Call) → IsMachine places a → shown a ≡ s → Some call ≡ option_map (λ (e : Entered). e.call) (running s.state t)
     → t < length a.work.items
 work_within a s t call core view is = work_there a t t call (runs_told a s t call core view is) refl
 
 -- what is known of a call that runs, by the work that is read
-pub runs_of : (a : Inside) (s : Shown) (t : ℕ) (call : Call) (w : Work) → IsCore a → shown a ≡ s → Some call ≡ option_map (λ (e : Entered). e.call) (running s.state t)
+pub runs_of : {H : Type 0} {places : H → ℕ → ℕ} (a : Inside H) (s : Shown H) (t : ℕ) (call : Call) (w : Work) → IsMachine places a → shown a ≡ s → Some call ≡ option_map (λ (e : Entered). e.call) (running s.state t)
     → w ≡ slice_index_or a.work.items t w → Runs a t call w
 runs_of a s t call w core view is read =
     let f : RunsAt a t call = runs_told a s t call core view is in
@@ -65,12 +65,12 @@ runs_of a s t call w core view is read =
       at = at;
       found = runs_found _ _ at f.runs;
       work =
-          subst (λ (x : Work). IsAtWork a.library.procs call (records_before (shown a).base (shown a).state t) x) same
-          (subst (λ (now : List ℕ). IsAtWork a.library.procs call now f.work) (sym (now_shown a t core.works)) f.at_work);
+          subst (λ (x : Work). IsAtWork a.library.value.procs call (records_before (shown a).base (shown a).state t) x) same
+          (subst (λ (now : List ℕ). IsAtWork a.library.value.procs call now f.work) (sym (now_shown a t core.works)) f.at_work);
       well = f.calls;
     }
 
 -- a call that runs has one work
-pub same_work : (a : Inside) (t : ℕ) (call : Call) (w next : Work) → Runs a t call w → next ≡ slice_index_or a.work.items t next → next ≡ w
+pub same_work : {H : Type 0} (a : Inside H) (t : ℕ) (call : Call) (w next : Work) → Runs a t call w → next ≡ slice_index_or a.work.items t next → next ≡ w
 same_work a t call w next r read =
     same_Some next w (sym (slice_get_read a.work.items (length a.work.items) t next refl (slice_get_within a.work.items t w r.worked) read) ∙ r.worked)

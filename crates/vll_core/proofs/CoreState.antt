@@ -1,26 +1,27 @@
--- What a core shows of its queue and its works, and what stays where one of their entries changes.
-use Rattle.std.proofs.Common.{◌≡◌, ℕ, zero, suc, true, ◌<◌, ◌⊎◌, inl, inr, ⊎_elim, refl, sym, ap, ◌∙◌, subst, arith, List, [], ◌∷◌, ◌++◌, length, map, slice_get, slice_set, Option, Some, None, All, Bool, false, ◌≤◌, length-set, length-append}
+-- What a machine shows of its queue and its works, and what stays where one of their entries changes.
+use Rattle.std.proofs.Common.{◌≡◌, ℕ, zero, suc, true, ◌<◌, ◌⊎◌, inl, inr, ⊎_elim, refl, sym, ap, ◌∙◌, subst, arith, List, [], ◌∷◌, ◌++◌, length, map, count_by, slice_get, slice_set, Option, Some, None, All, Bool, false, cond, ◌+◌, ◌≤◌, length-set, length-append}
 use Rattle.std.specs.Option.{option_map}
 use Rattle.std.proofs.lemmas.Option.{same_Some, slice_get-map, slice_get_within, get_or_from_slice_get}
 use Rattle.std.proofs.lemmas.List.{map-append, length-map, take-append-le}
+use Rattle.std.proofs.lemmas.List.Folds.{fold-map}
 use Rattle.vll_proc.specs.declared.call.Call.{Call}
 use Rattle.vll_proc.specs.declared.call.Reply.{Reply}
 use Rattle.vll_proc.specs.Serial.{Made, before, end}
 use Rattle.vll_check.specs.Calls.{Fits}
 use Rattle.vll_check.specs.Catalog.{Catalog}
 use Rattle.vll_core.specs.declared.line.Line.{Line}
-use Rattle.vll_core.specs.declared.status.Status.{Status}
-use Rattle.vll_core.specs.declared.status.Status.TheVariants.{Running, Waiting, Gone}
+use Rattle.vll_sca.specs.declared.status.Status.{Status}
+use Rattle.vll_sca.specs.declared.status.Status.TheVariants.{Running, Waiting, Gone}
 use Rattle.vll_core.specs.declared.work.Work.{Work}
-use Rattle.vll_core.specs.Status.{is_gone}
+use Rattle.vll_sca.specs.Status.{is_waiting, is_gone}
 use Rattle.vll_core.specs.State.{Entered, made}
 use Rattle.vll_core.specs.Queue.{QueueEntry, Queued, IsQueued, has_reply, lines, statuses, changed_at, started, finished, admitted}
 use Rattle.vll_core.specs.View.{entered_of, entries_of}
 use Rattle.vll_core.specs.Work.{IsAtWork}
-use Rattle.vll_core.specs.CoreKept.{made_of, AreAtWork, AreReplied}
+use Rattle.vll_core.specs.MachineKept.{made_of, AreAtWork, AreReplied}
 use Rattle.vll_core.proofs.Places.{all_at, entry_at, at_set, at_push}
-use Rattle.vll_core.proofs.Entries.{starts}
-use Rattle.vll_core.proofs.QueueLaws.{changed_there, map_changed, map_unchanged, lines_started, statuses_started, lines_admitted, statuses_admitted}
+use Rattle.vll_core.proofs.Entries.{starts, fewer_wait, one_more_waits}
+use Rattle.vll_core.proofs.QueueLaws.{changed_there, map_changed, map_unchanged, lines_started, statuses_started, statuses_finished, lines_admitted, statuses_admitted}
 
 -- a ticket's entry is that of the queue with its work
 pub entry_shown : (es : List QueueEntry) (ws : List Work) (t : ℕ) (e : QueueEntry) (w : Work)
@@ -72,6 +73,13 @@ made_shown es ws same = map_shown (λ (e : QueueEntry). (e.line.client, e.line.c
 pub statuses_shown : (es : List QueueEntry) (ws : List Work) → length ws ≡ length es
     → map (λ (e : Entered). e.status) (entries_of es ws) ≡ map (λ (e : QueueEntry). e.status) es
 statuses_shown es ws same = map_shown (λ (e : QueueEntry). e.status) (λ (e : Entered). e.status) es ws (λ e w. refl) same
+
+-- as many calls wait as entries of the queue
+pub waiting_shown : (es : List QueueEntry) (ws : List Work) → length ws ≡ length es
+    → count_by (λ (e : Entered). is_waiting e.status) (entries_of es ws) ≡ count_by is_waiting (map (λ (e : QueueEntry). e.status) es)
+waiting_shown es ws same =
+    sym (fold-map (λ (m : ℕ) (s : Status). m + cond (is_waiting s) 1 0) (λ (e : Entered). e.status) 0 (entries_of es ws))
+    ∙ ap (λ (ss : List Status). count_by is_waiting ss) (statuses_shown es ws same)
 
 -- an entry of the queue is put
 pub entry_put : (es : List QueueEntry) (ws : List Work) (t : ℕ) (e : QueueEntry) (w : Work)
@@ -219,10 +227,15 @@ replied_pushed es ws last new same left all t e w at has gone = step (at_push es
     step (inr end_of) there = absurd (cc (sym gone ∙ (ap (λ (x : QueueEntry). is_gone x.status) end_of.1 ∙ left)))
 
 -- the queue stays one where a waiting call begins to run
-pub queued_started : (q : Queued) (t : ℕ) → slice_get (statuses q) t ≡ Some Waiting → IsQueued q → IsQueued (started q t)
+pub queued_started : {H : Type 0} (q : Queued H) (t : ℕ) → slice_get (statuses q) t ≡ Some Waiting → IsQueued q → IsQueued (started q t)
 queued_started q t at kept = record {
   some_calls = kept.some_calls;
   few_calls = kept.few_calls;
+  some_wait = kept.some_wait;
+  few_wait = kept.few_wait;
+  some_bits = kept.some_bits;
+  few_bits = kept.few_bits;
+  capped = rw (statuses_started q t) (omega (arith, kept.capped, (starts (statuses q) t at).waiting));
   within = rw (length_changed q.entries t (λ e. record e { status = Running })) kept.within;
   answered =
       ap (λ (ls : List Line). map has_reply ls) (lines_started q t)
@@ -230,10 +243,15 @@ queued_started q t at kept = record {
 }
 
 -- the queue stays one where a running call is finished
-pub queued_finished : (q : Queued) (t : ℕ) (reply : Reply) → IsQueued q → IsQueued (finished q t reply)
+pub queued_finished : {H : Type 0} (q : Queued H) (t : ℕ) (reply : Reply) → IsQueued q → IsQueued (finished q t reply)
 queued_finished q t reply kept = record {
   some_calls = kept.some_calls;
   few_calls = kept.few_calls;
+  some_wait = kept.some_wait;
+  few_wait = kept.few_wait;
+  some_bits = kept.some_bits;
+  few_bits = kept.few_bits;
+  capped = rw (statuses_finished q t reply) (omega (arith, kept.capped, fewer_wait (statuses q) t));
   within = rw (length_changed q.entries t (λ e. record { line = record e.line { reply = Some reply }; status = Gone })) kept.within;
   answered =
       answers (finished q t reply).entries
@@ -251,10 +269,16 @@ queued_finished q t reply kept = record {
     goes (e ∷ es) = ap (λ (bs : List Bool). is_gone e.status ∷ bs) (goes es)
 
 -- the queue stays one where a call enters that is not gone, without a reply
-pub queued_admitted : (q : Queued) (e : QueueEntry) → length q.entries < q.limit → has_reply e.line ≡ false → is_gone e.status ≡ false → IsQueued q → IsQueued (admitted q e)
-queued_admitted q e room silent left kept = record {
+pub queued_admitted : {H : Type 0} (q : Queued H) (e : QueueEntry) → length q.entries < q.limit → count_by is_waiting (statuses q) < q.cap
+    → has_reply e.line ≡ false → is_gone e.status ≡ false → IsQueued q → IsQueued (admitted q e)
+queued_admitted q e room idle silent left kept = record {
   some_calls = kept.some_calls;
   few_calls = kept.few_calls;
+  some_wait = kept.some_wait;
+  few_wait = kept.few_wait;
+  some_bits = kept.some_bits;
+  few_bits = kept.few_bits;
+  capped = rw (statuses_admitted q e) (omega (arith, idle, one_more_waits (statuses q) e.status));
   within = omega (arith, length-append q.entries (e ∷ []), room);
   answered =
       ap (λ (ls : List Line). map has_reply ls) (lines_admitted q e)

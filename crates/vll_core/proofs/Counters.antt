@@ -13,7 +13,7 @@ use Rattle.vll_core.proofs.Tests.{lt_no}
 use Rattle.vll_core.proofs.OwnClaims.{once, on-append, on_part}
 use Rattle.vll_core.proofs.Deltas.{word_on, counter_request, counter_release, counter_same}
 use Rattle.vll_core.proofs.Kept.{IsKept}
-use Rattle.vll_core.proofs.Changes.{Change, change_of, entered_by, handed, requested, admitted, fronted, woken, loaded, stored, released, finished}
+use Rattle.vll_core.proofs.Changes.{Change, change_of, entered_by, handed, requested, admitted, fronted, picked, woken, loaded, stored, released, finished}
 use Rattle.vll_core.proofs.Reached.{kept_reached}
 
 plus_none : (a b : ℕ) → a ≡ b → a + 0 ≡ b + 0
@@ -36,14 +36,15 @@ admitted_same s turn new r is all own =
     ap (word_on r) (left ∙ right)
 
 counter_change : (o : Opening) (s : State) (m : Move) (next : State) (r : ℕ) → Change o s m next → counter next r + delta_if r (released_by s m) ≡ counter s r + delta_if r (requested_by s m)
-counter_change o s m next r (entered_by client call none at room) = plus_none _ _ (opened_same s r none)
-counter_change o s m next r (handed client call none room) = plus_none _ _ (opened_same s r none)
+counter_change o s m next r (entered_by client call none at room waits) = plus_none _ _ (opened_same s r none)
+counter_change o s m next r (handed client call none room waits) = plus_none _ _ (opened_same s r none)
 counter_change o s m next r (requested turn c is at) =
     let delta : delta_if r (turn_request s.turn) ≡ delta_on r c = ap (λ (x : Option Turn). delta_if r (turn_request x)) is ∙ ap (delta_if r) at in
     let more = counter_request s turn c (turn.granted && not (conflict (open_claims s) (c ∷ []))) r is at in
     omega (arith, delta, more)
 counter_change o s m next r (admitted turn status is all here free) = plus_none _ _ (admitted_same s turn _ r is (lt_no turn.requested (length turn.call.claims) all) refl)
 counter_change o s m next r (fronted t f) = plus_none _ _ (counter_same s t f.entry _ r f.at refl)
+counter_change o s m next r (picked t p) = plus_none _ _ (counter_same s t p.entry _ r p.at refl)
 counter_change o s m next r (woken t e at clear) = plus_none _ _ (counter_same s t e _ r at refl)
 counter_change o s m next r (loaded t e c at runs left) = plus_none _ _ (counter_same s t e _ r at refl)
 counter_change o s m next r (stored t e at runs all left) = plus_none _ _ (counter_same s t e _ r at refl)

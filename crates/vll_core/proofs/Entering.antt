@@ -1,23 +1,31 @@
--- A turn opens for the next call of a client's script.
-use Rattle.std.proofs.Common.{◌≡◌, ℕ, zero, suc, ◌+◌, ◌<◌, ◌≤◌, Bool, true, false, IsTrue, nat_le, refl, sym, ap, ◌∙◌, arith, List, [], ◌∷◌, length, drop, slice_get, slice_set, Option, Some, None, is_some, Ok, add-one, length-set, All}
+-- A turn opens, for the next call of a client's script or for one that is handed in.
+use Rattle.std.proofs.Common.{◌≡◌, ℕ, zero, suc, ◌+◌, ◌<◌, ◌≤◌, ◌↔◌, Bool, true, false, IsTrue, nat_le, refl, sym, ap, ◌∙◌, subst, arith, List, [], ◌∷◌, length, count_by, drop, slice_get, slice_set, Option, Some, None, is_some, Result, Ok, Err, add-one, length-set, All}
 use Rattle.std.specs.Vec.{with_item}
 use Rattle.std.specs.Global.{Vec}
 use Rattle.std.proofs.lemmas.Option.{same_Some}
-use Rattle.std.proofs.lemmas.Bool.Decides.{nat_tests}
 use Rattle.vll_proc.specs.declared.call.Call.{Call}
 use Rattle.vll_check.specs.Calls.{Fits}
 use Rattle.vll_core.specs.declared.event.Event.TheVariants as event
-use Rattle.vll_core.specs.declared.machine.Core.TheInside.{Inside}
-use Rattle.vll_core.specs.declared.refusal.Refusal.TheVariants.{TurnOpen, NoCall, Spent}
+use Rattle.vll_core.specs.declared.machine.Machine.TheInside.{Inside}
+use Rattle.vll_core.specs.declared.refusal.Refusal.{Refusal}
+use Rattle.vll_core.specs.declared.refusal.Refusal.TheVariants.{TurnOpen, NoCall, Spent, Busy}
 use Rattle.vll_core.specs.declared.seen.Seen.TheVariants.{Opened}
+use Rattle.vll_sca.specs.Status.{is_waiting}
 use Rattle.vll_core.specs.State.{Opening, State, Turn}
-use Rattle.vll_core.specs.Machine.{Outcome, refuse_if, or_refuse, first_call, next_call, rest_of, used, enter, step}
-use Rattle.vll_core.specs.Shown.{opening_of}
+use Rattle.vll_core.specs.Machine.{Outcome, refuse_if, or_refuse, waiting, first_call, next_call, rest_of, used, enter, step}
+use Rattle.vll_core.specs.Moves.{hand, move, moved}
+use Rattle.vll_core.specs.Queue.{statuses}
+use Rattle.vll_core.specs.Shown.{Shown, opening_of}
 use Rattle.vll_core.specs.View.{turn_of, left_of, shown}
-use Rattle.vll_core.specs.CoreKept.{IsCore}
+use Rattle.vll_core.specs.MachineKept.{IsMachine}
+use Rattle.vll_core.proofs.Tests.{le_no}
 use Rattle.vll_core.proofs.Places.{all_at}
-use Rattle.vll_core.proofs.CoreState.{length_shown}
+use Rattle.vll_core.proofs.Fitted.{proper_fits}
+use Rattle.vll_core.proofs.CoreWords.{words_stay}
+use Rattle.vll_core.proofs.CoreState.{length_shown, waiting_shown}
 use Rattle.vll_core.proofs.CoreSteps.{Refuses, Takes, taken_reached, taken_words}
+
+-- ---- the plain machine
 
 -- a client's calls that are left
 left_at : (vs : List (Vec Call)) (ns : List ℕ) (t n : ℕ) (v : Vec Call) → slice_get vs t ≡ Some v → slice_get ns t ≡ Some n → slice_get (left_of vs ns) t ≡ Some (drop n v.items)
@@ -64,6 +72,52 @@ next_left : (vs : List (Vec Call)) (ns : List ℕ) (client n : ℕ) (v : Vec Cal
     → first_call (slice_get (left_of vs ns) client) ≡ slice_get v.items n
 next_left vs ns client n v at has = ap (λ (x : Option (List Call)). first_call x) (left_at vs ns client n v at has) ∙ first_left v.items n
 
+-- whether there is room for one more call, and why not
+pub record IsRoom {H : Type 0} (s : Shown H) (r : Result (Unit {0}) Refusal) : Type 0 where
+  pub spent : r ≡ Err Spent ↔ (s.limit ≤ length s.state.entries)
+  pub busy : r ≡ Err Busy ↔ ((length s.state.entries < s.limit) × (s.cap ≤ waiting s.state))
+  pub ok : r ≡ Ok tt ↔ ((length s.state.entries < s.limit) × (waiting s.state < s.cap))
+
+pub room_spent : {H : Type 0} (s : Shown H) → s.limit ≤ length s.state.entries → IsRoom s (Err Spent)
+room_spent s full = record {
+  spent = (λ is. full, λ h. refl);
+  busy = (λ is. absurd (cc is), λ h. absurd (let left = h.0 in omega (arith, full, left)));
+  ok = (λ is. absurd (cc is), λ h. absurd (let left = h.0 in omega (arith, full, left)));
+}
+
+pub room_busy : {H : Type 0} (s : Shown H) → length s.state.entries < s.limit → s.cap ≤ waiting s.state → IsRoom s (Err Busy)
+room_busy s left many = record {
+  spent = (λ is. absurd (cc is), λ h. absurd (omega (arith, left, h)));
+  busy = (λ is. (left, many), λ h. refl);
+  ok = (λ is. absurd (cc is), λ h. absurd (let few = h.1 in omega (arith, many, few)));
+}
+
+pub room_ok : {H : Type 0} (s : Shown H) → length s.state.entries < s.limit → waiting s.state < s.cap → IsRoom s (Ok tt)
+room_ok s left few = record {
+  spent = (λ is. absurd (cc is), λ h. absurd (omega (arith, left, h)));
+  busy = (λ is. absurd (cc is), λ h. absurd (let many = h.1 in omega (arith, many, few)));
+  ok = (λ is. (left, few), λ h. refl);
+}
+
+-- the room in the state that a machine's fields show
+pub room_inside : {H : Type 0} (a : Inside H) (s : Shown H) (r q : Result (Unit {0}) Refusal) → shown a ≡ s → r ≡ q → IsRoom s r → IsRoom (shown a) q
+room_inside a s r q view is room = subst (λ x. IsRoom x q) (sym view) (subst (IsRoom s) is room)
+
+-- refused where there is no room
+abbrev if_room : Result (Unit {0}) Refusal → Outcome → Outcome
+if_room (Ok x) go = go
+if_room (Err why) go = Err why
+
+room_is : {H : Type 0} (s : Shown H) (r : Result (Unit {0}) Refusal) (go : Outcome) → IsRoom s r
+    → refuse_if (nat_le s.limit (length s.state.entries)) Spent (refuse_if (nat_le s.cap (waiting s.state)) Busy go) ≡ if_room r go
+room_is s r go room = by_tests (nat_le s.limit (length s.state.entries)) (nat_le s.cap (waiting s.state)) refl refl
+  where
+    by_tests : (full many : Bool) → nat_le s.limit (length s.state.entries) ≡ full → nat_le s.cap (waiting s.state) ≡ many
+        → refuse_if full Spent (refuse_if many Busy go) ≡ if_room r go
+    by_tests true many spent busy = ap (λ (x : Result (Unit {0}) Refusal). if_room x go) (sym (room.spent.1 (grind (arith, spent))))
+    by_tests false true spent busy = ap (λ (x : Result (Unit {0}) Refusal). if_room x go) (sym (room.busy.1 (le_no _ _ spent, grind (arith, busy))))
+    by_tests false false spent busy = ap (λ (x : Result (Unit {0}) Refusal). if_room x go) (sym (room.ok.1 (le_no _ _ spent, le_no _ _ busy)))
+
 -- where no turn is open, the machine goes by the next call, and then by the room that is left
 by_call : (o : Opening) (s : State) (client : ℕ) (x : Option Call) → is_some s.turn ≡ false → next_call s client ≡ x
     → step o s (event.Enter client) ≡ or_refuse x NoCall (λ (call : Call). enter o s client call (used s client))
@@ -71,25 +125,14 @@ by_call o s client x closed next =
     ap (λ (b : Bool). refuse_if b TurnOpen (or_refuse (next_call s client) NoCall (λ (call : Call). enter o s client call (used s client)))) closed
     ∙ ap (λ (y : Option Call). or_refuse y NoCall (λ (call : Call). enter o s client call (used s client))) next
 
-by_room : (o : Opening) (s : State) (client : ℕ) (call : Call) (scripts : List (List Call)) (b : Bool) → nat_le o.limit (length s.entries) ≡ b
-    → enter o s client call scripts ≡ refuse_if b Spent (Ok (Opened, record s { turn = Some (record { client = client; call = call; requested = 0; granted = true }); scripts = scripts }))
-by_room o s client call scripts b room =
-    ap (λ (x : Bool). refuse_if x Spent (Ok (Opened, record s { turn = Some (record { client = client; call = call; requested = 0; granted = true }); scripts = scripts }))) room
+by_room : {H : Type 0} (places : H → ℕ → ℕ) (s : Shown H) (client : ℕ) (call : Call) (scripts : List (List Call)) (r : Result (Unit {0}) Refusal) → IsRoom s r
+    → enter (opening_of places s) s.state client call scripts ≡ if_room r (Ok (Opened, record s.state { turn = Some (record { client = client; call = call; requested = 0; granted = true }); scripts = scripts }))
+by_room places s client call scripts r room =
+    room_is s r (Ok (Opened, record s.state { turn = Some (record { client = client; call = call; requested = 0; granted = true }); scripts = scripts })) room
 
--- no turn is open, and a client's script has a next call
-pub record HasNext (a : Inside) (client n : ℕ) (call : Call) : Type 0 where
-  pub script : Vec Call
-  pub closed : is_some (turn_of a.turn) ≡ false
-  pub at : slice_get a.scripts.items client ≡ Some script
-  pub place : slice_get a.next.items client ≡ Some n
-  pub next : slice_get script.items n ≡ Some call
+-- ---- the machine
 
--- the fields of a core once a turn is open
-abbrev pub opened_turn : Inside → ℕ → Call → ℕ → Inside
-opened_turn a client call n =
-    record a { turn = Some (record { client = client; call = call; requested = 0; granted = true }); next = with_item a.next client (n + 1) }
-
--- a queue that is not full has room
+-- a count below its limit, by a test of whether it has reached it
 pub unspent : (n limit : ℕ) (b : Bool) → n ≤ limit → b ≡ false → (n ≡ limit → IsTrue b) → n < limit
 unspent n limit true within left full = absurd (cc left)
 unspent n limit false within left full =
@@ -100,47 +143,76 @@ pub is_spent : (n limit : ℕ) (b : Bool) → b ≡ true → (IsTrue b → n ≡
 is_spent n limit true spent full = full refl
 is_spent n limit false spent full = absurd (cc spent)
 
-pub refused_client : (a : Inside) (client : ℕ) → is_some (turn_of a.turn) ≡ false → slice_get a.scripts.items client ≡ None → Refuses a (event.Enter client) NoCall
-refused_client a client closed none = record {
-  is = by_call (opening_of (shown a)) (shown a).state client None closed (ap (λ (x : Option (List Call)). first_call x) (left_none a.scripts.items a.next.items client none));
+-- what a machine shows of the room in its queue
+pub full_shown : {H : Type 0} {places : H → ℕ → ℕ} (a : Inside H) (s : Shown H) → IsMachine places a → shown a ≡ s → length a.queue.entries ≡ a.queue.limit → s.limit ≤ length s.state.entries
+full_shown {H} a s core view full =
+    subst (λ (x : Shown H). x.limit ≤ length x.state.entries) view (omega (arith, length_shown a.queue.entries a.work.items core.works, full))
+
+pub left_shown : {H : Type 0} {places : H → ℕ → ℕ} (a : Inside H) (s : Shown H) → IsMachine places a → shown a ≡ s → length a.queue.entries < a.queue.limit → length s.state.entries < s.limit
+left_shown {H} a s core view left =
+    subst (λ (x : Shown H). length x.state.entries < x.limit) view (omega (arith, length_shown a.queue.entries a.work.items core.works, left))
+
+pub many_shown : {H : Type 0} {places : H → ℕ → ℕ} (a : Inside H) (s : Shown H) → IsMachine places a → shown a ≡ s → count_by is_waiting (statuses a.queue) ≡ a.queue.cap → s.cap ≤ waiting s.state
+many_shown {H} a s core view many =
+    subst (λ (x : Shown H). x.cap ≤ waiting x.state) view (omega (arith, waiting_shown a.queue.entries a.work.items core.works, many))
+
+pub few_shown : {H : Type 0} {places : H → ℕ → ℕ} (a : Inside H) (s : Shown H) → IsMachine places a → shown a ≡ s → count_by is_waiting (statuses a.queue) < a.queue.cap → waiting s.state < s.cap
+few_shown {H} a s core view few =
+    subst (λ (x : Shown H). waiting x.state < x.cap) view (omega (arith, waiting_shown a.queue.entries a.work.items core.works, few))
+
+-- no turn is open, and a client's script has a next call
+pub record HasNext {H : Type 0} (a : Inside H) (client n : ℕ) (call : Call) : Type 0 where
+  pub script : Vec Call
+  pub closed : is_some (turn_of a.turn) ≡ false
+  pub at : slice_get a.scripts.items client ≡ Some script
+  pub place : slice_get a.next.items client ≡ Some n
+  pub next : slice_get script.items n ≡ Some call
+
+-- the fields of a machine once a turn is open
+abbrev pub opened_turn : {H : Type 0} → Inside H → ℕ → Call → ℕ → Inside H
+opened_turn a client call n =
+    record a { turn = Some (record { client = client; call = call; requested = 0; granted = true }); next = with_item a.next client (n + 1) }
+
+pub refused_client : {H : Type 0} {places : H → ℕ → ℕ} (a : Inside H) (client : ℕ) → is_some (turn_of a.turn) ≡ false → slice_get a.scripts.items client ≡ None → Refuses places a (event.Enter client) NoCall
+refused_client {H} {places} a client closed none = record {
+  is = by_call (opening_of places (shown a)) (shown a).state client None closed (ap (λ (x : Option (List Call)). first_call x) (left_none a.scripts.items a.next.items client none));
 }
 
-pub refused_call : (a : Inside) (client n : ℕ) (v : Vec Call) → is_some (turn_of a.turn) ≡ false → slice_get a.scripts.items client ≡ Some v → slice_get a.next.items client ≡ Some n
-    → slice_get v.items n ≡ None → Refuses a (event.Enter client) NoCall
-refused_call a client n v closed at place none = record {
-  is = by_call (opening_of (shown a)) (shown a).state client None closed (next_left a.scripts.items a.next.items client n v at place ∙ none);
+pub refused_call : {H : Type 0} {places : H → ℕ → ℕ} (a : Inside H) (client n : ℕ) (v : Vec Call) → is_some (turn_of a.turn) ≡ false → slice_get a.scripts.items client ≡ Some v → slice_get a.next.items client ≡ Some n
+    → slice_get v.items n ≡ None → Refuses places a (event.Enter client) NoCall
+refused_call {H} {places} a client n v closed at place none = record {
+  is = by_call (opening_of places (shown a)) (shown a).state client None closed (next_left a.scripts.items a.next.items client n v at place ∙ none);
 }
 
-next_is : (a : Inside) (client n : ℕ) (call : Call) → HasNext a client n call
-    → step (opening_of (shown a)) (shown a).state (event.Enter client) ≡ enter (opening_of (shown a)) (shown a).state client call (used (shown a).state client)
-next_is a client n call has =
-    by_call (opening_of (shown a)) (shown a).state client (Some call) has.closed (next_left a.scripts.items a.next.items client n has.script has.at has.place ∙ has.next)
+next_is : {H : Type 0} (places : H → ℕ → ℕ) (a : Inside H) (client n : ℕ) (call : Call) → HasNext a client n call
+    → step (opening_of places (shown a)) (shown a).state (event.Enter client) ≡ enter (opening_of places (shown a)) (shown a).state client call (used (shown a).state client)
+next_is places a client n call has =
+    by_call (opening_of places (shown a)) (shown a).state client (Some call) has.closed (next_left a.scripts.items a.next.items client n has.script has.at has.place ∙ has.next)
 
-pub refused_room : (a : Inside) (client n : ℕ) (call : Call) → IsCore a → HasNext a client n call → length a.queue.entries ≡ a.queue.limit → Refuses a (event.Enter client) Spent
-refused_room a client n call core has full =
-    let entries : length (shown a).state.entries ≡ length a.queue.entries = length_shown a.queue.entries a.work.items core.works in
-    let spent : nat_le a.queue.limit (length (shown a).state.entries) ≡ true = grind (arith, nat_tests, entries, full) in
-    record { is = next_is a client n call has ∙ by_room (opening_of (shown a)) (shown a).state client call (used (shown a).state client) true spent }
+pub refused_room : {H : Type 0} {places : H → ℕ → ℕ} (a : Inside H) (client n : ℕ) (call : Call) (why : Refusal) → HasNext a client n call
+    → IsRoom (shown a) (Err why) → Refuses places a (event.Enter client) why
+refused_room {H} {places} a client n call why has room = record {
+  is = next_is places a client n call has ∙ by_room places (shown a) client call (used (shown a).state client) (Err why) room;
+}
 
-pub taken_enter : (a : Inside) (client n : ℕ) (call : Call) → IsCore a → HasNext a client n call → length a.queue.entries < a.queue.limit
-    → Takes a (opened_turn a client call n) (event.Enter client) Opened
-taken_enter a client n call core has room =
-    let entries : length (shown a).state.entries ≡ length a.queue.entries = length_shown a.queue.entries a.work.items core.works in
-    let unspent : nat_le a.queue.limit (length (shown a).state.entries) ≡ false = grind (arith, nat_tests, entries, room) in
+pub taken_enter : {H : Type 0} {places : H → ℕ → ℕ} (a : Inside H) (client n : ℕ) (call : Call) → HasNext a client n call
+    → IsRoom (shown a) (Ok tt) → Takes places a (opened_turn a client call n) (event.Enter client) Opened
+taken_enter {H} {places} a client n call has room =
     let turn : Turn = record { client = client; call = call; requested = 0; granted = true } in
     record {
       fixed = refl;
       is =
-          next_is a client n call has
-          ∙ (by_room (opening_of (shown a)) (shown a).state client call (used (shown a).state client) false unspent
+          next_is places a client n call has
+          ∙ (by_room places (shown a) client call (used (shown a).state client) (Ok tt) room
           ∙ ap (λ (scripts : List (List Call)). let out : Outcome = Ok (Opened, record (shown a).state { turn = Some turn; scripts = scripts }) in out)
           (used_left (shown a).state a.scripts.items a.next.items client n has.script refl has.at has.place));
     }
 
-pub core_enter : (a : Inside) (client n : ℕ) (call : Call) → IsCore a → HasNext a client n call → length a.queue.entries < a.queue.limit → IsCore (opened_turn a client call n)
-core_enter a client n call core has room =
-    let b : Inside = opened_turn a client call n in
-    let takes : Takes a b (event.Enter client) Opened = taken_enter a client n call core has room in
+pub core_enter : {H : Type 0} {places : H → ℕ → ℕ} (a : Inside H) (client n : ℕ) (call : Call) → IsMachine places a → HasNext a client n call
+    → IsRoom (shown a) (Ok tt) → IsMachine places (opened_turn a client call n)
+core_enter {H} {places} a client n call core has room =
+    let b : Inside H = opened_turn a client call n in
+    let takes : Takes places a b (event.Enter client) Opened = taken_enter a client n call has room in
     record {
       reached = taken_reached a b (event.Enter client) Opened takes core.reached;
       words = taken_words a b (event.Enter client) Opened takes core.reached refl refl refl core.words;
@@ -153,7 +225,42 @@ core_enter a client n call core has room =
       room = core.room;
       nexts = length-set a.next.items client (n + 1) ∙ core.nexts;
       entries_fit = core.entries_fit;
-      turn_fits = all_at (Fits a.library) has.script.items n call (all_at (λ (v : Vec Call). All (Fits a.library) v.items) a.scripts.items client has.script core.scripts_fit has.at) has.next;
+      turn_fits = all_at (Fits a.library.value) has.script.items n call (all_at (λ (v : Vec Call). All (Fits a.library.value) v.items) a.scripts.items client has.script core.scripts_fit has.at) has.next;
+      scripts_fit = core.scripts_fit;
+      at_work = core.at_work;
+      replied = core.replied;
+    }
+
+-- the fields of a machine once a turn is open for a call that is handed in
+abbrev pub handed_turn : {H : Type 0} → Inside H → ℕ → Call → Inside H
+handed_turn a client call = record a { turn = Some (record { client = client; call = call; requested = 0; granted = true }) }
+
+hand_is : {H : Type 0} (places : H → ℕ → ℕ) (a : Inside H) (client : ℕ) (call : Call) (r : Result (Unit {0}) Refusal) → is_some (turn_of a.turn) ≡ false
+    → IsRoom (shown a) r
+    → move (opening_of places (shown a)) (shown a).state (hand client call) ≡ if_room r (Ok (Opened, (shown (handed_turn a client call)).state))
+hand_is places a client call r closed room =
+    ap (λ (b : Bool). refuse_if b TurnOpen (enter (opening_of places (shown a)) (shown a).state client call (shown a).state.scripts)) closed
+    ∙ by_room places (shown a) client call (shown a).state.scripts r room
+
+pub core_handed : {H : Type 0} {places : H → ℕ → ℕ} (a : Inside H) (client : ℕ) (call : Call) → IsMachine places a → is_some (turn_of a.turn) ≡ false → Fits a.library.value call
+    → IsRoom (shown a) (Ok tt) → IsMachine places (handed_turn a client call)
+core_handed {H} {places} a client call core closed fits room =
+    let o : Opening = opening_of places (shown a) in
+    let next : State = (shown (handed_turn a client call)).state in
+    let is : move o (shown a).state (hand client call) ≡ Ok (Opened, next) = hand_is places a client call (Ok tt) closed room in
+    record {
+      reached = moved (shown a).state (hand client call) Opened next core.reached (proper_fits a.library.value a.opening.items call core.catalog fits) is;
+      words = words_stay o (shown a).state next (hand client call) Opened a.words.items core.reached is refl refl refl core.words;
+      some_records = core.some_records;
+      few_records = core.few_records;
+      records = core.records;
+      catalog = core.catalog;
+      queue = core.queue;
+      works = core.works;
+      room = core.room;
+      nexts = core.nexts;
+      entries_fit = core.entries_fit;
+      turn_fits = fits;
       scripts_fit = core.scripts_fit;
       at_work = core.at_work;
       replied = core.replied;

@@ -13,9 +13,9 @@ use Rattle.vll_record.specs.Claim.{conflict, conflicts}
 use Rattle.std.proofs.lemmas.Bool.{or_parts}
 use Rattle.vll_core.specs.Moves.{IsProper, AreProper}
 use Rattle.vll_proc.specs.declared.call.Call.{Call}
-use Rattle.vll_core.specs.declared.status.Status.{Status}
-use Rattle.vll_core.specs.Status.{is_waiting, is_gone, is_running}
-use Rattle.vll_core.specs.declared.status.Status.TheVariants.{Running, Gone, Waiting}
+use Rattle.vll_sca.specs.declared.status.Status.{Status}
+use Rattle.vll_sca.specs.Status.{is_waiting, is_gone, is_running}
+use Rattle.vll_sca.specs.declared.status.Status.TheVariants.{Running, Gone, Waiting}
 use Rattle.vll_core.proofs.Tests.{both_true, and_rest, not_no, not_yes, lt_no, le_no, eq_no, eq_same}
 use Rattle.vll_core.proofs.Places.{take_next, drop_next, drop_none, all_at, at_push, below_position}
 use Rattle.vll_core.proofs.OwnClaims.{conflict_none, conflict_both}

@@ -1,4 +1,4 @@
--- What a core tells of its entered calls: where each stands, and the lines of the journal.
+-- What a machine tells of its entered calls: where each stands, and the lines of the journal.
 use Rattle.std.proofs.Common.{◌≡◌, ℕ, zero, suc, ◌+◌, ◌<◌, Bool, true, false, List, [], ◌∷◌, length, map, refl, sym, ap, zero-add, add-zero, ◌∙◌, arith, slice_get, Option, Some, None, is_some, if◌then◌else◌}
 use Rattle.std.specs.List.{enumerate_from}
 use Rattle.std.specs.Option.{option_map}
@@ -7,27 +7,27 @@ use Rattle.std.proofs.lemmas.Option.{same_Some, slice_get-map}
 use Rattle.vll_proc.specs.declared.call.Reply.{Reply}
 use Rattle.vll_proc.specs.Serial.{Made, apply, before}
 use Rattle.vll_core.specs.declared.line.Line.{Line}
-use Rattle.vll_core.specs.declared.machine.Core.TheInside.{Inside}
-use Rattle.vll_core.specs.declared.status.Status.{Status}
+use Rattle.vll_core.specs.declared.machine.Machine.TheInside.{Inside}
+use Rattle.vll_sca.specs.declared.status.Status.{Status}
 use Rattle.vll_core.specs.declared.work.Work.{Work}
-use Rattle.vll_core.specs.Status.{is_gone}
+use Rattle.vll_sca.specs.Status.{is_gone}
 use Rattle.vll_core.specs.State.{Base, Entered, reply_at}
 use Rattle.vll_core.specs.Queue.{QueueEntry, lines, statuses, has_reply}
 use Rattle.vll_core.specs.Journal.{reply_of, line_of, journal_of}
 use Rattle.vll_core.specs.Shown.{Shown, opening_of}
 use Rattle.vll_core.specs.View.{shown, entered_of, entries_of}
-use Rattle.vll_core.specs.CoreKept.{IsCore}
+use Rattle.vll_core.specs.MachineKept.{IsMachine}
 use Rattle.vll_core.proofs.Tests.{both_true}
 use Rattle.vll_core.proofs.Kept.{IsEntryKept}
 use Rattle.vll_core.proofs.Reached.{kept_reached}
 use Rattle.vll_core.proofs.CoreState.{statuses_shown, entry_shown, made_shown}
 
 -- where a ticket's call stands
-pub status_shown : (c : Inside) (s : Shown) (t : ℕ) → IsCore c → shown c ≡ s → slice_get (statuses c.queue) t ≡ option_map (λ (e : Entered). e.status) (slice_get s.state.entries t)
-status_shown c s t core is =
+pub status_shown : {H : Type 0} {places : H → ℕ → ℕ} (c : Inside H) (s : Shown H) (t : ℕ) → IsMachine places c → shown c ≡ s → slice_get (statuses c.queue) t ≡ option_map (λ (e : Entered). e.status) (slice_get s.state.entries t)
+status_shown {H} c s t core is =
     ap (λ (ss : List Status). slice_get ss t) (sym (statuses_shown c.queue.entries c.work.items core.works))
     ∙ slice_get-map (λ (e : Entered). e.status) (entries_of c.queue.entries c.work.items) t
-    ∙ ap (λ (x : Shown). option_map (λ (e : Entered). e.status) (slice_get x.state.entries t)) is
+    ∙ ap (λ (x : Shown H). option_map (λ (e : Entered). e.status) (slice_get x.state.entries t)) is
 
 -- all loads of a call that is gone are made
 gone_loads : (o : Base) (now : List ℕ) (e : Entered) → IsEntryKept o now e → is_gone e.status ≡ true → e.loads ≡ length e.call.claims
@@ -55,19 +55,19 @@ no_reply None none = refl
 no_reply (Some a) none = absurd (cc none)
 
 -- the reply on a line is that of the plain machine
-reply_shown : (c : Inside) (t : ℕ) (e : QueueEntry) (w : Work) → IsCore c → slice_get c.queue.entries t ≡ Some e → slice_get c.work.items t ≡ Some w
+reply_shown : {H : Type 0} {places : H → ℕ → ℕ} (c : Inside H) (t : ℕ) (e : QueueEntry) (w : Work) → IsMachine places c → slice_get c.queue.entries t ≡ Some e → slice_get c.work.items t ≡ Some w
     → e.line.reply ≡ reply_of (shown c).base (shown c).state t (entered_of e w)
-reply_shown c t e w core at has = by_status (is_gone e.status) refl
+reply_shown {H} {places} c t e w core at has = by_status (is_gone e.status) refl
   where
     base : Base
-    base = record { procs = c.library.procs; records = c.opening.items }
+    base = record { procs = c.library.value.procs; records = c.opening.items }
 
     by_status : (gone : Bool) → is_gone e.status ≡ gone → e.line.reply ≡ (if gone then Some (reply_at (shown c).base (shown c).state t (entered_of e w)) else None)
     by_status true gone =
-        let kept = (kept_reached (opening_of (shown c)) (shown c).state core.reached).entries t (entered_of e w) (entry_shown c.queue.entries c.work.items t e w at has) in
+        let kept = (kept_reached (opening_of places (shown c)) (shown c).state core.reached).entries t (entered_of e w) (entry_shown c.queue.entries c.work.items t e w at has) in
         let loads = gone_loads (shown c).base _ (entered_of e w) kept gone in
         core.replied t e w at has gone ∙ (core.at_work t e w at has).ran loads
-        ∙ ap (λ (made : List Made). Some (apply c.library.procs e.line.call (before c.library.procs made c.opening.items t)).reply) (sym (made_shown c.queue.entries c.work.items core.works))
+        ∙ ap (λ (made : List Made). Some (apply c.library.value.procs e.line.call (before c.library.value.procs made c.opening.items t)).reply) (sym (made_shown c.queue.entries c.work.items core.works))
     by_status false left = no_reply e.line.reply (has_reply_at c.queue.entries t e core.queue.answered at ∙ left)
 
 -- lines, each told of its ticket and entry
@@ -89,8 +89,8 @@ abbrev with_reply : Line → Option Reply → Line
 with_reply l r = record l { reply = r }
 
 -- the journal
-pub lines_shown : (c : Inside) (s : Shown) → IsCore c → shown c ≡ s → lines c.queue ≡ journal_of s.base s.state
-lines_shown c s core is =
+pub lines_shown : {H : Type 0} {places : H → ℕ → ℕ} (c : Inside H) (s : Shown H) → IsMachine places c → shown c ≡ s → lines c.queue ≡ journal_of s.base s.state
+lines_shown {H} c s core is =
     lines_are (line_of (shown c).base (shown c).state) 0 c.queue.entries c.work.items core.works
     (λ t e w at has. ap (with_reply e.line) (reply_shown c t e w core at has) ∙ ap (λ m. line_of (shown c).base (shown c).state (m, entered_of e w)) (sym (zero-add t)))
-    ∙ ap (λ (x : Shown). journal_of x.base x.state) is
+    ∙ ap (λ (x : Shown H). journal_of x.base x.state) is

@@ -8,7 +8,7 @@ use Rattle.vll_proc.specs.Serial.{apply}
 use Rattle.vll_record.specs.declared.claim.Claim.{Claim}
 use Rattle.vll_record.specs.Claim.{conflict, conflicts}
 use Rattle.vll_core.specs.Moves.{IsProper, AreProper}
-use Rattle.vll_core.specs.Status.{is_waiting, is_gone}
+use Rattle.vll_sca.specs.Status.{is_waiting, is_gone}
 use Rattle.vll_core.proofs.Tests.{not_yes}
 use Rattle.vll_core.proofs.Places.{at_set}
 use Rattle.vll_core.proofs.SerialRun.{proper_keeps, records_same}

@@ -10,11 +10,16 @@ pub mod Unstored
 pub mod Sound
 pub mod Kept
 pub mod Events
+pub mod Picked
 pub mod Changes
+pub mod Waits
 pub mod Reached
 pub mod Counters
 pub mod Values
+pub mod Finished
 pub mod Entries
+pub mod QueueChanges
+pub mod QueueScan
 pub mod Proper
 pub mod Fitted
 pub mod FirstWords
@@ -28,7 +33,7 @@ pub mod CoreWords
 pub mod CoreState
 pub mod CoreSteps
 pub mod Entering
-pub mod Fronting
+pub mod Waking
 pub mod Admitting
 pub mod CoreRunning
 pub mod CoreRuns

@@ -8,6 +8,8 @@ use Rattle.vll_proc.specs.declared.syntax.Proc.{Proc}
 use Rattle.vll_proc.specs.declared.syntax.Expr.{Num, Arg, Key, Add, Sub}
 use Rattle.vll_proc.specs.declared.syntax.Stmt.{Set, Reply}
 use Rattle.vll_proc.specs.Made.{call_of}
+use Rattle.vll_sca.specs.Placing.{placing}
+use Rattle.vll_sca.specs.declared.place.Placing.TheVariants.{Modulo}
 use Rattle.vll_core.specs.State.{Opening}
 
 abbrev pub transfer : Proc
@@ -49,9 +51,12 @@ read_call r = call_of 2 read (r ∷ [])
 abbrev pub seven_call : Call
 seven_call = call_of 3 seven []
 
--- these procedures on the given records, for at most `limit` calls
+-- these procedures on the given records, for at most `limit` calls, of which at most 8 wait; the analysis has 64 bits
 abbrev pub opening : List ℕ → ℕ → Opening
 opening records limit = record {
   base = record { procs = transfer ∷ bump ∷ read ∷ seven ∷ []; records = records };
+  cap = 8;
   limit = limit;
+  bits = 64;
+  place = placing Modulo;
 }

@@ -5,9 +5,9 @@ use Rattle.std.specs.Option.{option_map}
 use Rattle.std.proofs.lemmas.List.{map-append, length-map}
 use Rattle.std.proofs.lemmas.Option.{slice_get-map}
 use Rattle.vll_proc.specs.declared.call.Reply.{Reply}
-use Rattle.vll_core.specs.declared.status.Status.{Status}
-use Rattle.vll_core.specs.declared.status.Status.TheVariants.{Running, Gone}
-use Rattle.vll_core.specs.Status.{is_waiting, is_gone}
+use Rattle.vll_sca.specs.declared.status.Status.{Status}
+use Rattle.vll_sca.specs.declared.status.Status.TheVariants.{Running, Gone}
+use Rattle.vll_sca.specs.Status.{is_waiting, is_gone}
 use Rattle.vll_core.specs.State.{Entered, State}
 use Rattle.vll_core.specs.Machine.{front}
 use Rattle.vll_core.specs.Queue.{QueueEntry, Queued, lines, statuses, is_left, waiting_ticket, changed_at, front_among, admitted, started, finished}
@@ -43,10 +43,10 @@ machine_front s =
     by_place (Some t) =
         by_entry t (slice_get s.entries t) ∙ ap (λ (o : Option Status). waiting_ticket t o) (sym (slice_get-map status_of s.entries t))
 
-pub statuses_admitted : (q : Queued) (e : QueueEntry) → statuses (admitted q e) ≡ statuses q ++ e.status ∷ []
+pub statuses_admitted : {H : Type 0} (q : Queued H) (e : QueueEntry) → statuses (admitted q e) ≡ statuses q ++ e.status ∷ []
 statuses_admitted q e = map-append (λ (d : QueueEntry). d.status) q.entries (e ∷ [])
 
-pub lines_admitted : (q : Queued) (e : QueueEntry) → lines (admitted q e) ≡ lines q ++ e.line ∷ []
+pub lines_admitted : {H : Type 0} (q : Queued H) (e : QueueEntry) → lines (admitted q e) ≡ lines q ++ e.line ∷ []
 lines_admitted q e = map-append (λ (d : QueueEntry). d.line) q.entries (e ∷ [])
 
 -- a change at a ticket that there is
@@ -69,11 +69,11 @@ map_unchanged f (e ∷ es) zero change same = ap (λ x. x ∷ map f es) (same e)
 map_unchanged f (e ∷ es) (suc t) change same =
     sym (ap (λ (ds : List QueueEntry). map f ds) (changed_later e es t change)) ∙ ap (λ xs. f e ∷ xs) (map_unchanged f es t change same)
 
-pub statuses_started : (q : Queued) (t : ℕ) → statuses (started q t) ≡ slice_set (statuses q) t Running
+pub statuses_started : {H : Type 0} (q : Queued H) (t : ℕ) → statuses (started q t) ≡ slice_set (statuses q) t Running
 statuses_started q t = map_changed (λ (e : QueueEntry). e.status) q.entries t _ Running (λ e. refl)
 
-pub lines_started : (q : Queued) (t : ℕ) → lines (started q t) ≡ lines q
+pub lines_started : {H : Type 0} (q : Queued H) (t : ℕ) → lines (started q t) ≡ lines q
 lines_started q t = map_unchanged (λ (e : QueueEntry). e.line) q.entries t _ (λ e. refl)
 
-pub statuses_finished : (q : Queued) (t : ℕ) (reply : Reply) → statuses (finished q t reply) ≡ slice_set (statuses q) t Gone
+pub statuses_finished : {H : Type 0} (q : Queued H) (t : ℕ) (reply : Reply) → statuses (finished q t reply) ≡ slice_set (statuses q) t Gone
 statuses_finished q t reply = map_changed (λ (e : QueueEntry). e.status) q.entries t _ Gone (λ e. refl)

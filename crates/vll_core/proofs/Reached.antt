@@ -2,20 +2,22 @@
 use Rattle.std.proofs.Common.{◌≡◌, ℕ, false, refl, sym, arith, ◌≤◌, List, [], ◌∷◌, length, ap, ◌∙◌, slice_get, None, Ok, Err}
 use Rattle.std.proofs.lemmas.Option.{same_Some, same_Some}
 use Rattle.vll_core.specs.Machine.{step, Outcome, opened, run, state_after}
-use Rattle.vll_core.specs.State.{Entered, State, records_before, value, Opening}
+use Rattle.vll_core.specs.State.{Entered, State, records_before, value, is_clear, Opening}
 use Rattle.vll_proc.specs.Serial.{before}
 use Rattle.vll_record.specs.declared.claim.Claim.{Claim}
 use Rattle.vll_core.specs.Moves.{AreProper, Move, by_event, IsLawful, IsReached, begun, moved}
-use Rattle.vll_core.specs.Status.{is_waiting, is_running}
+use Rattle.vll_sca.specs.Status.{is_waiting, is_running}
 use Rattle.vll_core.specs.declared.seen.Seen.TheVariants.{Loaded}
 use Rattle.vll_core.specs.declared.seen.Seen.{Seen}
 use Rattle.vll_core.specs.declared.event.Event.{Event}
-use Rattle.vll_core.specs.Laws.{FrontTicketIsClear, EventListsReach, SerialStatesStay, RunningTicketsAreClear, LoadsSeeTheSerialState}
+use Rattle.vll_core.specs.Laws.{FrontTicketIsClear, ScanTicketIsClear, OpenTurnsHaveRoom, WaitingStaysWithinTheCap, EventListsReach, SerialStatesStay, RunningTicketsAreClear, LoadsSeeTheSerialState}
 use Rattle.vll_core.proofs.SerialRun.{records_same, records_pushed}
 use Rattle.vll_core.proofs.Sound.{load_sees}
 use Rattle.vll_core.proofs.Kept.{IsKept, sound_of}
 use Rattle.vll_core.proofs.Events.{front_is, running_not_waiting, kept_load, kept_store, kept_release, kept_finish, kept_run, clear_above_gone, kept_enter, proper_next, proper_used, kept_request, kept_admit}
-use Rattle.vll_core.proofs.Changes.{Change, load_is, change_of, entered_by, handed, requested, admitted, fronted, woken, loaded, stored, released, finished}
+use Rattle.vll_core.proofs.Picked.{clear_picked, picked_is}
+use Rattle.vll_core.proofs.Waits.{capped_reached}
+use Rattle.vll_core.proofs.Changes.{Change, load_is, change_of, entered_by, handed, requested, admitted, fronted, picked, woken, loaded, stored, released, finished}
 
 kept_opened : (o : Opening) (scripts : List _) → AreProper o.base scripts → IsKept o (opened scripts)
 kept_opened o scripts proper = record {
@@ -27,11 +29,12 @@ kept_opened o scripts proper = record {
 }
 
 pub kept_change : (o : Opening) (s : State) (m : Move) (next : State) → IsKept o s → IsLawful o m → Change o s m next → IsKept o next
-kept_change o s m next kept lawful (entered_by client call is at room) = kept_enter o s client call _ kept (proper_next o.base s client call kept.scripts at) (proper_used o.base s client kept.scripts) room
-kept_change o s m next kept lawful (handed client call is room) = kept_enter o s client call _ kept lawful kept.scripts room
+kept_change o s m next kept lawful (entered_by client call is at room waits) = kept_enter o s client call _ kept (proper_next o.base s client call kept.scripts at) (proper_used o.base s client kept.scripts) room
+kept_change o s m next kept lawful (handed client call is room waits) = kept_enter o s client call _ kept lawful kept.scripts room
 kept_change o s m next kept lawful (requested turn c is at) = kept_request o s turn c kept is at
 kept_change o s m next kept lawful (admitted turn status is all here free) = kept_admit o s turn status kept is all here free
 kept_change o s m next kept lawful (fronted t f) = kept_run o s t f.entry kept f.at (clear_above_gone o s t f.entry.call.claims kept f.gone)
+kept_change o s m next kept lawful (picked t p) = kept_run o s t p.entry kept p.at (clear_picked o s t kept p)
 kept_change o s m next kept lawful (woken t e at clear) = kept_run o s t e kept at clear
 kept_change o s m next kept lawful (loaded t e c at runs left) = kept_load o s t e c kept at runs left
 kept_change o s m next kept lawful (stored t e at runs all left) = kept_store o s t e kept at runs all left
@@ -60,10 +63,26 @@ clear_reached o s t e reached at busy = (kept_reached o s reached).clear t e at 
 
 -- the front ticket waits and is clear
 pub front_reached : FrontTicketIsClear
-front_reached o s t e reached picked at =
-    let f = front_is s t picked in
+front_reached o s t e reached is at =
+    let f = front_is s t is in
     let same : f.entry ≡ e = same_Some f.entry e (sym f.at ∙ at) in
     (ap (λ (x : Entered). is_waiting x.status) (sym same) ∙ f.waits, clear_above_gone o s t e.call.claims (kept_reached o s reached) f.gone)
+
+-- the ticket that the scan picks waits and is clear
+pub scan_reached : ScanTicketIsClear
+scan_reached o s t e reached is at =
+    let p = picked_is o s t is in
+    let same : p.entry ≡ e = same_Some p.entry e (sym p.at ∙ at) in (
+      ap (λ (x : Entered). is_waiting x.status) (sym same) ∙ p.waits,
+      ap (λ (x : Entered). is_clear s t x.call.claims) (sym same) ∙ clear_picked o s t (kept_reached o s reached) p,
+    )
+
+-- while a turn is open there is room for its call, and for it to wait
+pub turn_has_room : OpenTurnsHaveRoom
+turn_has_room o s turn reached is = (((kept_reached o s reached).turn turn is).room, (capped_reached o s reached).turn turn is)
+
+pub waiting_within : WaitingStaysWithinTheCap
+waiting_within o s reached = (capped_reached o s reached).within
 
 loaded_same : (v w : ℕ) (a b : State) → ◌≡◌ {A = Seen × State} (Loaded v, a) (Loaded w, b) → v ≡ w
 loaded_same v w a b h = of_seen (ap (λ (x : Seen × State). x.0) h)
@@ -84,11 +103,12 @@ load_reached o s next t v e c reached at left is =
 
 -- the records before a ticket stay
 serial_change : (o : Opening) (s : State) (m : Move) (next : State) (t : ℕ) → Change o s m next → t ≤ length s.entries → records_before o.base next t ≡ records_before o.base s t
-serial_change o s m next t (entered_by client call none at room) within = refl
-serial_change o s m next t (handed client call none room) within = refl
+serial_change o s m next t (entered_by client call none at room waits) within = refl
+serial_change o s m next t (handed client call none room waits) within = refl
 serial_change o s m next t (requested turn c is at) within = refl
 serial_change o s m next t (admitted turn status is all here free) within = records_pushed o.base s _ None t within
 serial_change o s m next t (fronted u f) within = records_same o.base s u f.entry _ t f.at refl
+serial_change o s m next t (picked u p) within = records_same o.base s u p.entry _ t p.at refl
 serial_change o s m next t (woken u e at clear) within = records_same o.base s u e _ t at refl
 serial_change o s m next t (loaded u e c at runs left) within = records_same o.base s u e _ t at refl
 serial_change o s m next t (stored u e at runs all left) within = records_same o.base s u e _ t at refl

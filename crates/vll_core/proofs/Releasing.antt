@@ -1,4 +1,4 @@
--- A running call of a core releases a claim.
+-- A running call of a machine releases a claim.
 use Rattle.std.proofs.Common.{◌≡◌, ℕ, ◌+◌, ◌-◌, ◌<◌, ◌≤◌, Bool, true, false, not, List, length, Option, Some, None, Ok, slice_get, slice_index, slice_index_or, slice_set, vec_capacity, refl, sym, ap, ◌∙◌, subst, arith}
 use Rattle.std.specs.Global.{Vec}
 use Rattle.std.proofs.lemmas.List.{length-set}
@@ -9,7 +9,7 @@ use Rattle.vll_record.specs.Word.{pair_word_of_record}
 use Rattle.vll_proc.specs.declared.call.Call.{Call}
 use Rattle.vll_proc.proofs.Called.{claims_few}
 use Rattle.vll_core.specs.declared.event.Event.TheVariants as event
-use Rattle.vll_core.specs.declared.machine.Core.TheInside.{Inside}
+use Rattle.vll_core.specs.declared.machine.Machine.TheInside.{Inside}
 use Rattle.vll_core.specs.declared.refusal.Refusal.TheVariants.{NotRunning, OutOfStep}
 use Rattle.vll_core.specs.declared.seen.Seen.TheVariants.{Released}
 use Rattle.vll_core.specs.declared.work.Work.{Work}
@@ -18,7 +18,7 @@ use Rattle.vll_core.specs.Machine.{Outcome, refuse_if, or_refuse, running, with_
 use Rattle.vll_core.specs.Moves.{by_event}
 use Rattle.vll_core.specs.Shown.{AreWords, opening_of}
 use Rattle.vll_core.specs.View.{entries_of, shown}
-use Rattle.vll_core.specs.CoreKept.{IsCore, AreAtWork, AreReplied}
+use Rattle.vll_core.specs.MachineKept.{IsMachine, AreAtWork, AreReplied}
 use Rattle.vll_core.proofs.Claiming.{delta_here, delta_elsewhere}
 use Rattle.vll_core.proofs.CorePairs.{pair_word_within, word_read, words_set_pair}
 use Rattle.vll_core.proofs.CoreRuns.{Runs, entered_as, same_work}
@@ -49,62 +49,62 @@ stored_is : (o : Opening) (s : State) (t : ℕ) (e : Entered) → has_stored o.b
 stored_is o s t e all =
     ap (λ (b : Bool). refuse_if (not b) OutOfStep (or_refuse (slice_get e.call.claims e.releases) OutOfStep (λ (c : Claim). Ok (Released (counter s c.id), after_release s t e)))) all
 
--- ---- the core
+-- ---- the machine that is kept
 
 -- the entry that is shown of a call that runs
-abbrev pub entry_of : (a : Inside) (t : ℕ) (call : Call) (w : Work) → Runs a t call w → Entered
+abbrev pub entry_of : {H : Type 0} (a : Inside H) (t : ℕ) (call : Call) (w : Work) → Runs a t call w → Entered
 entry_of a t call w r = entered_as r.client call r.status w
 
 -- it is refused before all its stores are made
-pub refused_stores : (a : Inside) (t : ℕ) (call : Call) (w : Work) (r : Runs a t call w) → has_stored (shown a).base (shown a).state t (entry_of a t call w r) ≡ false
-    → Refuses a (event.Release t) OutOfStep
-refused_stores a t call w r left = record {
+pub refused_stores : {H : Type 0} {places : H → ℕ → ℕ} (a : Inside H) (t : ℕ) (call : Call) (w : Work) (r : Runs a t call w) → has_stored (shown a).base (shown a).state t (entry_of a t call w r) ≡ false
+    → Refuses places a (event.Release t) OutOfStep
+refused_stores {H} {places} a t call w r left = record {
   is =
-      release_is (opening_of (shown a)) (shown a).state t (entry_of a t call w r) r.found
+      release_is (opening_of places (shown a)) (shown a).state t (entry_of a t call w r) r.found
       ∙ ap (λ (b : Bool). refuse_if (not b) OutOfStep (or_refuse (slice_get call.claims w.releases) OutOfStep (λ (c : Claim). Ok (Released (counter (shown a).state c.id), after_release (shown a).state t (entry_of a t call w r))))) left;
 }
 
 -- and where all releases are made
-pub refused_releases : (a : Inside) (t : ℕ) (call : Call) (w : Work) (r : Runs a t call w) → has_stored (shown a).base (shown a).state t (entry_of a t call w r) ≡ true
-    → slice_get call.claims w.releases ≡ None → Refuses a (event.Release t) OutOfStep
-refused_releases a t call w r all none = record {
+pub refused_releases : {H : Type 0} {places : H → ℕ → ℕ} (a : Inside H) (t : ℕ) (call : Call) (w : Work) (r : Runs a t call w) → has_stored (shown a).base (shown a).state t (entry_of a t call w r) ≡ true
+    → slice_get call.claims w.releases ≡ None → Refuses places a (event.Release t) OutOfStep
+refused_releases {H} {places} a t call w r all none = record {
   is =
-      release_is (opening_of (shown a)) (shown a).state t (entry_of a t call w r) r.found
-      ∙ stored_is (opening_of (shown a)) (shown a).state t (entry_of a t call w r) all
+      release_is (opening_of places (shown a)) (shown a).state t (entry_of a t call w r) r.found
+      ∙ stored_is (opening_of places (shown a)) (shown a).state t (entry_of a t call w r) all
       ∙ ap (λ (x : Option Claim). or_refuse x OutOfStep (λ (c : Claim). Ok (Released (counter (shown a).state c.id), after_release (shown a).state t (entry_of a t call w r)))) none;
 }
 
--- the core after a release
-abbrev pub released : Inside → Vec ℕ → Vec Work → Inside
+-- the machine after a release
+abbrev pub released : {H : Type 0} → Inside H → Vec ℕ → Vec Work → Inside H
 released a words works = record a { words = words; work = works }
 
 abbrev pub one_more : Work → Work
 one_more w = record w { releases = w.releases + 1 }
 
-shown_released : (a : Inside) (t : ℕ) (call : Call) (w : Work) (words : Vec ℕ) (works : Vec Work) (r : Runs a t call w) → works.items ≡ slice_set a.work.items t (one_more w)
+shown_released : {H : Type 0} (a : Inside H) (t : ℕ) (call : Call) (w : Work) (words : Vec ℕ) (works : Vec Work) (r : Runs a t call w) → works.items ≡ slice_set a.work.items t (one_more w)
     → (shown (released a words works)).state ≡ after_release (shown a).state t (entry_of a t call w r)
 shown_released a t call w words works r put =
     ap (λ (es : List Entered). record (shown a).state { entries = es })
     (ap (entries_of a.queue.entries) put ∙ work_put a.queue.entries a.work.items t _ (one_more w) r.queued)
 
-pub taken_release : (a : Inside) (t : ℕ) (call : Call) (w : Work) (c : Claim) (words : Vec ℕ) (works : Vec Work) (r : Runs a t call w)
+pub taken_release : {H : Type 0} {places : H → ℕ → ℕ} (a : Inside H) (t : ℕ) (call : Call) (w : Work) (c : Claim) (words : Vec ℕ) (works : Vec Work) (r : Runs a t call w)
     → has_stored (shown a).base (shown a).state t (entry_of a t call w r) ≡ true → slice_get call.claims w.releases ≡ Some c
     → works.items ≡ slice_set a.work.items t (one_more w)
-    → Takes a (released a words works) (event.Release t) (Released (counter (shown a).state c.id))
-taken_release a t call w c words works r all at put =
+    → Takes places a (released a words works) (event.Release t) (Released (counter (shown a).state c.id))
+taken_release {H} {places} a t call w c words works r all at put =
     let s : State = (shown a).state in
     let shows = shown_released a t call w words works r put in
     record {
       fixed = refl;
       is =
-          release_is (opening_of (shown a)) s t (entry_of a t call w r) r.found
-          ∙ stored_is (opening_of (shown a)) s t (entry_of a t call w r) all
+          release_is (opening_of places (shown a)) s t (entry_of a t call w r) r.found
+          ∙ stored_is (opening_of places (shown a)) s t (entry_of a t call w r) all
           ∙ ap (λ (x : Option Claim). or_refuse x OutOfStep (λ (d : Claim). Ok (Released (counter s d.id), after_release s t (entry_of a t call w r)))) at
           ∙ ap (λ (n : State). Ok (Released (counter s c.id), n)) (sym shows);
     }
 
 -- the counter loses the delta of the claim
-pub counter_less : (a : Inside) (t : ℕ) (call : Call) (w : Work) (c : Claim) (r : Runs a t call w)
+pub counter_less : {H : Type 0} (a : Inside H) (t : ℕ) (call : Call) (w : Work) (c : Claim) (r : Runs a t call w)
     → slice_get call.claims w.releases ≡ Some c
     → counter (shown a).state c.id ≡ counter (after_release (shown a).state t (entry_of a t call w r)) c.id + delta_of c.mode
 counter_less a t call w c r at =
@@ -112,16 +112,16 @@ counter_less a t call w c r at =
     ∙ ap (λ (n : ℕ). counter (after_release (shown a).state t (entry_of a t call w r)) c.id + n) (delta_here c)
 
 -- what a release finds
-pub record Finds (a : Inside) (call : Call) (w : Work) (c : Claim) : Type 0 where
+pub record Finds {H : Type 0} (a : Inside H) (call : Call) (w : Work) (c : Claim) : Type 0 where
   pub record_there : c.id < length a.opening.items
   pub word_there : pair_word_of_record c.id < length a.words.items
   pub is_counter : slice_index a.words.items (pair_word_of_record c.id) ≡ counter (shown a).state c.id
   pub enough : delta_of c.mode ≤ counter (shown a).state c.id
   pub few : w.releases < 16
 
-pub finds : (a : Inside) (t : ℕ) (call : Call) (w : Work) (c : Claim) → IsCore a → Runs a t call w → slice_get call.claims w.releases ≡ Some c → Finds a call w c
+pub finds : {H : Type 0} {places : H → ℕ → ℕ} (a : Inside H) (t : ℕ) (call : Call) (w : Work) (c : Claim) → IsMachine places a → Runs a t call w → slice_get call.claims w.releases ≡ Some c → Finds a call w c
 finds a t call w c kept r at =
-    let within : c.id < a.library.records = all_at (λ (d : Claim). d.id < a.library.records) call.claims w.releases c r.well.within at in
+    let within : c.id < a.library.value.records = all_at (λ (d : Claim). d.id < a.library.value.records) call.claims w.releases c r.well.within at in
     let there : c.id < length a.opening.items = omega (arith, within, kept.records) in
     let claims = claims_few r.well.procedure call r.well.formed r.well.made in
     let before = slice_get_within call.claims w.releases c at in
@@ -134,33 +134,33 @@ finds a t call w c kept r at =
     }
 
 -- the word that is read is the counter
-pub read_counter : (a : Inside) (call : Call) (w : Work) (c : Claim) (place word : ℕ) → Finds a call w c → place ≡ pair_word_of_record c.id → word ≡ slice_index_or a.words.items place word
+pub read_counter : {H : Type 0} (a : Inside H) (call : Call) (w : Work) (c : Claim) (place word : ℕ) → Finds a call w c → place ≡ pair_word_of_record c.id → word ≡ slice_index_or a.words.items place word
     → word ≡ counter (shown a).state c.id
 read_counter a call w c place word f at read = word_read a.words.items (pair_word_of_record c.id) place _ word f.word_there f.is_counter at read
 
 -- the work that is read again is that of the ticket
-pub read_again : (a : Inside) (t : ℕ) (call : Call) (w : Work) (place : ℕ) (v : Work) → Runs a t call w → place ≡ t → v ≡ slice_index_or a.work.items place v → v ≡ w
+pub read_again : {H : Type 0} (a : Inside H) (t : ℕ) (call : Call) (w : Work) (place : ℕ) (v : Work) → Runs a t call w → place ≡ t → v ≡ slice_index_or a.work.items place v → v ≡ w
 read_again a t call w place v r at read = same_work a t call w v r (read ∙ ap (λ (j : ℕ). slice_index_or a.work.items j v) at)
 
 -- the work that is put back has one more release
-pub put_again : (a : Inside) (t : ℕ) (call : Call) (w : Work) (place : ℕ) (v new : Work) → Runs a t call w → place ≡ t → v ≡ slice_index_or a.work.items place v → new ≡ one_more v
+pub put_again : {H : Type 0} (a : Inside H) (t : ℕ) (call : Call) (w : Work) (place : ℕ) (v new : Work) → Runs a t call w → place ≡ t → v ≡ slice_index_or a.work.items place v → new ≡ one_more v
     → slice_set a.work.items place new ≡ slice_set a.work.items t (one_more w)
 put_again a t call w place v new r at read more =
     ap (λ (n : ℕ). slice_set a.work.items n new) at ∙ ap (slice_set a.work.items t) (more ∙ ap one_more (read_again a t call w place v r at read))
 
 -- the word that is written is the counter without the claim's delta
-pub word_less : (a : Inside) (c : Claim) (place word delta : ℕ) → place ≡ pair_word_of_record c.id → word ≡ counter (shown a).state c.id → delta ≡ delta_of c.mode
+pub word_less : {H : Type 0} (a : Inside H) (c : Claim) (place word delta : ℕ) → place ≡ pair_word_of_record c.id → word ≡ counter (shown a).state c.id → delta ≡ delta_of c.mode
     → slice_set a.words.items place (word - delta) ≡ slice_set a.words.items (pair_word_of_record c.id) (counter (shown a).state c.id - delta_of c.mode)
 word_less a c place word delta at is less =
     ap (λ (i : ℕ). slice_set a.words.items i (word - delta)) at ∙ ap (slice_set a.words.items (pair_word_of_record c.id)) (omega (arith, is, less))
 
 -- the words after a release
-words_less : (a : Inside) (t : ℕ) (call : Call) (w : Work) (c : Claim) (words : Vec ℕ) (works : Vec Work) (r : Runs a t call w)
-    → IsCore a → Takes a (released a words works) (event.Release t) (Released (counter (shown a).state c.id)) → slice_get call.claims w.releases ≡ Some c
+words_less : {H : Type 0} {places : H → ℕ → ℕ} (a : Inside H) (t : ℕ) (call : Call) (w : Work) (c : Claim) (words : Vec ℕ) (works : Vec Work) (r : Runs a t call w)
+    → IsMachine places a → Takes places a (released a words works) (event.Release t) (Released (counter (shown a).state c.id)) → slice_get call.claims w.releases ≡ Some c
     → (shown (released a words works)).state ≡ after_release (shown a).state t (entry_of a t call w r)
     → words.items ≡ slice_set a.words.items (pair_word_of_record c.id) (counter (shown a).state c.id - delta_of c.mode)
     → AreWords (shown a).base (shown (released a words works)).state words.items
-words_less a t call w c words works r kept takes at shows written =
+words_less {H} {places} a t call w c words works r kept takes at shows written =
     let s : State = (shown a).state in
     let next : State = (shown (released a words works)).state in
     let less = counter_less a t call w c r at in
@@ -169,17 +169,17 @@ words_less a t call w c words works r kept takes at shows written =
     (words_set_pair (shown a).base s next a.words.items c.id _ (finds a t call w c kept r at).record_there
     (omega (arith, same c.id, less))
     (λ k other. omega (arith, same k, counter_release s t (entry_of a t call w r) c k r.at at, delta_elsewhere k c other))
-    (λ k. others_stay (opening_of (shown a)) s next (by_event (event.Release t)) _ k kept.reached takes.is refl)
+    (λ k. others_stay (opening_of places (shown a)) s next (by_event (event.Release t)) _ k kept.reached takes.is refl)
     kept.words)
 
--- what the type of a core keeps
-pub core_release : (a : Inside) (t : ℕ) (call : Call) (w : Work) (c : Claim) (words : Vec ℕ) (works : Vec Work) (r : Runs a t call w)
-    → IsCore a → has_stored (shown a).base (shown a).state t (entry_of a t call w r) ≡ true → slice_get call.claims w.releases ≡ Some c
+-- what the type of a machine keeps
+pub core_release : {H : Type 0} {places : H → ℕ → ℕ} (a : Inside H) (t : ℕ) (call : Call) (w : Work) (c : Claim) (words : Vec ℕ) (works : Vec Work) (r : Runs a t call w)
+    → IsMachine places a → has_stored (shown a).base (shown a).state t (entry_of a t call w r) ≡ true → slice_get call.claims w.releases ≡ Some c
     → words.items ≡ slice_set a.words.items (pair_word_of_record c.id) (counter (shown a).state c.id - delta_of c.mode)
     → works.items ≡ slice_set a.work.items t (one_more w) → vec_capacity works ≡ vec_capacity a.work
-    → IsCore (released a words works)
-core_release a t call w c words works r kept all at written put room =
-    let takes = taken_release a t call w c words works r all at put in
+    → IsMachine places (released a words works)
+core_release {H} {places} a t call w c words works r kept all at written put room =
+    let takes = taken_release {places = places} a t call w c words works r all at put in
     record {
       reached = taken_reached a (released a words works) (event.Release t) _ takes kept.reached;
       words = words_less a t call w c words works r kept takes at (shown_released a t call w words works r put) written;
@@ -195,8 +195,8 @@ core_release a t call w c words works r kept all at written put room =
       turn_fits = kept.turn_fits;
       scripts_fit = kept.scripts_fit;
       at_work =
-          subst (AreAtWork a.library a.opening.items a.queue.entries) (sym put)
-          (at_work_put a.library a.opening.items a.queue.entries a.work.items t (one_more w)
+          subst (AreAtWork a.library.value a.opening.items a.queue.entries) (sym put)
+          (at_work_put a.library.value a.opening.items a.queue.entries a.work.items t (one_more w)
           (λ e here. let was = kept.at_work t e w here r.worked in record {
             within = was.within;
             whole = was.whole;

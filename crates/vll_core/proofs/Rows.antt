@@ -1,18 +1,25 @@
 -- Worked lists of events: what each is answered, and the words at the end.
-use Rattle.std.proofs.Common.{◌≡◌, ℕ, List, [], ◌∷◌, map, refl, Ok, Err, true, false}
+use Rattle.std.proofs.Common.{◌≡◌, ℕ, List, [], ◌∷◌, map, refl, Result, Ok, Err, true, false}
 use Rattle.vll_proc.specs.declared.call.Reply.TheVariants.{Committed}
 use Rattle.vll_proc.specs.declared.syntax.Expr.TheBlock.{hidden-the_row-Expr-0}
 use Rattle.vll_proc.specs.declared.syntax.Stmt.TheBlock.{hidden-the_row-Stmt-0}
 use denote.Hole.Carrier.{hidden}
 use Rattle.vll_core.specs.declared.event.Event.{Event}
 use Rattle.vll_core.specs.declared.event.Event.TheVariants as ev
+use Rattle.vll_core.specs.declared.seen.Seen.{Seen}
 use Rattle.vll_core.specs.declared.seen.Seen.TheVariants.{Opened, Claimed, Free, Blocked, Run, Loaded, Stored, Released, Replied}
-use Rattle.vll_core.specs.declared.refusal.Refusal.TheVariants.{TurnOpen, NoTurn, NoCall, Spent, NotRunning, OutOfStep, Idle}
-use Rattle.vll_core.specs.Machine.{answers, opened}
-use Rattle.vll_core.specs.declared.status.Status.TheVariants.{Running, Waiting}
+use Rattle.vll_core.specs.declared.refusal.Refusal.{Refusal}
+use Rattle.vll_core.specs.declared.refusal.Refusal.TheVariants.{TurnOpen, NoTurn, NoCall, Spent, Busy, NotRunning, OutOfStep, Idle}
+use Rattle.vll_sca.specs.declared.status.Status.{Status}
+use Rattle.vll_sca.specs.declared.status.Status.TheVariants.{Running, Waiting, Gone}
 use Rattle.vll_core.specs.State.{State, Opening, Entered, counter, value}
-use Rattle.vll_core.specs.Machine.{run}
+use Rattle.vll_core.specs.Machine.{answers, opened, run, state_after, told}
+use Rattle.vll_core.specs.Moves.{Move, by_event, hand, move}
 use Rattle.vll_core.proofs.Procedures.{opening, bump_call, read_call, transfer_call, seven_call}
+
+-- the statuses at the end of a list of events
+abbrev statuses : Opening → State → List Event → List Status
+statuses o s es = map (λ (e : Entered). e.status) (run o s es).entries
 
 -- the value and the pair word of a record at the end of a list of events
 abbrev word_pair : Opening → State → List Event → ℕ → ℕ × ℕ
@@ -42,11 +49,11 @@ transfer_and_two_bumps = opened ((transfer_call 0 1 5 ∷ []) ∷ (bump_call 0 �
 abbrev half_released_events : List Event
 half_released_events =
     ev.Enter 0 ∷ ev.Claim ∷ ev.Claim ∷ ev.Admit ∷ ev.Load 0 ∷ ev.Load 0 ∷ ev.Store 0 ∷ ev.Store 0 ∷ ev.Release 0
-    ∷ ev.Enter 1 ∷ ev.Claim ∷ ev.Admit ∷ ev.Enter 1 ∷ ev.Claim ∷ ev.Admit ∷ ev.Front ∷ []
+    ∷ ev.Enter 1 ∷ ev.Claim ∷ ev.Admit ∷ ev.Enter 1 ∷ ev.Claim ∷ ev.Admit ∷ ev.Front ∷ ev.Scan ∷ []
 
 released_record_is_free : answers (opening (10 ∷ 20 ∷ []) 3) transfer_and_two_bumps half_released_events
     ≡ Ok Opened ∷ Ok (Claimed 0 true) ∷ Ok (Claimed 0 true) ∷ Ok (Free 0) ∷ Ok (Loaded 10) ∷ Ok (Loaded 20) ∷ Ok Stored ∷ Ok Stored ∷ Ok (Released 4294967296)
-    ∷ Ok Opened ∷ Ok (Claimed 0 true) ∷ Ok (Free 1) ∷ Ok Opened ∷ Ok (Claimed 4294967296 false) ∷ Ok (Blocked 2) ∷ Err Idle ∷ []
+    ∷ Ok Opened ∷ Ok (Claimed 0 true) ∷ Ok (Free 1) ∷ Ok Opened ∷ Ok (Claimed 4294967296 false) ∷ Ok (Blocked 2) ∷ Err Idle ∷ Err Idle ∷ []
 unfolding hidden hidden-the_row-Expr-0 hidden-the_row-Stmt-0
 released_record_is_free = refl
 
@@ -55,7 +62,7 @@ released_record_is_free-end : (word_pair (opening (10 ∷ 20 ∷ []) 3) transfer
 unfolding hidden hidden-the_row-Expr-0 hidden-the_row-Stmt-0
 released_record_is_free-end = (refl, refl)
 
-released_record_is_free-statuses : map (λ (e : Entered). e.status) (run (opening (10 ∷ 20 ∷ []) 3) transfer_and_two_bumps half_released_events).entries ≡ Running ∷ Running ∷ Waiting ∷ []
+released_record_is_free-statuses : statuses (opening (10 ∷ 20 ∷ []) 3) transfer_and_two_bumps half_released_events ≡ Running ∷ Running ∷ Waiting ∷ []
 unfolding hidden hidden-the_row-Expr-0 hidden-the_row-Stmt-0
 released_record_is_free-statuses = refl
 
@@ -65,11 +72,11 @@ bump_transfer_bump = opened ((bump_call 0 ∷ transfer_call 0 1 0 ∷ bump_call 
 
 abbrev blocked_chain : List Event
 blocked_chain =
-    ev.Enter 0 ∷ ev.Claim ∷ ev.Admit ∷ ev.Enter 0 ∷ ev.Claim ∷ ev.Claim ∷ ev.Admit ∷ ev.Enter 0 ∷ ev.Claim ∷ ev.Admit ∷ ev.Front ∷ []
+    ev.Enter 0 ∷ ev.Claim ∷ ev.Admit ∷ ev.Enter 0 ∷ ev.Claim ∷ ev.Claim ∷ ev.Admit ∷ ev.Enter 0 ∷ ev.Claim ∷ ev.Admit ∷ ev.Front ∷ ev.Scan ∷ []
 
 blocked_call_keeps_its_claims : answers (opening (0 ∷ 0 ∷ []) 3) bump_transfer_bump blocked_chain
     ≡ Ok Opened ∷ Ok (Claimed 0 true) ∷ Ok (Free 0) ∷ Ok Opened ∷ Ok (Claimed 4294967296 false) ∷ Ok (Claimed 0 true) ∷ Ok (Blocked 1)
-    ∷ Ok Opened ∷ Ok (Claimed 4294967296 false) ∷ Ok (Blocked 2) ∷ Err Idle ∷ []
+    ∷ Ok Opened ∷ Ok (Claimed 4294967296 false) ∷ Ok (Blocked 2) ∷ Err Idle ∷ Err Idle ∷ []
 unfolding hidden hidden-the_row-Expr-0 hidden-the_row-Stmt-0
 blocked_call_keeps_its_claims = refl
 
@@ -77,6 +84,100 @@ blocked_call_keeps_its_claims-end : (word_pair (opening (0 ∷ 0 ∷ []) 3) bump
     × (word_pair (opening (0 ∷ 0 ∷ []) 3) bump_transfer_bump blocked_chain 1 ≡ (0, 8589934592))
 unfolding hidden hidden-the_row-Expr-0 hidden-the_row-Stmt-0
 blocked_call_keeps_its_claims-end = (refl, refl)
+
+blocked_call_keeps_its_claims-statuses : statuses (opening (0 ∷ 0 ∷ []) 3) bump_transfer_bump blocked_chain ≡ Running ∷ Waiting ∷ Waiting ∷ []
+unfolding hidden hidden-the_row-Expr-0 hidden-the_row-Stmt-0
+blocked_call_keeps_its_claims-statuses = refl
+
+-- two calls are blocked, and what blocked the second is gone: the front does not wait, and the scan passes over the first of the two
+abbrev two_pairs_of_bumps : State
+two_pairs_of_bumps = opened ((bump_call 0 ∷ bump_call 1 ∷ bump_call 0 ∷ bump_call 1 ∷ []) ∷ [])
+
+abbrev scan_behind_a_blocked_call : List Event
+scan_behind_a_blocked_call =
+    ev.Enter 0 ∷ ev.Claim ∷ ev.Admit ∷ ev.Enter 0 ∷ ev.Claim ∷ ev.Admit ∷ ev.Enter 0 ∷ ev.Claim ∷ ev.Admit ∷ ev.Enter 0 ∷ ev.Claim ∷ ev.Admit
+    ∷ ev.Load 1 ∷ ev.Store 1 ∷ ev.Release 1 ∷ ev.Finish 1 ∷ ev.Front ∷ ev.Scan ∷ []
+
+scan_finds_an_unhindered_call : answers (opening (0 ∷ 0 ∷ []) 4) two_pairs_of_bumps scan_behind_a_blocked_call
+    ≡ Ok Opened ∷ Ok (Claimed 0 true) ∷ Ok (Free 0) ∷ Ok Opened ∷ Ok (Claimed 0 true) ∷ Ok (Free 1)
+    ∷ Ok Opened ∷ Ok (Claimed 4294967296 false) ∷ Ok (Blocked 2) ∷ Ok Opened ∷ Ok (Claimed 4294967296 false) ∷ Ok (Blocked 3)
+    ∷ Ok (Loaded 0) ∷ Ok Stored ∷ Ok (Released 8589934592) ∷ Ok (Replied (Committed (1 ∷ []))) ∷ Err Idle ∷ Ok (Run 3) ∷ []
+unfolding hidden hidden-the_row-Expr-0 hidden-the_row-Stmt-0
+scan_finds_an_unhindered_call = refl
+
+scan_finds_an_unhindered_call-end : (word_pair (opening (0 ∷ 0 ∷ []) 4) two_pairs_of_bumps scan_behind_a_blocked_call 0 ≡ (0, 8589934592))
+    × (word_pair (opening (0 ∷ 0 ∷ []) 4) two_pairs_of_bumps scan_behind_a_blocked_call 1 ≡ (1, 4294967296))
+unfolding hidden hidden-the_row-Expr-0 hidden-the_row-Stmt-0
+scan_finds_an_unhindered_call-end = (refl, refl)
+
+scan_finds_an_unhindered_call-statuses : statuses (opening (0 ∷ 0 ∷ []) 4) two_pairs_of_bumps scan_behind_a_blocked_call ≡ Running ∷ Gone ∷ Waiting ∷ Running ∷ []
+unfolding hidden hidden-the_row-Expr-0 hidden-the_row-Stmt-0
+scan_finds_an_unhindered_call-statuses = refl
+
+-- with one bit all records share a place, so the running call holds back every waiting one
+abbrev one_bit : Opening
+one_bit = record (opening (0 ∷ 0 ∷ []) 4) { bits = 1 }
+
+one_bit_holds_the_scan_back : answers one_bit two_pairs_of_bumps scan_behind_a_blocked_call
+    ≡ Ok Opened ∷ Ok (Claimed 0 true) ∷ Ok (Free 0) ∷ Ok Opened ∷ Ok (Claimed 0 true) ∷ Ok (Free 1)
+    ∷ Ok Opened ∷ Ok (Claimed 4294967296 false) ∷ Ok (Blocked 2) ∷ Ok Opened ∷ Ok (Claimed 4294967296 false) ∷ Ok (Blocked 3)
+    ∷ Ok (Loaded 0) ∷ Ok Stored ∷ Ok (Released 8589934592) ∷ Ok (Replied (Committed (1 ∷ []))) ∷ Err Idle ∷ Err Idle ∷ []
+unfolding hidden hidden-the_row-Expr-0 hidden-the_row-Stmt-0
+one_bit_holds_the_scan_back = refl
+
+one_bit_holds_the_scan_back-statuses : statuses one_bit two_pairs_of_bumps scan_behind_a_blocked_call ≡ Running ∷ Gone ∷ Waiting ∷ Waiting ∷ []
+unfolding hidden hidden-the_row-Expr-0 hidden-the_row-Stmt-0
+one_bit_holds_the_scan_back-statuses = refl
+
+-- with a cap of one and a call that waits, no turn opens
+abbrev one_waits : Opening
+one_waits = record (opening (0 ∷ []) 3) { cap = 1 }
+
+abbrev three_bumps : State
+three_bumps = opened ((bump_call 0 ∷ bump_call 0 ∷ bump_call 0 ∷ []) ∷ [])
+
+abbrev three_enters : List Event
+three_enters = ev.Enter 0 ∷ ev.Claim ∷ ev.Admit ∷ ev.Enter 0 ∷ ev.Claim ∷ ev.Admit ∷ ev.Enter 0 ∷ []
+
+cap_of_one_is_busy : answers one_waits three_bumps three_enters
+    ≡ Ok Opened ∷ Ok (Claimed 0 true) ∷ Ok (Free 0) ∷ Ok Opened ∷ Ok (Claimed 4294967296 false) ∷ Ok (Blocked 1) ∷ Err Busy ∷ []
+unfolding hidden hidden-the_row-Expr-0 hidden-the_row-Stmt-0
+cap_of_one_is_busy = refl
+
+cap_of_one_is_busy-end : word_pair one_waits three_bumps three_enters 0 ≡ (0, 8589934592)
+unfolding hidden hidden-the_row-Expr-0 hidden-the_row-Stmt-0
+cap_of_one_is_busy-end = refl
+
+cap_of_one_is_busy-statuses : statuses one_waits three_bumps three_enters ≡ Running ∷ Waiting ∷ []
+unfolding hidden hidden-the_row-Expr-0 hidden-the_row-Stmt-0
+cap_of_one_is_busy-statuses = refl
+
+-- what a list of moves is answered
+abbrev moves_answered : Opening → State → List Move → List (Result Seen Refusal)
+moves_answered o s [] = []
+moves_answered o s (m ∷ ms) = let out = move o s m in told out ∷ moves_answered o (state_after s out) ms
+
+-- a client with an empty script hands in its calls
+abbrev no_scripted_call : State
+no_scripted_call = opened ([] ∷ [])
+
+abbrev bump_handed : Move
+bump_handed = hand 0 (bump_call 0)
+
+abbrev three_handed : List Move
+three_handed =
+    bump_handed ∷ bump_handed ∷ by_event ev.Claim ∷ by_event ev.Admit ∷ bump_handed ∷ by_event ev.Claim ∷ by_event ev.Admit ∷ bump_handed ∷ []
+
+-- where both stand, it is Spent and not Busy that is told
+limit_is_tested_before_the_cap : moves_answered (record one_waits { limit = 2 }) no_scripted_call three_handed
+    ≡ Ok Opened ∷ Err TurnOpen ∷ Ok (Claimed 0 true) ∷ Ok (Free 0) ∷ Ok Opened ∷ Ok (Claimed 4294967296 false) ∷ Ok (Blocked 1) ∷ Err Spent ∷ []
+unfolding hidden hidden-the_row-Expr-0 hidden-the_row-Stmt-0
+limit_is_tested_before_the_cap = refl
+
+calls_handed_in_meet_the_cap : moves_answered one_waits no_scripted_call three_handed
+    ≡ Ok Opened ∷ Err TurnOpen ∷ Ok (Claimed 0 true) ∷ Ok (Free 0) ∷ Ok Opened ∷ Ok (Claimed 4294967296 false) ∷ Ok (Blocked 1) ∷ Err Busy ∷ []
+unfolding hidden hidden-the_row-Expr-0 hidden-the_row-Stmt-0
+calls_handed_in_meet_the_cap = refl
 
 -- four calls on one record: two readers are free, a writer and a later reader are blocked
 abbrev readers_and_a_bump : State

@@ -9,7 +9,7 @@ use Rattle.vll_record.specs.declared.claim.Claim.{Claim}
 use Rattle.std.proofs.lemmas.Map.Views.{exact_unsigned_eq}
 use Rattle.vll_record.specs.Claim.{conflicts}
 use Rattle.std.proofs.lemmas.Bool.{and_from, false_from_ne_true}
-use Rattle.vll_core.specs.Status.{is_waiting}
+use Rattle.vll_sca.specs.Status.{is_waiting}
 use Rattle.vll_core.proofs.Tests.{both_true, or_rest, not_yes, lt_no, lt_yes, none_pos, some_pos, at_least}
 use Rattle.vll_core.proofs.Places.{drop_none}
 use Rattle.vll_core.proofs.OwnClaims.{hit, write_hit, drop_any, meets, met_by}

@@ -12,7 +12,7 @@ use Rattle.vll_proc.specs.Serial.{apply}
 use Rattle.vll_proc.specs.declared.syntax.Proc.{Proc}
 use Rattle.vll_proc.proofs.Called.{claims_few}
 use Rattle.vll_core.specs.declared.event.Event.TheVariants as event
-use Rattle.vll_core.specs.declared.machine.Core.TheInside.{Inside}
+use Rattle.vll_core.specs.declared.machine.Machine.TheInside.{Inside}
 use Rattle.vll_core.specs.declared.refusal.Refusal.TheVariants.{NotRunning, OutOfStep}
 use Rattle.vll_core.specs.declared.seen.Seen.TheVariants.{Stored}
 use Rattle.vll_core.specs.declared.work.Work.{Work}
@@ -22,7 +22,7 @@ use Rattle.vll_core.specs.Moves.{by_event, is_on, entry_store}
 use Rattle.vll_core.specs.Shown.{AreWords, opening_of}
 use Rattle.vll_core.specs.View.{shown}
 use Rattle.vll_core.specs.Work.{IsAtWork}
-use Rattle.vll_core.specs.CoreKept.{IsCore}
+use Rattle.vll_core.specs.MachineKept.{IsMachine}
 use Rattle.vll_core.proofs.AtWork.{aborted_at_work, few_writes}
 use Rattle.vll_core.proofs.CorePairs.{words_set_value, value_word_within}
 use Rattle.vll_core.proofs.CoreRuns.{Runs, entered_as}
@@ -67,40 +67,40 @@ or_second false b h = h
 past_end : (xs : List Claim) (n : ℕ) → slice_get xs n ≡ None → length xs ≤ n
 past_end xs n none = at_least n (length xs) (λ low. let found = entry_at xs n low in cc (sym none ∙ found.1))
 
--- ---- the core
+-- ---- the machine that is kept
 
 -- the entry of a call that runs keeps what reached entries keep
-entry_kept : (a : Inside) (t : ℕ) (call : Call) (w : Work) → IsCore a → (r : Runs a t call w)
+entry_kept : {H : Type 0} {places : H → ℕ → ℕ} (a : Inside H) (t : ℕ) (call : Call) (w : Work) → IsMachine places a → (r : Runs a t call w)
     → IsEntryKept (shown a).base (records_before (shown a).base (shown a).state t) (entered_as r.client call r.status w)
-entry_kept a t call w core r = (kept_reached (opening_of (shown a)) (shown a).state core.reached).entries t (entered_as r.client call r.status w) r.at
+entry_kept {H} {places} a t call w core r = (kept_reached (opening_of places (shown a)) (shown a).state core.reached).entries t (entered_as r.client call r.status w) r.at
 
 -- a call's work says whether it has aborted
-aborted_is : (a : Inside) (t : ℕ) (call : Call) (w : Work) (r : Runs a t call w)
+aborted_is : {H : Type 0} (a : Inside H) (t : ℕ) (call : Call) (w : Work) (r : Runs a t call w)
     → option_map_or is_aborted w.reply false ≡ has_aborted (shown a).base (shown a).state t (entered_as r.client call r.status w)
-aborted_is a t call w r = aborted_at_work a.library.procs call (records_before (shown a).base (shown a).state t) w r.work
+aborted_is a t call w r = aborted_at_work a.library.value.procs call (records_before (shown a).base (shown a).state t) w r.work
 
 -- a store is refused before the last load, and where the call aborted or all is stored
-refused_store : (a : Inside) (t : ℕ) (call : Call) (w : Work) → (r : Runs a t call w)
+refused_store : {H : Type 0} {places : H → ℕ → ℕ} (a : Inside H) (t : ℕ) (call : Call) (w : Work) → (r : Runs a t call w)
     → ((w.loads == length call.claims) ≡ true → (has_aborted (shown a).base (shown a).state t (entered_as r.client call r.status w) || (w.stores == length (writes call))) ≡ true)
-    → Refuses a (event.Store t) OutOfStep
-refused_store a t call w r done =
+    → Refuses places a (event.Store t) OutOfStep
+refused_store {H} {places} a t call w r done =
     let within = r.work.within in
     let e : Entered = entered_as r.client call r.status w in
-    let refused : cannot_store (opening_of (shown a)) (shown a).state t e ≡ true =
+    let refused : cannot_store (opening_of places (shown a)) (shown a).state t e ≡ true =
     refused_by (nat_lt w.loads (length call.claims)) (w.loads == length call.claims) (has_aborted (shown a).base (shown a).state t e) (w.stores == length (writes call))
     (λ h. grind (arith, nat_tests, h, within)) done in
-    record { is = store_step (opening_of (shown a)) (shown a).state t e true r.found refused }
+    record { is = store_step (opening_of places (shown a)) (shown a).state t e true r.found refused }
 
 -- before the last load
-pub refused_unloaded : (a : Inside) (t : ℕ) (call : Call) (w : Work) → Runs a t call w → (w.loads == length call.claims) ≡ false → Refuses a (event.Store t) OutOfStep
+pub refused_unloaded : {H : Type 0} {places : H → ℕ → ℕ} (a : Inside H) (t : ℕ) (call : Call) (w : Work) → Runs a t call w → (w.loads == length call.claims) ≡ false → Refuses places a (event.Store t) OutOfStep
 refused_unloaded a t call w r some = refused_store a t call w r (λ all. absurd (cc (sym some ∙ all)))
 
 -- of a call that aborted
-pub refused_aborted : (a : Inside) (t : ℕ) (call : Call) (w : Work) → Runs a t call w → option_map_or is_aborted w.reply false ≡ true → Refuses a (event.Store t) OutOfStep
+pub refused_aborted : {H : Type 0} {places : H → ℕ → ℕ} (a : Inside H) (t : ℕ) (call : Call) (w : Work) → Runs a t call w → option_map_or is_aborted w.reply false ≡ true → Refuses places a (event.Store t) OutOfStep
 refused_aborted a t call w r aborted = refused_store a t call w r (λ all. rw (sym (aborted_is a t call w r) ∙ aborted) refl)
 
 -- where all is stored
-pub refused_stored : (a : Inside) (t : ℕ) (call : Call) (w : Work) → IsCore a → Runs a t call w → slice_get (writes call) w.stores ≡ None → Refuses a (event.Store t) OutOfStep
+pub refused_stored : {H : Type 0} {places : H → ℕ → ℕ} (a : Inside H) (t : ℕ) (call : Call) (w : Work) → IsMachine places a → Runs a t call w → slice_get (writes call) w.stores ≡ None → Refuses places a (event.Store t) OutOfStep
 refused_stored a t call w core r none =
     let upto = (entry_kept a t call w core r).stores in
     let past = past_end (writes call) w.stores none in
@@ -108,22 +108,22 @@ refused_stored a t call w core r none =
     refused_store a t call w r (λ all. or_second _ (w.stores == length (writes call)) all_stored)
 
 -- a call that runs has a record left to store, and these are its word and value; the work after it counts the store
-pub record Stores (a : Inside) (t place word v : ℕ) (call : Call) (w next : Work) (c : Claim) : Type 0 where
+pub record Stores {H : Type 0} (a : Inside H) (t place word v : ℕ) (call : Call) (w next : Work) (c : Claim) : Type 0 where
   pub runs : Runs a t call w
   pub loaded : w.loads ≡ length call.claims
   pub goes_on : option_map_or is_aborted w.reply false ≡ false
   pub left : slice_get (writes call) w.stores ≡ Some c
-  pub value : v ≡ slice_index (apply a.library.procs call (records_before (shown a).base (shown a).state t)).records c.id
+  pub value : v ≡ slice_index (apply a.library.value.procs call (records_before (shown a).base (shown a).state t)).records c.id
   pub there : place ≡ t
   pub of_record : word ≡ value_word_of c.id
   pub more : next ≡ record w { stores = w.stores + 1 }
 
--- the fields of a core once a record is stored
-abbrev pub stored_core : Inside → ℕ → ℕ → ℕ → Work → Inside
+-- the fields of a machine once a record is stored
+abbrev pub stored_core : {H : Type 0} → Inside H → ℕ → ℕ → ℕ → Work → Inside H
 stored_core a place word v next = record a { words = with_item a.words word v; work = with_item a.work place next }
 
 -- the entries that are shown after it
-entries_stored : (a : Inside) (t place word v : ℕ) (call : Call) (w next : Work) (c : Claim) → (f : Stores a t place word v call w next c)
+entries_stored : {H : Type 0} (a : Inside H) (t place word v : ℕ) (call : Call) (w next : Work) (c : Claim) → (f : Stores a t place word v call w next c)
     → (shown (stored_core a place word v next)).state ≡ with_entry (shown a).state t (entered_as f.runs.client call f.runs.status (record w { stores = w.stores + 1 }))
 entries_stored a t place word v call w next c f =
     ap (λ (n : ℕ). (shown (stored_core a n word v next)).state) f.there
@@ -131,9 +131,9 @@ entries_stored a t place word v call w next c f =
     ∙ ap (λ (es : List Entered). record (shown a).state { entries = es }) (work_put a.queue.entries a.work.items t _ (record w { stores = w.stores + 1 }) f.runs.queued))
 
 -- else it is taken
-pub taken_store : (a : Inside) (t place word v : ℕ) (call : Call) (w next : Work) (c : Claim) → Stores a t place word v call w next c
-    → Takes a (stored_core a place word v next) (event.Store t) Stored
-taken_store a t place word v call w next c f =
+pub taken_store : {H : Type 0} {places : H → ℕ → ℕ} (a : Inside H) (t place word v : ℕ) (call : Call) (w next : Work) (c : Claim) → Stores a t place word v call w next c
+    → Takes places a (stored_core a place word v next) (event.Store t) Stored
+taken_store {H} {places} a t place word v call w next c f =
     let r = f.runs in
     let e : Entered = entered_as r.client call r.status w in
     let loaded = f.loaded in
@@ -141,46 +141,46 @@ taken_store a t place word v call w next c f =
     record {
       fixed = refl;
       is =
-          store_step (opening_of (shown a)) (shown a).state t e false r.found
+          store_step (opening_of places (shown a)) (shown a).state t e false r.found
           (taken_by (nat_lt w.loads (length call.claims)) (w.loads == length call.claims) _ (w.stores == length (writes call))
           (grind (arith, nat_tests, loaded)) (sym (aborted_is a t call w r) ∙ f.goes_on) (grind (arith, nat_tests, low)))
           ∙ ap (λ (s : State). let out : Outcome = Ok (Stored, s) in out) (sym (entries_stored a t place word v call w next c f));
     }
 
 -- the value that is stored is that behind the ticket
-value_stored : (a : Inside) (t place word v : ℕ) (call : Call) (w next : Work) (c : Claim) → IsCore a → Stores a t place word v call w next c
+value_stored : {H : Type 0} {places : H → ℕ → ℕ} (a : Inside H) (t place word v : ℕ) (call : Call) (w next : Work) (c : Claim) → IsMachine places a → Stores a t place word v call w next c
     → value (shown a).base (shown (stored_core a place word v next)).state c.id ≡ v
-value_stored a t place word v call w next c core f =
+value_stored {H} {places} a t place word v call w next c core f =
     let s : State = (shown a).state in
     let e : Entered = entered_as f.runs.client call f.runs.status w in
-    let takes = taken_store a t place word v call w next c f in
-    store_reached (opening_of (shown a)) s (shown (stored_core a place word v next)).state t e c Stored core.reached f.runs.at f.left takes.is
+    let takes = taken_store {places = places} a t place word v call w next c f in
+    store_reached (opening_of places (shown a)) s (shown (stored_core a place word v next)).state t e c Stored core.reached f.runs.at f.left takes.is
     ∙ (ap (λ (n : State). slice_index (records_before (shown a).base n (suc t)) c.id) (entries_stored a t place word v call w next c f)
     ∙ (ap (λ (xs : List ℕ). slice_index xs c.id) (records_same (shown a).base s t e (record e { stores = e.stores + 1 }) (suc t) f.runs.at refl)
     ∙ (ap (λ (n : ℕ). slice_index (records_before (shown a).base s n) c.id) (sym (add-one t))
-    ∙ (ap (λ (xs : List ℕ). slice_index xs c.id) (before_more a.library.procs (entered s) a.opening.items t (made e) (made_at s.entries t e f.runs.at))
+    ∙ (ap (λ (xs : List ℕ). slice_index xs c.id) (before_more a.library.value.procs (entered s) a.opening.items t (made e) (made_at s.entries t e f.runs.at))
     ∙ sym f.value))))
 
--- its record is one of the core's
-claim_there : (a : Inside) (t : ℕ) (call : Call) (w : Work) (c : Claim) → IsCore a → Runs a t call w → slice_get (writes call) w.stores ≡ Some c → c.id < length a.opening.items
+-- its record is one of the machine's
+claim_there : {H : Type 0} {places : H → ℕ → ℕ} (a : Inside H) (t : ℕ) (call : Call) (w : Work) (c : Claim) → IsMachine places a → Runs a t call w → slice_get (writes call) w.stores ≡ Some c → c.id < length a.opening.items
 claim_there a t call w c core r left =
     let claim = at_filter call.claims w.stores c left in
-    let within : c.id < a.library.records = all_at (λ (d : Claim). d.id < a.library.records) call.claims claim.0 c r.well.within claim.1 in
+    let within : c.id < a.library.value.records = all_at (λ (d : Claim). d.id < a.library.value.records) call.claims claim.0 c r.well.within claim.1 in
     omega (arith, within, core.records)
 
--- so its word is one of the core's words
-pub word_within : (a : Inside) (t : ℕ) (call : Call) (w : Work) (c : Claim) → IsCore a → Runs a t call w → slice_get (writes call) w.stores ≡ Some c → value_word_of c.id < length a.words.items
+-- so its word is one of the machine's words
+pub word_within : {H : Type 0} {places : H → ℕ → ℕ} (a : Inside H) (t : ℕ) (call : Call) (w : Work) (c : Claim) → IsMachine places a → Runs a t call w → slice_get (writes call) w.stores ≡ Some c → value_word_of c.id < length a.words.items
 word_within a t call w c core r left =
     value_word_within (shown a).base (shown a).state a.words.items c.id core.words (claim_there a t call w c core r left)
 
 -- the words after it
-words_stored : (a : Inside) (t place word v : ℕ) (call : Call) (w next : Work) (c : Claim) → IsCore a → Stores a t place word v call w next c
+words_stored : {H : Type 0} {places : H → ℕ → ℕ} (a : Inside H) (t place word v : ℕ) (call : Call) (w next : Work) (c : Claim) → IsMachine places a → Stores a t place word v call w next c
     → AreWords (shown a).base (shown (stored_core a place word v next)).state (slice_set a.words.items word v)
-words_stored a t place word v call w next c core f =
-    let o : Opening = opening_of (shown a) in
+words_stored {H} {places} a t place word v call w next c core f =
+    let o : Opening = opening_of places (shown a) in
     let s : State = (shown a).state in
     let after : State = (shown (stored_core a place word v next)).state in
-    let takes = taken_store a t place word v call w next c f in
+    let takes = taken_store {places = places} a t place word v call w next c f in
     let stored_by_it : (k : ℕ) → k ≢ c.id → is_on k (entry_store (slice_get s.entries t)) ≡ false =
     λ k other. ap (λ (x : Option Entered). is_on k (entry_store x)) f.runs.at ∙ (ap (is_on k) f.left ∙ ne_eqb c.id k (λ e. other (sym e))) in
     subst (λ (n : ℕ). AreWords (shown a).base after (slice_set a.words.items n v)) (sym f.of_record)
@@ -200,15 +200,15 @@ still_at_work procs call records w next n is at = subst (IsAtWork procs call rec
 })
 
 -- a call has at most 16 stores
-pub few_stores : (a : Inside) (t : ℕ) (call : Call) (w : Work) (c : Claim) → Runs a t call w → slice_get (writes call) w.stores ≡ Some c → w.stores < 255
+pub few_stores : {H : Type 0} (a : Inside H) (t : ℕ) (call : Call) (w : Work) (c : Claim) → Runs a t call w → slice_get (writes call) w.stores ≡ Some c → w.stores < 255
 few_stores a t call w c r left =
     omega (arith, slice_get_within (writes call) w.stores c left, few_writes call.claims, claims_few r.well.procedure call r.well.formed r.well.made)
 
--- what the type of a core keeps
-pub core_store : (a : Inside) (t place word v : ℕ) (call : Call) (w next : Work) (c : Claim) → IsCore a → Stores a t place word v call w next c → IsCore (stored_core a place word v next)
-core_store a t place word v call w next c core f =
-    let b : Inside = stored_core a place word v next in
-    let takes = taken_store a t place word v call w next c f in
+-- what the type of a machine keeps
+pub core_store : {H : Type 0} {places : H → ℕ → ℕ} (a : Inside H) (t place word v : ℕ) (call : Call) (w next : Work) (c : Claim) → IsMachine places a → Stores a t place word v call w next c → IsMachine places (stored_core a place word v next)
+core_store {H} {places} a t place word v call w next c core f =
+    let b : Inside H = stored_core a place word v next in
+    let takes = taken_store {places = places} a t place word v call w next c f in
     record {
       reached = taken_reached a b (event.Store t) Stored takes core.reached;
       words = words_stored a t place word v call w next c core f;
@@ -223,8 +223,8 @@ core_store a t place word v call w next c core f =
       entries_fit = core.entries_fit;
       turn_fits = core.turn_fits;
       scripts_fit = core.scripts_fit;
-      at_work = at_work_put a.library a.opening.items a.queue.entries a.work.items place next
-          (λ e at. still_at_work a.library.procs e.line.call _ w next (w.stores + 1) f.more
+      at_work = at_work_put a.library.value a.opening.items a.queue.entries a.work.items place next
+          (λ e at. still_at_work a.library.value.procs e.line.call _ w next (w.stores + 1) f.more
           (core.at_work place e w at (ap (λ (n : ℕ). slice_get a.work.items n) f.there ∙ f.runs.worked))) core.at_work;
       replied = replied_put a.queue.entries a.work.items place next
           (λ e at gone. core.replied place e w at (ap (λ (n : ℕ). slice_get a.work.items n) f.there ∙ f.runs.worked) gone ∙ ap (λ (x : Work). x.reply) (sym f.more)) core.replied;

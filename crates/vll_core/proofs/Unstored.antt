@@ -6,7 +6,7 @@ use Rattle.vll_core.specs.Machine.{with_entry}
 use Rattle.vll_core.specs.State.{Entered, Base, State, made, writes, records_before, is_aborted, entered, will_store, unstored, value}
 use Rattle.vll_proc.specs.Serial.{before, Made, apply}
 use Rattle.vll_record.specs.declared.claim.Claim.{Claim}
-use Rattle.vll_core.specs.declared.status.Status.{Status}
+use Rattle.vll_sca.specs.declared.status.Status.{Status}
 use Rattle.vll_core.proofs.Tests.{at_least}
 use Rattle.vll_core.proofs.Places.{entry_at}
 use Rattle.vll_core.proofs.SerialRun.{unchanged, made_at, map_set}

@@ -10,8 +10,8 @@ use Rattle.std.proofs.lemmas.Map.Views.{exact_unsigned_eq}
 use Rattle.vll_record.proofs.Rising.{RisesFrom-zero}
 use Rattle.std.proofs.lemmas.Bool.{and_from, and_left, and_right, false_from_ne_true}
 use Rattle.vll_core.specs.Moves.{Move, stored_by, entry_store, is_on}
-use Rattle.vll_core.specs.Status.{is_waiting, is_running}
-use Rattle.vll_core.specs.declared.status.Status.TheVariants.{Running, Gone}
+use Rattle.vll_sca.specs.Status.{is_waiting, is_running}
+use Rattle.vll_sca.specs.declared.status.Status.TheVariants.{Running, Gone}
 use Rattle.vll_core.specs.Laws.{StoresMakeTheSerialState, OtherValuesStay}
 use Rattle.vll_core.proofs.Tests.{both_true, and_not_parts, none_pos}
 use Rattle.vll_core.proofs.Places.{drop_next, entry_at, get_set, at_push, get_pushed}
@@ -21,7 +21,7 @@ use Rattle.vll_core.proofs.Unstored.{below_first, at_first, first_le, will_here,
 use Rattle.vll_core.proofs.Sound.{not_below, stored_sees}
 use Rattle.vll_core.proofs.Kept.{IsKept, sound_of}
 use Rattle.vll_core.proofs.Events.{running_not_waiting, kept_load, kept_store}
-use Rattle.vll_core.proofs.Changes.{Change, store_is, change_of, entered_by, handed, requested, admitted, fronted, woken, loaded, stored, released, finished}
+use Rattle.vll_core.proofs.Changes.{Change, store_is, change_of, entered_by, handed, requested, admitted, fronted, picked, woken, loaded, stored, released, finished}
 use Rattle.vll_core.proofs.Reached.{kept_reached}
 
 abbrev pushed : State → Entered → Option Turn → State
@@ -163,13 +163,14 @@ store_reached o s next t e c seen reached at write is =
     (ap (λ (x : Entered). nat_lt x.loads (length x.call.claims)) (sym same) ∙ l.loaded) (ap (has_stored o.base s t) (sym same) ∙ l.left) write)
 
 other_values : (o : Opening) (s : State) (m : Move) (next : State) (r : ℕ) → IsKept o s → Change o s m next → is_on r (stored_by s m) ≡ false → value o.base next r ≡ value o.base s r
-other_values o s m next r kept (entered_by client call none at room) other = refl
-other_values o s m next r kept (handed client call none room) other = refl
+other_values o s m next r kept (entered_by client call none at room waits) other = refl
+other_values o s m next r kept (handed client call none room waits) other = refl
 other_values o s m next r kept (requested turn c is at) other = refl
 other_values o s m next r kept (admitted turn status is all here free) other =
     value_admit o.base s (record { client = turn.client; call = turn.call; status = status; loads = 0; stores = 0; releases = 0 }) None r refl
     (λ records none. proper_keeps o.base turn.call records r (kept.turn turn is).proper none)
 other_values o s m next r kept (fronted t f) other = value_same o.base s t f.entry Running f.entry.releases r f.at
+other_values o s m next r kept (picked t p) other = value_same o.base s t p.entry Running p.entry.releases r p.at
 other_values o s m next r kept (woken t e at clear) other = value_same o.base s t e Running e.releases r at
 other_values o s m next r kept (loaded t e c at runs left) other = value_load o s t e c r kept at runs left
 other_values o s m next r kept (stored t e at runs all left) other =

@@ -3,7 +3,7 @@ use Rattle.std.specs.Prelude.{ℕ, List, map, Option, Some, None, if◌then◌el
 use Rattle.std.specs.List.{enumerate_from}
 use Rattle.vll_proc.specs.declared.call.Reply.{Reply}
 use Rattle.vll_core.specs.declared.line.Line.{Line}
-use Rattle.vll_core.specs.Status.{is_gone}
+use Rattle.vll_sca.specs.Status.{is_gone}
 use Rattle.vll_core.specs.State.{Base, Entered, State, reply_at}
 
 module _ (o : Base) (s : State) where

@@ -1,16 +1,18 @@
 -- What holds in every state that lawful moves reach.
-use Rattle.std.specs.Prelude.{◌≡◌, ℕ, suc, ◌+◌, ◌≤◌, true, false, not, List, length, count_by, Some, Ok, slice_get, slice_index}
+use Rattle.std.specs.Prelude.{◌≡◌, ℕ, suc, ◌+◌, ◌≤◌, ◌<◌, true, false, not, List, length, map, count_by, Some, None, Ok, slice_get, slice_index}
 use Rattle.vll_record.specs.declared.claim.Claim.{Claim}
 use Rattle.vll_record.specs.Claim.{is_write}
 use Rattle.vll_record.specs.Counter.{claims_on}
 use Rattle.vll_proc.specs.declared.call.Call.{Call}
+use Rattle.vll_proc.specs.Serial.{end}
 use Rattle.vll_core.specs.declared.event.Event.{Event}
 use Rattle.vll_core.specs.declared.event.Event.TheVariants as event
 use Rattle.vll_core.specs.declared.seen.Seen.{Seen}
 use Rattle.vll_core.specs.declared.seen.Seen.TheVariants.{Loaded}
-use Rattle.vll_core.specs.Status.{is_waiting}
-use Rattle.vll_core.specs.State.{Opening, Entered, State, open_claims, counter, writes, records_before, value, is_clear}
-use Rattle.vll_core.specs.Machine.{front, step, opened, run}
+use Rattle.vll_sca.specs.Status.{is_waiting, is_running, is_gone}
+use Rattle.vll_sca.specs.Scan.{scan}
+use Rattle.vll_core.specs.State.{Opening, Entered, State, Turn, entered, open_claims, counter, writes, records_before, value, is_clear}
+use Rattle.vll_core.specs.Machine.{waiting, front, scanned, step, opened, run}
 use Rattle.vll_core.specs.Moves.{Move, move, AreProper, IsReached, requested_by, stored_by, released_by, delta_if, is_on}
 
 -- every list of events, refused ones among them, reaches such a state
@@ -28,6 +30,23 @@ abbrev pub FrontTicketIsClear : Type 0
 FrontTicketIsClear =
     (o : Opening) (s : State) (t : ℕ) (e : Entered)
     → IsReached o s → front s ≡ Some t → slice_get s.entries t ≡ Some e → (is_waiting e.status ≡ true) × (is_clear s t e.call.claims ≡ true)
+
+-- the ticket that Scan picks waits, and is clear, whatever the hash and the number of bits
+abbrev pub ScanTicketIsClear : Type 0
+ScanTicketIsClear =
+    (o : Opening) (s : State) (t : ℕ) (e : Entered)
+    → IsReached o s → scan o.place o.bits (map scanned s.entries) ≡ Some t → slice_get s.entries t ≡ Some e
+    → (is_waiting e.status ≡ true) × (is_clear s t e.call.claims ≡ true)
+
+-- while a turn is open, fewer calls are entered than the limit, and fewer wait than the cap
+abbrev pub OpenTurnsHaveRoom : Type 0
+OpenTurnsHaveRoom =
+    (o : Opening) (s : State) (turn : Turn)
+    → IsReached o s → s.turn ≡ Some turn → (length s.entries < o.limit) × (waiting s < o.cap)
+
+-- no more calls wait than the cap
+abbrev pub WaitingStaysWithinTheCap : Type 0
+WaitingStaysWithinTheCap = (o : Opening) (s : State) → IsReached o s → waiting s ≤ o.cap
 
 -- a load by ticket t gives the record as it is before ticket t, where the calls run one at a time
 abbrev pub LoadsSeeTheSerialState : Type 0
@@ -68,3 +87,11 @@ CountersStayWithinTheLimit =
     → (length (claims_on r (open_claims s)) ≤ o.limit)
     × (count_by is_write (claims_on r (open_claims s)) ≤ o.limit)
     × (count_by (λ c. not (is_write c)) (claims_on r (open_claims s)) ≤ o.limit)
+
+-- where no turn is open and no call waits or runs, each call is gone, each record is what the calls make of it one at a time in order of entry, and each counter is 0
+abbrev pub FinishedMachinesHaveTheSerialEnd : Type 0
+FinishedMachinesHaveTheSerialEnd =
+    (o : Opening) (s : State)
+    → IsReached o s → s.turn ≡ None → waiting s ≡ 0 → count_by (λ (e : Entered). is_running e.status) s.entries ≡ 0
+    → ((t : ℕ) (e : Entered) → slice_get s.entries t ≡ Some e → is_gone e.status ≡ true)
+    × ((r : ℕ) → (value o.base s r ≡ slice_index (end o.base.procs (entered s) o.base.records) r) × (counter s r ≡ 0))

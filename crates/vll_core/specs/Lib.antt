@@ -1,4 +1,3 @@
-pub mod Status
 pub mod State
 pub mod Machine
 pub mod Moves
@@ -9,4 +8,4 @@ pub mod Journal
 pub mod Shown
 pub mod Work
 pub mod View
-pub mod CoreKept
+pub mod MachineKept

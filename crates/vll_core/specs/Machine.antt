@@ -1,17 +1,19 @@
 -- The plain machine: each event is refused, by the lowest number that stands, or has an answer and a next state.
-use Rattle.std.specs.Prelude.{ℕ, ◌+◌, Bool, true, false, ◌&&◌, ◌||◌, ◌==◌, not, nat_lt, nat_le, List, [], ◌∷◌, ◌++◌, length, position, Option, Some, None, is_some, slice_get, slice_set, Result, Ok, Err, if◌then◌else◌}
+use Rattle.std.specs.Prelude.{ℕ, ◌+◌, Bool, true, false, ◌&&◌, ◌||◌, ◌==◌, not, nat_lt, nat_le, List, [], ◌∷◌, ◌++◌, map, length, count_by, position, Option, Some, None, is_some, slice_get, slice_set, Result, Ok, Err, if◌then◌else◌}
 use Rattle.vll_record.specs.declared.claim.Claim.{Claim}
 use Rattle.vll_record.specs.Claim.{conflict}
 use Rattle.vll_proc.specs.declared.call.Call.{Call}
-use Rattle.vll_core.specs.declared.status.Status.{Status}
-use Rattle.vll_core.specs.declared.status.Status.TheVariants.{Running, Waiting, Gone}
-use Rattle.vll_core.specs.Status.{is_waiting, is_running, is_gone}
+use Rattle.vll_sca.specs.declared.status.Status.{Status}
+use Rattle.vll_sca.specs.declared.status.Status.TheVariants.{Running, Waiting, Gone}
+use Rattle.vll_sca.specs.Status.{is_waiting, is_running, is_gone}
+use Rattle.vll_sca.specs.declared.entry.Entry.{Entry}
+use Rattle.vll_sca.specs.Scan.{scan}
 use Rattle.vll_core.specs.declared.event.Event.{Event}
 use Rattle.vll_core.specs.declared.event.Event.TheVariants as event
 use Rattle.vll_core.specs.declared.seen.Seen.{Seen}
 use Rattle.vll_core.specs.declared.seen.Seen.TheVariants.{Opened, Claimed, Free, Blocked, Run, Loaded, Stored, Released, Replied}
 use Rattle.vll_core.specs.declared.refusal.Refusal.{Refusal}
-use Rattle.vll_core.specs.declared.refusal.Refusal.TheVariants.{TurnOpen, NoTurn, NoCall, Spent, NotRunning, OutOfStep, Idle}
+use Rattle.vll_core.specs.declared.refusal.Refusal.TheVariants.{TurnOpen, NoTurn, NoCall, Spent, Busy, NotRunning, OutOfStep, Idle}
 use Rattle.vll_core.specs.State.{Base, Opening, Entered, Turn, State, open_claims, counter, writes, reply_at, has_aborted, value}
 
 -- a refusal, or an answer and the next state
@@ -27,6 +29,10 @@ refuse_if false why go = go
 abbrev pub or_refuse : {A : Type 0} → Option A → Refusal → (A → Outcome) → Outcome
 or_refuse None why go = Err why
 or_refuse (Some a) why go = go a
+
+-- how many entered calls wait
+abbrev pub waiting : State → ℕ
+waiting s = count_by (λ (e : Entered). is_waiting e.status) s.entries
 
 -- the first call of a script, if there is a script and a call left of it
 abbrev pub first_call : Option (List Call) → Option Call
@@ -71,6 +77,10 @@ front s = elim (position (λ (e : Entered). not (is_gone e.status)) s.entries) [
   | Some t ↦ elim (slice_get s.entries t) [ None ↦ None | Some e ↦ if is_waiting e.status then Some t else None ]
 ]
 
+-- an entered call as the contention analysis sees it
+abbrev pub scanned : Entered → Entry
+scanned e = record { claims = e.call.claims; status = e.status }
+
 -- all loads and stores of a call are made; an aborted call has no stores
 abbrev pub has_stored : Base → State → ℕ → Entered → Bool
 has_stored o s t e =
@@ -80,7 +90,8 @@ has_stored o s t e =
 abbrev pub enter : Opening → State → ℕ → Call → List (List Call) → Outcome
 enter o s c call scripts =
     refuse_if (nat_le o.limit (length s.entries)) Spent
-    (Ok (Opened, record s { turn = Some (record { client = c; call = call; requested = 0; granted = true }); scripts = scripts }))
+    (refuse_if (nat_le o.cap (waiting s)) Busy
+    (Ok (Opened, record s { turn = Some (record { client = c; call = call; requested = 0; granted = true }); scripts = scripts })))
 
 -- a request is granted where no open claim conflicts with it
 abbrev pub request : State → Turn → Claim → Outcome
@@ -101,6 +112,8 @@ step o s (event.Enter c) = refuse_if (is_some s.turn) TurnOpen (or_refuse (next_
 step o s event.Claim = or_refuse s.turn NoTurn (λ turn. or_refuse (slice_get turn.call.claims turn.requested) OutOfStep (request s turn))
 step o s event.Admit = or_refuse s.turn NoTurn (λ turn. refuse_if (nat_lt turn.requested (length turn.call.claims)) OutOfStep (admit s turn))
 step o s event.Front = refuse_if (is_some s.turn) TurnOpen (or_refuse (front s) Idle (λ t. Ok (Run t, with_status s t Running)))
+step o s event.Scan =
+    refuse_if (is_some s.turn) TurnOpen (or_refuse (scan o.place o.bits (map scanned s.entries)) Idle (λ t. Ok (Run t, with_status s t Running)))
 step o s (event.Load t) =
     or_refuse (running s t) NotRunning (λ e.
     or_refuse (slice_get e.call.claims e.loads) OutOfStep (λ c.
@@ -132,6 +145,11 @@ state_after s (Err why) = s
 abbrev pub told : Outcome → Result Seen Refusal
 told (Ok seen) = Ok seen.0
 told (Err why) = Err why
+
+-- that a turn was opened, or why not
+abbrev pub entered : Outcome → Result (Unit {0}) Refusal
+entered (Ok seen) = Ok tt
+entered (Err why) = Err why
 
 -- what a list of events is answered
 abbrev pub answers : Opening → State → List Event → List (Result Seen Refusal)

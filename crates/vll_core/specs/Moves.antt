@@ -1,4 +1,4 @@
--- Lawful moves: the events of the machine, and two that are wider than Front and Enter. The laws hold of them all.
+-- Lawful moves: the events of the machine, and two that are wider than Front and Scan, and than Enter. The laws hold of them all.
 use Rattle.std.specs.Prelude.{◌≡◌, ◌≢◌, ℕ, Bool, false, not, List, Option, Some, None, Ok, All, is_some, slice_get, slice_index, ◌==◌, if◌then◌else◌}
 use Rattle.vll_record.specs.declared.claim.Claim.{Claim}
 use Rattle.vll_record.specs.declared.claim.Mode.TheVariants.{Write}
@@ -9,9 +9,9 @@ use Rattle.vll_core.specs.declared.event.Event.{Event}
 use Rattle.vll_core.specs.declared.event.Event.TheVariants as event
 use Rattle.vll_core.specs.declared.seen.Seen.{Seen}
 use Rattle.vll_core.specs.declared.seen.Seen.TheVariants.{Run}
-use Rattle.vll_core.specs.declared.status.Status.TheVariants.{Running}
+use Rattle.vll_sca.specs.declared.status.Status.TheVariants.{Running}
 use Rattle.vll_core.specs.declared.refusal.Refusal.TheVariants.{TurnOpen, Idle}
-use Rattle.vll_core.specs.Status.{is_waiting}
+use Rattle.vll_sca.specs.Status.{is_waiting}
 use Rattle.vll_core.specs.State.{Base, Opening, Entered, Turn, State, delta_on, writes, is_clear}
 use Rattle.vll_core.specs.Machine.{Outcome, refuse_if, or_refuse, enter, with_status, step, opened}
 

@@ -1,31 +1,43 @@
--- What contracts see of a core.
+-- What contracts see of a machine.
 use Rattle.std.specs.Prelude.{◌≡◌, ℕ, ◌+◌, ◌*◌, ◌<◌, List, length, map, slice_index}
 use Rattle.std.specs.Global.{Vec}
 use Rattle.vll_proc.specs.declared.call.Call.{Call}
 use Rattle.vll_check.specs.Catalog.{Catalog}
 use Rattle.vll_record.specs.Word.{value_word_of, pair_word_of_record}
+use Rattle.vll_core.specs.declared.config.Config.{Config}
 use Rattle.vll_core.specs.State.{Base, Opening, State, counter, value}
 use Rattle.vll_core.specs.Machine.{Outcome, opened, state_after}
 
--- what is fixed from the opening on, and the state of the machine
-pub record Shown : Type 0 where
+-- what is fixed from the opening on, the hash as it was handed in, and the state of the machine
+pub record Shown (H : Type 0) : Type 0 where
   pub base : Base
+  pub cap : ℕ
   pub limit : ℕ
+  pub bits : ℕ
+  pub hash : H
   pub state : State
 
-abbrev pub opening_of : Shown → Opening
-opening_of c = record { base = c.base; limit = c.limit }
+-- the opening of the plain machine, by the places that the hash gives to records
+abbrev pub opening_of : {H : Type 0} → (H → ℕ → ℕ) → Shown H → Opening
+opening_of place c = record { base = c.base; cap = c.cap; limit = c.limit; bits = c.bits; place = place c.hash }
 
--- a core in which nothing is entered
-abbrev pub begun : Catalog → List ℕ → List (Vec Call) → ℕ → Shown
-begun library records scripts limit = record {
+-- the library of a machine: its procedures, checked for its number of records
+abbrev pub library_of : {H : Type 0} → Shown H → Catalog
+library_of c = record { records = length c.base.records; procs = c.base.procs }
+
+-- a machine in which nothing is entered
+abbrev pub begun : {H : Type 0} → Catalog → List ℕ → List (Vec Call) → Config → H → Shown H
+begun library records scripts config hash = record {
   base = record { procs = library.procs; records = records };
-  limit = limit;
+  cap = config.cap;
+  limit = config.limit;
+  bits = config.bits;
+  hash = hash;
   state = opened (map (λ (v : Vec Call). v.items) scripts);
 }
 
--- a core after what an event comes to
-abbrev pub after : Shown → Outcome → Shown
+-- a machine after what an event comes to
+abbrev pub after : {H : Type 0} → Shown H → Outcome → Shown H
 after c out = record c { state = state_after c.state out }
 
 -- the words of a state: word 0 is 0, and each record has its value and its counter

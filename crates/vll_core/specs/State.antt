@@ -9,17 +9,21 @@ use Rattle.vll_proc.specs.declared.call.Reply.{Reply}
 use Rattle.vll_proc.specs.declared.call.Reply.TheVariants.{Committed, Aborted}
 use Rattle.vll_proc.specs.declared.syntax.Proc.{Proc}
 use Rattle.vll_proc.specs.Serial.{Made, apply, before}
-use Rattle.vll_core.specs.declared.status.Status.{Status}
+use Rattle.vll_sca.specs.declared.status.Status.{Status}
 
 -- the procedures, and the records as they were at the opening
 pub record Base : Type 0 where
   pub procs : List Proc
   pub records : List ℕ
 
--- what is fixed from the opening on: the base, and how many calls may be entered
+-- what is fixed from the opening on: the base, how many calls may be entered and how many may wait, and for the
+-- contention analysis the hash as the places that it gives to records, and the number of bits
 pub record Opening : Type 0 where
   pub base : Base
+  pub cap : ℕ
   pub limit : ℕ
+  pub bits : ℕ
+  pub place : ℕ → ℕ
 
 -- an entered call, with the numbers of its loads, stores and releases
 pub record Entered : Type 0 where

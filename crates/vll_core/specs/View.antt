@@ -1,9 +1,9 @@
--- The state that a core stands for.
+-- The state that a machine stands for.
 use Rattle.std.specs.Prelude.{ℕ, List, [], ◌∷◌, drop, Option, Some, None}
 use Rattle.std.specs.Global.{Vec}
 use Rattle.vll_proc.specs.declared.call.Call.{Call}
 use Rattle.vll_core.specs.declared.machine.OpenTurn.{OpenTurn}
-use Rattle.vll_core.specs.declared.machine.Core.TheInside.{Inside}
+use Rattle.vll_core.specs.declared.machine.Machine.TheInside.{Inside}
 use Rattle.vll_core.specs.declared.work.Work.{Work}
 use Rattle.vll_core.specs.Queue.{QueueEntry}
 use Rattle.vll_core.specs.State.{Entered, Turn}
@@ -28,9 +28,12 @@ left_of [] ns = []
 left_of (v ∷ vs) [] = []
 left_of (v ∷ vs) (n ∷ ns) = drop n v.items ∷ left_of vs ns
 
-abbrev pub shown : Inside → Shown
+abbrev pub shown : {H : Type 0} → Inside H → Shown H
 shown c = record {
-  base = record { procs = c.library.procs; records = c.opening.items };
+  base = record { procs = c.library.value.procs; records = c.opening.items };
+  cap = c.queue.cap;
   limit = c.queue.limit;
+  bits = c.queue.bits;
+  hash = c.queue.hash;
   state = record { entries = entries_of c.queue.entries c.work.items; turn = turn_of c.turn; scripts = left_of c.scripts.items c.next.items };
 }

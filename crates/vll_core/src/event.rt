@@ -12,6 +12,8 @@ pub enum Event {
     Admit,
     /// The lowest ticket that is not gone, where it waits, begins to run.
     Front,
+    /// The first waiting call that is in hash conflict with no earlier one that runs or waits begins to run.
+    Scan,
     /// A running call loads the record of its next claim.
     Load(Ticket),
     /// A running call stores the record of its next Write claim.

@@ -1,7 +1,7 @@
 // Laws of the machine of atomic steps, each the contract of a function that does nothing. A lawful
 // move is an event of the machine, the start of any waiting ticket that is clear, or the opening of
 // a turn for a call that is handed in.
-ghost use Rattle.vll_core.specs.Laws.{EventListsReach, RunningTicketsAreClear, FrontTicketIsClear, LoadsSeeTheSerialState, CountersChangeByDeltas, StoresMakeTheSerialState, OtherValuesStay, SerialStatesStay, CountersStayWithinTheLimit};
+ghost use Rattle.vll_core.specs.Laws.{EventListsReach, RunningTicketsAreClear, FrontTicketIsClear, ScanTicketIsClear, OpenTurnsHaveRoom, WaitingStaysWithinTheCap, LoadsSeeTheSerialState, CountersChangeByDeltas, StoresMakeTheSerialState, OtherValuesStay, SerialStatesStay, CountersStayWithinTheLimit, FinishedMachinesHaveTheSerialEnd};
 
 /// Every list of events, refused ones among them, reaches a state of which the other laws hold.
 #[tactic(auto, using(crate::proofs::Reached::lists_reach))]
@@ -19,6 +19,23 @@ pub fn running_tickets_are_clear()
 /// The ticket that Front picks, in a state that lawful moves reach, waits and is clear.
 pub fn front_ticket_is_clear()
     ensures { FrontTicketIsClear }
+{}
+
+/// The ticket that the contention analysis picks, in a state that lawful moves reach, waits and is
+/// clear, whatever the hash and the number of bits: a collision only holds a call back.
+pub fn scan_ticket_is_clear()
+    ensures { ScanTicketIsClear }
+{}
+
+/// While a turn is open, fewer calls are entered than the limit and fewer wait than the cap, so its
+/// call can get a ticket and wait.
+pub fn open_turns_have_room()
+    ensures { OpenTurnsHaveRoom }
+{}
+
+/// No more calls wait than the cap.
+pub fn waiting_stays_within_the_cap()
+    ensures { WaitingStaysWithinTheCap }
 {}
 
 /// A load by ticket t answers the record as it is before ticket t, where the entered calls run one
@@ -59,4 +76,10 @@ pub fn serial_states_stay()
 /// it.
 pub fn counters_stay_within_the_limit()
     ensures { CountersStayWithinTheLimit }
+{}
+
+/// Where no turn is open and no call waits or runs, each call is gone, each record is what the
+/// entered calls make of it one at a time in order of entry, and each counter is 0.
+pub fn finished_machines_have_the_serial_end()
+    ensures { FinishedMachinesHaveTheSerialEnd }
 {}

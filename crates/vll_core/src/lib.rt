@@ -2,6 +2,7 @@
 #![tactic(auto)]
 
 mod config;
+mod core_machine;
 mod event;
 mod laws;
 mod line;
@@ -9,11 +10,11 @@ mod machine;
 mod queue;
 mod refusal;
 mod seen;
-mod status;
 mod ticket;
 mod work;
 
 pub use config::{Config, OpenFault};
+pub use core_machine::Core;
 pub use event::Event;
 pub use laws::{
     counters_change_by_deltas, counters_stay_within_the_limit, event_lists_reach,
@@ -21,9 +22,8 @@ pub use laws::{
     running_tickets_are_clear, serial_states_stay, stores_make_the_serial_state,
 };
 pub use line::Line;
-pub use machine::Core;
+pub use machine::Machine;
 pub use queue::Queue;
 pub use refusal::Refusal;
 pub use seen::Seen;
-pub use status::Status;
 pub use ticket::Ticket;

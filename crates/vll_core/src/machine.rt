@@ -3,7 +3,7 @@ ghost use Rattle.vll_check.specs.Calls.{Fits};
 ghost use Rattle.vll_core.specs.Journal.{journal_of};
 ghost use Rattle.vll_core.specs.Machine.{step, told};
 ghost use Rattle.vll_core.specs.Moves.{IsReached};
-ghost use Rattle.vll_core.specs.Shown.{AreFirstWords, AreWords, after, begun, opening_of};
+ghost use Rattle.vll_core.specs.Shown.{AreFirstWords, AreWords, after, begun, library_of, opening_of};
 ghost use Rattle.vll_core.specs.declared.config.OpenFault.TheVariants as OpenFault;
 ghost use Rattle.vll_core.specs.State.{Entered};
 
@@ -13,20 +13,23 @@ use crate::line::Line;
 use crate::queue::Queue;
 use crate::refusal::Refusal;
 use crate::seen::Seen;
-use crate::status::Status;
 use crate::ticket::Ticket;
 use crate::work::Work;
 use std::alloc::{AllocError, Global};
 use std::marker::Model;
+use std::snapshot::Snapshot;
 use vll_check::Library;
 use vll_proc::Call;
+use vll_sca::{Place, Status};
 
+mod enter;
 mod finish;
 mod load;
 mod release;
 mod run;
 mod store;
 mod turn;
+mod wake;
 
 // The call whose turn is open.
 #[derive(Clone, Copy)]
@@ -39,16 +42,17 @@ pub(crate) struct OpenTurn {
     pub(crate) granted: bool,
 }
 
-/// The machine of atomic steps. It takes one event at a time, and keeps a value word and a pair word for
-/// each record, and the entered calls in a queue. Contracts see what was handed in at the opening, and the
-/// state of the plain machine.
+/// The machine of atomic steps, without its library, which is handed in with each step. It takes one event at a
+/// time, and keeps a value word and a pair word for each record, and the entered calls in a queue. Contracts see
+/// what was handed in at the opening, and the state of the plain machine.
 #[derive(Drop)]
-pub struct Core {
-    library: Library,
+pub struct Machine<H: Place> {
+    // The library as it was at the opening, for contracts alone.
+    library: Snapshot<Library>,
     // The records as they were handed in.
     opening: Vec<u64>,
     words: Vec<u64>,
-    queue: Queue,
+    queue: Queue<H>,
     // What each entered call has done, by ticket.
     work: Vec<Work>,
     turn: Option<OpenTurn>,
@@ -57,55 +61,64 @@ pub struct Core {
     next: Vec<usize>,
 }
 
-impl Model for Core {
+impl<H: Place> Model for Machine<H> {
     ghost use Rattle.vll_proc.specs.contracts.syntax.Expr as expr;
     ghost use Rattle.vll_proc.specs.contracts.syntax.Stmt as stmt;
     ghost use Rattle.std.specs.Coded.{codes};
     ghost use Rattle.vll_core.specs.Shown.{Shown};
 
-    ghost Value = { Shown };
+    ghost Value = { Shown H };
 
-    ghost coded = { Prim.hlevel (codes, expr.the_row.coded, stmt.the_row.coded) };
+    ghost coded = { Prim.hlevel (codes, expr.the_row.coded, stmt.the_row.coded, H.code) };
 
     ghost use Rattle.vll_core.specs.View.{shown};
-    ghost use Rattle.vll_core.specs.CoreKept.{IsCore};
+    ghost use Rattle.vll_core.specs.MachineKept.{IsMachine};
 
     ghost view = { shown };
 
-    ghost invariant = { IsCore };
+    ghost invariant = { IsMachine H.place_of };
 }
 
-impl Core {
-    /// A machine over these records with nothing entered. The list handed in is kept as the records of the
-    /// opening. `Records` comes where there are not 1 to 65,536 records, and else `Limit` where the limit is
-    /// not 1 to 65,536; `NoMemory` comes only where memory was refused. All memory is taken here.
-    pub fn open(
+impl<H: Place + Drop> Machine<H> {
+    // A machine over these records with nothing entered, for this library. All memory is taken here.
+    pub(crate) fn open(
         alloc: Global,
         records: Vec<u64>,
-        library: Library,
+        library: &Library,
         scripts: Vec<Vec<Call>>,
         config: Config,
-    ) -> Result<Core, OpenFault>
-        requires records { library.records ≡ length records.items }
-        requires fits { All (λ script. All (Fits library) script.items) scripts.items }
+        hash: H,
+    ) -> Result<Machine<H>, OpenFault>
+        requires records { library.now.records ≡ length records.items }
+        requires fits { All (λ script. All (Fits library.now) script.items) scripts.items }
         ensures records { result ≡ Err OpenFault.Records
             ↔ ¬ ((1 ≤ length records.items) × (length records.items ≤ 65536)) }
         ensures limit { result ≡ Err OpenFault.Limit
             ↔ ((1 ≤ length records.items) × (length records.items ≤ 65536)
             × (¬ ((1 ≤ config.limit) × (config.limit ≤ 65536)))) }
-        ensures opened { IfOk result (λ c. c ≡ begun library records.items scripts.items config.limit) }
+        ensures cap { result ≡ Err OpenFault.Cap
+            ↔ ((1 ≤ length records.items) × (length records.items ≤ 65536)
+            × (1 ≤ config.limit) × (config.limit ≤ 65536)
+            × (¬ ((1 ≤ config.cap) × (config.cap ≤ 65536)))) }
+        ensures bits { result ≡ Err OpenFault.Bits
+            ↔ ((1 ≤ length records.items) × (length records.items ≤ 65536)
+            × (1 ≤ config.limit) × (config.limit ≤ 65536)
+            × (1 ≤ config.cap) × (config.cap ≤ 65536)
+            × (¬ ((1 ≤ config.bits) × (config.bits ≤ 1048576)))) }
+        ensures opened { IfOk result (λ c. c ≡ begun library.now records.items scripts.items config hash) }
     {
-        if records.is_empty() || records.len() > 65_536 {
+        let count = library.records();
+        if count < 1 || count > 65_536 {
             return Err(OpenFault::Records);
         }
-        let queue = Queue::open(alloc, config)?;
+        let queue = Queue::open(alloc, config, hash)?;
         let words = words_of(alloc, &records).map_err(|_| OpenFault::NoMemory)?;
         let work = Vec::with_capacity(alloc, config.limit as usize).map_err(
             |_| OpenFault::NoMemory,
         )?;
         let next = vec![in alloc; 0; scripts.len()].map_err(|_| OpenFault::NoMemory)?;
-        Ok(Core {
-            library,
+        Ok(Machine {
+            library: Snapshot::of(library),
             opening: records,
             words,
             queue,
@@ -116,18 +129,32 @@ impl Core {
         })
     }
 
+    /// The words and the journal. It takes no memory.
+    pub fn into_parts(self) -> (Vec<u64>, Vec<Line>)
+        ensures words { AreWords self.base self.state result.0.items }
+        ensures journal { result.1.items ≡ journal_of self.base self.state }
+        ensures reached { IsReached (opening_of H.place_of self) self.state }
+    {
+        let Machine { words, queue, .. } = self;
+        (words, queue.into_journal())
+    }
+}
+
+impl<H: Place> Machine<H> {
     /// Takes one step of the machine, or refuses it by the lowest refusal that stands. A refused event
-    /// changes nothing. It takes no memory.
-    pub fn step(&mut self, event: Event) -> Result<Seen, Refusal>
-        ensures answer { result ≡ told (step (opening_of self.old) self.old.state event) }
-        ensures state { self.new ≡ after self.old (step (opening_of self.old) self.old.state event) }
+    /// changes nothing. The library is the one of the opening. It takes no memory.
+    pub fn step(&mut self, library: &Library, event: Event) -> Result<Seen, Refusal>
+        requires same { library.now ≡ library_of self.old }
+        ensures answer { result ≡ told (step (opening_of H.place_of self.old) self.old.state event) }
+        ensures state { self.new ≡ after self.old (step (opening_of H.place_of self.old) self.old.state event) }
     {
         match event {
-            Event::Enter(client) => self.enter(client),
+            Event::Enter(client) => self.enter_next(client),
             Event::Claim => self.claim(),
-            Event::Admit => self.admit(),
+            Event::Admit => self.admit(library),
             Event::Front => self.front(),
-            Event::Load(ticket) => self.load(ticket),
+            Event::Scan => self.scan(),
+            Event::Load(ticket) => self.load(library, ticket),
             Event::Store(ticket) => self.store(ticket),
             Event::Release(ticket) => self.release(ticket),
             Event::Finish(ticket) => self.finish(ticket),
@@ -144,7 +171,8 @@ impl Core {
     /// The journal: each entered call with its client, in order of entry. Where a call is finished its line has
     /// the reply that it answers where the calls run one at a time in this order, and else no reply.
     pub fn journal(&self) -> &[Line]
-        ensures { result.now ≡ journal_of self.now.base self.now.state }
+        ensures lines { result.now ≡ journal_of self.now.base self.now.state }
+        ensures few { length result.now ≤ 65536 }
     {
         self.queue.journal()
     }
@@ -153,7 +181,7 @@ impl Core {
     /// lawful moves reach, so the laws of the machine hold of it.
     pub fn words(&self) -> &[u64]
         ensures words { AreWords self.now.base self.now.state result.now }
-        ensures reached { IsReached (opening_of self.now) self.now.state }
+        ensures reached { IsReached (opening_of H.place_of self.now) self.now.state }
     {
         &self.words
     }
@@ -172,6 +200,3 @@ fn words_of(alloc: Global, records: &[u64]) -> Result<Vec<u64>, AllocError>
     }
     Ok(words)
 }
-
-#[cfg(test)]
-mod tests;

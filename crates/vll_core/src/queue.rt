@@ -1,23 +1,30 @@
-ghost use Rattle.std.specs.Prelude.{◌≡◌, ◌<◌, ◌≤◌, ◌⊎◌, ◌↔◌, Some, Ok, Err, length, count_by, slice_get, slice_set, IsTrue, IsOk};
+ghost use Rattle.std.specs.Prelude.{◌≡◌, ◌<◌, ◌≤◌, ◌⊎◌, ◌↔◌, ◌≢◌, Some, Ok, Err, length, count_by, slice_get, slice_set, IfOk, IsTrue, IsOk};
 ghost use Rattle.std.specs.List.{position_or_len};
 ghost use Rattle.std.specs.Option.{option_copied};
-ghost use Rattle.vll_core.specs.Status.{is_waiting as waiting, is_running as running, is_gone as gone};
-ghost use Rattle.vll_core.specs.Queue.{IsQueued, empty, entry, admitted, lines, statuses, is_left, started, finished, front_among, fronted};
+ghost use Rattle.vll_sca.specs.Status.{is_waiting as waiting, is_running as running, is_gone as gone};
+ghost use Rattle.vll_sca.specs.declared.status.Status.TheVariants as Status;
+ghost use Rattle.vll_sca.specs.declared.bits.BitsFault.TheVariants as BitsFault;
+ghost use Rattle.vll_core.specs.declared.config.OpenFault.TheVariants as OpenFault;
+ghost use Rattle.vll_core.specs.Queue.{IsQueued, empty, entry, admitted, lines, statuses, is_left, started, finished, front_among, fronted, found_by, scanned};
+ghost use Rattle.vll_core.specs.QueueKept.{statuses_of};
 
 use crate::config::{Config, OpenFault};
 use crate::line::Line;
-use crate::status::Status;
 use crate::ticket::Ticket;
 use std::alloc::Global;
 use std::marker::Model;
 use vll_proc::{Call, Reply};
+use vll_sca::{Bits, BitsFault, Entry, Place, Status};
 
-/// The entered calls in order of entry, each with its line and its status. All room is taken in `open`.
-/// Contracts see the limit and the list of entries.
+/// The entered calls in order of entry, each with its line and its status, and the contention analysis of them.
+/// All room is taken in `open`. Contracts see what was chosen at the opening, and the list of entries.
 #[derive(Drop)]
-pub struct Queue {
+pub struct Queue<H: Place> {
+    cap: u32,
     limit: u32,
-    statuses: Vec<Status>,
+    bits: Bits,
+    hash: H,
+    entries: Vec<Entry>,
     journal: Vec<Line>,
     // The lowest ticket that is not gone, or the number of tickets.
     first: u32,
@@ -25,10 +32,13 @@ pub struct Queue {
     running: u32,
 }
 
-impl Model for Queue {
+impl<H: Place> Model for Queue<H> {
+    ghost use Rattle.std.specs.Coded.{codes};
     ghost use Rattle.vll_core.specs.Queue.{Queued};
 
-    ghost Value = { Queued };
+    ghost Value = { Queued H };
+
+    ghost coded = { Prim.hlevel (codes, H.code) };
 
     ghost use Rattle.vll_core.specs.QueueKept.{kept, IsKept};
 
@@ -37,22 +47,37 @@ impl Model for Queue {
     ghost invariant = { IsKept };
 }
 
-impl Queue {
-    /// A queue in which nothing is entered, with room for `limit` calls. `Limit` comes exactly where the limit is
-    /// not 1 to 65,536, before any memory is asked for, and `NoMemory` only where memory was refused.
-    pub fn open(alloc: Global, config: Config) -> Result<Queue, OpenFault>
+impl<H: Place + Drop> Queue<H> {
+    /// A queue in which nothing is entered, with room for `limit` calls. The lowest fault that stands is answered:
+    /// `Limit` where the limit is not 1 to 65,536, `Cap` where the cap is not 1 to 65,536, and `Bits` where the
+    /// number of bits is not 1 to 1,048,576, all before any memory is asked for; `NoMemory` comes only where memory
+    /// was refused.
+    pub fn open(alloc: Global, config: Config, hash: H) -> Result<Queue<H>, OpenFault>
         ensures limit { result ≡ Err OpenFault.Limit ↔ ¬ ((1 ≤ config.limit) × (config.limit ≤ 65536)) }
-        ensures opened { (result ≡ Ok (empty config.limit)) ⊎ (result ≡ Err OpenFault.Limit) ⊎ (result ≡ Err OpenFault.NoMemory) }
+        ensures cap { result ≡ Err OpenFault.Cap
+            ↔ ((1 ≤ config.limit) × (config.limit ≤ 65536) × (¬ ((1 ≤ config.cap) × (config.cap ≤ 65536)))) }
+        ensures bits { result ≡ Err OpenFault.Bits
+            ↔ ((1 ≤ config.limit) × (config.limit ≤ 65536) × (1 ≤ config.cap) × (config.cap ≤ 65536)
+            × (¬ ((1 ≤ config.bits) × (config.bits ≤ 1048576)))) }
+        ensures records { result ≢ Err OpenFault.Records }
+        ensures opened { IfOk result (λ q. q ≡ empty config hash) }
     {
         if config.limit < 1 || config.limit > 65_536 {
             return Err(OpenFault::Limit);
         }
+        if config.cap < 1 || config.cap > 65_536 {
+            return Err(OpenFault::Cap);
+        }
+        let bits = Bits::new(alloc, config.bits).map_err(fault_of)?;
         let room = config.limit as usize;
-        let statuses = Vec::with_capacity(alloc, room).map_err(|_| OpenFault::NoMemory)?;
+        let entries = Vec::with_capacity(alloc, room).map_err(|_| OpenFault::NoMemory)?;
         let journal = Vec::with_capacity(alloc, room).map_err(|_| OpenFault::NoMemory)?;
         Ok(Queue {
+            cap: config.cap,
             limit: config.limit,
-            statuses,
+            bits,
+            hash,
+            entries,
             journal,
             first: 0,
             waiting: 0,
@@ -60,12 +85,31 @@ impl Queue {
         })
     }
 
+    /// The lines by ticket, moved out. It takes no memory.
+    pub fn into_journal(self) -> Vec<Line>
+        ensures lines { result.items ≡ lines self }
+        ensures kept { IsQueued self }
+    {
+        let Queue { journal, .. } = self;
+        journal
+    }
+}
+
+impl<H: Place> Queue<H> {
     /// As many calls as the limit have been entered.
     pub fn is_spent(&self) -> bool
         ensures answer { IsTrue result ↔ (length self.now.entries ≡ self.now.limit) }
         ensures kept { IsQueued self.now }
     {
         self.journal.len() == self.limit as usize
+    }
+
+    /// As many calls as the cap wait.
+    pub fn is_busy(&self) -> bool
+        ensures answer { IsTrue result ↔ (count_by waiting (statuses self.now) ≡ self.now.cap) }
+        ensures kept { IsQueued self.now }
+    {
+        self.waiting == self.cap
     }
 
     /// How many entered calls wait.
@@ -86,7 +130,7 @@ impl Queue {
     pub fn status(&self, ticket: Ticket) -> Option<Status>
         ensures { result ≡ slice_get (statuses self.now) ticket }
     {
-        self.statuses.get(ticket.0 as usize).copied()
+        Some(self.entries.get(ticket.0 as usize)?.status)
     }
 
     /// The line of a ticket. `None` exactly where there is no such ticket yet.
@@ -105,25 +149,28 @@ impl Queue {
     }
 
     /// Enters a call at the end, without a reply, and answers its ticket. It runs where it is free, else it waits.
-    /// The queue must not be spent. No memory is taken.
+    /// The queue must be neither spent nor busy. No memory is taken.
     pub fn admit(&mut self, client: u32, call: Call, free: bool) -> Ticket
-        requires { length self.old.entries < self.old.limit }
+        requires unspent { length self.old.entries < self.old.limit }
+        requires idle { count_by waiting (statuses self.old) < self.old.cap }
         ensures ticket { result ≡ length self.old.entries }
         ensures entered { self.new ≡ admitted self.old (entry client call free) }
     {
         let ticket = Ticket(self.journal.len() as u32);
+        let claims = call.claims;
         self.journal.push_reserved(Line {
             client,
             call,
             reply: None,
         });
-        if free {
-            self.statuses.push_reserved(Status::Running);
+        let status = if free {
             self.running += 1;
+            Status::Running
         } else {
-            self.statuses.push_reserved(Status::Waiting);
             self.waiting += 1;
-        }
+            Status::Waiting
+        };
+        self.entries.push_reserved(Entry { claims, status });
         ticket
     }
 
@@ -141,12 +188,26 @@ impl Queue {
         Some(front)
     }
 
+    /// Where the contention analysis finds a waiting call that is in hash conflict with no earlier one that runs or
+    /// waits, the first such call begins to run, and its ticket is answered. Else the answer is `None`, and nothing
+    /// changes. Only entries from the lowest ticket that is not gone are looked at. No memory is taken.
+    pub fn scan(&mut self) -> Option<Ticket>
+        ensures ticket { result ≡ found_by H.place_of self.old }
+        ensures scanned { self.new ≡ scanned H.place_of self.old }
+    {
+        let first = self.first as usize;
+        let place = self.bits.scan(&self.hash, &self.entries[first..])?;
+        let ticket = Ticket((first + place) as u32);
+        self.start(ticket);
+        Some(ticket)
+    }
+
     // A waiting call begins to run.
     fn start(&mut self, ticket: Ticket)
         requires { slice_get (statuses self.old) ticket ≡ Some Status.Waiting }
         ensures { self.new ≡ started self.old ticket }
     {
-        self.statuses[ticket.0 as usize] = Status::Running;
+        self.entries[ticket.0 as usize].status = Status::Running;
         self.waiting -= 1;
         self.running += 1;
     }
@@ -157,28 +218,39 @@ impl Queue {
         ensures { self.new ≡ finished self.old ticket reply }
     {
         let place = ticket.0 as usize;
-        self.statuses[place] = Status::Gone;
+        self.entries[place].status = Status::Gone;
         let line = &mut self.journal[place];
         line.reply = Some(reply);
         self.running -= 1;
-        self.first = first_left(&self.statuses, self.first);
+        self.first = first_left(&self.entries, self.first);
     }
 }
 
 // The lowest ticket from one on that is not gone, or the number of tickets. All before that one are gone.
 #[tactic(auto, using(crate::proofs::Entries::first_of))]
-fn first_left(statuses: &[Status], from: u32) -> u32
-    requires few { length statuses.now ≤ 65536 }
-    requires gone { from ≤ position_or_len is_left statuses.now }
-    ensures { result ≡ position_or_len is_left statuses.now }
+fn first_left(entries: &[Entry], from: u32) -> u32
+    requires few { length entries.now ≤ 65536 }
+    requires gone { from ≤ position_or_len is_left (statuses_of entries.now) }
+    ensures { result ≡ position_or_len is_left (statuses_of entries.now) }
 {
-    let tickets = statuses.len() as u32;
+    let tickets = entries.len() as u32;
     for ticket in from..tickets {
-        if !is_gone(statuses[ticket as usize]) {
+        if !is_gone(entries[ticket as usize].status) {
             return ticket;
         }
     }
     tickets
+}
+
+// Why a queue cannot be opened, where there is no room for its scans.
+fn fault_of(fault: BitsFault) -> OpenFault
+    ensures size { fault ≡ BitsFault.Size → result ≡ OpenFault.Bits }
+    ensures memory { fault ≡ BitsFault.NoMemory → result ≡ OpenFault.NoMemory }
+{
+    match fault {
+        BitsFault::Size => OpenFault::Bits,
+        BitsFault::NoMemory => OpenFault::NoMemory,
+    }
 }
 
 fn is_waiting(status: Status) -> bool

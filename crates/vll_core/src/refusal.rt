@@ -1,7 +1,7 @@
 /// Why an event is refused: the lowest that stands, in this order. A refused event changes nothing.
 #[derive(Clone, Copy, PartialEq, Eq, Debug)]
 pub enum Refusal {
-    /// To Enter, Front and Finish: a turn is open.
+    /// To Enter, Front, Scan and Finish: a turn is open.
     TurnOpen,
     /// To Claim and Admit: no turn is open.
     NoTurn,
@@ -9,6 +9,8 @@ pub enum Refusal {
     NoCall,
     /// To Enter: as many calls as the limit have been entered.
     Spent,
+    /// To Enter: as many entered calls as the cap wait.
+    Busy,
     /// To Load, Store, Release and Finish: the ticket is not running.
     NotRunning,
     /// The step is not the call's next one: to Claim, all claims have been requested; to Admit, claims are left;
@@ -16,6 +18,7 @@ pub enum Refusal {
     /// to Release, loads or stores are left, or all releases are made;
     /// to Finish, loads, stores or releases are left.
     OutOfStep,
-    /// To Front: the lowest ticket that is not gone does not wait, or there is none.
+    /// To Front: the lowest ticket that is not gone does not wait, or there is none; to Scan: each waiting call
+    /// is in hash conflict with an earlier one that runs or waits.
     Idle,
 }

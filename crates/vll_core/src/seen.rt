@@ -12,7 +12,7 @@ pub enum Seen {
     Free(Ticket),
     /// To Admit: a request was denied, and the call waits under this ticket.
     Blocked(Ticket),
-    /// To Front: the call of this ticket runs.
+    /// To Front and Scan: the call of this ticket runs.
     Run(Ticket),
     /// To Load: the record's value.
     Loaded(u64),

@@ -1,9 +1,10 @@
 -- What is known of a scenario that was made of parts: its sizes, and that its library makes its calls.
-use Rattle.std.proofs.Common.{◌≡◌, ℕ, suc, ◌+◌, ◌<◌, ◌≤◌, Bool, true, false, ◌&&◌, nat_le, List, [], ◌∷◌, length, drop, get_or, Option, Some, None, Bor, option_map, IsSome, Result, Ok, Err, refl, sym, ap, ap₂, ◌∙◌, subst, add-one}
+use Rattle.std.proofs.Common.{◌≡◌, ℕ, suc, ◌+◌, ◌<◌, ◌&&◌, nat_le, List, [], ◌∷◌, length, drop, get_or, Option, Some, None, Bor, option_map, IsSome, Result, Ok, Err, refl, sym, ap, ap₂, ◌∙◌, subst, add-one, arith}
 use Rattle.std.specs.Prelude.{sum_by}
 use Rattle.std.specs.List.{All, AllByRecursion}
 use Rattle.std.proofs.Math.Seq.{drop-cons}
-use Rattle.std.proofs.lemmas.Bool.{leb-true, false≢true}
+use Rattle.std.specs.Global.{Vec}
+use Rattle.std.proofs.lemmas.List.{get_or-map, length-map}
 use Rattle.std.proofs.lemmas.List.Elements.{All-from_recursion}
 use Rattle.std.proofs.lemmas.List.Sums.{sum_by-cons}
 use Rattle.vll_proc.specs.declared.call.Call.{Call}
@@ -12,7 +13,9 @@ use Rattle.vll_check.specs.declared.fault.CallFault.{CallFault}
 use Rattle.vll_check.specs.Calls.{CallsProcedure, Fits, call_made}
 use Rattle.vll_check.specs.Catalog.{Catalog, IsCatalog}
 use Rattle.vll_check.proofs.Fitting.{fits_well}
+use Rattle.vll_core.specs.declared.event.Event.{Event}
 use Rattle.vll_server.specs.declared.asked.Asked.{Asked}
+use Rattle.vll_server.specs.Kept.{lists_of}
 use Rattle.vll_server.specs.Scenario.{call_at, each_given, in_call, script_made, scripts_made}
 use Rattle.vll_server.specs.Setup.{has_sizes}
 use Rattle.vll_server.specs.Shape.{◌>>=◌}
@@ -79,21 +82,14 @@ scripts_fit catalog asked made e =
     All-from_recursion _ made (given_all _ (script_made catalog) (λ client script calls h.
     All-from_recursion (Fits catalog) calls (given_all (Fits catalog) (call_at catalog client) (fits_at catalog client) 0 script calls h)) 0 asked made e)
 
+-- what holds of each script as a list holds of each script
+pub in_lists : (P : List Call → Type 0) (scripts : List (Vec Call)) → All P (lists_of scripts) → All (λ (script : Vec Call). P script.items) scripts
+in_lists P scripts all i script within = subst P (get_or-map (λ (v : Vec Call). v.items) scripts i script script.items within) (all i script.items (omega (arith, within, length-map scripts (λ (v : Vec Call). v.items))))
+
 -- as many scripts are made as were asked for, and as many calls
-pub scripts_sizes : (records : List ℕ) (procs : List Proc) (catalog : Catalog) (asked : List (List Asked)) (made : List (List Call)) → scripts_made catalog asked ≡ Ok made → has_sizes records procs made ≡ has_sizes records procs asked
-scripts_sizes records procs catalog asked made e =
+pub scripts_sizes : (records : List ℕ) (procs : List Proc) (schedule : List Event) (catalog : Catalog) (asked : List (List Asked)) (made : List (List Call)) → scripts_made catalog asked ≡ Ok made
+    → has_sizes records procs made schedule ≡ has_sizes records procs asked schedule
+scripts_sizes records procs schedule catalog asked made e =
     let clients = given_length (script_made catalog) 0 asked made e in
     let calls = given_sum (script_made catalog) (λ client script cs h. given_length (call_at catalog client) 0 script cs h) 0 asked made e in
-    ap₂ (λ a b. nat_le 1 (length records) && nat_le (length records) 65536 && nat_le (length procs) 1048576 && nat_le a 1024 && nat_le b 65536) clients calls
-
-both_true : (a b : Bool) → (a && b) ≡ true → (a ≡ true) × (b ≡ true)
-both_true true b e = (refl, e)
-both_true false b e = absurd (false≢true e)
-
--- what the sizes say of the number of procedures
-pub few_procedures : {C : Type 0} (records : List ℕ) (procs : List Proc) (scripts : List (List C)) → has_sizes records procs scripts ≡ true → length procs ≤ 1048576
-few_procedures records procs scripts e =
-    let four = both_true (nat_le 1 (length records) && nat_le (length records) 65536 && nat_le (length procs) 1048576 && nat_le (length scripts) 1024) (nat_le (sum_by length scripts) 65536) e in
-    let three = both_true (nat_le 1 (length records) && nat_le (length records) 65536 && nat_le (length procs) 1048576) (nat_le (length scripts) 1024) four.0 in
-    let two = both_true (nat_le 1 (length records) && nat_le (length records) 65536) (nat_le (length procs) 1048576) three.0 in
-    leb-true (length procs) 1048576 two.1
+    ap₂ (λ a b. nat_le 1 (length records) && nat_le (length records) 65536 && nat_le (length procs) 1048576 && nat_le a 1024 && nat_le b 65536 && nat_le (length schedule) 1048576) clients calls

@@ -6,9 +6,15 @@ use Rattle.serde_json.specs.View.{items_of, items_view, view}
 use Rattle.serde_json.specs.declared.value.Value.{Value, Array}
 use Rattle.serde_json.proofs.Views.{view-Array}
 use Rattle.std.proofs.lemmas.List.{length-map}
+use Rattle.vll_server.specs.Schedule.{event_at}
 use Rattle.vll_server.specs.Syntax.{expr_at, key_at, stmt_at}
 
--- ---- the items of a list of two, three or four
+-- ---- the items of a list of one, two, three or four
+
+one : (vs : List Value) (a : Value) → length vs ≡ 1 → a ≡ get_or vs 0 a → items_view vs ≡ item (view a) no_items
+one [] a n first = absurd (omega arith)
+one (x ∷ []) a n first = cc
+one (x ∷ y ∷ vs) a n first = absurd (omega arith)
 
 two : (vs : List Value) (a b : Value) → length vs ≡ 2 → a ≡ get_or vs 0 a → b ≡ get_or vs 1 b → items_view vs ≡ item (view a) (item (view b) no_items)
 two [] a b n first second = absurd (omega arith)
@@ -43,6 +49,9 @@ view-three v list a b c is n first second third = ap view is ∙ view-Array list
 
 pub view-four : (v : Value) (list : Vec Value Global) (a b c d : Value) → v ≡ Array list → length list.items ≡ 4 → a ≡ get_or list.items 0 a → b ≡ get_or list.items 1 b → c ≡ get_or list.items 2 c → d ≡ get_or list.items 3 d → view v ≡ array (item (view a) (item (view b) (item (view c) (item (view d) no_items))))
 view-four v list a b c d is n first second third fourth = ap view is ∙ view-Array list ∙ ap array (four list.items a b c d n first second third fourth)
+
+pub view-one : (v : Value) (list : Vec Value Global) (a : Value) → v ≡ Array list → length list.items ≡ 1 → a ≡ get_or list.items 0 a → view v ≡ array (item (view a) no_items)
+view-one v list a is n first = ap view is ∙ view-Array list ∙ ap array (one list.items a n first)
 
 -- ---- lists of another length
 
@@ -91,3 +100,15 @@ pub key_at-other_length : (v : Value) (list : Vec Value Global) → v ≡ Array 
 key_at-other_length v list is three =
     let same = length-map list.items view in
     ap key_at (ap view is ∙ view-Array list) ∙ other_key (map view list.items) (λ e. three (omega arith))
+
+other_event : (ds : List Data) → length ds ≢ 1 → length ds ≢ 2 → event_at (array (items_of ds)) ≡ None
+other_event [] one two = refl
+other_event (d ∷ []) one two = absurd (one (omega arith))
+other_event (d ∷ e ∷ []) one two = absurd (two (omega arith))
+other_event (string s ∷ e ∷ f ∷ ds) one two = refl
+other_event (_ ∷ e ∷ f ∷ ds) one two = refl
+
+pub event_at-other_length : (v : Value) (list : Vec Value Global) → v ≡ Array list → length list.items ≢ 1 → length list.items ≢ 2 → event_at (view v) ≡ None
+event_at-other_length v list is one two =
+    let same = length-map list.items view in
+    ap event_at (ap view is ∙ view-Array list) ∙ other_event (map view list.items) (λ e. one (omega arith)) (λ e. two (omega arith))

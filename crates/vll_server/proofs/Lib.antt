@@ -2,9 +2,11 @@ pub mod Lists
 pub mod Forms
 pub mod Names
 pub mod Texts
+pub mod Standing
 pub mod Written
 pub mod Given
 pub mod Fitting
+pub mod Limits
 pub mod Checking
 pub mod Sizes
 pub mod Answering
@@ -12,3 +14,4 @@ pub mod Stored
 pub mod Served
 pub mod Merges
 pub mod Rows
+pub mod ReplayRows

@@ -1,5 +1,6 @@
 -- The serial run, call by call: what its calls answer and what the journal says of them.
 use Rattle.std.proofs.Common.{◌≡◌, ℕ, ◌+◌, ◌<◌, List, [], ◌∷◌, ◌++◌, length, map, take, drop, drop-cons, get_or, Some, refl, sym, ap, ap₂, ◌∙◌, arith, append_assoc, length-append, add-one, slice_get, replicate}
+use Rattle.std.specs.Global.{Vec}
 use Rattle.std.specs.List.{enumerate_from}
 use Rattle.std.proofs.lemmas.List.{map-append, take_at}
 use Rattle.vll_proc.specs.declared.call.Call.{Call}
@@ -7,6 +8,7 @@ use Rattle.vll_proc.specs.declared.call.Reply.{Reply}
 use Rattle.vll_proc.specs.declared.syntax.Proc.{Proc}
 use Rattle.vll_proc.specs.Serial.{Made, apply, applied, applied_at, end, answer}
 use Rattle.vll_core.specs.declared.line.Line.{Line}
+use Rattle.vll_server.specs.Kept.{lists_of}
 use Rattle.vll_server.specs.Merge.{in_client_order}
 use Rattle.vll_server.specs.Serve.{made_by, words_of}
 use Rattle.vll_server.specs.Text.{Text, answer_text, line_words, reply_text, closed_text, serial_text}
@@ -66,8 +68,8 @@ words_of-next procs before rest client call reply now new old journal whole next
     ap (λ ls. ls ++ words_of procs rest new) lines ∙ append_assoc (map line_words old) ((client, reply_text reply) ∷ []) (words_of procs rest new) ∙ ap (λ ws. map line_words old ++ ws) words ∙ so_far
 
 -- the next client's script, and what is still to come
-pub in_client_order-next : (scripts : List (List Call)) (i : ℕ) (script : List Call) → i < length scripts → script ≡ get_or scripts i script
-    → in_client_order i (drop i scripts) ≡ made_by i script ++ in_client_order (i + 1) (drop (i + 1) scripts)
+pub in_client_order-next : (scripts : List (Vec Call)) (i : ℕ) (script : Vec Call) → i < length scripts → script ≡ get_or scripts i script
+    → in_client_order i (lists_of (drop i scripts)) ≡ made_by i script.items ++ in_client_order (i + 1) (lists_of (drop (i + 1) scripts))
 in_client_order-next scripts i script within is = rw (add-one, drop-cons scripts i script within, ← is) refl
 
 pub end-behind : (procs : List Proc) (before front rest : List Made) (now new whole : List ℕ) → before ≡ front ++ rest → new ≡ end procs front now → end procs before now ≡ whole → end procs rest new ≡ whole

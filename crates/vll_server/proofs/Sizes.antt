@@ -285,9 +285,15 @@ get-within : (name : List ℕ) (d : Data) (n : ℕ) → longest_list d ≤ n →
 get-within name (object ms) n h = get_member-within name ms n h
 get-within name _ n h = tt
 
-member-within : (name : List ℕ) (d : Data) (n : ℕ) (o : Option Data) → get name d ≡ o → Within longest_list n o → longest_list (member_at name d) ≤ n
-member-within name d n None e h = rw e (omega arith)
-member-within name d n (Some x) e h = rw e h
+found_member : (name : List ℕ) (d : Data) (n : ℕ) (o : Option Data) → get name d ≡ o → Within longest_list n o → longest_list (member_at name d) ≤ n
+found_member name d n None e h = rw e (omega arith)
+found_member name d n (Some x) e h = rw e h
+
+pub member-within : (name : List ℕ) (d : Data) (n : ℕ) → longest_list d ≤ n → longest_list (member_at name d) ≤ n
+member-within name d n few = found_member name d n (get name d) refl (get-within name d n few)
+
+pub get-within-Some : (name : List ℕ) (d x : Data) (n : ℕ) → longest_list d ≤ n → get name d ≡ Some x → longest_list x ≤ n
+get-within-Some name d x n few is = subst (Within longest_list n) is (get-within name d n few)
 
 -- a fault's index is at most n
 abbrev FaultWithin : {A : Type 0} → ℕ → Result (List A) ℕ → Type 0
@@ -308,6 +314,6 @@ fault_in_list : {A : Type 0} (f : Data → Option A) (d : Data) (n : ℕ) → lo
 fault_in_list f (array ds) n h = fault_in_each f ds n (omega arith)
 fault_in_list f _ n h = omega arith
 
--- the index of the first faulty item of a member's list
-pub index-within : {A : Type 0} (f : Data → Option A) (name : List ℕ) (d : Data) (n i : ℕ) → longest_list d ≤ n → list_at f (member_at name d) ≡ Err i → i ≤ n
-index-within f name d n i few fault = subst (FaultWithin n) fault (fault_in_list f (member_at name d) n (member-within name d n (get name d) refl (get-within name d n few)))
+-- the index of the first faulty item of a list
+pub index-within : {A : Type 0} (f : Data → Option A) (d : Data) (n i : ℕ) → longest_list d ≤ n → list_at f d ≡ Err i → i ≤ n
+index-within f d n i few fault = subst (FaultWithin n) fault (fault_in_list f d n few)

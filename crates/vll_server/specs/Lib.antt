@@ -1,6 +1,7 @@
 pub mod Tree
 pub mod Longest
 pub mod Syntax
+pub mod Schedule
 pub mod Shape
 pub mod Setup
 pub mod Kept
@@ -9,6 +10,8 @@ pub mod Scenario
 pub mod Reading
 pub mod Merge
 pub mod Text
+pub mod ReplayText
+pub mod Replay
 pub mod Serve
 pub mod Streams
 pub mod Plain

@@ -1,5 +1,5 @@
 -- The scenario that bytes are, or the fault that is answered for them.
-use Rattle.std.specs.Prelude.{◌≡◌, ℕ, suc, Bool, true, false, List, [], ◌∷◌, length, Option, Some, None, option_map, Result, Ok, Err, if◌then◌else◌}
+use Rattle.std.specs.Prelude.{◌≡◌, ℕ, suc, max, Bool, true, false, ◌&&◌, List, [], ◌∷◌, length, sum_by, unwrap_or, Option, Some, None, option_map, Result, Ok, Err, if◌then◌else◌}
 use Rattle.std.specs.Str.{IsUtf8}
 use Rattle.serde_json.specs.Data.{Data}
 use Rattle.serde_json.specs.Read.{read}
@@ -13,7 +13,9 @@ use Rattle.vll_check.specs.Names.{has_name_twice}
 use Rattle.vll_server.specs.declared.asked.Asked.{Asked}
 use Rattle.vll_server.specs.declared.fault.ScenarioFault.{ScenarioFault}
 use Rattle.vll_server.specs.declared.fault.ScenarioFault.TheVariants as fault
-use Rattle.vll_server.specs.Setup.{Setup, has_sizes}
+use Rattle.vll_core.specs.declared.config.Config.{Config}
+use Rattle.vll_sca.specs.declared.place.Placing.TheVariants.{Modulo}
+use Rattle.vll_server.specs.Setup.{Setup, has_sizes, is_allowed}
 use Rattle.vll_server.specs.declared.shape.Parts.{Parts}
 use Rattle.vll_server.specs.Shape.{◌>>=◌, shape_of}
 
@@ -65,15 +67,19 @@ script_made catalog client script = each_given (call_at catalog client) 0 script
 abbrev pub scripts_made : Catalog → List (List Asked) → Result (List (List Call)) ScenarioFault
 scripts_made catalog scripts = each_given (script_made catalog) 0 scripts
 
+-- what is chosen for the machine. Where no limit is given it is the number of calls in all scripts, at least 1
+abbrev pub config_of : Parts → Config
+config_of p = record { cap = unwrap_or p.cap 1024; limit = unwrap_or p.limit (max 1 (sum_by length p.scripts)); bits = unwrap_or p.bits 4096 }
+
 -- the scenario of its parts: the sizes, then the procedures, then their names, then the calls
 abbrev pub setup_of : Parts → Result Setup ScenarioFault
 setup_of p =
-    if has_sizes p.records p.procs p.scripts then
+    if has_sizes p.records p.procs p.scripts p.schedule && is_allowed (config_of p) then
     (do
       procs ← ok_unless (first_check (length p.records) p.procs) p.procs
       refuse_if (has_name_twice procs) fault.NameTwice (do
         scripts ← scripts_made (record { records = length p.records; procs = procs }) p.scripts
-        Ok (record { records = p.records; procs = procs; scripts = scripts })))
+        Ok (record { records = p.records; procs = procs; scripts = scripts; config = config_of p; placing = unwrap_or p.placing Modulo; schedule = p.schedule })))
     else Err fault.Size
 
 -- the JSON tree that bytes are, or that they are none

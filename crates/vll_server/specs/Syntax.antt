@@ -1,5 +1,5 @@
 -- What a JSON tree is as a part of a procedure. A list of another length, and what is not listed here, is none.
-use Rattle.std.specs.Prelude.{ℕ, ◌^◌, Bool, false, ◌&&◌, List, [], ◌∷◌, Option, Some, None, option_and_then, option_map, is_some, nat_lt, if◌then◌else◌, codes}
+use Rattle.std.specs.Prelude.{ℕ, ◌^◌, Bool, false, ◌&&◌, List, [], ◌∷◌, Option, Some, None, option_and_then, option_map, is_some, if◌then◌else◌, codes}
 use Rattle.std.specs.List.{list_all, list_any}
 use Rattle.std.specs.Str.{bytes_eq}
 use Rattle.serde_json.specs.Data.{Data, null, number, string, array, object, Items, no_items, item, Members, no_members, member}
@@ -12,16 +12,12 @@ use Rattle.vll_proc.specs.declared.syntax.KeyAt.{KeyAt}
 use Rattle.vll_proc.specs.declared.syntax.KeyAt.TheVariants as at
 use Rattle.vll_proc.specs.declared.syntax.KeyDecl.{KeyDecl}
 use Rattle.vll_proc.specs.declared.syntax.Proc.{Proc}
-use Rattle.vll_server.specs.Tree.{number_at, list_at, whole}
+use Rattle.vll_server.specs.Tree.{below, number_at, u32_at, list_at, whole}
 
 infixl 10 ◌>>=◌
 -- goes on where something is there
 abbrev pub ◌>>=◌ : {A B : Type 0} → Option A → (A → Option B) → Option B
 o >>= go = option_and_then go o
-
--- a number that is below a bound
-abbrev pub below : ℕ → Option ℕ → Option ℕ
-below limit o = option_and_then (λ n. if nat_lt n limit then Some n else None) o
 
 -- an index of an argument, a key or a local, or a count of arguments
 abbrev pub index_at : Data → Option ℕ
@@ -114,13 +110,9 @@ abbrev mutual
 abbrev pub mode_at : List ℕ → Option Mode
 mode_at word = if bytes_eq word (codes "read") then Some Read else (if bytes_eq word (codes "write") then Some Write else None)
 
--- the number of a record
-abbrev pub record_at : Data → Option ℕ
-record_at d = below (2 ^ 32) (number_at d)
-
 -- where a key is placed: "arg" with an index, or "fixed" with a record
 abbrev pub place_at : List ℕ → Data → Option KeyAt
-place_at word d = if bytes_eq word (codes "arg") then option_map at.Arg (index_at d) else (if bytes_eq word (codes "fixed") then option_map at.Fixed (record_at d) else None)
+place_at word d = if bytes_eq word (codes "arg") then option_map at.Arg (index_at d) else (if bytes_eq word (codes "fixed") then option_map at.Fixed (u32_at d) else None)
 
 abbrev pub key_of : Mode → KeyAt → KeyDecl
 key_of mode place = record { mode = mode; at = place }
@@ -141,10 +133,14 @@ has_all names ms = list_all (λ name. is_some (get_member name ms)) names
 abbrev pub has_only : List (List ℕ) → Members → Bool
 has_only names ms = list_all (λ name. list_any (bytes_eq name) names) (names_of ms)
 
+-- an object that has all of the first members, and none but the second
+abbrev pub has_members : List (List ℕ) → List (List ℕ) → Data → Bool
+has_members must may (object ms) = has_all must ms && has_only may ms
+has_members must may _ = false
+
 -- an object with these members and no others
 abbrev pub has_exactly : List (List ℕ) → Data → Bool
-has_exactly names (object ms) = has_all names ms && has_only names ms
-has_exactly names _ = false
+has_exactly names d = has_members names names d
 
 -- what a member is, and `null` where there is none
 abbrev pub member_at : List ℕ → Data → Data

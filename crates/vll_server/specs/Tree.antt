@@ -1,5 +1,5 @@
 -- What a JSON tree is read as.
-use Rattle.std.specs.Prelude.{◌≡◌, ℕ, suc, List, [], ◌∷◌, Option, Some, None, option_and_then, Result, Ok, Err}
+use Rattle.std.specs.Prelude.{◌≡◌, ℕ, suc, ◌^◌, List, [], ◌∷◌, Option, Some, None, option_and_then, Result, Ok, Err, nat_lt, if◌then◌else◌}
 use Rattle.serde_json.specs.Data.{Data, Items, no_items, item}
 use Rattle.serde_json.specs.Find.{as_number, as_u64, as_array}
 use Rattle.vll_server.specs.declared.tree.Misread.{Misread}
@@ -10,6 +10,14 @@ use Rattle.vll_server.specs.declared.tree.FirstFault.TheVariants as first_fault
 -- a whole number of 64 bits without a sign
 abbrev pub number_at : Data → Option ℕ
 number_at d = option_and_then as_u64 (as_number d)
+
+-- a number that is below a bound
+abbrev pub below : ℕ → Option ℕ → Option ℕ
+below limit o = option_and_then (λ n. if nat_lt n limit then Some n else None) o
+
+-- a whole number of 32 bits without a sign
+abbrev pub u32_at : Data → Option ℕ
+u32_at d = below (2 ^ 32) (number_at d)
 
 -- one more item in front, and an index further on
 abbrev pub in_front : {A : Type 0} → Option A → Result (List A) ℕ → Result (List A) ℕ

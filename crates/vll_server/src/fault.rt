@@ -17,6 +17,16 @@ pub enum Part {
     Procs,
     #[error("clients")]
     Clients,
+    #[error("cap")]
+    Cap,
+    #[error("bits")]
+    Bits,
+    #[error("limit")]
+    Limit,
+    #[error("hash")]
+    Hash,
+    #[error("schedule")]
+    Schedule,
 }
 
 /// Where a scenario has another shape: the part, and the index of its first faulty item, from 0.
@@ -55,7 +65,8 @@ pub enum ScenarioFault {
         fault: CallFault,
     },
     /// More than 16,777,216 bytes; no record or more than 65,536; more than 1,048,576 procedures, 1,024
-    /// clients or 65,536 calls in all scripts.
+    /// clients, 65,536 calls in all scripts or 1,048,576 events; a limit or a cap that is not 1 to 65,536, or a
+    /// number of bits that is not 1 to 1,048,576.
     #[error("size")]
     Size,
     #[error("no memory")]
@@ -131,5 +142,19 @@ pub enum ServeFault {
     NoMemory,
     /// The outcome was not written whole.
     #[error("write")]
+    Write,
+}
+
+/// Why a replay was not written whole.
+#[derive(Clone, Copy, PartialEq, Eq, Debug, Error)]
+pub enum ReplayFault {
+    /// There is no scenario to replay. Nothing has been written.
+    #[error("scenario: {0}")]
+    Scenario(ScenarioFault),
+    /// Memory was refused after the scenario was read. Nothing has been written.
+    #[error("replay: no memory")]
+    NoMemory,
+    /// The text was not written whole.
+    #[error("replay: write")]
     Write,
 }

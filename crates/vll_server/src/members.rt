@@ -3,7 +3,7 @@ ghost use Rattle.std.specs.List.{list_any};
 ghost use Rattle.std.specs.Str.{bytes_eq};
 ghost use Rattle.serde_json.specs.Data.{null};
 ghost use Rattle.serde_json.specs.View.{members_view, view};
-ghost use Rattle.vll_server.specs.Syntax.{has_all, has_exactly, has_only, member_at};
+ghost use Rattle.vll_server.specs.Syntax.{has_all, has_exactly, has_members, has_only, member_at};
 ghost use Rattle.vll_server.specs.declared.tree.Misread.TheVariants as Misread;
 
 use crate::tree::Misread;
@@ -13,8 +13,15 @@ use serde_json::{Map, Value};
 pub fn has_exactly(value: &Value, names: &[&str]) -> bool
     ensures { result ≡ has_exactly (map (λ s. s.now) names.now) (view value.now) }
 {
+    has_members(value, names, names)
+}
+
+// Whether a value is an object that has all of the first members, and none but the second.
+pub fn has_members<'n>(value: &Value, must: &[&'n str], may: &[&'n str]) -> bool
+    ensures { result ≡ has_members (map (λ s. s.now) must.now) (map (λ s. s.now) may.now) (view value.now) }
+{
     match value {
-        Value::Object(members) => has_all(members, names) && has_only(members, names),
+        Value::Object(members) => has_all(members, must) && has_only(members, may),
         _ => false,
     }
 }

@@ -30,7 +30,7 @@ pub fn write_outcome<W: Sink>(
 }
 
 // Writes a text whole, and flushes.
-fn write_text<W: Sink>(writer: &mut W, text: &[u8]) -> Result<(), WriteFault>
+pub(crate) fn write_text<W: Sink>(writer: &mut W, text: &[u8]) -> Result<(), WriteFault>
     requires { W.failed writer.old ≡ false }
     ensures ok { OnOk result
         (Appends (W.contents writer.old) (W.contents writer.new) text.now) }

@@ -1,18 +1,24 @@
 use sqlite_items::Items;
 use std::marker::Model;
 use vll_check::Library;
+use vll_core::{Config, Event};
 use vll_proc::Call;
+use vll_sca::Placing;
 
-/// A scenario: the records' first values, the procedures, and each client's script of calls.
+/// A scenario: the records' first values, the procedures, each client's script of calls, what is chosen for
+/// the machine, and the events that a replay takes.
 ///
 /// Only `read_scenario` makes one. It keeps the limits of a scenario's sizes, each of its procedures is
 /// well-formed for its records, and each of its calls was made for one of its procedures, on records
-/// that are there. Contracts see its records, procedures and scripts.
+/// that are there. Contracts see its procedures in the place of the library, and each of its lists as a list.
 #[derive(Drop)]
 pub struct Scenario {
     pub(crate) records: Vec<u64>,
     pub(crate) library: Library,
-    pub(crate) scripts: Items<Items<Call>>,
+    pub(crate) scripts: Vec<Vec<Call>>,
+    pub(crate) config: Config,
+    pub(crate) placing: Placing,
+    pub(crate) schedule: Items<Event>,
 }
 
 impl Model for Scenario {

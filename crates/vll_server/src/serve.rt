@@ -1,6 +1,7 @@
 ghost use Rattle.std.specs.Prelude.{◌≡◌, ◌↔◌, ◌++◌, ◌≤◌, false, true, length, map, All, OnOk, IfOk};
 ghost use Rattle.std.specs.Io.KnownBytes.{Appends};
 ghost use Rattle.vll_proc.specs.Serial.{end};
+ghost use Rattle.vll_server.specs.Kept.{lists_of};
 ghost use Rattle.vll_server.specs.Merge.{in_client_order};
 ghost use Rattle.vll_server.specs.Serve.{made_by, words_of};
 ghost use Rattle.vll_check.specs.Calls.{Fits};
@@ -13,7 +14,6 @@ use crate::line::Closed;
 use crate::outcome::write_outcome;
 use crate::scenario::Scenario;
 use crate::stream::Sink;
-use sqlite_items::Items;
 use std::alloc::{AllocError, Global};
 use vll_check::Library;
 use vll_core::Line;
@@ -36,11 +36,14 @@ pub fn serve_plain<W: Sink>(
         scenario.procs scenario.records (in_client_order 0 scenario.scripts)) }
     ensures failed { (result ≡ Err ServeFault.Write) ↔ (W.failed writer.new ≡ true) }
 {
-    let closed = run(alloc, scenario).map_err(|_| ServeFault::NoMemory)?;
-    write_outcome(alloc, writer, &closed).map_err(|fault| match fault {
-        WriteFault::NoMemory => ServeFault::NoMemory,
-        WriteFault::Write => ServeFault::Write,
-    })
+    let Ok(closed) = run(alloc, scenario) else {
+        return Err(ServeFault::NoMemory);
+    };
+    match write_outcome(alloc, writer, &closed) {
+        Ok(()) => Ok(()),
+        Err(WriteFault::NoMemory) => Err(ServeFault::NoMemory),
+        Err(WriteFault::Write) => Err(ServeFault::Write),
+    }
 }
 
 // Runs a scenario's calls, each client's script after the one before.
@@ -53,6 +56,7 @@ fn run(alloc: Global, scenario: Scenario) -> Result<Closed, AllocError>
         records,
         library,
         scripts,
+        ..
     } = scenario;
     let mut records = records;
     let pairs = vec![in alloc; 0; records.len()]?;
@@ -68,17 +72,17 @@ fn run(alloc: Global, scenario: Scenario) -> Result<Closed, AllocError>
 // Runs the scripts one after the other, and says in the journal what came of each call.
 fn serve_scripts(
     library: &Library,
-    scripts: &[Items<Call>],
+    scripts: &[Vec<Call>],
     records: &mut [u64],
     journal: &mut Vec<Line>,
 ) -> Result<(), AllocError>
     requires few { length scripts.now ≤ 1024 }
-    requires fits { All (λ script. All (Fits library.now) script) scripts.now }
+    requires fits { All (λ script. All (Fits library.now) script.items) scripts.now }
     requires count { library.now.records ≡ length records.old }
     ensures records { OnOk result
-        (records.new ≡ end library.now.procs (in_client_order 0 scripts.now) records.old) }
+        (records.new ≡ end library.now.procs (in_client_order 0 (lists_of scripts.now)) records.old) }
     ensures journal { OnOk result (map line_words journal.new.items ≡ map line_words
-        journal.old.items ++ words_of library.now.procs (in_client_order 0 scripts.now) records.old) }
+        journal.old.items ++ words_of library.now.procs (in_client_order 0 (lists_of scripts.now)) records.old) }
 {
     for (client, script) in scripts.iter().enumerate() {
         serve_script(library, client as u32, script.as_slice(), records, journal)?;

@@ -1,7 +1,8 @@
 //! A scenario, made of the parts of its tree.
 ghost use Rattle.std.specs.Prelude.{◌≡◌, ◌≤◌, ◌⊎◌, ◌↔◌, ℕ, Some, None, length, map, sum_by, All, IfOk, IfErr, IsTrue};
-ghost use Rattle.vll_server.specs.Scenario.{first_check, script_made, scripts_made, setup_of};
-ghost use Rattle.vll_server.specs.Setup.{has_sizes};
+ghost use Rattle.vll_server.specs.Kept.{made_list, made_lists};
+ghost use Rattle.vll_server.specs.Scenario.{config_of, first_check, script_made, scripts_made, setup_of};
+ghost use Rattle.vll_server.specs.Setup.{has_sizes, is_allowed};
 ghost use Rattle.vll_server.specs.Shape.{GivesUnlessMemory};
 ghost use Rattle.vll_server.specs.declared.fault.ScenarioFault.TheVariants as ScenarioFault;
 
@@ -12,7 +13,9 @@ use crate::shape::Parts;
 use sqlite_items::Items;
 use std::alloc::Global;
 use vll_check::{Checked, Library, check};
+use vll_core::Config;
 use vll_proc::{Call, Proc};
+use vll_sca::Placing;
 
 const MOST_RECORDS: usize = 65_536;
 
@@ -22,18 +25,38 @@ const MOST_CLIENTS: usize = 1_024;
 
 const MOST_CALLS: usize = 65_536;
 
+const MOST_EVENTS: usize = 1_048_576;
+
+const MOST_LIMIT: u32 = 65_536;
+
+const MOST_CAP: u32 = 65_536;
+
+const MOST_BITS: u32 = 1_048_576;
+
+// What holds where no cap and no number of bits is chosen.
+const CAP: u32 = 1_024;
+
+const BITS: u32 = 4_096;
+
 // The scenario of its parts: the sizes are tested first, then the procedures, their names and the calls.
 pub(crate) fn setup_of(alloc: Global, parts: Parts) -> Result<Scenario, ScenarioFault>
     ensures { GivesUnlessMemory result (setup_of parts) }
 {
+    if !has_sizes(&parts) {
+        return Err(ScenarioFault::Size);
+    }
+    let config = config_of(&parts);
+    if !is_allowed(config) {
+        return Err(ScenarioFault::Size);
+    }
     let Parts {
         records,
         procs,
         scripts,
+        placing,
+        schedule,
+        ..
     } = parts;
-    if !has_sizes(records.as_slice(), procs.as_slice(), scripts.as_slice()) {
-        return Err(ScenarioFault::Size);
-    }
     let count = records.len() as u32;
     let checked = checked_of(alloc, count, procs)?;
     let library = Library::new(count, checked)?;
@@ -43,18 +66,61 @@ pub(crate) fn setup_of(alloc: Global, parts: Parts) -> Result<Scenario, Scenario
         records,
         library,
         scripts,
+        config,
+        placing: placing.unwrap_or(Placing::Modulo),
+        schedule,
     })
 }
 
-// Whether there are as many records, procedures, clients and calls as a scenario may have.
-fn has_sizes(records: &[u64], procs: &[Proc], scripts: &[Items<Asked>]) -> bool
-    ensures { result ≡ has_sizes records.now procs.now scripts.now }
+// Whether there are as many records, procedures, clients, calls and events as a scenario may have.
+fn has_sizes(parts: &Parts) -> bool
+    ensures { result ≡ has_sizes parts.now.records parts.now.procs parts.now.scripts parts.now.schedule }
 {
-    !records.is_empty()
-        && records.len() <= MOST_RECORDS
-        && procs.len() <= MOST_PROCS
-        && scripts.len() <= MOST_CLIENTS
-        && has_few_calls(scripts)
+    let records = parts.records.len();
+    1 <= records
+        && records <= MOST_RECORDS
+        && parts.procs.len() <= MOST_PROCS
+        && parts.scripts.len() <= MOST_CLIENTS
+        && has_few_calls(parts.scripts.as_slice())
+        && parts.schedule.len() <= MOST_EVENTS
+}
+
+// What is chosen for the machine, with what holds where nothing is chosen.
+fn config_of(parts: &Parts) -> Config
+    requires few { sum_by length parts.now.scripts ≤ 65536 }
+    ensures { result ≡ config_of parts.now }
+{
+    let calls = calls_in(parts.scripts.as_slice());
+    Config {
+        cap: parts.cap.unwrap_or(CAP),
+        limit: parts.limit.unwrap_or(calls.max(1)),
+        bits: parts.bits.unwrap_or(BITS),
+    }
+}
+
+// Whether a machine can be opened so.
+fn is_allowed(config: Config) -> bool
+    ensures { result ≡ is_allowed config }
+{
+    let Config { cap, limit, bits } = config;
+    1 <= limit
+        && limit <= MOST_LIMIT
+        && 1 <= cap
+        && cap <= MOST_CAP
+        && 1 <= bits
+        && bits <= MOST_BITS
+}
+
+// How many calls all scripts have together.
+fn calls_in(scripts: &[Items<Asked>]) -> u32
+    requires { sum_by length scripts.now ≤ 65536 }
+    ensures { result ≡ sum_by length scripts.now }
+{
+    let mut count = 0;
+    for script in scripts {
+        count += script.len() as u32;
+    }
+    count
 }
 
 // Whether all scripts together have no more calls than a scenario may have.
@@ -111,13 +177,12 @@ fn scripts_of(
     alloc: Global,
     library: &Library,
     scripts: &[Items<Asked>],
-) -> Result<Items<Items<Call>>, ScenarioFault>
+) -> Result<Vec<Vec<Call>>, ScenarioFault>
     requires clients { length scripts.now ≤ 1024 }
     requires calls { sum_by length scripts.now ≤ 65536 }
-    ensures { GivesUnlessMemory result
-        (scripts_made library.now scripts.now) }
+    ensures { GivesUnlessMemory (made_lists result) (scripts_made library.now scripts.now) }
 {
-    let mut made = Items::new(alloc);
+    let mut made = Vec::new(alloc);
     for (client, script) in scripts.iter().enumerate() {
         made.push(script_of(alloc, library, client as u32, script.as_slice())?)?;
     }
@@ -130,12 +195,11 @@ fn script_of(
     library: &Library,
     client: u32,
     script: &[Asked],
-) -> Result<Items<Call>, ScenarioFault>
+) -> Result<Vec<Call>, ScenarioFault>
     requires { length script.now ≤ 65536 }
-    ensures { GivesUnlessMemory result
-        (script_made library.now client script.now) }
+    ensures { GivesUnlessMemory (made_list result) (script_made library.now client script.now) }
 {
-    let mut calls = Items::new(alloc);
+    let mut calls = Vec::new(alloc);
     for (index, asked) in script.iter().enumerate() {
         match library.call(asked.name.as_str(), asked.args.as_slice()) {
             Ok(call) => calls.push(call)?,

@@ -1,7 +1,7 @@
 ghost use Rattle.std.specs.Prelude.{◌≡◌, ◌^◌, IfOk, IfErr, Some, None};
 ghost use Rattle.serde_json.specs.Find.{as_str};
 ghost use Rattle.serde_json.specs.View.{view};
-ghost use Rattle.vll_server.specs.Syntax.{both_of, index_at, key_at, key_of, mode_at, place_at, proc_at, record_at};
+ghost use Rattle.vll_server.specs.Syntax.{both_of, index_at, key_at, key_of, mode_at, place_at, proc_at};
 ghost use Rattle.vll_server.specs.Tree.{Gives};
 ghost use Rattle.vll_server.specs.declared.tree.Misread.TheVariants as Misread;
 
@@ -9,7 +9,7 @@ mod expression;
 mod statement;
 
 use crate::members::{has_exactly, member};
-use crate::tree::{Misread, Reads};
+use crate::tree::{Misread, Reads, u32_of};
 use serde_json::Value;
 use sqlite_items::Items;
 use statement::stmts_of;
@@ -88,17 +88,7 @@ fn place_of(word: &str, value: &Value) -> Result<KeyAt, Misread>
 {
     match word {
         "arg" => Ok(KeyAt::Arg(index_of(value)?)),
-        "fixed" => Ok(KeyAt::Fixed(record_of(value)?)),
-        _ => Err(Misread::Faulty),
-    }
-}
-
-// The record that is fixed.
-fn record_of(value: &Value) -> Result<u32, Misread>
-    ensures { Gives result (record_at (view value.now)) }
-{
-    match value.as_u64() {
-        Some(n) if n < 4_294_967_296 => Ok(n as u32),
+        "fixed" => Ok(KeyAt::Fixed(u32_of(value)?)),
         _ => Err(Misread::Faulty),
     }
 }
@@ -114,7 +104,7 @@ fn index_of(value: &Value) -> Result<u8, Misread>
 }
 
 // The word at the front of a form.
-fn word_of(value: &Value) -> Result<&str, Misread>
+pub fn word_of(value: &Value) -> Result<&str, Misread>
     ensures ok { IfOk result (λ s. as_str (view value.now) ≡ Some s.now) }
     ensures err { IfErr result (λ e. (e ≡ Misread.Faulty) × (as_str (view value.now) ≡ None)) }
 {

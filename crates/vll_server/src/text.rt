@@ -32,7 +32,7 @@ fn push_outputs(text: &mut String, outputs: &Outputs) -> Result<(), AllocError>
     Ok(())
 }
 
-fn push_reply(text: &mut String, reply: &Reply) -> Result<(), AllocError>
+pub(crate) fn push_reply(text: &mut String, reply: &Reply) -> Result<(), AllocError>
     ensures { OnOk result (string_bytes text.new ≡ string_bytes text.old ++ reply_text reply.now) }
 {
     match reply {
@@ -69,7 +69,7 @@ fn push_call_lines(text: &mut String, journal: &[Line]) -> Result<(), AllocError
     Ok(())
 }
 
-fn push_record_line(
+pub(crate) fn push_record_line(
     text: &mut String,
     index: usize,
     value: u64,

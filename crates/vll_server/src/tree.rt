@@ -1,7 +1,7 @@
 ghost use Rattle.std.specs.Prelude.{◌≡◌};
 ghost use Rattle.serde_json.specs.Find.{as_str};
 ghost use Rattle.serde_json.specs.View.{view, items_view};
-ghost use Rattle.vll_server.specs.Tree.{each, list_at, number_at, whole, Gives, GivesList};
+ghost use Rattle.vll_server.specs.Tree.{each, list_at, number_at, u32_at, whole, Gives, GivesList};
 
 use serde_json::Value;
 use sqlite_items::Items;
@@ -52,6 +52,14 @@ impl Reads for u64 {
     }
 }
 
+impl Reads for u32 {
+    ghost reads = { u32_at };
+
+    fn read(_alloc: Global, value: &Value) -> Result<u32, Misread> {
+        u32_of(value)
+    }
+}
+
 impl<T: Reads> Reads for Items<T> {
     ghost reads = { λ d. whole (list_at T.reads d) };
 
@@ -70,6 +78,15 @@ impl Reads for Text {
     fn read(alloc: Global, value: &Value) -> Result<Text, Misread> {
         let text = value.as_str().ok_or(Misread::Faulty)?;
         Ok(Text::new(String::from_str(alloc, text)?))
+    }
+}
+
+pub fn u32_of(value: &Value) -> Result<u32, Misread>
+    ensures { Gives result (u32_at (view value.now)) }
+{
+    match value.as_u64() {
+        Some(n) if n < 4_294_967_296 => Ok(n as u32),
+        _ => Err(Misread::Faulty),
     }
 }
 

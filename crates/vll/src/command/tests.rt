@@ -18,6 +18,12 @@ fn takes_run(rt: HostRuntime) -> Result<(), Fail> {
 }
 
 #[test]
+fn takes_replay(rt: HostRuntime) -> Result<(), Fail> {
+    assert!(rt; matches!(&action(rt.alloc(), "vll replay")?, Ok(Action::Replay)));
+    Ok(())
+}
+
+#[test]
 fn prints_help_where_it_is_asked_for(rt: HostRuntime) -> Result<(), Fail> {
     for line in [
         "vll --help",
@@ -25,6 +31,8 @@ fn prints_help_where_it_is_asked_for(rt: HostRuntime) -> Result<(), Fail> {
         "vll help",
         "vll run --help",
         "vll help run",
+        "vll replay --help",
+        "vll help replay",
     ] {
         assert!(rt;
             matches!(&action(rt.alloc(), line)?, Ok(Action::Help(_))),
@@ -39,7 +47,10 @@ fn refuses_other_words(rt: HostRuntime) -> Result<(), Fail> {
     for line in [
         "vll",
         "vll walk",
-        "vll replay",
+        "vll replay extra",
+        "vll replay run",
+        "vll replay --cap 1",
+        "vll run replay",
         "vll run run",
         "vll run extra",
         "vll run --workers 3",

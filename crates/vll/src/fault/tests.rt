@@ -1,7 +1,7 @@
 use super::Fault;
 use std::alloc::{AllocError, Global};
 use std::test::Fail;
-use vll_server::{CallFault, CheckFault, Part, ScenarioFault, ServeFault, Spot};
+use vll_server::{CallFault, CheckFault, Part, ReplayFault, ScenarioFault, ServeFault, Spot};
 
 // Whether the fault prints this line and ends with this status.
 fn tells(alloc: Global, fault: Fault, line: &str, status: u8) -> Result<bool, AllocError> {
@@ -38,6 +38,8 @@ fn refused_scenario_ends_with_2(rt: HostRuntime) -> Result<(), Fail> {
             tells(rt.alloc(), Fault::Scenario(fault), line, 2)?,
             "{line}"
         );
+        let replay = Fault::Replay(ReplayFault::Scenario(fault));
+        assert!(rt; tells(rt.alloc(), replay, line, 2)?, "{line} of a replay");
     }
     Ok(())
 }
@@ -55,6 +57,17 @@ fn failed_run_ends_with_1(rt: HostRuntime) -> Result<(), Fail> {
         (ServeFault::Write, "vll: run: write"),
     ] {
         assert!(rt; tells(rt.alloc(), Fault::Run(fault), line, 1)?, "{line}");
+    }
+    Ok(())
+}
+
+#[test]
+fn failed_replay_ends_with_1(rt: HostRuntime) -> Result<(), Fail> {
+    for (fault, line) in [
+        (ReplayFault::NoMemory, "vll: replay: no memory"),
+        (ReplayFault::Write, "vll: replay: write"),
+    ] {
+        assert!(rt; tells(rt.alloc(), Fault::Replay(fault), line, 1)?, "{line}");
     }
     Ok(())
 }

@@ -4,16 +4,17 @@ ghost use Rattle.vll_core.specs.Machine.{step, told};
 ghost use Rattle.vll_core.specs.Shown.{after, opening_of};
 ghost use Rattle.vll_core.specs.declared.event.Event.TheVariants as event;
 
-use crate::machine::Core;
+use crate::machine::Machine;
 use crate::refusal::Refusal;
 use crate::seen::Seen;
 use crate::ticket::Ticket;
+use vll_sca::Place;
 
-impl Core {
+impl<H: Place> Machine<H> {
     // A running call that has released all its claims is gone, with its reply.
     pub(crate) fn finish(&mut self, ticket: Ticket) -> Result<Seen, Refusal>
-        ensures answer { result ≡ told (step (opening_of self.old) self.old.state (event.Finish ticket)) }
-        ensures state { self.new ≡ after self.old (step (opening_of self.old) self.old.state (event.Finish ticket)) }
+        ensures answer { result ≡ told (step (opening_of H.place_of self.old) self.old.state (event.Finish ticket)) }
+        ensures state { self.new ≡ after self.old (step (opening_of H.place_of self.old) self.old.state (event.Finish ticket)) }
     {
         if self.turn.is_some() {
             return Err(Refusal::TurnOpen);

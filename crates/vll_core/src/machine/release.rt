@@ -4,17 +4,18 @@ ghost use Rattle.vll_core.specs.Machine.{step, told};
 ghost use Rattle.vll_core.specs.Shown.{after, opening_of};
 ghost use Rattle.vll_core.specs.declared.event.Event.TheVariants as event;
 
-use crate::machine::Core;
+use crate::machine::Machine;
 use crate::refusal::Refusal;
 use crate::seen::Seen;
 use crate::ticket::Ticket;
 use vll_record::{delta, pair_word};
+use vll_sca::Place;
 
-impl Core {
+impl<H: Place> Machine<H> {
     // A running call releases its next claim.
     pub(crate) fn release(&mut self, ticket: Ticket) -> Result<Seen, Refusal>
-        ensures answer { result ≡ told (step (opening_of self.old) self.old.state (event.Release ticket)) }
-        ensures state { self.new ≡ after self.old (step (opening_of self.old) self.old.state (event.Release ticket)) }
+        ensures answer { result ≡ told (step (opening_of H.place_of self.old) self.old.state (event.Release ticket)) }
+        ensures state { self.new ≡ after self.old (step (opening_of H.place_of self.old) self.old.state (event.Release ticket)) }
     {
         let Some(call) = self.running_call(ticket) else {
             return Err(Refusal::NotRunning);

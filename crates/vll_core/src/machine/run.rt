@@ -3,12 +3,12 @@ ghost use Rattle.std.specs.Prelude.{◌≡◌, option_map};
 ghost use Rattle.vll_core.specs.Machine.{running};
 ghost use Rattle.vll_core.specs.State.{Entered};
 
-use crate::machine::Core;
-use crate::status::Status;
+use crate::machine::Machine;
 use crate::ticket::Ticket;
 use vll_proc::Call;
+use vll_sca::{Place, Status};
 
-impl Core {
+impl<H: Place> Machine<H> {
     // The call of a ticket that is running.
     pub(crate) fn running_call(&self, ticket: Ticket) -> Option<Call>
         ensures { result ≡ option_map (λ (e : Entered). e.call) (running self.now.state ticket) }

@@ -7,6 +7,9 @@ use std::test::Fail;
 use vll_proc::{Expr, KeyAt, KeyDecl, Stmt};
 use vll_record::Mode;
 
+mod choices;
+mod schedule;
+
 // The parts of the scenarios below are put together from these.
 #[derive(Drop)]
 struct Texts<'t> {
@@ -62,7 +65,9 @@ fn top_has_exactly_its_members(rt: HostRuntime) -> Result<(), Fail> {
         r#"{"version":1,"procs":[],"clients":[]}"#,
         r#"{"version":1,"records":[],"clients":[]}"#,
         r#"{"version":1,"records":[],"procs":[]}"#,
-        r#"{"version":1,"records":[],"procs":[],"clients":[],"cap":8}"#,
+        r#"{"version":1,"records":[],"procs":[],"clients":[],"size":8}"#,
+        r#"{"version":1,"records":[],"procs":[],"clients":[],"Cap":8}"#,
+        r#"{"version":1,"records":[],"procs":[],"cap":8}"#,
         r#"{"version":1,"records":[],"procs":[],"clients":[],"":null}"#,
         r#"{"Version":1,"records":[],"procs":[],"clients":[]}"#,
         r#"[{"version":1,"records":[],"procs":[],"clients":[]}]"#,
@@ -207,7 +212,7 @@ fn first_faulty_part_is_named(rt: HostRuntime) -> Result<(), Fail> {
         clients: "[[],[],0]",
     };
     assert_eq!(rt; spot_in(rt.alloc(), texts)?, Some((Part::Clients, 2)));
-    let text = r#"{"version":0,"records":[-1],"procs":[null],"clients":[0],"cap":8}"#;
+    let text = r#"{"version":0,"records":[-1],"procs":[null],"clients":[0],"size":8}"#;
     assert_eq!(rt; spot_of(rt.alloc(), text)?, Some((Part::Top, 0)));
     Ok(())
 }

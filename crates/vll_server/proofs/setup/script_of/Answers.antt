@@ -13,7 +13,7 @@ loop-index-preserved c =
     let f = call_at c.args.library.now c.args.client in
     let made : call_made c.args.library.now asked.name asked.args ≡ c.call.result = ap₂ (call_made c.args.library.now) (sym c.as_str.ensures) (sym c.as_slice.ensures) ∙ sym c.call.ensures in
     let gives : f i asked ≡ Ok c.in-Ok.call = ap (in_call c.args.client i) (made ∙ c.in-Ok.is) in
-    ap (λ calls. after_those calls (each_given f (i + 1) (drop (i + 1) script))) c.in_ok-push-in-Ok.ensures.ok
-    ∙ sym (after_those-next f c.loop-index.calls i asked (drop (i + 1) script) c.in-Ok.call gives)
-    ∙ sym (ap (λ xs. after_those c.loop-index.calls (each_given f i xs)) (drop-next script i asked c.loop-index-test.true c.index-script-index.is))
+    ap (λ calls. after_those calls (each_given f (i + 1) (drop (i + 1) script))) c.in_ok-push-in-Ok.ensures.items
+    ∙ sym (after_those-next f c.loop-index.calls.items i asked (drop (i + 1) script) c.in-Ok.call gives)
+    ∙ sym (ap (λ xs. after_those c.loop-index.calls.items (each_given f i xs)) (drop-next script i asked c.loop-index-test.true c.index-script-index.is))
     ∙ c.loop-index.invariant

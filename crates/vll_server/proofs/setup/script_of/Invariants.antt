@@ -5,4 +5,4 @@ use Rattle.vll_server.proofs.setup.script_of.Given as goal
 
 abbrev pub invariant-loop-index : goal.invariant-loop-index
 invariant-loop-index l =
-    after_those l.calls (each_given (call_at l.library l.client) l.index (drop l.index l.script)) ≡ script_made l.library l.client l.script
+    after_those l.calls.items (each_given (call_at l.library l.client) l.index (drop l.index l.script)) ≡ script_made l.library l.client l.script

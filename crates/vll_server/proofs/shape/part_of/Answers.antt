@@ -1,10 +1,7 @@
-use Rattle.std.proofs.Common.{◌≤◌, ◌∙◌, ap, arith}
-use Rattle.vll_server.specs.Tree.{list_at}
-use Rattle.vll_server.proofs.Sizes.{index-within}
+use Rattle.std.proofs.Common.{◌≤◌, subst}
+use Rattle.vll_server.specs.Longest.{longest_list}
+use Rattle.vll_server.proofs.Sizes.{member-within}
 use Rattle.vll_server.proofs.shape.part_of.Goals as goal
 
-pub overflow_cast-index : goal.overflow_cast-index
-overflow_cast-index g c =
-    let fault = rw (c.in-Err-At.is, c.in-Err-At.field-0-is) at c.list_of.ensures in
-    let few : c.in-Err-At.index ≤ 16777216 = index-within g.T.Reads.reads _ _ _ _ c.requires.few (ap (list_at g.T.Reads.reads) c.in-Ok.ensures.ok ∙ fault) in
-    omega (arith, few)
+pub list_in-requires : goal.list_in-requires
+list_in-requires g c = record { few = subst (λ d. longest_list d ≤ 16777216) c.in-Ok.ensures.ok (member-within _ _ _ c.requires.few) }

@@ -1,0 +1,169 @@
+-- A waiting call begins to run: the front of the queue, or the one that the contention analysis finds.
+use Rattle.std.proofs.Common.{◌≡◌, ℕ, true, false, Bool, refl, sym, ap, ◌∙◌, subst, List, map, slice_get, Option, Some, None, is_some, Ok}
+use Rattle.std.proofs.lemmas.Option.{slice_get-map}
+use Rattle.std.specs.Option.{option_map}
+use Rattle.vll_core.specs.declared.event.Event.{Event}
+use Rattle.vll_core.specs.declared.event.Event.TheVariants as event
+use Rattle.vll_core.specs.declared.machine.Machine.TheInside.{Inside}
+use Rattle.vll_core.specs.declared.refusal.Refusal.TheVariants.{TurnOpen, Idle}
+use Rattle.vll_core.specs.declared.seen.Seen.TheVariants.{Run}
+use Rattle.vll_core.specs.declared.work.Work.{Work}
+use Rattle.vll_sca.specs.declared.entry.Entry.{Entry}
+use Rattle.vll_sca.specs.declared.status.Status.{Status}
+use Rattle.vll_sca.specs.declared.status.Status.TheVariants.{Running, Waiting, Gone}
+use Rattle.vll_sca.specs.Scan.{scan}
+use Rattle.vll_sca.specs.Status.{is_waiting}
+use Rattle.vll_core.specs.State.{Entered, State}
+use Rattle.vll_core.specs.Machine.{Outcome, refuse_if, or_refuse, front, with_entry, with_status, step, scanned as scanned_entry}
+use Rattle.vll_core.specs.Moves.{by_event, requested_by, released_by, stored_by}
+use Rattle.vll_core.specs.Queue.{QueueEntry, Queued, statuses, front_among, started_if, started, analysed, found_by}
+use Rattle.vll_core.specs.Shown.{opening_of}
+use Rattle.vll_core.specs.View.{turn_of, shown}
+use Rattle.vll_core.specs.MachineKept.{IsMachine, made_of}
+use Rattle.vll_core.proofs.Events.{front_is}
+use Rattle.vll_core.proofs.Picked.{picked_is}
+use Rattle.vll_core.proofs.QueueLaws.{machine_front}
+use Rattle.vll_core.proofs.CoreState.{shown_at, entry_shown, map_shown, statuses_shown, entry_changed, length_changed, made_changed, fits_same, at_work_same, replied_changed, queued_started}
+use Rattle.vll_core.proofs.CoreSteps.{Refuses, Takes, taken_reached, taken_words}
+
+-- ---- an event that finds a waiting ticket, or none
+
+-- a ticket that waits: its entry of the queue, and its work
+pub record Waits {H : Type 0} (a : Inside H) (t : ℕ) : Type 0 where
+  pub entry : QueueEntry
+  pub work : Work
+  pub at : slice_get a.queue.entries t ≡ Some entry
+  pub has : slice_get a.work.items t ≡ Some work
+  pub waits : entry.status ≡ Waiting
+
+-- the ticket, if there is one, waits and begins to run by the event, which requests, releases and stores nothing
+pub record Wakes {H : Type 0} (places : H → ℕ → ℕ) (a : Inside H) (event : Event) (found : Option ℕ) : Type 0 where
+  pub is : step (opening_of places (shown a)) (shown a).state event ≡ or_refuse found Idle (λ (t : ℕ). Ok (Run t, with_status (shown a).state t Running))
+  pub waits : (t : ℕ) → found ≡ Some t → Waits a t
+  pub asks : requested_by (shown a).state (by_event event) ≡ None
+  pub frees : released_by (shown a).state (by_event event) ≡ None
+  pub stores : stored_by (shown a).state (by_event event) ≡ None
+
+-- the fields of a machine once a call runs
+abbrev pub run_at : {H : Type 0} → Inside H → ℕ → Inside H
+run_at a t = record a { queue = started a.queue t }
+
+pub refused_wake : {H : Type 0} {places : H → ℕ → ℕ} (a : Inside H) (e : Event) (found : Option ℕ) → Wakes places a e found → found ≡ None → Refuses places a e Idle
+refused_wake a e found wakes none = record {
+  is = wakes.is ∙ ap (λ (x : Option ℕ). or_refuse x Idle (λ (t : ℕ). Ok (Run t, with_status (shown a).state t Running))) none;
+}
+
+pub taken_wake : {H : Type 0} {places : H → ℕ → ℕ} (a : Inside H) (e : Event) (found : Option ℕ) (t : ℕ) → Wakes places a e found → found ≡ Some t → Takes places a (run_at a t) e (Run t)
+taken_wake {H} {places} a e found t wakes some =
+    let w : Waits a t = wakes.waits t some in
+    let s : State = (shown a).state in
+    record {
+      fixed = refl;
+      is =
+          wakes.is
+          ∙ (ap (λ (x : Option ℕ). or_refuse x Idle (λ (t : ℕ). Ok (Run t, with_status s t Running))) some
+          ∙ (ap (λ (o : Option Entered). let out : Outcome = Ok (Run t, elim o [ None ↦ s | Some e ↦ with_entry s t (record e { status = Running }) ]) in out)
+          (entry_shown a.queue.entries a.work.items t w.entry w.work w.at w.has)
+          ∙ ap (λ (es : List Entered). let out : Outcome = Ok (Run t, record s { entries = es }) in out)
+          (sym (entry_changed a.queue.entries a.work.items t w.entry w.work (λ e. record e { status = Running }) w.at w.has))));
+    }
+
+pub core_wake : {H : Type 0} {places : H → ℕ → ℕ} (a : Inside H) (e : Event) (found : Option ℕ) (t : ℕ) → IsMachine places a → Wakes places a e found → found ≡ Some t
+    → IsMachine places (run_at a t)
+core_wake {H} {places} a e found t core wakes some =
+    let b : Inside H = run_at a t in
+    let w : Waits a t = wakes.waits t some in
+    let takes : Takes places a b e (Run t) = taken_wake a e found t wakes some in
+    let calls : made_of b.queue.entries ≡ made_of a.queue.entries = made_changed a.queue.entries t (λ e. record e { status = Running }) (λ e. refl) in
+    let waiting : slice_get (statuses a.queue) t ≡ Some Waiting =
+    slice_get-map (λ (e : QueueEntry). e.status) a.queue.entries t
+    ∙ (ap (λ (o : Option QueueEntry). option_map (λ (e : QueueEntry). e.status) o) w.at ∙ ap (λ (x : Status). Some x) w.waits) in
+    record {
+      reached = taken_reached a b e (Run t) takes core.reached;
+      words = taken_words a b e (Run t) takes core.reached wakes.asks wakes.frees wakes.stores core.words;
+      some_records = core.some_records;
+      few_records = core.few_records;
+      records = core.records;
+      catalog = core.catalog;
+      queue = queued_started a.queue t waiting core.queue;
+      works = core.works ∙ sym (length_changed a.queue.entries t (λ e. record e { status = Running }));
+      room = core.room;
+      nexts = core.nexts;
+      entries_fit = fits_same a.library.value a.queue.entries b.queue.entries (sym calls) core.entries_fit;
+      turn_fits = core.turn_fits;
+      scripts_fit = core.scripts_fit;
+      at_work = at_work_same a.library.value a.opening.items a.queue.entries b.queue.entries a.work.items (sym calls) core.at_work;
+      replied = replied_changed a.queue.entries a.work.items t (λ e. record e { status = Running }) (λ e w at has gone. absurd (cc gone)) core.replied;
+    }
+
+-- the queue after it, where a ticket is found
+pub some_woken : {H : Type 0} (q p : Queued H) (found : Option ℕ) (t : ℕ) → found ≡ Some t → p ≡ started_if q found → p ≡ started q t
+some_woken q p found t some new = new ∙ ap (started_if q) some
+
+-- and where none is
+pub none_woken : {H : Type 0} (q p : Queued H) (found : Option ℕ) → found ≡ None → p ≡ started_if q found → p ≡ q
+none_woken q p found none new = new ∙ ap (started_if q) none
+
+pub core_woken : {H : Type 0} {places : H → ℕ → ℕ} (a : Inside H) (e : Event) (q : Queued H) (found : Option ℕ) → IsMachine places a → Wakes places a e found → q ≡ started_if a.queue found
+    → IsMachine places (record a { queue = q })
+core_woken {H} {places} a e q None core wakes new =
+    subst (λ (p : Queued H). IsMachine places (record a { queue = p })) (sym (none_woken a.queue q None refl new)) core
+core_woken {H} {places} a e q (Some t) core wakes new =
+    subst (λ (p : Queued H). IsMachine places (record a { queue = p })) (sym (some_woken a.queue q (Some t) t refl new)) (core_wake a e (Some t) t core wakes refl)
+
+only_waiting : (x : Status) → is_waiting x ≡ true → x ≡ Waiting
+only_waiting Running waits = absurd (cc waits)
+only_waiting Waiting waits = refl
+only_waiting Gone waits = absurd (cc waits)
+
+-- a ticket of which a waiting entry is shown waits
+waits_at : {H : Type 0} (a : Inside H) (t : ℕ) (e : Entered) → slice_get (shown a).state.entries t ≡ Some e → is_waiting e.status ≡ true → Waits a t
+waits_at a t e at waits =
+    let there = shown_at a.queue.entries a.work.items t e at in
+    record {
+      entry = there.entry;
+      work = there.work;
+      at = there.at;
+      has = there.has;
+      waits = ap (λ (x : Entered). x.status) (sym there.is) ∙ only_waiting e.status waits;
+    }
+
+-- where no turn is open, the machine goes by the ticket that it finds
+by_ticket : (s : State) (found same : Option ℕ) → is_some s.turn ≡ false → found ≡ same
+    → refuse_if (is_some s.turn) TurnOpen (or_refuse found Idle (λ (t : ℕ). Ok (Run t, with_status s t Running))) ≡ or_refuse same Idle (λ (t : ℕ). Ok (Run t, with_status s t Running))
+by_ticket s found same closed is =
+    ap (λ (b : Bool). refuse_if b TurnOpen (or_refuse found Idle (λ (t : ℕ). Ok (Run t, with_status s t Running)))) closed
+    ∙ ap (λ (x : Option ℕ). or_refuse x Idle (λ (t : ℕ). Ok (Run t, with_status s t Running))) is
+
+-- ---- the front
+
+-- the plain machine's front is that of the queue
+front_of : {H : Type 0} {places : H → ℕ → ℕ} (a : Inside H) → IsMachine places a → front (shown a).state ≡ front_among (statuses a.queue)
+front_of a core =
+    machine_front (shown a).state ∙ ap front_among (statuses_shown a.queue.entries a.work.items core.works)
+
+pub wakes_front : {H : Type 0} {places : H → ℕ → ℕ} (a : Inside H) → IsMachine places a → is_some (turn_of a.turn) ≡ false → Wakes places a event.Front (front_among (statuses a.queue))
+wakes_front a core closed = record {
+  is = by_ticket (shown a).state (front (shown a).state) (front_among (statuses a.queue)) closed (front_of a core);
+  waits = λ t found. let f = front_is (shown a).state t (front_of a core ∙ found) in waits_at a t f.entry f.at f.waits;
+  asks = refl;
+  frees = refl;
+  stores = refl;
+}
+
+-- ---- the ticket that the contention analysis finds
+
+-- the plain machine finds the queue's
+scan_of : {H : Type 0} {places : H → ℕ → ℕ} (a : Inside H) → IsMachine places a
+    → scan (places a.queue.hash) a.queue.bits (map scanned_entry (shown a).state.entries) ≡ found_by places a.queue
+scan_of {H} {places} a core =
+    ap (λ (es : List Entry). scan (places a.queue.hash) a.queue.bits es) (map_shown analysed scanned_entry a.queue.entries a.work.items (λ e w. refl) core.works)
+
+pub wakes_scan : {H : Type 0} {places : H → ℕ → ℕ} (a : Inside H) → IsMachine places a → is_some (turn_of a.turn) ≡ false → Wakes places a event.Scan (found_by places a.queue)
+wakes_scan {H} {places} a core closed = record {
+  is = by_ticket (shown a).state (scan (places a.queue.hash) a.queue.bits (map scanned_entry (shown a).state.entries)) (found_by places a.queue) closed (scan_of a core);
+  waits = λ t found. let p = picked_is (opening_of places (shown a)) (shown a).state t (scan_of a core ∙ found) in waits_at a t p.entry p.at p.waits;
+  asks = refl;
+  frees = refl;
+  stores = refl;
+}

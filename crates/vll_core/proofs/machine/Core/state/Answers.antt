@@ -1,6 +1,0 @@
-use Rattle.std.proofs.Common.{◌∙◌}
-use Rattle.vll_core.proofs.Journal.{status_shown}
-use Rattle.vll_core.proofs.machine.Core.state.Goals as goal
-
-pub returns : goal.returns
-returns c = c.status.ensures ∙ status_shown c.self.inside c.args.self.now c.args.ticket c.self.invariant c.self.view_is

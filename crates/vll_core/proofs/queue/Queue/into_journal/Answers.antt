@@ -1,0 +1,9 @@
+use Rattle.std.proofs.Common.{sym}
+use Rattle.vll_core.proofs.Entries.{shown_queued, shown_lines}
+use Rattle.vll_core.proofs.queue.Queue.into_journal.Goals as goal
+
+pub returns-clause-lines : goal.returns-clause-lines
+returns-clause-lines g c = sym (shown_lines _ _ c.self.invariant c.self.view_is)
+
+pub returns-clause-kept : goal.returns-clause-kept
+returns-clause-kept g c = shown_queued _ _ c.self.invariant c.self.view_is

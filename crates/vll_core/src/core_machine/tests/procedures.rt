@@ -1,0 +1,183 @@
+// The procedures that the tests call.
+ghost use Rattle.std.specs.Prelude.{◌≡◌, ◌≤◌, All, IfOk, length};
+ghost use Rattle.vll_check.specs.Calls.{Fits};
+
+use crate::config::Config;
+use crate::core_machine::Core;
+use sqlite_items::{Boxed, Items};
+use std::alloc::{AllocError, Global};
+use std::test::Fail;
+use vll_check::{CallFault, Checked, Library, check};
+use vll_proc::{Call, Expr, KeyAt, KeyDecl, Proc, Stmt, Text};
+use vll_record::Mode;
+use vll_sca::Placing;
+
+// A key whose record is the argument of the same place.
+fn key(mode: Mode, argument: u8) -> KeyDecl {
+    KeyDecl {
+        mode,
+        at: KeyAt::Arg(argument),
+    }
+}
+
+fn add(alloc: Global, left: Expr, right: Expr) -> Result<Expr, AllocError> {
+    Ok(Expr::Add(Boxed::new(alloc, left)?, Boxed::new(alloc, right)?))
+}
+
+fn sub(alloc: Global, left: Expr, right: Expr) -> Result<Expr, AllocError> {
+    Ok(Expr::Sub(Boxed::new(alloc, left)?, Boxed::new(alloc, right)?))
+}
+
+fn less(alloc: Global, left: Expr, right: Expr) -> Result<Expr, AllocError> {
+    Ok(Expr::Less(Boxed::new(alloc, left)?, Boxed::new(alloc, right)?))
+}
+
+fn named(
+    alloc: Global,
+    name: &str,
+    args: u8,
+    keys: &[KeyDecl],
+    body: Vec<Stmt>,
+) -> Result<Proc, AllocError> {
+    Ok(Proc {
+        name: Text::new(String::from_str(alloc, name)?),
+        args,
+        keys: Items::from_slice(alloc, keys)?,
+        body: Items::from_vec(body),
+    })
+}
+
+// Moves an amount from one record to another, and replies what is left of the first.
+fn transfer(alloc: Global) -> Result<Proc, AllocError> {
+    let body = vec![in alloc;
+        Stmt::Set(0, sub(alloc, Expr::Key(0), Expr::Arg(2))?),
+        Stmt::Set(1, add(alloc, Expr::Key(1), Expr::Arg(2))?),
+        Stmt::Reply(Expr::Key(0)),
+    ]?;
+    named(
+        alloc,
+        "transfer",
+        3,
+        &[key(Mode::Write, 0), key(Mode::Write, 1)],
+        body,
+    )
+}
+
+// Adds 1 to a record, and replies the sum.
+fn bump(alloc: Global) -> Result<Proc, AllocError> {
+    let body = vec![in alloc;
+        Stmt::Set(0, add(alloc, Expr::Key(0), Expr::Num(1))?),
+        Stmt::Reply(Expr::Key(0)),
+    ]?;
+    named(alloc, "bump", 1, &[key(Mode::Write, 0)], body)
+}
+
+// Replies the sum of two records.
+fn sum2(alloc: Global) -> Result<Proc, AllocError> {
+    let sum = add(alloc, Expr::Key(0), Expr::Key(1))?;
+    let body = vec![in alloc; Stmt::Reply(sum)]?;
+    named(
+        alloc,
+        "sum2",
+        2,
+        &[key(Mode::Read, 0), key(Mode::Read, 1)],
+        body,
+    )
+}
+
+// Replies a record.
+fn read(alloc: Global) -> Result<Proc, AllocError> {
+    let body = vec![in alloc; Stmt::Reply(Expr::Key(0))]?;
+    named(alloc, "read", 1, &[key(Mode::Read, 0)], body)
+}
+
+// Takes an amount from a record, and replies what is left; aborts with code 7 where there is less.
+fn take(alloc: Global) -> Result<Proc, AllocError> {
+    let is_less = less(alloc, Expr::Key(0), Expr::Arg(1))?;
+    let refuse = Items::from_vec(vec![in alloc; Stmt::Abort(7)]?);
+    let body = vec![in alloc;
+        Stmt::If(is_less, refuse, Items::new(alloc)),
+        Stmt::Set(0, sub(alloc, Expr::Key(0), Expr::Arg(1))?),
+        Stmt::Reply(Expr::Key(0)),
+    ]?;
+    named(alloc, "take", 2, &[key(Mode::Write, 0)], body)
+}
+
+// Replies 7.
+fn seven(alloc: Global) -> Result<Proc, AllocError> {
+    let body = vec![in alloc; Stmt::Reply(Expr::Num(7))]?;
+    named(alloc, "seven", 0, &[], body)
+}
+
+fn checked(procedure: Proc, records: u32) -> Result<Checked, Fail>
+    ensures { IfOk result (λ c. c.records ≡ records) }
+{
+    Ok(check(procedure, records)?)
+}
+
+// The library of these procedures, for a number of records.
+pub(super) fn library(alloc: Global, records: u32) -> Result<Library, Fail>
+    ensures { IfOk result (λ l. l.records ≡ records) }
+{
+    let procs = vec![in alloc;
+        checked(transfer(alloc)?, records)?,
+        checked(bump(alloc)?, records)?,
+        checked(sum2(alloc)?, records)?,
+        checked(read(alloc)?, records)?,
+        checked(take(alloc)?, records)?,
+        checked(seven(alloc)?, records)?,
+    ]?;
+    Ok(Library::new(records, procs)?)
+}
+
+fn made(library: &Library, name: &str, args: &[u64]) -> Result<Call, CallFault>
+    ensures { IfOk result (Fits library.now) }
+{
+    library.call(name, args)
+}
+
+// The script of these calls, each a name and its arguments.
+fn script(alloc: Global, library: &Library, calls: &[(&str, &[u64])]) -> Result<Vec<Call>, Fail>
+    ensures { IfOk result (λ script. All (Fits library.now) script.items) }
+{
+    let mut script = Vec::new(alloc);
+    for (name, args) in calls {
+        script.push(made(library, name, args)?)?;
+    }
+    Ok(script)
+}
+
+// The scripts of these calls, client 0's first.
+fn scripts(
+    alloc: Global,
+    library: &Library,
+    clients: &[&[(&str, &[u64])]],
+) -> Result<Vec<Vec<Call>>, Fail>
+    ensures { IfOk result (λ scripts. All (λ script. All (Fits library.now) script.items) scripts.items) }
+{
+    let mut scripts = Vec::new(alloc);
+    for calls in clients {
+        scripts.push(script(alloc, library, calls)?)?;
+    }
+    Ok(scripts)
+}
+
+// A core over these records, whose clients have these scripts. 8 calls may wait, and there are 64 bits.
+pub(super) fn core(
+    alloc: Global,
+    records: &[u64],
+    clients: &[&[(&str, &[u64])]],
+    limit: u32,
+) -> Result<Core<Placing>, Fail>
+    requires { length records.now ≤ 65536 }
+{
+    let library = library(alloc, records.len() as u32)?;
+    let scripts = scripts(alloc, &library, clients)?;
+    let records = Vec::from_slice(alloc, records)?;
+    let config = Config {
+        cap: 8,
+        limit,
+        bits: 64,
+    };
+    Ok(Core::open(alloc, records, library, scripts, config, Placing::Modulo)?)
+}

@@ -1,0 +1,4 @@
+pub mod Status
+pub mod Placing
+pub mod Scan
+pub mod Laws

@@ -1,0 +1,9 @@
+use crate::status::Status;
+use vll_record::Claims;
+
+/// An entered call as the analysis sees it: its claims, and where it stands.
+#[derive(Clone, Copy)]
+pub struct Entry {
+    pub claims: Claims,
+    pub status: Status,
+}

@@ -1,0 +1,10 @@
+use super::{
+    conflict_implies_hash_conflict, gone_beginnings_do_not_matter, scanned_entry_waits_and_is_clear,
+};
+
+#[test]
+fn laws_ask_for_nothing() {
+    conflict_implies_hash_conflict();
+    scanned_entry_waits_and_is_clear();
+    gone_beginnings_do_not_matter();
+}

@@ -1,0 +1,17 @@
+//! Selective contention analysis: which waiting call may run, found by the places of its claims.
+#![tactic(auto)]
+
+mod bits;
+mod entry;
+mod laws;
+mod pairs;
+mod place;
+mod status;
+
+pub use bits::{Bits, BitsFault};
+pub use entry::Entry;
+pub use laws::{
+    conflict_implies_hash_conflict, gone_beginnings_do_not_matter, scanned_entry_waits_and_is_clear,
+};
+pub use place::{Place, Placing};
+pub use status::Status;

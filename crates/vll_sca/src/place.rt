@@ -1,0 +1,45 @@
+ghost use Rattle.std.specs.Prelude.{◌≡◌};
+
+use vll_record::RecordId;
+
+/// A hash of records: it gives each record a place.
+///
+/// The answer is a fixed function of the hash and the record, so that a record never changes its place.
+/// In an array of n bits the record stands at its place modulo n.
+pub trait Place {
+    ghost use Rattle.std.specs.Prelude.{ℕ};
+
+    ghost place_of: { Self → ℕ → ℕ };
+
+    /// The place of a record. It takes no memory.
+    fn place(&self, r: RecordId) -> u64
+        ensures { result ≡ place_of self.now r };
+}
+
+/// The hashes that a scenario can name.
+#[derive(Clone, Copy, PartialEq, Eq, Debug)]
+pub enum Placing {
+    /// A record's place is its number.
+    Modulo,
+    /// Multiplicative hashing: neighbouring records lie far apart.
+    Spread,
+}
+
+impl Place for Placing {
+    ghost use Rattle.vll_sca.specs.Placing.{placing};
+
+    ghost place_of = { placing };
+
+    /// The record's number, or the upper half of its product with 11400714819323198485, which is 2^64
+    /// over the golden ratio, modulo 2^64.
+    fn place(&self, r: RecordId) -> u64 {
+        let number = u64::from(r.0);
+        match self {
+            Placing::Modulo => number,
+            Placing::Spread => number.wrapping_mul(11_400_714_819_323_198_485) >> 32,
+        }
+    }
+}
+
+#[cfg(test)]
+mod tests;

@@ -1,0 +1,14 @@
+use super::{Place, Placing};
+use vll_record::RecordId;
+
+#[test]
+fn neighbours_are_spread(rt: HostRuntime) {
+    for (record, place) in [(0, 0), (1, 2_654_435_769), (2, 1_013_904_242)] {
+        assert_eq!(rt;
+            Placing::Spread.place(RecordId(record)),
+            place,
+            "of {record}"
+        );
+        assert_eq!(rt; Placing::Modulo.place(RecordId(record)), u64::from(record));
+    }
+}

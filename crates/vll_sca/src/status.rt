@@ -1,0 +1,10 @@
+/// Where an entered call stands.
+#[derive(Clone, Copy, PartialEq, Eq, Debug)]
+pub enum Status {
+    /// It has begun, and is not finished.
+    Running,
+    /// It was blocked, and has not begun.
+    Waiting,
+    /// It is finished.
+    Gone,
+}

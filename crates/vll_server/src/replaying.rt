@@ -1,0 +1,92 @@
+//! A replay: a scenario in, and what the machine of atomic steps answers to its schedule out.
+ghost use Rattle.std.specs.Prelude.{◌≡◌, ◌↔◌, false, true, Err, IfOk, OnOk, string_bytes};
+ghost use Rattle.std.specs.Io.KnownBytes.{Appends};
+ghost use Rattle.vll_sca.specs.Placing.{placing};
+ghost use Rattle.vll_core.specs.Machine.{opened};
+ghost use Rattle.vll_core.specs.Shown.{opening_of};
+ghost use Rattle.vll_server.specs.Replay.{IsRead, Replays, opening_for, text_of_setup};
+ghost use Rattle.vll_server.specs.Streams.{AppendsBeginning};
+ghost use Rattle.vll_server.specs.declared.fault.ScenarioFault.{ScenarioFault};
+ghost use Rattle.vll_server.specs.declared.fault.ScenarioFault.TheVariants.{Read};
+ghost use Rattle.vll_server.specs.declared.fault.ReplayFault.TheVariants as fault;
+
+use crate::fault::ReplayFault;
+use crate::outcome::write_text;
+use crate::read::read_scenario;
+use crate::replay_text::{push_event_lines, push_state};
+use crate::scenario::Scenario;
+use crate::stream::{Sink, Source};
+use sqlite_items::Items;
+use std::alloc::{AllocError, Global};
+use vll_core::{Core, Event, OpenFault};
+use vll_sca::Placing;
+
+/// Reads a scenario, takes the steps of its schedule one after the other on the machine of atomic steps, and
+/// writes a line for each, refused ones among them, and then the outcome of what stands at the end: a line for
+/// each entered call, and one for each record. docs/SCENARIO.md describes the text.
+///
+/// The text is made whole before its first byte is written. After `Scenario` and `NoMemory` nothing has been
+/// written, and after `Write` a beginning of the text. `Scenario` is what `read_scenario` answers, `NoMemory`
+/// comes only where an allocation was refused after a scenario was read, and `Write` exactly where the writer has
+/// failed.
+pub fn replay<S: Source, W: Sink>(
+    alloc: Global,
+    reader: &mut S,
+    writer: &mut W,
+) -> Result<(), ReplayFault>
+    requires reader { S.failed reader.old ≡ false }
+    requires writer { W.failed writer.old ≡ false }
+    ensures ok { OnOk result (Replays (S.remaining reader.old) (S.remaining reader.new)
+        (Appends (W.contents writer.old) (W.contents writer.new))) }
+    ensures scenario { (why : ScenarioFault) → result ≡ Err (fault.Scenario why)
+        → IsRead (S.remaining reader.old) (S.remaining reader.new) (Err why) × (writer.new ≡ writer.old) }
+    ensures read { (result ≡ Err (fault.Scenario Read)) ↔ (S.failed reader.new ≡ true) }
+    ensures no_memory { result ≡ Err fault.NoMemory
+        → Replays (S.remaining reader.old) (S.remaining reader.new) (λ text. writer.new ≡ writer.old) }
+    ensures write { result ≡ Err fault.Write → Replays (S.remaining reader.old) (S.remaining reader.new)
+        (AppendsBeginning (W.contents writer.old) (W.contents writer.new)) }
+    ensures failed { (result ≡ Err fault.Write) ↔ (W.failed writer.new ≡ true) }
+{
+    let scenario = read_scenario(alloc, reader).map_err(ReplayFault::Scenario)?;
+    let text = text_of_replay(alloc, scenario).map_err(|_| ReplayFault::NoMemory)?;
+    write_text(writer, text.as_bytes()).map_err(|_| ReplayFault::Write)
+}
+
+// The text of a scenario's replay.
+fn text_of_replay(alloc: Global, scenario: Scenario) -> Result<String, AllocError>
+    ensures { IfOk result (λ text. string_bytes text ≡ text_of_setup scenario) }
+{
+    let (core, schedule) = core_of(alloc, scenario)?;
+    let mut core = core;
+    let mut text = String::new(alloc);
+    push_event_lines(&mut text, &mut core, schedule.as_slice())?;
+    push_state(&mut text, &core)?;
+    Ok(text)
+}
+
+// The machine of a scenario, with nothing entered, and the scenario's schedule.
+fn core_of(alloc: Global, scenario: Scenario) -> Result<(Core<Placing>, Items<Event>), AllocError>
+    ensures opening { IfOk result (λ made. opening_of placing made.0 ≡ opening_for scenario) }
+    ensures state { IfOk result (λ made. made.0.state ≡ opened scenario.scripts) }
+    ensures schedule { IfOk result (λ made. made.1 ≡ scenario.schedule) }
+{
+    let Scenario {
+        records,
+        library,
+        scripts,
+        config,
+        placing,
+        schedule,
+    } = scenario;
+    match Core::open(alloc, records, library, scripts, config, placing) {
+        Ok(core) => Ok((core, schedule)),
+        Err(OpenFault::NoMemory) => Err(AllocError),
+        // A scenario has the sizes that a core can be opened with.
+        Err(OpenFault::Records | OpenFault::Limit | OpenFault::Cap | OpenFault::Bits) => {
+            unreachable!()
+        }
+    }
+}
+
+#[cfg(test)]
+mod tests;

@@ -1,0 +1,80 @@
+use super::{parts_of, spot_of};
+use crate::fault::Part;
+use std::alloc::Global;
+use std::test::Fail;
+use vll_core::{Event, Ticket};
+
+// A scenario with this schedule.
+fn text_with(alloc: Global, schedule: &str) -> Result<String, Fail> {
+    Ok(format!(in alloc;
+        r#"{{"version":1,"records":[0],"procs":[],"clients":[],"schedule":{schedule}}}"#
+    )?)
+}
+
+#[test]
+fn events_are_read_in_their_order(rt: HostRuntime) -> Result<(), Fail> {
+    let text = text_with(
+        rt.alloc(),
+        r#"[["enter",0],["claim"],["admit"],["front"],["scan"],["load",1],["store",2],["release",3],
+            ["finish",4294967295],["claim"],["enter",4294967295]]"#,
+    )?;
+    let parts = parts_of(rt.alloc(), text.as_str())?;
+    let events = [
+        Event::Enter(0),
+        Event::Claim,
+        Event::Admit,
+        Event::Front,
+        Event::Scan,
+        Event::Load(Ticket(1)),
+        Event::Store(Ticket(2)),
+        Event::Release(Ticket(3)),
+        Event::Finish(Ticket(4_294_967_295)),
+        Event::Claim,
+        Event::Enter(4_294_967_295),
+    ];
+    assert_eq!(rt; parts.schedule.as_slice(), events.as_slice());
+    Ok(())
+}
+
+#[test]
+fn empty_schedule_has_no_event(rt: HostRuntime) -> Result<(), Fail> {
+    let text = text_with(rt.alloc(), "[]")?;
+    let parts = parts_of(rt.alloc(), text.as_str())?;
+    assert!(rt; parts.schedule.is_empty());
+    Ok(())
+}
+
+#[test]
+fn first_faulty_event_is_named(rt: HostRuntime) -> Result<(), Fail> {
+    for (schedule, index) in [
+        ("null", 0),
+        ("7", 0),
+        (r#""claim""#, 0),
+        (r#"{"0":["claim"]}"#, 0),
+        (r#"["claim"]"#, 0),
+        ("[[]]", 0),
+        ("[[0]]", 0),
+        (r#"[["claim"],["load"]]"#, 1),
+        (r#"[["claim"],["front",0]]"#, 1),
+        (r#"[["claim"],["admit"],["store",0,0],["load"]]"#, 2),
+        (r#"[["enter"]]"#, 0),
+        (r#"[["enter",0],["enter",-1]]"#, 1),
+        (r#"[["enter",0],["enter",4294967296]]"#, 1),
+        (r#"[["finish",4294967296]]"#, 0),
+        (r#"[["load","0"]]"#, 0),
+        (r#"[["load",1.0]]"#, 0),
+        (r#"[["release",null]]"#, 0),
+        (r#"[["scan"],["Claim"]]"#, 1),
+        (r#"[["run",0]]"#, 0),
+        (r#"[["claim"],null]"#, 1),
+        (r#"[["claim"],{"claim":0}]"#, 1),
+    ] {
+        let text = text_with(rt.alloc(), schedule)?;
+        assert_eq!(rt;
+            spot_of(rt.alloc(), text.as_str())?,
+            Some((Part::Schedule, index)),
+            "{schedule}"
+        );
+    }
+    Ok(())
+}
