@@ -1,0 +1,5 @@
+-- The name is that of the opening.
+use Rattle.vll_example.proofs.bank.open.Given as goal
+
+abbrev pub ghosts-serve : goal.ghosts-serve
+ghosts-serve g a = record { library = a.opening.library; records = a.opening.records; config = a.opening.config; clients = a.opening.clients }

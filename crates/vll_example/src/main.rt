@@ -1,0 +1,12 @@
+//! A program with the engine inside: two clients of a bank, on one thread.
+#![tactic(auto)]
+
+mod bank;
+mod fault;
+mod procedures;
+
+use crate::fault::Fault;
+
+fn main(rt: HostRuntime) -> Result<(), Fault> {
+    bank::open(&rt, rt.alloc())
+}

@@ -1,0 +1,63 @@
+// What the bank's clients can call.
+ghost use Rattle.std.specs.Prelude.{◌≡◌, IfOk};
+
+use crate::fault::Fault;
+use sqlite_items::{Boxed, Items};
+use std::alloc::{AllocError, Global};
+use vll_check::{Library, check};
+use vll_proc::{Expr, KeyAt, KeyDecl, Proc, Stmt, Text};
+use vll_record::Mode;
+
+// A key whose record is the argument of the same place.
+fn key(mode: Mode, argument: u8) -> KeyDecl {
+    KeyDecl {
+        mode,
+        at: KeyAt::Arg(argument),
+    }
+}
+
+fn add(alloc: Global, left: Expr, right: Expr) -> Result<Expr, AllocError> {
+    Ok(Expr::Add(Boxed::new(alloc, left)?, Boxed::new(alloc, right)?))
+}
+
+fn sub(alloc: Global, left: Expr, right: Expr) -> Result<Expr, AllocError> {
+    Ok(Expr::Sub(Boxed::new(alloc, left)?, Boxed::new(alloc, right)?))
+}
+
+// Moves an amount from one account to another, and replies what is left of the first.
+fn transfer(alloc: Global) -> Result<Proc, AllocError> {
+    let body = vec![in alloc;
+        Stmt::Set(0, sub(alloc, Expr::Key(0), Expr::Arg(2))?),
+        Stmt::Set(1, add(alloc, Expr::Key(1), Expr::Arg(2))?),
+        Stmt::Reply(Expr::Key(0)),
+    ]?;
+    Ok(Proc {
+        name: Text::new(String::from_str(alloc, "transfer")?),
+        args: 3,
+        keys: Items::from_slice(alloc, &[key(Mode::Write, 0), key(Mode::Write, 1)])?,
+        body: Items::from_vec(body),
+    })
+}
+
+// Replies the sum of two accounts.
+fn sum(alloc: Global) -> Result<Proc, AllocError> {
+    let sum = add(alloc, Expr::Key(0), Expr::Key(1))?;
+    let body = vec![in alloc; Stmt::Reply(sum)]?;
+    Ok(Proc {
+        name: Text::new(String::from_str(alloc, "sum")?),
+        args: 2,
+        keys: Items::from_slice(alloc, &[key(Mode::Read, 0), key(Mode::Read, 1)])?,
+        body: Items::from_vec(body),
+    })
+}
+
+/// The library of both procedures, for a number of accounts.
+pub(crate) fn library(alloc: Global, accounts: u32) -> Result<Library, Fault>
+    ensures { IfOk result (λ l. l.records ≡ accounts) }
+{
+    let procs = vec![in alloc;
+        check(transfer(alloc)?, accounts)?,
+        check(sum(alloc)?, accounts)?,
+    ]?;
+    Ok(Library::new(accounts, procs)?)
+}

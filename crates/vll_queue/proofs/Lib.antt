@@ -1,0 +1,16 @@
+pub mod Truths
+pub mod Places
+pub mod Repeats
+pub mod Running
+pub mod Executes
+pub mod Finishes
+pub mod Begins
+pub mod Whole
+pub mod Lines
+pub mod Executed
+pub mod Finished
+pub mod Wakes
+pub mod Keeps
+pub mod Counts
+pub mod Ends
+pub mod Opens

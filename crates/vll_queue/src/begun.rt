@@ -1,0 +1,21 @@
+use crate::pass::Pass;
+use vll_core::Ticket;
+
+/// What comes of a call that begins.
+pub enum Begun {
+    /// Each claim was granted: the call may run, by this pass.
+    Free(Pass),
+    /// A claim was denied: the call waits under this ticket, until `next_front` or `next_scan` gives a pass for it.
+    Blocked(Ticket),
+    /// The call has not entered, and has no claim.
+    Refused(BeginRefusal),
+}
+
+/// Why a call may not begin: the lowest that stands, in this order.
+#[derive(Clone, Copy, PartialEq, Eq, Debug)]
+pub enum BeginRefusal {
+    /// As many calls as the limit have entered. This stays so.
+    Spent,
+    /// As many entered calls as the cap wait.
+    Busy,
+}

@@ -1,0 +1,6 @@
+mod closing;
+mod opening;
+mod playing;
+mod procedures;
+mod queueing;
+mod schedules;

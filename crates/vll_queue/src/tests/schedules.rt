@@ -1,0 +1,68 @@
+// Blocked calls that run by the front, and by the contention analysis.
+ghost use Rattle.std.specs.Prelude.{◌≡◌};
+ghost use Rattle.vll_queue.specs.Shown.{named};
+
+use super::playing::{
+    begins_blocked, begins_free, closes, finishes, is_given, is_not_given, last_of,
+};
+use super::procedures::opening;
+use crate::name::Name;
+use crate::opening::Opening;
+use std::marker::Brand;
+use std::process::Abort;
+use std::sync::Wait;
+use std::test::*;
+use vll_sca::Placing;
+
+fn runs_at_the_front<N: Name, R: Wait + Abort>(rt: &R, opening: Opening<Placing>)
+    requires { opening ≡ named N.library N.records N.config N.clients }
+{
+    let (engine, mut sessions) = opening.start::<N>();
+    let mut session = last_of::<N>(rt, &mut sessions);
+    let first = begins_free(rt, &engine, &mut session, 0, 0);
+    begins_blocked(rt, &engine, &mut session, 0, 1);
+    let front = engine.next_front(rt);
+    finishes(rt, &engine, first, 1);
+    is_not_given(rt, &engine, front);
+    let second = is_given(rt, engine.next_front(rt), 1);
+    finishes(rt, &engine, second, 2);
+    closes(rt, engine, sessions, &[2], &[0, 0]);
+}
+
+#[test]
+fn blocked_bump_runs_at_the_front(rt: HostRuntime) -> Result<(), Fail> {
+    let opening = opening(rt.alloc(), 1, 2, 8, 1)?;
+    runs_at_the_front::<Brand, HostRuntime>(&rt, opening);
+    Ok(())
+}
+
+// Ticket 0 keeps record 0. Ticket 1 is gone from record 1, which ticket 3 waits for behind ticket 2.
+fn runs_past_the_front<N: Name, R: Wait + Abort>(rt: &R, opening: Opening<Placing>)
+    requires { opening ≡ named N.library N.records N.config N.clients }
+{
+    let (engine, mut sessions) = opening.start::<N>();
+    let mut first = last_of::<N>(rt, &mut sessions);
+    let mut other = last_of::<N>(rt, &mut sessions);
+    let zero = begins_free(rt, &engine, &mut first, 0, 0);
+    let one = begins_free(rt, &engine, &mut other, 1, 1);
+    begins_blocked(rt, &engine, &mut first, 0, 2);
+    begins_blocked(rt, &engine, &mut other, 1, 3);
+    finishes(rt, &engine, one, 1);
+    let front = engine.next_front(rt);
+    let three = is_given(rt, engine.next_scan(rt), 3);
+    let more = engine.next_scan(rt);
+    finishes(rt, &engine, three, 2);
+    finishes(rt, &engine, zero, 1);
+    is_not_given(rt, &engine, front);
+    is_not_given(rt, &engine, more);
+    let two = is_given(rt, engine.next_front(rt), 2);
+    finishes(rt, &engine, two, 2);
+    closes(rt, engine, sessions, &[2, 2], &[1, 0, 1, 0]);
+}
+
+#[test]
+fn scan_finds_an_unhindered_call(rt: HostRuntime) -> Result<(), Fail> {
+    let opening = opening(rt.alloc(), 2, 4, 8, 2)?;
+    runs_past_the_front::<Brand, HostRuntime>(&rt, opening);
+    Ok(())
+}
