@@ -58,10 +58,17 @@ def is_left_out(line, text):
     return re.match(r'vll: (command line|scenario: (json|read))\n', line) or len(text) > MOST_BYTES
 
 
+def first_line(args):
+    """The first line that is to be printed, and no text where an outcome is judged: that scenario runs."""
+    if args.with_suffix('.judge').exists():
+        return ''
+    return bytes_of(args.with_suffix('.out')).decode().partition('\n')[0] + '\n'
+
+
 def scenarios():
-    """Each scenario that can be judged: its name, its tree, and the first line that is to be printed."""
+    """Each scenario that the schema can be asked for: its name, its tree, and the first line that is to be printed."""
     for args in sorted(TOP.glob('scenarios/*.args')):
-        line = bytes_of(args.with_suffix('.out')).decode().partition('\n')[0] + '\n'
+        line = first_line(args)
         text = bytes_of(args.with_suffix('.json'))
         if not is_left_out(line, text):
             yield args.stem, json.loads(text), line

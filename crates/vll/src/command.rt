@@ -1,6 +1,7 @@
 use crate::fault::Fault;
+use crate::options::{RunOptions, UpTo};
 use clap::error::ErrorKind;
-use clap::{ArgMatches, Command, Error};
+use clap::{Arg, ArgMatches, Command, Error, value_parser};
 use std::alloc::Global;
 
 /// What the command line asks for.
@@ -8,20 +9,27 @@ use std::alloc::Global;
 pub(crate) enum Action {
     /// To print this help text.
     Help(Error),
-    /// To run the scenario that stands on standard input.
-    Run,
+    /// To run the scenario that stands on standard input, in this way.
+    Run(RunOptions),
     /// To replay the schedule of the scenario that stands on standard input.
     Replay,
 }
 
 const EXAMPLES: &str = "Examples:
   vll run < scenario.json
+  vll run --workers 8 --cap 64 < scenario.json
   vll replay < scenario.json
 
 docs/SCENARIO.md describes the format of a scenario, and what is printed.";
 
-const RUN_EXAMPLE: &str = "Example:
+const RUN_EXAMPLES: &str = "Examples:
   vll run < scenario.json
+  vll run --workers 8 --cap 64 < scenario.json
+
+A smaller --cap can be worth it where many calls want the same few records, so that most of them wait: the
+scan for a call that may run then goes through fewer waiting ones, and fewer of them have open claims, each of
+which holds later calls back. The price is that a client whose call finds as many waiting is turned away, and
+its call is tried again later. No option changes which outcomes are lawful.
 
 docs/SCENARIO.md describes the format of a scenario, and what is printed.";
 
@@ -30,13 +38,19 @@ const REPLAY_EXAMPLE: &str = "Example:
 
 docs/SCENARIO.md describes the format of a scenario with its schedule, and what is printed.";
 
-/// Reads the command line, whose first word is the program's name. Words that are neither `run` nor `replay`
-/// nor ask for help are `Fault::CommandLine`, and so is want of memory.
+const WORKERS: &str = "Threads that make the calls, 1 to 64";
+
+const CAP: &str = "Calls that may wait at a time, 1 to 65536 [default: the scenario's cap]";
+
+const BITS: &str = "Places of the contention analysis, 1 to 1048576 [default: the scenario's bits]";
+
+/// Reads the command line, whose first word is the program's name. Words that are neither `run` with its
+/// options nor `replay` nor ask for help are `Fault::CommandLine`, and so is want of memory.
 pub(crate) fn action_of(alloc: Global, words: &[String]) -> Result<Action, Fault> {
     match matches_of(alloc, words) {
-        Ok(matches) => match matches.subcommand_name() {
-            Some("run") => Ok(Action::Run),
-            Some("replay") => Ok(Action::Replay),
+        Ok(matches) => match matches.subcommand() {
+            Some(("run", options)) => Ok(Action::Run(options_of(options)?)),
+            Some(("replay", _)) => Ok(Action::Replay),
             _ => Err(Fault::CommandLine),
         },
         Err(text) if text.kind() == ErrorKind::DisplayHelp => Ok(Action::Help(text)),
@@ -47,7 +61,10 @@ pub(crate) fn action_of(alloc: Global, words: &[String]) -> Result<Action, Fault
 fn matches_of<'a>(alloc: Global, words: &'a [String]) -> Result<ArgMatches<'a>, Error> {
     let run = Command::new(alloc, "run")
         .about("Runs the scenario on standard input and prints its outcome")
-        .after_help(RUN_EXAMPLE);
+        .after_help(RUN_EXAMPLES)
+        .arg(number::<64>(alloc, "workers", WORKERS).default_value("4"))?
+        .arg(number::<65_536>(alloc, "cap", CAP))?
+        .arg(number::<1_048_576>(alloc, "bits", BITS))?;
     let replay = Command::new(alloc, "replay")
         .about(
             "Takes the steps of the schedule of the scenario on standard input, and prints what each answers",
@@ -60,6 +77,35 @@ fn matches_of<'a>(alloc: Global, words: &'a [String]) -> Result<ArgMatches<'a>, 
         .subcommand(run)?
         .subcommand(replay)?
         .try_get_matches_from(words)
+}
+
+// The option `--NAME`, which takes a whole number from 1 to `MOST`.
+fn number<'a, const MOST: u32>(alloc: Global, name: &'a str, help: &'a str) -> Arg<'a> {
+    Arg::new(alloc, name)
+        .long(name)
+        .value_name("N")
+        .value_parser(value_parser!(u32).range(1..=i64::from(MOST)))
+        .help(help)
+}
+
+// What the options of `run` say.
+fn options_of(matches: &ArgMatches<'_>) -> Result<RunOptions, Fault> {
+    Ok(RunOptions {
+        workers: number_of(matches, "workers")?.ok_or(Fault::CommandLine)?,
+        cap: number_of(matches, "cap")?,
+        bits: number_of(matches, "bits")?,
+    })
+}
+
+// The number that an option gives, where it is there.
+fn number_of<const MOST: u32>(
+    matches: &ArgMatches<'_>,
+    name: &str,
+) -> Result<Option<UpTo<MOST>>, Fault> {
+    match matches.get_one(name) {
+        Some(number) => UpTo::new(number).map(Some).ok_or(Fault::CommandLine),
+        None => Ok(None),
+    }
 }
 
 #[cfg(test)]

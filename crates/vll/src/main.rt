@@ -4,13 +4,18 @@
 
 mod command;
 mod fault;
+mod options;
 
 use crate::command::{Action, action_of};
 use crate::fault::Fault;
+use crate::options::RunOptions;
 use std::process::ExitCode;
 use std::rt::Env;
+use std::sync::Wait;
+use std::thread::Threads;
 use std::{env, io};
-use vll_server::{Plain, read_scenario, replay, serve_plain};
+use vll_server::{Plain, Scenario, read_scenario, replay, serve};
+use vll_workers::OpenGate;
 
 fn main(rt: HostRuntime) -> ExitCode {
     match work(&rt) {
@@ -23,13 +28,15 @@ fn main(rt: HostRuntime) -> ExitCode {
     }
 }
 
-fn work(rt: &(impl Env + Input + Print + Eprint + AllocGlobal)) -> Result<(), Fault> {
+fn work<R: Env + Input + Print + Eprint + AllocGlobal + Threads + Wait + Sync>(
+    rt: &R,
+) -> Result<(), Fault> {
     let alloc = rt.alloc();
     let words = words_of(rt).map_err(|_| Fault::CommandLine)?;
     match action_of(alloc, words.as_slice())? {
         // A help text that cannot be printed has no line of its own.
         Action::Help(text) => text.print(rt).map_err(|_| Fault::CommandLine),
-        Action::Run => run(rt),
+        Action::Run(options) => run(rt, options),
         Action::Replay => replay_schedule(rt),
     }
 }
@@ -39,12 +46,36 @@ fn words_of(rt: &(impl Env + AllocGlobal)) -> io::Result<Vec<String>> {
     Ok(env::args(rt)?.collect(rt.alloc())?)
 }
 
-fn run(rt: &(impl Input + Print + AllocGlobal)) -> Result<(), Fault> {
+fn run<R: Input + Print + AllocGlobal + Threads + Wait + Sync>(
+    rt: &R,
+    options: RunOptions,
+) -> Result<(), Fault> {
     let mut reader = Plain::new(rt.reader());
-    let scenario = read_scenario(rt.alloc(), &mut reader)?;
+    let scenario = chosen(read_scenario(rt.alloc(), &mut reader)?, options);
     let mut writer = Plain::new(io::writer(rt));
-    serve_plain(rt.alloc(), scenario, &mut writer)?;
+    let workers = options.workers.get();
+    serve(
+        rt,
+        rt,
+        rt.alloc(),
+        scenario,
+        workers,
+        &OpenGate,
+        &mut writer,
+    )?;
     Ok(())
+}
+
+// The scenario with the cap and the number of bits that the options give.
+fn chosen(scenario: Scenario, options: RunOptions) -> Scenario {
+    let scenario = match options.cap {
+        Some(cap) => scenario.with_cap(cap.get()),
+        None => scenario,
+    };
+    match options.bits {
+        Some(bits) => scenario.with_bits(bits.get()),
+        None => scenario,
+    }
 }
 
 fn replay_schedule(rt: &(impl Input + Print + AllocGlobal)) -> Result<(), Fault> {

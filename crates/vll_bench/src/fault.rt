@@ -2,6 +2,9 @@ use std::alloc::{AllocError, AllocFailed};
 use std::io;
 use vll_check::{CallFault, CheckFault, NameTwice};
 use vll_core::{OpenFault, Refusal};
+use vll_queue::Lost;
+use vll_server::ScenarioFault;
+use vll_workers::RunFault;
 
 /// Why nothing could be measured.
 #[derive(Clone, Copy, Debug, PartialEq, Eq)]
@@ -14,7 +17,14 @@ pub(crate) enum Fault {
     NameTwice,
     Call(CallFault),
     Open(OpenFault),
-    Refused(Refusal),
+    Event(Refusal),
+    /// A call was blocked or refused where it is alone.
+    Refused,
+    Lost,
+    Scenario(ScenarioFault),
+    Run(RunFault),
+    /// Calls were left after a run.
+    Unfinished,
     /// A scan found a call where each is held back.
     Found,
 }
@@ -63,6 +73,18 @@ impl From<OpenFault> for Fault {
 
 impl From<Refusal> for Fault {
     fn from(refusal: Refusal) -> Fault {
-        Fault::Refused(refusal)
+        Fault::Event(refusal)
+    }
+}
+
+impl From<Lost> for Fault {
+    fn from(_: Lost) -> Fault {
+        Fault::Lost
+    }
+}
+
+impl From<ScenarioFault> for Fault {
+    fn from(fault: ScenarioFault) -> Fault {
+        Fault::Scenario(fault)
     }
 }

@@ -7,6 +7,7 @@ use std::alloc::{AllocError, Global};
 use vll_check::{Library, check};
 use vll_core::{Config, Core};
 use vll_proc::{Call, Expr, KeyAt, KeyDecl, Proc, Stmt, Text};
+use vll_queue::Opening;
 use vll_record::Mode;
 use vll_sca::Placing;
 
@@ -24,6 +25,18 @@ pub(crate) fn core(alloc: Global, records: u32, calls: u32) -> Result<Core<Placi
         bits: 4_096,
     };
     Ok(Core::open(alloc, records, library, scripts, config, Placing::Modulo)?)
+}
+
+/// An engine over so many records that hold 0, with one client, for so many bumps.
+pub(crate) fn opening(alloc: Global, records: u32, calls: u32) -> Result<Opening<Placing>, Fault> {
+    let records = vec![in alloc; 0; records as usize]?;
+    let library = library(alloc, records.len() as u32)?;
+    let config = Config {
+        cap: 65_536,
+        limit: calls,
+        bits: 4_096,
+    };
+    Ok(Opening::new(alloc, records, library, config, Placing::Modulo, 1)?)
 }
 
 // Adds 1 to the record that the argument names, and replies the sum.

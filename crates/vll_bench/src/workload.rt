@@ -86,7 +86,7 @@ fn run(core: &mut Core<Placing>, ticket: Ticket) -> Result<(), Fault> {
 fn take(core: &mut Core<Placing>, event: Event) -> Result<(), Fault> {
     match core.step(event) {
         Ok(_) => Ok(()),
-        Err(refusal) => Err(Fault::Refused(refusal)),
+        Err(refusal) => Err(Fault::Event(refusal)),
     }
 }
 
@@ -94,7 +94,7 @@ fn take(core: &mut Core<Placing>, event: Event) -> Result<(), Fault> {
 pub(crate) fn scan_in_vain(core: &mut Core<Placing>) -> Result<(), Fault> {
     match core.step(Event::Scan) {
         Err(Refusal::Idle) => Ok(()),
-        Err(refusal) => Err(Fault::Refused(refusal)),
+        Err(refusal) => Err(Fault::Event(refusal)),
         Ok(_) => Err(Fault::Found),
     }
 }

@@ -1,3 +1,5 @@
+ghost use Rattle.std.specs.Prelude.{◌≡◌};
+
 use std::marker::Model;
 
 /// A client's way into the engine: the calls that begin with it are this client's. There is one for each client.
@@ -12,4 +14,13 @@ impl Model for Session {
     ghost Value = { SessionShown };
 
     ghost view = { λ s. record { client = s.client } };
+}
+
+impl Session {
+    /// Whose session it is.
+    pub fn client(&self) -> u32
+        ensures { result ≡ self.now.client }
+    {
+        self.client
+    }
 }

@@ -10,8 +10,8 @@ pub mod Limits
 pub mod Checking
 pub mod Sizes
 pub mod Answering
-pub mod Stored
 pub mod Served
-pub mod Merges
+pub mod Orders
+pub mod Handed
 pub mod Rows
 pub mod ReplayRows

@@ -1,6 +1,9 @@
 -- The limits of a scenario, one by one.
-use Rattle.std.proofs.Common.{◌≡◌, ℕ, ◌≤◌, Bool, true, false, ◌&&◌, nat_le, List, length, refl}
+use Rattle.std.proofs.Common.{◌≡◌, ℕ, ◌≤◌, Bool, true, false, ◌&&◌, nat_le, List, [], ◌∷◌, length, refl, arith}
 use Rattle.std.specs.Prelude.{sum_by}
+use Rattle.std.specs.List.{All}
+use Rattle.std.proofs.lemmas.List.Elements.{All-cons, All-nil}
+use Rattle.std.proofs.lemmas.List.Sums.{sum_by-cons}
 use Rattle.std.proofs.lemmas.Bool.{leb-true, false≢true}
 use Rattle.vll_core.specs.declared.config.Config.{Config}
 use Rattle.vll_core.specs.declared.event.Event.{Event}
@@ -63,3 +66,10 @@ allowed_says config e =
       cap = up_to_says 65536 config.cap two.1;
       bits = up_to_says 1048576 config.bits all.1;
     }
+
+-- ---- scripts
+
+-- a list is no longer than all lists together
+pub each_short : {C : Type 0} (most : ℕ) (lists : List (List C)) → sum_by length lists ≤ most → All (λ (list : List C). length list ≤ most) lists
+each_short {C} most [] few = All-nil (λ (list : List C). length list ≤ most)
+each_short {C} most (list ∷ lists) few = All-cons (λ (l : List C). length l ≤ most) list lists (omega (arith, sum_by-cons length list lists)) (each_short most lists (omega (arith, sum_by-cons length list lists)))

@@ -7,7 +7,6 @@ use Rattle.vll_proc.specs.declared.syntax.Expr.TheBlock.{hidden-the_row-Expr-0}
 use Rattle.vll_proc.specs.declared.syntax.Proc.{Proc}
 use Rattle.vll_proc.specs.Made.{call_of}
 use Rattle.vll_proc.proofs.Rows.{transfer_keys, transfer_body, bump_keys, bump_body, sum2_keys, sum2_body}
-use Rattle.vll_server.specs.Merge.{in_client_order}
 use Rattle.vll_server.specs.Text.{Text, serial_text}
 
 abbrev transfer : Proc
@@ -26,24 +25,24 @@ line : Text → Text
 line words = words ++ 10 ∷ []
 
 -- a transfer, and then a read of both records
-transfers : serial_text procs (100 ∷ 50 ∷ []) (in_client_order 0 ((call_of 0 transfer (0 ∷ 1 ∷ 30 ∷ []) ∷ call_of 2 sum2 (0 ∷ 1 ∷ []) ∷ []) ∷ []))
+transfers : serial_text procs (100 ∷ 50 ∷ []) ((0, call_of 0 transfer (0 ∷ 1 ∷ 30 ∷ [])) ∷ (0, call_of 2 sum2 (0 ∷ 1 ∷ [])) ∷ [])
     ≡ line (codes "call 0 client 0 committed 70") ++ line (codes "call 1 client 0 committed 150") ++ line (codes "record 0 value 70 pair 0") ++ line (codes "record 1 value 80 pair 0")
 unfolding line digits hidden hidden-the_row-Expr-0
 transfers = refl
 
 -- no client
-no_clients : serial_text [] (7 ∷ []) (in_client_order 0 []) ≡ line (codes "record 0 value 7 pair 0")
+no_clients : serial_text [] (7 ∷ []) [] ≡ line (codes "record 0 value 7 pair 0")
 unfolding line digits
 no_clients = refl
 
 -- an aborted call leaves its record
-overflows : serial_text procs (18446744073709551615 ∷ []) (in_client_order 0 ((call_of 1 bump (0 ∷ []) ∷ []) ∷ []))
+overflows : serial_text procs (18446744073709551615 ∷ []) ((0, call_of 1 bump (0 ∷ [])) ∷ [])
     ≡ line (codes "call 0 client 0 aborted overflow") ++ line (codes "record 0 value 18446744073709551615 pair 0")
 unfolding line digits hidden hidden-the_row-Expr-0
 overflows = refl
 
--- client 0's calls are first
-in_order : serial_text procs (1 ∷ []) (in_client_order 0 ([] ∷ (call_of 1 bump (0 ∷ []) ∷ []) ∷ (call_of 2 sum2 (0 ∷ 0 ∷ []) ∷ []) ∷ []))
+-- calls of two clients, in the order in which they entered
+in_order : serial_text procs (1 ∷ []) ((1, call_of 1 bump (0 ∷ [])) ∷ (2, call_of 2 sum2 (0 ∷ 0 ∷ [])) ∷ [])
     ≡ line (codes "call 0 client 1 committed 2") ++ line (codes "call 1 client 2 committed 4") ++ line (codes "record 0 value 2 pair 0")
 unfolding line digits hidden hidden-the_row-Expr-0
 in_order = refl

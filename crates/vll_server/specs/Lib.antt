@@ -13,5 +13,6 @@ pub mod Text
 pub mod ReplayText
 pub mod Replay
 pub mod Serve
+pub mod Order
 pub mod Streams
 pub mod Plain

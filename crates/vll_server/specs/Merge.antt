@@ -1,5 +1,5 @@
 -- The entered calls are the scripts' calls, each client's in its own order.
-use Rattle.std.specs.Prelude.{◌≡◌, ℕ, suc, ◌==◌, List, [], ◌∷◌, ◌++◌, map, filter, slice_get, unwrap_or}
+use Rattle.std.specs.Prelude.{◌≡◌, ℕ, ◌==◌, List, [], map, filter, slice_get, unwrap_or}
 use Rattle.vll_proc.specs.declared.call.Call.{Call}
 use Rattle.vll_proc.specs.Serial.{Made}
 
@@ -10,8 +10,3 @@ calls_by c calls = map (λ (m : Made). m.1) (filter (λ (m : Made). m.0 == c) ca
 -- each client's calls are its script, and no other client occurs
 abbrev pub IsMerge : List Made → List (List Call) → Type 0
 IsMerge calls scripts = (c : ℕ) → calls_by c calls ≡ unwrap_or (slice_get scripts c) []
-
--- client c's script, then the next client's, and so on
-abbrev pub in_client_order : ℕ → List (List Call) → List Made
-in_client_order c [] = []
-in_client_order c (script ∷ scripts) = map (λ (call : Call). (c, call)) script ++ in_client_order (suc c) scripts

@@ -1,25 +1,26 @@
--- What running calls one at a time leaves: the records after each, and what the journal says of it.
-use Rattle.std.specs.Prelude.{◌≡◌, ◌≢◌, ℕ, List, [], ◌∷◌, length, map, Some, slice_index}
-use Rattle.vll_record.specs.declared.claim.Claim.{Claim}
-use Rattle.vll_record.specs.declared.claim.Mode.TheVariants.{Write}
-use Rattle.vll_record.specs.Claim.{mode_on}
+-- What serving a scenario comes to: the scripts' calls in the order in which they entered, and the text that they give.
+use Rattle.std.specs.Prelude.{ℕ, suc, max, List, [], ◌∷◌, length, map, sum_by}
 use Rattle.vll_proc.specs.declared.call.Call.{Call}
-use Rattle.vll_proc.specs.declared.syntax.Proc.{Proc}
-use Rattle.vll_proc.specs.Cells.{Holds}
-use Rattle.vll_proc.specs.Serial.{Made, apply}
-use Rattle.vll_server.specs.Text.{Text, reply_text}
+use Rattle.vll_proc.specs.Serial.{Made}
+use Rattle.vll_core.specs.declared.config.Config.{Config}
+use Rattle.vll_workers.specs.Shown.{TokenShown, token}
+use Rattle.vll_server.specs.Merge.{IsMerge}
+use Rattle.vll_server.specs.Setup.{Setup}
+use Rattle.vll_server.specs.Text.{Text, serial_text}
 
--- the records once the cells are stored: the claimed ones have their cells' values, and those that no claim writes are as before
-pub record AreStored (cells : List ℕ) (claims : List Claim) (old new : List ℕ) : Type 0 where
-  pub count : length new ≡ length old
-  pub held : Holds cells claims new
-  pub others : (r : ℕ) → mode_on claims r ≢ Some Write → slice_index new r ≡ slice_index old r
+-- the scripts' calls entered in some order that keeps each script's own, and this holds of the text of running them so, one at a time
+abbrev pub Serves : Setup → (Text → Type 0) → Type 0
+Serves s Holds = (calls : List Made) × IsMerge calls s.scripts × Holds (serial_text s.procs s.records calls)
 
--- one client's script, as calls of that client
-abbrev pub made_by : ℕ → List Call → List Made
-made_by client script = map (λ (call : Call). (client, call)) script
+-- what is chosen for the engine that serves a scenario: as many calls as the scripts have, at least 1
+abbrev pub config_for : Setup → Config
+config_for s = record { cap = s.config.cap; limit = max 1 (sum_by length s.scripts); bits = s.config.bits }
 
--- each call's client and its reply in words, where the calls run one at a time from these records on
-abbrev pub words_of : List Proc → List Made → List ℕ → List (ℕ × Text)
-words_of procs [] records = []
-words_of procs (made ∷ more) records = (made.0, reply_text (apply procs made.1 records).reply) ∷ words_of procs more (apply procs made.1 records).records
+-- a token for each client from one on, of which no call has entered
+abbrev pub tokens_from : ℕ → List (List Call) → List TokenShown
+tokens_from client [] = []
+tokens_from client (script ∷ scripts) = token client script 0 ∷ tokens_from (suc client) scripts
+
+-- the tokens' scripts, in order
+abbrev pub scripts_of : List TokenShown → List (List Call)
+scripts_of tokens = map (λ (t : TokenShown). t.script) tokens

@@ -2,6 +2,7 @@ use crate::bytes::ReadFault;
 use std::alloc::{AllocError, AllocFailed};
 use thiserror::Error;
 use vll_check::{CallFault, CheckFault, NameTwice};
+use vll_workers::RunFault;
 
 /// A part of a scenario. The parts' shapes are tested in this order.
 #[derive(Clone, Copy, PartialEq, Eq, Debug, Error)]
@@ -135,14 +136,36 @@ pub enum WriteFault {
     Write,
 }
 
-/// Why a run did not end well.
+/// Why a scenario was not served. After `Write` a beginning of the outcome has been written, and after any other
+/// fault nothing.
 #[derive(Clone, Copy, PartialEq, Eq, Debug, Error)]
 pub enum ServeFault {
+    /// The workers' run did not end well; this is what it answered.
+    #[error("{0}")]
+    Run(RunFault),
+    /// After the run calls were left in the engine, so many running and so many waiting.
+    #[error("unfinished {running} {waiting}")]
+    Unfinished { running: u32, waiting: u32 },
+    /// Memory was refused outside the workers' run.
     #[error("no memory")]
     NoMemory,
     /// The outcome was not written whole.
     #[error("write")]
     Write,
+    /// The calls that entered are not the scripts' calls, each script's in its order.
+    #[error("order")]
+    Order,
+}
+
+impl From<AllocError> for ServeFault {
+    ghost use Rattle.std.specs.Prelude.{◌≡◌};
+    ghost use Rattle.vll_server.specs.declared.fault.ServeFault.TheVariants as fault;
+
+    ghost from_gives = { λ _ e. e ≡ fault.NoMemory };
+
+    fn from(_: AllocError) -> ServeFault {
+        ServeFault::NoMemory
+    }
 }
 
 /// Why a replay was not written whole.

@@ -1,15 +1,13 @@
 //! Scenarios in, texts out: reading and checking a scenario, running its scripts or replaying its schedule, and writing what came of it.
 #![tactic(auto)]
 
-mod apply;
 mod asked;
 mod bytes;
 mod event_text;
 mod fault;
-mod laws;
-mod line;
 mod members;
 mod options;
+mod order;
 mod outcome;
 mod plain;
 mod read;
@@ -17,23 +15,24 @@ mod replay_text;
 mod replaying;
 mod scenario;
 mod schedule;
-mod serve;
+mod serving;
 mod setup;
 mod shape;
 mod stream;
 mod syntax;
 mod text;
+mod tokens;
 mod tree;
 
 pub use fault::{Part, ReplayFault, ScenarioFault, ServeFault, Spot, WriteFault};
-pub use laws::client_order_is_a_merge;
-pub use line::Closed;
 pub use outcome::write_outcome;
 pub use plain::Plain;
 pub use read::read_scenario;
 pub use replaying::replay;
 pub use scenario::Scenario;
-pub use serve::serve_plain;
+pub use serving::{opening_of, serve};
 pub use stream::{Sink, Source};
+pub use tokens::tokens_of;
 pub use vll_check::{CallFault, CheckFault};
 pub use vll_core::Line;
+pub use vll_queue::Closed;

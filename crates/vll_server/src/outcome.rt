@@ -4,10 +4,10 @@ ghost use Rattle.vll_server.specs.Streams.{AppendsBeginning};
 ghost use Rattle.vll_server.specs.Text.{closed_text};
 
 use crate::fault::WriteFault;
-use crate::line::Closed;
 use crate::stream::Sink;
 use crate::text::closed_text_of;
 use std::alloc::Global;
+use vll_queue::Closed;
 
 /// Writes the text of what a run leaves: a line for each call, and then one for each record. The text is
 /// made whole before its first byte is written, and flushed once at its end.

@@ -1,3 +1,5 @@
+ghost use Rattle.std.specs.Prelude.{◌≡◌, ◌≤◌};
+
 use sqlite_items::Items;
 use std::marker::Model;
 use vll_check::Library;
@@ -8,7 +10,7 @@ use vll_sca::Placing;
 /// A scenario: the records' first values, the procedures, each client's script of calls, what is chosen for
 /// the machine, and the events that a replay takes.
 ///
-/// Only `read_scenario` makes one. It keeps the limits of a scenario's sizes, each of its procedures is
+/// Only `read_scenario` makes one, and `with_cap` and `with_bits` one of another. It keeps the limits of a scenario's sizes, each of its procedures is
 /// well-formed for its records, and each of its calls was made for one of its procedures, on records
 /// that are there. Contracts see its procedures in the place of the library, and each of its lists as a list.
 #[derive(Drop)]
@@ -36,4 +38,28 @@ impl Model for Scenario {
     ghost view = { setup_in };
 
     ghost invariant = { IsScenario };
+}
+
+impl Scenario {
+    /// The scenario with this cap, which is how many calls may wait at a time, 1 to 65,536, in place of its own.
+    /// All else stays as it was.
+    pub fn with_cap(mut self, cap: u32) -> Scenario
+        requires least { 1 ≤ cap }
+        requires most { cap ≤ 65536 }
+        ensures { result ≡ record self { config = record self.config { cap = cap } } }
+    {
+        self.config.cap = cap;
+        self
+    }
+
+    /// The scenario with this many places for the contention analysis, 1 to 1,048,576, in place of its own.
+    /// All else stays as it was.
+    pub fn with_bits(mut self, bits: u32) -> Scenario
+        requires least { 1 ≤ bits }
+        requires most { bits ≤ 1048576 }
+        ensures { result ≡ record self { config = record self.config { bits = bits } } }
+    {
+        self.config.bits = bits;
+        self
+    }
 }

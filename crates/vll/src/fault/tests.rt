@@ -2,6 +2,7 @@ use super::Fault;
 use std::alloc::{AllocError, Global};
 use std::test::Fail;
 use vll_server::{CallFault, CheckFault, Part, ReplayFault, ScenarioFault, ServeFault, Spot};
+use vll_workers::RunFault;
 
 // Whether the fault prints this line and ends with this status.
 fn tells(alloc: Global, fault: Fault, line: &str, status: u8) -> Result<bool, AllocError> {
@@ -52,9 +53,19 @@ fn refused_command_line_ends_with_2(rt: HostRuntime) -> Result<(), Fail> {
 
 #[test]
 fn failed_run_ends_with_1(rt: HostRuntime) -> Result<(), Fail> {
+    let unfinished = ServeFault::Unfinished {
+        running: 1,
+        waiting: 23,
+    };
     for (fault, line) in [
+        (ServeFault::Run(RunFault::NoMemory), "vll: run: no memory"),
+        (ServeFault::Run(RunFault::Spawn), "vll: run: spawn"),
+        (ServeFault::Run(RunFault::Spent), "vll: run: spent"),
+        (ServeFault::Run(RunFault::Lost), "vll: run: lost"),
+        (unfinished, "vll: run: unfinished 1 23"),
         (ServeFault::NoMemory, "vll: run: no memory"),
         (ServeFault::Write, "vll: run: write"),
+        (ServeFault::Order, "vll: run: order"),
     ] {
         assert!(rt; tells(rt.alloc(), Fault::Run(fault), line, 1)?, "{line}");
     }

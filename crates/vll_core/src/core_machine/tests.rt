@@ -1,3 +1,4 @@
+mod acts;
 mod blocking;
 mod opening;
 mod procedures;

@@ -1,6 +1,9 @@
+use self::Act::{Busy, Counts, Line, Lines, Spent, Standing, Steps};
+use self::Step::{Blocked, Finish, Free, Front, Scan};
 use super::Queue;
 use crate::config::{Config, OpenFault};
 use crate::ticket::Ticket;
+use std::process::Abort;
 use std::test::Fail;
 use vll_proc::{Call, Reason, Reply};
 use vll_record::{Claim, Claims, Mode, RecordId};
@@ -52,6 +55,82 @@ fn finish(queue: &mut Queue<Placing>, ticket: Ticket, code: u16) -> bool {
     }
 }
 
+// What is done to a queue. A step answers a ticket or none.
+#[derive(Clone, Copy, Debug)]
+enum Step {
+    // A call of a client enters, which has this number and writes one record.
+    Free(u32, u32, u32),
+    Blocked(u32, u32, u32),
+    // A running call ends, and its reply is an abort of this code.
+    Finish(u32, u16),
+    Front,
+    Scan,
+}
+
+// What is done to a queue, and what has to come of it.
+#[derive(Clone, Copy)]
+enum Act<'a> {
+    // Each of these steps in turn answers this ticket.
+    Steps(&'a [(Step, Option<u32>)]),
+    // As many calls run, and as many wait.
+    Counts(u32, u32),
+    Spent(bool),
+    Busy(bool),
+    // Where a ticket's call stands.
+    Standing(u32, Option<Status>),
+    // The client of a ticket's line, the number of its call, and the code of its reply.
+    Line(u32, Option<(u32, u32, Option<u16>)>),
+    // The journal has as many lines.
+    Lines(usize),
+}
+
+fn answer(queue: &mut Queue<Placing>, step: Step) -> Option<u32> {
+    let ticket = match step {
+        Free(client, number, record) => enter(queue, client, writes(number, record), true),
+        Blocked(client, number, record) => enter(queue, client, writes(number, record), false),
+        Finish(ticket, code) => finish(queue, Ticket(ticket), code).then_some(Ticket(ticket)),
+        Front => queue.front(),
+        Scan => queue.scan(),
+    };
+    Some(ticket?.0)
+}
+
+fn play(rt: &impl Abort, queue: &mut Queue<Placing>, steps: &[(Step, Option<u32>)]) {
+    for (step, ticket) in steps {
+        assert_eq!(rt; answer(queue, *step), *ticket, "{step:?}");
+    }
+}
+
+fn line(queue: &Queue<Placing>, ticket: u32) -> Option<(u32, u32, Option<u16>)> {
+    let line = queue.line(Ticket(ticket))?;
+    Some((line.client, line.call.number, code(line.reply)))
+}
+
+fn counts(queue: &Queue<Placing>) -> (u32, u32) {
+    (queue.running(), queue.waiting())
+}
+
+fn perform(rt: &impl Abort, queue: &mut Queue<Placing>, act: Act) {
+    match act {
+        Steps(steps) => play(rt, queue, steps),
+        Counts(running, waiting) => assert_eq!(rt; counts(queue), (running, waiting)),
+        Spent(spent) => assert_eq!(rt; queue.is_spent(), spent),
+        Busy(busy) => assert_eq!(rt; queue.is_busy(), busy),
+        Standing(ticket, status) => assert_eq!(rt; queue.status(Ticket(ticket)), status),
+        Line(ticket, kept) => assert_eq!(rt; line(queue, ticket), kept),
+        Lines(count) => assert_eq!(rt; queue.journal().len(), count),
+    }
+}
+
+// Goes through these acts in turn, with a queue that has nothing entered. Answers how many lines the journal has.
+fn run(rt: &(impl AllocGlobal + Abort), config: Config, acts: &[Act]) -> Result<usize, OpenFault> {
+    let mut queue = Queue::open(rt.alloc(), config, Placing::Modulo)?;
+    for act in acts {
+        perform(rt, &mut queue, *act);
+    }
+    Ok(queue.into_journal().len())
+}
+
 #[test]
 fn lowest_fault_of_a_configuration_is_answered(rt: HostRuntime) {
     for (chosen, fault) in [
@@ -74,119 +153,164 @@ fn lowest_fault_of_a_configuration_is_answered(rt: HostRuntime) {
 
 #[test]
 fn nothing_is_entered_at_first(rt: HostRuntime) -> Result<(), Fail> {
-    let mut queue = Queue::open(rt.alloc(), config(1, 1, 1), Placing::Modulo)?;
-    assert!(rt; !queue.is_spent());
-    assert!(rt; !queue.is_busy());
-    assert_eq!(rt; queue.front(), None);
-    assert_eq!(rt; queue.scan(), None);
-    assert_eq!(rt; (queue.running(), queue.waiting()), (0, 0));
-    assert_eq!(rt; queue.status(Ticket(0)), None);
-    assert!(rt; queue.line(Ticket(0)).is_none());
-    assert_eq!(rt; queue.journal().len(), 0);
+    run(
+        &rt,
+        config(1, 1, 1),
+        &[
+            Spent(false),
+            Busy(false),
+            Steps(&[(Front, None), (Scan, None)]),
+            Counts(0, 0),
+            Standing(0, None),
+            Line(0, None),
+            Lines(0),
+        ],
+    )?;
     Ok(())
 }
 
 #[test]
 fn calls_enter_in_order_up_to_the_limit(rt: HostRuntime) -> Result<(), Fail> {
-    let mut queue = Queue::open(rt.alloc(), config(2, 2, 1), Placing::Modulo)?;
-    assert_eq!(rt; enter(&mut queue, 3, writes(7, 0), true), Some(Ticket(0)));
-    assert!(rt; !queue.is_spent());
-    assert_eq!(rt; enter(&mut queue, 1, writes(8, 0), false), Some(Ticket(1)));
-    assert!(rt; queue.is_spent());
-    assert_eq!(rt; queue.status(Ticket(0)), Some(Status::Running));
-    assert_eq!(rt; queue.status(Ticket(1)), Some(Status::Waiting));
-    assert_eq!(rt; queue.status(Ticket(2)), None);
-    assert_eq!(rt; (queue.running(), queue.waiting()), (1, 1));
-    for (line, entered) in queue.journal().iter().zip([(3, 7), (1, 8)]) {
-        assert_eq!(rt; (line.client, line.call.number), entered);
-    }
-    assert_eq!(rt; queue.into_journal().len(), 2);
+    let lines = run(
+        &rt,
+        config(2, 2, 1),
+        &[
+            Steps(&[(Free(3, 7, 0), Some(0))]),
+            Spent(false),
+            Steps(&[(Blocked(1, 8, 0), Some(1))]),
+            Spent(true),
+            Standing(0, Some(Status::Running)),
+            Standing(1, Some(Status::Waiting)),
+            Standing(2, None),
+            Counts(1, 1),
+            Line(0, Some((3, 7, None))),
+            Line(1, Some((1, 8, None))),
+        ],
+    )?;
+    assert_eq!(rt; lines, 2);
     Ok(())
 }
 
 #[test]
 fn queue_is_busy_while_as_many_calls_as_the_cap_wait(rt: HostRuntime) -> Result<(), Fail> {
-    let mut queue = Queue::open(rt.alloc(), config(2, 5, 1), Placing::Modulo)?;
-    for (free, busy) in [(true, false), (false, false), (true, false), (false, true)] {
-        assert!(rt; enter(&mut queue, 0, writes(0, 0), free).is_some());
-        assert_eq!(rt; queue.is_busy(), busy);
-    }
-    assert!(rt; !queue.is_spent());
-    assert!(rt; finish(&mut queue, Ticket(0), 0));
-    assert!(rt; queue.is_busy());
-    assert_eq!(rt; queue.front(), Some(Ticket(1)));
-    assert!(rt; !queue.is_busy());
-    assert_eq!(rt; enter(&mut queue, 0, writes(0, 0), false), Some(Ticket(4)));
-    assert!(rt; queue.is_busy());
+    run(
+        &rt,
+        config(2, 5, 1),
+        &[
+            Steps(&[(Free(0, 0, 0), Some(0))]),
+            Busy(false),
+            Steps(&[(Blocked(0, 0, 0), Some(1))]),
+            Busy(false),
+            Steps(&[(Free(0, 0, 0), Some(2))]),
+            Busy(false),
+            Steps(&[(Blocked(0, 0, 0), Some(3))]),
+            Busy(true),
+            Spent(false),
+            Steps(&[(Finish(0, 0), Some(0))]),
+            Busy(true),
+            Steps(&[(Front, Some(1))]),
+            Busy(false),
+            Steps(&[(Blocked(0, 0, 0), Some(4))]),
+            Busy(true),
+        ],
+    )?;
     Ok(())
 }
 
 #[test]
 fn front_waits_for_all_before_it(rt: HostRuntime) -> Result<(), Fail> {
-    let mut queue = Queue::open(rt.alloc(), config(4, 4, 1), Placing::Modulo)?;
-    for free in [true, true, false, false] {
-        assert!(rt; enter(&mut queue, 0, writes(0, 0), free).is_some());
-    }
-    assert_eq!(rt; queue.front(), None);
-    assert!(rt; finish(&mut queue, Ticket(1), 1));
-    assert_eq!(rt; queue.front(), None);
-    assert!(rt; finish(&mut queue, Ticket(0), 0));
-    assert_eq!(rt; queue.front(), Some(Ticket(2)));
-    assert_eq!(rt; queue.front(), None);
-    assert_eq!(rt; (queue.running(), queue.waiting()), (1, 1));
-    assert!(rt; finish(&mut queue, Ticket(2), 2));
-    assert_eq!(rt; queue.front(), Some(Ticket(3)));
-    assert!(rt; finish(&mut queue, Ticket(3), 3));
-    assert_eq!(rt; queue.front(), None);
-    assert_eq!(rt; (queue.running(), queue.waiting()), (0, 0));
+    run(
+        &rt,
+        config(4, 4, 1),
+        &[
+            Steps(&[
+                (Free(0, 0, 0), Some(0)),
+                (Free(0, 0, 0), Some(1)),
+                (Blocked(0, 0, 0), Some(2)),
+                (Blocked(0, 0, 0), Some(3)),
+                (Front, None),
+                (Finish(1, 1), Some(1)),
+                (Front, None),
+                (Finish(0, 0), Some(0)),
+                (Front, Some(2)),
+                (Front, None),
+            ]),
+            Counts(1, 1),
+            Steps(&[
+                (Finish(2, 2), Some(2)),
+                (Front, Some(3)),
+                (Finish(3, 3), Some(3)),
+                (Front, None),
+            ]),
+            Counts(0, 0),
+        ],
+    )?;
     Ok(())
 }
 
 // Of 4 bits, records 0 and 4 share one.
 #[test]
 fn scan_finds_the_first_call_that_no_earlier_one_hinders(rt: HostRuntime) -> Result<(), Fail> {
-    let mut queue = Queue::open(rt.alloc(), config(5, 5, 4), Placing::Modulo)?;
-    for (record, free) in [(0, true), (0, false), (4, false), (1, false), (2, false)] {
-        assert!(rt; enter(&mut queue, 0, writes(0, record), free).is_some());
-    }
-    assert_eq!(rt; queue.scan(), Some(Ticket(3)));
-    assert_eq!(rt; queue.status(Ticket(3)), Some(Status::Running));
-    assert_eq!(rt; (queue.running(), queue.waiting()), (2, 3));
-    assert_eq!(rt; queue.scan(), Some(Ticket(4)));
-    assert_eq!(rt; queue.scan(), None);
-    assert_eq!(rt; (queue.running(), queue.waiting()), (3, 2));
+    run(
+        &rt,
+        config(5, 5, 4),
+        &[
+            Steps(&[
+                (Free(0, 0, 0), Some(0)),
+                (Blocked(0, 0, 0), Some(1)),
+                (Blocked(0, 0, 4), Some(2)),
+                (Blocked(0, 0, 1), Some(3)),
+                (Blocked(0, 0, 2), Some(4)),
+                (Scan, Some(3)),
+            ]),
+            Standing(3, Some(Status::Running)),
+            Counts(2, 3),
+            Steps(&[(Scan, Some(4)), (Scan, None)]),
+            Counts(3, 2),
+        ],
+    )?;
     Ok(())
 }
 
 #[test]
 fn scan_passes_calls_that_are_gone(rt: HostRuntime) -> Result<(), Fail> {
-    let mut queue = Queue::open(rt.alloc(), config(5, 5, 4), Placing::Modulo)?;
-    for (record, free) in [(0, true), (1, true), (2, true), (2, false), (0, false)] {
-        assert!(rt; enter(&mut queue, 0, writes(0, record), free).is_some());
-    }
-    assert_eq!(rt; queue.scan(), None);
-    assert!(rt; finish(&mut queue, Ticket(2), 0));
-    assert_eq!(rt; queue.scan(), Some(Ticket(3)));
-    assert_eq!(rt; queue.scan(), None);
-    assert!(rt; finish(&mut queue, Ticket(0), 0));
-    assert_eq!(rt; queue.scan(), Some(Ticket(4)));
-    assert_eq!(rt; queue.scan(), None);
+    run(
+        &rt,
+        config(5, 5, 4),
+        &[Steps(&[
+            (Free(0, 0, 0), Some(0)),
+            (Free(0, 0, 1), Some(1)),
+            (Free(0, 0, 2), Some(2)),
+            (Blocked(0, 0, 2), Some(3)),
+            (Blocked(0, 0, 0), Some(4)),
+            (Scan, None),
+            (Finish(2, 0), Some(2)),
+            (Scan, Some(3)),
+            (Scan, None),
+            (Finish(0, 0), Some(0)),
+            (Scan, Some(4)),
+            (Scan, None),
+        ])],
+    )?;
     Ok(())
 }
 
 #[test]
 fn gone_call_keeps_its_line_with_the_reply(rt: HostRuntime) -> Result<(), Fail> {
-    let mut queue = Queue::open(rt.alloc(), config(1, 2, 1), Placing::Modulo)?;
-    for (client, number) in [(3, 7), (1, 8)] {
-        assert!(rt; enter(&mut queue, client, writes(number, 0), true).is_some());
-    }
-    assert!(rt; finish(&mut queue, Ticket(0), 5));
-    assert!(rt; !finish(&mut queue, Ticket(0), 6));
-    assert_eq!(rt; queue.status(Ticket(0)), Some(Status::Gone));
-    for (ticket, entered, reply) in [(0, (3, 7), Some(5)), (1, (1, 8), None)] {
-        let line = queue.line(Ticket(ticket)).expect(&rt, "a line");
-        assert_eq!(rt; (line.client, line.call.number), entered);
-        assert_eq!(rt; code(line.reply), reply);
-    }
+    run(
+        &rt,
+        config(1, 2, 1),
+        &[
+            Steps(&[
+                (Free(3, 7, 0), Some(0)),
+                (Free(1, 8, 0), Some(1)),
+                (Finish(0, 5), Some(0)),
+                (Finish(0, 6), None),
+            ]),
+            Standing(0, Some(Status::Gone)),
+            Line(0, Some((3, 7, Some(5)))),
+            Line(1, Some((1, 8, None))),
+        ],
+    )?;
     Ok(())
 }

@@ -3,9 +3,14 @@ ghost use Rattle.vll_proc.specs.Made.{IsCallOf};
 ghost use Rattle.vll_proc.specs.WellFormed.{IsWellFormed};
 ghost use Rattle.vll_check.specs.Calls.{Fits};
 
+use self::Act::{
+    Code, HasAborted, HasLoaded, HasReply, HasStored, Load, NextLoad, NextRelease, NextStore,
+    Output, Release, Store,
+};
 use super::Work;
 use sqlite_items::{Boxed, Items};
 use std::alloc::{AllocError, Global};
+use std::process::Abort;
 use std::test::Fail;
 use vll_check::{CallFault, Checked, Library, check};
 use vll_proc::{Call, Expr, KeyAt, KeyDecl, Proc, Reason, Reply, Stmt, Text};
@@ -18,35 +23,64 @@ fn key(mode: Mode, argument: u8) -> KeyDecl {
     }
 }
 
+fn boxed(alloc: Global, expression: Expr) -> Result<Boxed<Expr>, AllocError> {
+    Boxed::new(alloc, expression)
+}
+
+fn push(body: &mut Items<Stmt>, statement: Stmt) -> Result<(), AllocError> {
+    body.push(statement)
+}
+
+// Aborts with code 7 where the first record is 0.
+fn refuse(alloc: Global) -> Result<Stmt, AllocError> {
+    let nothing = boxed(alloc, Expr::Key(0))?;
+    let mut abort = Items::new(alloc);
+    push(&mut abort, Stmt::Abort(7))?;
+    Ok(Stmt::If(Expr::Not(nothing), abort, Items::new(alloc)))
+}
+
+// The sum of the two records.
+fn sum(alloc: Global) -> Result<Expr, AllocError> {
+    let first = boxed(alloc, Expr::Key(0))?;
+    let second = boxed(alloc, Expr::Key(1))?;
+    Ok(Expr::Add(first, second))
+}
+
+fn named(
+    alloc: Global,
+    name: &str,
+    args: u8,
+    keys: &[KeyDecl],
+    body: Items<Stmt>,
+) -> Result<Proc, AllocError> {
+    Ok(Proc {
+        name: Text::new(String::from_str(alloc, name)?),
+        args,
+        keys: Items::from_slice(alloc, keys)?,
+        body,
+    })
+}
+
 // Adds the first record to the second, and replies the sum; aborts with code 7 where the first is 0.
 fn collect(alloc: Global) -> Result<Proc, AllocError> {
-    let nothing = Expr::Not(Boxed::new(alloc, Expr::Key(0))?);
-    let refuse = Items::from_vec(vec![in alloc; Stmt::Abort(7)]?);
-    let sum = Expr::Add(
-        Boxed::new(alloc, Expr::Key(0))?,
-        Boxed::new(alloc, Expr::Key(1))?,
-    );
-    let body = vec![in alloc;
-        Stmt::If(nothing, refuse, Items::new(alloc)),
-        Stmt::Set(1, sum),
-        Stmt::Reply(Expr::Key(1)),
-    ]?;
-    Ok(Proc {
-        name: Text::new(String::from_str(alloc, "collect")?),
-        args: 2,
-        keys: Items::from_slice(alloc, &[key(Mode::Read, 0), key(Mode::Write, 1)])?,
-        body: Items::from_vec(body),
-    })
+    let mut body = Items::new(alloc);
+    push(&mut body, refuse(alloc)?)?;
+    push(&mut body, Stmt::Set(1, sum(alloc)?))?;
+    push(&mut body, Stmt::Reply(Expr::Key(1)))?;
+    named(
+        alloc,
+        "collect",
+        2,
+        &[key(Mode::Read, 0), key(Mode::Write, 1)],
+        body,
+    )
 }
 
 // Replies 7.
 fn seven(alloc: Global) -> Result<Proc, AllocError> {
-    Ok(Proc {
-        name: Text::new(String::from_str(alloc, "seven")?),
-        args: 0,
-        keys: Items::new(alloc),
-        body: Items::from_vec(vec![in alloc; Stmt::Reply(Expr::Num(7))]?),
-    })
+    let mut body = Items::new(alloc);
+    push(&mut body, Stmt::Reply(Expr::Num(7)))?;
+    named(alloc, "seven", 0, &[], body)
 }
 
 fn checked(procedure: Proc) -> Result<Checked, Fail>
@@ -56,7 +90,9 @@ fn checked(procedure: Proc) -> Result<Checked, Fail>
 }
 
 fn library(alloc: Global) -> Result<Library, Fail> {
-    let procs = vec![in alloc; checked(collect(alloc)?)?, checked(seven(alloc)?)?]?;
+    let mut procs = Vec::new(alloc);
+    procs.push(checked(collect(alloc)?)?)?;
+    procs.push(checked(seven(alloc)?)?)?;
     Ok(Library::new(2, procs)?)
 }
 
@@ -72,15 +108,32 @@ fn procedure_of<'a>(library: &'a Library, call: &Call) -> Result<&'a Proc, CallF
     }
 }
 
+fn begun(call: &Call, procedure: &Proc) -> Work
+    requires formed { IsWellFormed procedure.now }
+    requires made { IsCallOf procedure.now call.now }
+{
+    Work::new(call, procedure)
+}
+
 // Makes the next load where one is left.
 fn load(work: &mut Work, call: &Call, procedure: &Proc, value: u64)
     requires formed { IsWellFormed procedure.now }
     requires made { IsCallOf procedure.now call.now }
-    ensures stores { work.new.stores ≡ work.old.stores }
-    ensures releases { work.new.releases ≡ work.old.releases }
 {
     if work.next_load(call).is_some() {
         work.load(call, procedure, value);
+    }
+}
+
+fn store(work: &mut Work) {
+    if work.stores < 255 {
+        work.stored();
+    }
+}
+
+fn release(work: &mut Work) {
+    if work.releases < 255 {
+        work.released();
     }
 }
 
@@ -95,69 +148,135 @@ fn record(claim: Option<Claim>) -> Option<u32> {
     claim.map(|claim| claim.id.0)
 }
 
+// What a call does, and what has to come of it. A claim is the number of its record.
+#[derive(Clone, Copy)]
+enum Act {
+    Load(u64),
+    Store,
+    Release,
+    NextLoad(Option<u32>),
+    // With the value that is stored.
+    NextStore(Option<(u32, u64)>),
+    NextRelease(Option<u32>),
+    HasLoaded(bool),
+    HasStored(bool),
+    HasAborted(bool),
+    HasReply(bool),
+    // The first output.
+    Output(Option<u64>),
+    // The code of an abort.
+    Code(Option<u16>),
+}
+
+fn code(work: &Work) -> Option<u16> {
+    match work.reply {
+        Some(Reply::Aborted(Reason::Code(code))) => Some(code),
+        _ => None,
+    }
+}
+
+fn next_store(work: &Work, call: &Call) -> Option<(u32, u64)> {
+    work.next_store(call)
+        .map(|(claim, value)| (claim.id.0, value))
+}
+
+fn perform(rt: &impl Abort, work: &mut Work, call: &Call, procedure: &Proc, act: Act)
+    requires formed { IsWellFormed procedure.now }
+    requires made { IsCallOf procedure.now call.now }
+{
+    match act {
+        Load(value) => load(work, call, procedure, value),
+        Store => store(work),
+        Release => release(work),
+        NextLoad(next) => assert_eq!(rt; record(work.next_load(call)), next),
+        NextStore(next) => assert_eq!(rt; next_store(work, call), next),
+        NextRelease(next) => assert_eq!(rt; record(work.next_release(call)), next),
+        HasLoaded(has) => assert_eq!(rt; work.has_loaded(call), has),
+        HasStored(has) => assert_eq!(rt; work.has_stored(call), has),
+        HasAborted(has) => assert_eq!(rt; work.has_aborted(), has),
+        HasReply(has) => assert_eq!(rt; work.reply.is_some(), has),
+        Output(output) => assert_eq!(rt; outputs(work), output),
+        Code(number) => assert_eq!(rt; code(work), number),
+    }
+}
+
+// Goes through these acts in turn, at a call of a procedure of the library.
+fn run(
+    rt: &(impl AllocGlobal + Abort),
+    name: &str,
+    args: &[u64],
+    acts: &[Act],
+) -> Result<(), Fail> {
+    let library = library(rt.alloc())?;
+    let call = library.call(name, args)?;
+    let procedure = procedure_of(&library, &call)?;
+    let mut work = begun(&call, procedure);
+    for act in acts {
+        perform(rt, &mut work, &call, procedure, *act);
+    }
+    Ok(())
+}
+
 #[test]
 fn body_runs_with_the_last_load(rt: HostRuntime) -> Result<(), Fail> {
-    let library = library(rt.alloc())?;
-    let call = library.call("collect", &[0, 1])?;
-    let procedure = procedure_of(&library, &call)?;
-    let mut work = Work::new(&call, procedure);
-    assert_eq!(rt; record(work.next_load(&call)), Some(0));
-    load(&mut work, &call, procedure, 30);
-    assert!(rt; work.reply.is_none());
-    assert_eq!(rt; record(work.next_load(&call)), Some(1));
-    load(&mut work, &call, procedure, 12);
-    assert!(rt; work.has_loaded(&call));
-    assert_eq!(rt; record(work.next_load(&call)), None);
-    assert_eq!(rt; outputs(&work), Some(42));
-    Ok(())
+    run(
+        &rt,
+        "collect",
+        &[0, 1],
+        &[
+            NextLoad(Some(0)),
+            Load(30),
+            HasReply(false),
+            NextLoad(Some(1)),
+            Load(12),
+            HasLoaded(true),
+            NextLoad(None),
+            Output(Some(42)),
+        ],
+    )
 }
 
 #[test]
 fn only_write_claims_are_stored(rt: HostRuntime) -> Result<(), Fail> {
-    let library = library(rt.alloc())?;
-    let call = library.call("collect", &[0, 1])?;
-    let procedure = procedure_of(&library, &call)?;
-    let mut work = Work::new(&call, procedure);
-    load(&mut work, &call, procedure, 30);
-    load(&mut work, &call, procedure, 12);
-    assert!(rt; !work.has_stored(&call));
-    let next = work
-        .next_store(&call)
-        .map(|(claim, value)| (claim.id.0, value));
-    assert_eq!(rt; next, Some((1, 42)));
-    work.stored();
-    assert!(rt; work.next_store(&call).is_none());
-    assert!(rt; work.has_stored(&call));
-    assert_eq!(rt; record(work.next_release(&call)), Some(0));
-    work.released();
-    assert_eq!(rt; record(work.next_release(&call)), Some(1));
-    work.released();
-    assert_eq!(rt; record(work.next_release(&call)), None);
-    Ok(())
+    run(
+        &rt,
+        "collect",
+        &[0, 1],
+        &[
+            Load(30),
+            Load(12),
+            HasStored(false),
+            NextStore(Some((1, 42))),
+            Store,
+            NextStore(None),
+            HasStored(true),
+            NextRelease(Some(0)),
+            Release,
+            NextRelease(Some(1)),
+            Release,
+            NextRelease(None),
+        ],
+    )
 }
 
 #[test]
 fn aborted_call_has_no_stores_left(rt: HostRuntime) -> Result<(), Fail> {
-    let library = library(rt.alloc())?;
-    let call = library.call("collect", &[0, 1])?;
-    let procedure = procedure_of(&library, &call)?;
-    let mut work = Work::new(&call, procedure);
-    load(&mut work, &call, procedure, 0);
-    assert!(rt; !work.has_aborted());
-    load(&mut work, &call, procedure, 12);
-    assert!(rt; work.has_aborted());
-    assert!(rt; matches!(work.reply, Some(Reply::Aborted(Reason::Code(7)))));
-    assert!(rt; work.has_stored(&call));
-    Ok(())
+    run(
+        &rt,
+        "collect",
+        &[0, 1],
+        &[
+            Load(0),
+            HasAborted(false),
+            Load(12),
+            HasAborted(true),
+            Code(Some(7)),
+            HasStored(true),
+        ],
+    )
 }
 
 #[test]
 fn call_without_claims_runs_at_once(rt: HostRuntime) -> Result<(), Fail> {
-    let library = library(rt.alloc())?;
-    let call = library.call("seven", &[])?;
-    let procedure = procedure_of(&library, &call)?;
-    let work = Work::new(&call, procedure);
-    assert_eq!(rt; outputs(&work), Some(7));
-    assert!(rt; work.has_stored(&call));
-    Ok(())
+    run(&rt, "seven", &[], &[Output(Some(7)), HasStored(true)])
 }

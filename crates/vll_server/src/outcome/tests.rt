@@ -1,6 +1,5 @@
 use super::write_outcome;
 use crate::fault::WriteFault;
-use crate::line::Closed;
 use crate::plain::Plain;
 use crate::stream::Sink;
 use std::alloc::{AllocError, Global};
@@ -9,6 +8,7 @@ use std::io::Write;
 use std::test::Fail;
 use vll_core::Line;
 use vll_proc::{Call, Reason, Reply};
+use vll_queue::Closed;
 use vll_record::Claims;
 
 const TEXT: &str =

@@ -1,9 +1,7 @@
 use super::read_scenario;
 use crate::fault::{Part, ScenarioFault, Spot};
-use crate::laws::client_order_is_a_merge;
 use crate::plain::Plain;
 use crate::scenario::Scenario;
-use crate::serve::serve_plain;
 use crate::stream::Source;
 use std::alloc::Global;
 use std::io;
@@ -20,9 +18,6 @@ const TRANSFER: &str = r#"{"version":1,"records":[100,50],
   {"name":"sum2","args":2,"keys":[["read","arg",0],["read","arg",1]],
    "body":[["reply",["add",["key",0],["key",1]]]]}],
  "clients":[[{"proc":"transfer","args":[0,1,30]},{"proc":"sum2","args":[0,1]}]]}"#;
-
-const OUTCOME: &str =
-    "call 0 client 0 committed 70\ncall 1 client 0 committed 150\nrecord 0 value 70 pair 0\nrecord 1 value 80 pair 0\n";
 
 // Gives its text, and then fails.
 #[derive(Drop)]
@@ -41,17 +36,6 @@ impl<'a> Read for Broken<'a> {
             _ => Err(io::Error::from(io::ErrorKind::BrokenPipe)),
         }
     }
-}
-
-#[test]
-fn transfer_is_read_and_run(rt: HostRuntime) -> Result<(), Fail> {
-    let mut reader = Plain::new(TRANSFER.as_bytes());
-    let scenario = read_scenario(rt.alloc(), &mut reader)?;
-    let mut text = Vec::new(rt.alloc());
-    serve_plain(rt.alloc(), scenario, &mut Plain::new(&mut text))?;
-    assert_eq!(rt; text.as_slice(), OUTCOME.as_bytes());
-    client_order_is_a_merge();
-    Ok(())
 }
 
 #[test]

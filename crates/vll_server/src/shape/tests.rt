@@ -3,6 +3,7 @@ use crate::fault::{Part, ScenarioFault, Spot};
 use crate::plain::Plain;
 use crate::read::read_parts;
 use std::alloc::Global;
+use std::process::Abort;
 use std::test::Fail;
 use vll_proc::{Expr, KeyAt, KeyDecl, Stmt};
 use vll_record::Mode;
@@ -11,7 +12,7 @@ mod choices;
 mod schedule;
 
 // The parts of the scenarios below are put together from these.
-#[derive(Drop)]
+#[derive(Clone, Copy)]
 struct Texts<'t> {
     version: &'t str,
     records: &'t str,
@@ -53,168 +54,248 @@ fn spot_in(alloc: Global, texts: Texts) -> Result<Option<(Part, u32)>, Fail> {
     spot_of(alloc, text.as_str())
 }
 
-#[test]
-fn top_has_exactly_its_members(rt: HostRuntime) -> Result<(), Fail> {
-    for text in [
-        "null",
-        "1",
-        r#""version""#,
-        "[]",
-        "{}",
-        r#"{"records":[],"procs":[],"clients":[]}"#,
-        r#"{"version":1,"procs":[],"clients":[]}"#,
-        r#"{"version":1,"records":[],"clients":[]}"#,
-        r#"{"version":1,"records":[],"procs":[]}"#,
-        r#"{"version":1,"records":[],"procs":[],"clients":[],"size":8}"#,
-        r#"{"version":1,"records":[],"procs":[],"clients":[],"Cap":8}"#,
-        r#"{"version":1,"records":[],"procs":[],"cap":8}"#,
-        r#"{"version":1,"records":[],"procs":[],"clients":[],"":null}"#,
-        r#"{"Version":1,"records":[],"procs":[],"clients":[]}"#,
-        r#"[{"version":1,"records":[],"procs":[],"clients":[]}]"#,
-    ] {
-        assert_eq!(rt; spot_of(rt.alloc(), text)?, Some((Part::Top, 0)), "{text}");
+// Each of these scenarios has the fault of this spot, or none.
+fn check_spots(
+    rt: &(impl AllocGlobal + Abort),
+    cases: &[(&str, Option<(Part, u32)>)],
+) -> Result<(), Fail> {
+    for (text, spot) in cases {
+        let found = spot_of(rt.alloc(), text)?;
+        assert_eq!(rt; found, *spot, "{text}");
     }
     Ok(())
+}
+
+// The sound parts, but for one.
+fn texts_with(part: Part, text: &str) -> Texts<'_> {
+    match part {
+        Part::Version => Texts {
+            version: text,
+            ..SOUND
+        },
+        Part::Records => Texts {
+            records: text,
+            ..SOUND
+        },
+        Part::Procs => Texts {
+            procs: text,
+            ..SOUND
+        },
+        _ => Texts {
+            clients: text,
+            ..SOUND
+        },
+    }
+}
+
+// With each of these texts in its place this part has a fault at this index, or none.
+fn check_part(
+    rt: &(impl AllocGlobal + Abort),
+    part: Part,
+    cases: &[(&str, Option<u32>)],
+) -> Result<(), Fail> {
+    for (text, index) in cases {
+        let found = spot_in(rt.alloc(), texts_with(part, text))?;
+        assert_eq!(rt; found, index.map(|index| (part, index)), "{text}");
+    }
+    Ok(())
+}
+
+#[test]
+fn top_has_exactly_its_members(rt: HostRuntime) -> Result<(), Fail> {
+    check_spots(
+        &rt,
+        &[
+            ("null", Some((Part::Top, 0))),
+            ("1", Some((Part::Top, 0))),
+            (r#""version""#, Some((Part::Top, 0))),
+            ("[]", Some((Part::Top, 0))),
+            ("{}", Some((Part::Top, 0))),
+            (
+                r#"{"records":[],"procs":[],"clients":[]}"#,
+                Some((Part::Top, 0)),
+            ),
+            (
+                r#"{"version":1,"procs":[],"clients":[]}"#,
+                Some((Part::Top, 0)),
+            ),
+            (
+                r#"{"version":1,"records":[],"clients":[]}"#,
+                Some((Part::Top, 0)),
+            ),
+            (
+                r#"{"version":1,"records":[],"procs":[]}"#,
+                Some((Part::Top, 0)),
+            ),
+            (
+                r#"{"version":1,"records":[],"procs":[],"clients":[],"size":8}"#,
+                Some((Part::Top, 0)),
+            ),
+            (
+                r#"{"version":1,"records":[],"procs":[],"clients":[],"Cap":8}"#,
+                Some((Part::Top, 0)),
+            ),
+            (
+                r#"{"version":1,"records":[],"procs":[],"cap":8}"#,
+                Some((Part::Top, 0)),
+            ),
+            (
+                r#"{"version":1,"records":[],"procs":[],"clients":[],"":null}"#,
+                Some((Part::Top, 0)),
+            ),
+            (
+                r#"{"Version":1,"records":[],"procs":[],"clients":[]}"#,
+                Some((Part::Top, 0)),
+            ),
+            (
+                r#"[{"version":1,"records":[],"procs":[],"clients":[]}]"#,
+                Some((Part::Top, 0)),
+            ),
+        ],
+    )
 }
 
 #[test]
 fn members_stand_in_any_order_and_the_last_of_a_name_counts(rt: HostRuntime) -> Result<(), Fail> {
-    for text in [
-        r#"{"clients":[],"procs":[],"records":[],"version":1}"#,
-        r#"{"version":2,"records":[],"procs":[],"clients":[],"version":1}"#,
-    ] {
-        assert_eq!(rt; spot_of(rt.alloc(), text)?, None, "{text}");
-    }
-    let text = r#"{"version":1,"records":[],"procs":[],"clients":[],"version":2}"#;
-    assert_eq!(rt; spot_of(rt.alloc(), text)?, Some((Part::Version, 0)));
-    Ok(())
+    check_spots(
+        &rt,
+        &[
+            (
+                r#"{"clients":[],"procs":[],"records":[],"version":1}"#,
+                None,
+            ),
+            (
+                r#"{"version":2,"records":[],"procs":[],"clients":[],"version":1}"#,
+                None,
+            ),
+            (
+                r#"{"version":1,"records":[],"procs":[],"clients":[],"version":2}"#,
+                Some((Part::Version, 0)),
+            ),
+        ],
+    )
 }
 
 #[test]
 fn version_is_the_number_one(rt: HostRuntime) -> Result<(), Fail> {
-    for version in [
-        "0",
-        "2",
-        "-1",
-        "1.0",
-        "1e0",
-        r#""1""#,
-        "[1]",
-        "null",
-        "18446744073709551617",
-    ] {
-        let spot = spot_in(rt.alloc(), Texts { version, ..SOUND })?;
-        assert_eq!(rt; spot, Some((Part::Version, 0)), "{version}");
-    }
-    Ok(())
+    check_part(
+        &rt,
+        Part::Version,
+        &[
+            ("0", Some(0)),
+            ("2", Some(0)),
+            ("-1", Some(0)),
+            ("1.0", Some(0)),
+            ("1e0", Some(0)),
+            (r#""1""#, Some(0)),
+            ("[1]", Some(0)),
+            ("null", Some(0)),
+            ("18446744073709551617", Some(0)),
+        ],
+    )
 }
 
 #[test]
 fn first_record_that_is_no_number_is_named(rt: HostRuntime) -> Result<(), Fail> {
-    for (records, index) in [
-        ("null", 0),
-        ("7", 0),
-        (r#"{"0":1}"#, 0),
-        ("[-1]", 0),
-        ("[-0]", 0),
-        ("[5,1.0]", 1),
-        ("[5,6,1e3]", 2),
-        ("[5,6,7,18446744073709551616]", 3),
-        ("[5,1e-400,6]", 1),
-        (r#"[5,"6"]"#, 1),
-        ("[5,[6],null]", 1),
-    ] {
-        let spot = spot_in(rt.alloc(), Texts { records, ..SOUND })?;
-        assert_eq!(rt; spot, Some((Part::Records, index)), "{records}");
-    }
-    let records = "[0,18446744073709551615]";
-    assert_eq!(rt; spot_in(rt.alloc(), Texts { records, ..SOUND })?, None);
-    Ok(())
+    check_part(
+        &rt,
+        Part::Records,
+        &[
+            ("null", Some(0)),
+            ("7", Some(0)),
+            (r#"{"0":1}"#, Some(0)),
+            ("[-1]", Some(0)),
+            ("[-0]", Some(0)),
+            ("[5,1.0]", Some(1)),
+            ("[5,6,1e3]", Some(2)),
+            ("[5,6,7,18446744073709551616]", Some(3)),
+            ("[5,1e-400,6]", Some(1)),
+            (r#"[5,"6"]"#, Some(1)),
+            ("[5,[6],null]", Some(1)),
+            ("[0,18446744073709551615]", None),
+        ],
+    )
 }
 
 #[test]
 fn first_faulty_procedure_is_named(rt: HostRuntime) -> Result<(), Fail> {
-    for (procs, index) in [
-        ("null", 0),
-        ("{}", 0),
-        ("7", 0),
-        (r#"{"name":"p","args":0,"keys":[],"body":[]}"#, 0),
-        (
-            r#"[{"name":"p","args":0,"keys":[],"body":[["abort",65536]]}]"#,
-            0,
-        ),
-        (r#"[{"name":"p","args":0,"keys":[],"body":[]},null,7]"#, 1),
-        (
-            r#"[{"name":"p","args":0,"keys":[],"body":[]},{"name":"p","args":0,"keys":[]}]"#,
-            1,
-        ),
-    ] {
-        let spot = spot_in(rt.alloc(), Texts { procs, ..SOUND })?;
-        assert_eq!(rt; spot, Some((Part::Procs, index)), "{procs}");
-    }
-    let procs = r#"[{"name":"p","args":0,"keys":[],"body":[]}]"#;
-    assert_eq!(rt; spot_in(rt.alloc(), Texts { procs, ..SOUND })?, None);
-    Ok(())
+    check_part(
+        &rt,
+        Part::Procs,
+        &[
+            ("null", Some(0)),
+            ("{}", Some(0)),
+            ("7", Some(0)),
+            (r#"{"name":"p","args":0,"keys":[],"body":[]}"#, Some(0)),
+            (
+                r#"[{"name":"p","args":0,"keys":[],"body":[["abort",65536]]}]"#,
+                Some(0),
+            ),
+            (
+                r#"[{"name":"p","args":0,"keys":[],"body":[]},null,7]"#,
+                Some(1),
+            ),
+            (
+                r#"[{"name":"p","args":0,"keys":[],"body":[]},{"name":"p","args":0,"keys":[]}]"#,
+                Some(1),
+            ),
+            (r#"[{"name":"p","args":0,"keys":[],"body":[]}]"#, None),
+        ],
+    )
 }
 
 #[test]
 fn first_client_that_is_no_script_is_named(rt: HostRuntime) -> Result<(), Fail> {
-    for (clients, index) in [
-        ("null", 0),
-        ("{}", 0),
-        ("[{}]", 0),
-        ("[[],null,[]]", 1),
-        (r#"[[{"proc":"p","args":[0]}],[["p",0]]]"#, 1),
-        (
-            r#"[[],[],[{"proc":"p","args":[]},{"proc":"p","args":[],"at":0}]]"#,
-            2,
-        ),
-        (r#"[[],[{"proc":"p"}]]"#, 1),
-        (r#"[[],[{"args":[]}]]"#, 1),
-        (r#"[[],[{"proc":0,"args":[]}]]"#, 1),
-        (r#"[[],[{"proc":"p","args":null}]]"#, 1),
-        (r#"[[],[{"proc":"p","args":{}}]]"#, 1),
-        (r#"[[],[{"proc":"p","args":[0,-1]}]]"#, 1),
-    ] {
-        let spot = spot_in(rt.alloc(), Texts { clients, ..SOUND })?;
-        assert_eq!(rt; spot, Some((Part::Clients, index)), "{clients}");
-    }
-    Ok(())
+    check_part(
+        &rt,
+        Part::Clients,
+        &[
+            ("null", Some(0)),
+            ("{}", Some(0)),
+            ("[{}]", Some(0)),
+            ("[[],null,[]]", Some(1)),
+            (r#"[[{"proc":"p","args":[0]}],[["p",0]]]"#, Some(1)),
+            (
+                r#"[[],[],[{"proc":"p","args":[]},{"proc":"p","args":[],"at":0}]]"#,
+                Some(2),
+            ),
+            (r#"[[],[{"proc":"p"}]]"#, Some(1)),
+            (r#"[[],[{"args":[]}]]"#, Some(1)),
+            (r#"[[],[{"proc":0,"args":[]}]]"#, Some(1)),
+            (r#"[[],[{"proc":"p","args":null}]]"#, Some(1)),
+            (r#"[[],[{"proc":"p","args":{}}]]"#, Some(1)),
+            (r#"[[],[{"proc":"p","args":[0,-1]}]]"#, Some(1)),
+        ],
+    )
 }
 
 #[test]
 fn first_faulty_part_is_named(rt: HostRuntime) -> Result<(), Fail> {
-    let texts = Texts {
-        version: "0",
-        records: "[0,-1]",
-        procs: "[null]",
-        clients: "[[],[],0]",
-    };
-    assert_eq!(rt; spot_in(rt.alloc(), texts)?, Some((Part::Version, 0)));
-    let texts = Texts {
-        version: "1",
-        records: "[0,-1]",
-        procs: "[null]",
-        clients: "[[],[],0]",
-    };
-    assert_eq!(rt; spot_in(rt.alloc(), texts)?, Some((Part::Records, 1)));
-    let texts = Texts {
-        version: "1",
-        records: "[0]",
-        procs: "[null]",
-        clients: "[[],[],0]",
-    };
-    assert_eq!(rt; spot_in(rt.alloc(), texts)?, Some((Part::Procs, 0)));
-    let texts = Texts {
-        version: "1",
-        records: "[0]",
-        procs: "[]",
-        clients: "[[],[],0]",
-    };
-    assert_eq!(rt; spot_in(rt.alloc(), texts)?, Some((Part::Clients, 2)));
-    let text = r#"{"version":0,"records":[-1],"procs":[null],"clients":[0],"size":8}"#;
-    assert_eq!(rt; spot_of(rt.alloc(), text)?, Some((Part::Top, 0)));
-    Ok(())
+    check_spots(
+        &rt,
+        &[
+            (
+                r#"{"version":0,"records":[0,-1],"procs":[null],"clients":[[],[],0]}"#,
+                Some((Part::Version, 0)),
+            ),
+            (
+                r#"{"version":1,"records":[0,-1],"procs":[null],"clients":[[],[],0]}"#,
+                Some((Part::Records, 1)),
+            ),
+            (
+                r#"{"version":1,"records":[0],"procs":[null],"clients":[[],[],0]}"#,
+                Some((Part::Procs, 0)),
+            ),
+            (
+                r#"{"version":1,"records":[0],"procs":[],"clients":[[],[],0]}"#,
+                Some((Part::Clients, 2)),
+            ),
+            (
+                r#"{"version":0,"records":[-1],"procs":[null],"clients":[0],"size":8}"#,
+                Some((Part::Top, 0)),
+            ),
+        ],
+    )
 }
 
 const TRANSFER: &str = r#"{"version":1,"records":[100,50],

@@ -1,5 +1,5 @@
 // The procedures that the tests call.
-ghost use Rattle.std.specs.Prelude.{◌≡◌, ◌≤◌, All, IfOk, length};
+ghost use Rattle.std.specs.Prelude.{◌≡◌, All, IfOk};
 ghost use Rattle.vll_check.specs.Calls.{Fits};
 
 use crate::config::Config;
@@ -32,28 +32,37 @@ fn less(alloc: Global, left: Expr, right: Expr) -> Result<Expr, AllocError> {
     Ok(Expr::Less(Boxed::new(alloc, left)?, Boxed::new(alloc, right)?))
 }
 
+fn push(body: &mut Items<Stmt>, statement: Stmt) -> Result<(), AllocError> {
+    body.push(statement)
+}
+
 fn named(
     alloc: Global,
     name: &str,
     args: u8,
     keys: &[KeyDecl],
-    body: Vec<Stmt>,
+    body: Items<Stmt>,
 ) -> Result<Proc, AllocError> {
     Ok(Proc {
         name: Text::new(String::from_str(alloc, name)?),
         args,
         keys: Items::from_slice(alloc, keys)?,
-        body: Items::from_vec(body),
+        body,
     })
 }
 
 // Moves an amount from one record to another, and replies what is left of the first.
 fn transfer(alloc: Global) -> Result<Proc, AllocError> {
-    let body = vec![in alloc;
+    let mut body = Items::new(alloc);
+    push(
+        &mut body,
         Stmt::Set(0, sub(alloc, Expr::Key(0), Expr::Arg(2))?),
+    )?;
+    push(
+        &mut body,
         Stmt::Set(1, add(alloc, Expr::Key(1), Expr::Arg(2))?),
-        Stmt::Reply(Expr::Key(0)),
-    ]?;
+    )?;
+    push(&mut body, Stmt::Reply(Expr::Key(0)))?;
     named(
         alloc,
         "transfer",
@@ -65,17 +74,22 @@ fn transfer(alloc: Global) -> Result<Proc, AllocError> {
 
 // Adds 1 to a record, and replies the sum.
 fn bump(alloc: Global) -> Result<Proc, AllocError> {
-    let body = vec![in alloc;
+    let mut body = Items::new(alloc);
+    push(
+        &mut body,
         Stmt::Set(0, add(alloc, Expr::Key(0), Expr::Num(1))?),
-        Stmt::Reply(Expr::Key(0)),
-    ]?;
+    )?;
+    push(&mut body, Stmt::Reply(Expr::Key(0)))?;
     named(alloc, "bump", 1, &[key(Mode::Write, 0)], body)
 }
 
 // Replies the sum of two records.
 fn sum2(alloc: Global) -> Result<Proc, AllocError> {
-    let sum = add(alloc, Expr::Key(0), Expr::Key(1))?;
-    let body = vec![in alloc; Stmt::Reply(sum)]?;
+    let mut body = Items::new(alloc);
+    push(
+        &mut body,
+        Stmt::Reply(add(alloc, Expr::Key(0), Expr::Key(1))?),
+    )?;
     named(
         alloc,
         "sum2",
@@ -87,26 +101,48 @@ fn sum2(alloc: Global) -> Result<Proc, AllocError> {
 
 // Replies a record.
 fn read(alloc: Global) -> Result<Proc, AllocError> {
-    let body = vec![in alloc; Stmt::Reply(Expr::Key(0))]?;
+    let mut body = Items::new(alloc);
+    push(&mut body, Stmt::Reply(Expr::Key(0)))?;
     named(alloc, "read", 1, &[key(Mode::Read, 0)], body)
+}
+
+// Aborts with code 7 where a record is less than an argument.
+fn refuse(alloc: Global) -> Result<Stmt, AllocError> {
+    let is_less = less(alloc, Expr::Key(0), Expr::Arg(1))?;
+    let mut abort = Items::new(alloc);
+    push(&mut abort, Stmt::Abort(7))?;
+    Ok(Stmt::If(is_less, abort, Items::new(alloc)))
 }
 
 // Takes an amount from a record, and replies what is left; aborts with code 7 where there is less.
 fn take(alloc: Global) -> Result<Proc, AllocError> {
-    let is_less = less(alloc, Expr::Key(0), Expr::Arg(1))?;
-    let refuse = Items::from_vec(vec![in alloc; Stmt::Abort(7)]?);
-    let body = vec![in alloc;
-        Stmt::If(is_less, refuse, Items::new(alloc)),
+    let mut body = Items::new(alloc);
+    push(&mut body, refuse(alloc)?)?;
+    push(
+        &mut body,
         Stmt::Set(0, sub(alloc, Expr::Key(0), Expr::Arg(1))?),
-        Stmt::Reply(Expr::Key(0)),
-    ]?;
+    )?;
+    push(&mut body, Stmt::Reply(Expr::Key(0)))?;
     named(alloc, "take", 2, &[key(Mode::Write, 0)], body)
 }
 
 // Replies 7.
 fn seven(alloc: Global) -> Result<Proc, AllocError> {
-    let body = vec![in alloc; Stmt::Reply(Expr::Num(7))]?;
+    let mut body = Items::new(alloc);
+    push(&mut body, Stmt::Reply(Expr::Num(7)))?;
     named(alloc, "seven", 0, &[], body)
+}
+
+// The procedure of a number below 6.
+fn numbered(alloc: Global, number: u32) -> Result<Proc, AllocError> {
+    match number {
+        0 => transfer(alloc),
+        1 => bump(alloc),
+        2 => sum2(alloc),
+        3 => read(alloc),
+        4 => take(alloc),
+        _ => seven(alloc),
+    }
 }
 
 fn checked(procedure: Proc, records: u32) -> Result<Checked, Fail>
@@ -119,14 +155,10 @@ fn checked(procedure: Proc, records: u32) -> Result<Checked, Fail>
 pub(super) fn library(alloc: Global, records: u32) -> Result<Library, Fail>
     ensures { IfOk result (λ l. l.records ≡ records) }
 {
-    let procs = vec![in alloc;
-        checked(transfer(alloc)?, records)?,
-        checked(bump(alloc)?, records)?,
-        checked(sum2(alloc)?, records)?,
-        checked(read(alloc)?, records)?,
-        checked(take(alloc)?, records)?,
-        checked(seven(alloc)?, records)?,
-    ]?;
+    let mut procs = Vec::new(alloc);
+    for number in 0..6 {
+        procs.push(checked(numbered(alloc, number)?, records)?)?;
+    }
     Ok(Library::new(records, procs)?)
 }
 
@@ -168,10 +200,9 @@ pub(super) fn core(
     records: &[u64],
     clients: &[&[(&str, &[u64])]],
     limit: u32,
-) -> Result<Core<Placing>, Fail>
-    requires { length records.now ≤ 65536 }
-{
-    let library = library(alloc, records.len() as u32)?;
+) -> Result<Core<Placing>, Fail> {
+    let count = u32::try_from(records.len())?;
+    let library = library(alloc, count)?;
     let scripts = scripts(alloc, &library, clients)?;
     let records = Vec::from_slice(alloc, records)?;
     let config = Config {

@@ -1,81 +1,77 @@
 // Turns: which calls may enter, and what may happen while a turn is open.
-use super::procedures::core;
-use super::words::{play, standing};
-use crate::event::Event::{Admit, Claim, Enter, Finish, Front, Load, Release, Store};
-use crate::ticket::Ticket;
+use super::acts::Act::{Play, Stands};
+use super::acts::Step::{Admit, Claim, Enter, Finish, Front, Load, Release, Store};
+use super::acts::run;
 use std::test::Fail;
 
 #[test]
 fn limit_counts_finished_calls_too(rt: HostRuntime) -> Result<(), Fail> {
-    let alloc = rt.alloc();
-    let mut core = core(alloc, &[0], &[&[("bump", &[0]), ("bump", &[0])]], 1)?;
-    play(
+    run(
         &rt,
-        &mut core,
+        &[0],
+        &[&[("bump", &[0]), ("bump", &[0])]],
+        1,
         &[
-            (Enter(0), "opened"),
-            (Claim, "claimed 0 granted"),
-            (Admit, "free 0"),
-            (Enter(0), "refused spent"),
-            (Load(Ticket(0)), "loaded 0"),
-            (Store(Ticket(0)), "stored"),
-            (Release(Ticket(0)), "released 4294967296"),
-            (Finish(Ticket(0)), "replied committed 1"),
-            (Enter(0), "refused spent"),
+            Play(&[
+                (Enter(0), "opened"),
+                (Claim, "claimed 0 granted"),
+                (Admit, "free 0"),
+                (Enter(0), "refused spent"),
+                (Load(0), "loaded 0"),
+                (Store(0), "stored"),
+                (Release(0), "released 4294967296"),
+                (Finish(0), "replied committed 1"),
+                (Enter(0), "refused spent"),
+            ]),
+            Stands("call 0 client 0 committed 1\nrecord 0 value 1 pair 0\n"),
         ],
-    )?;
-    assert_eq!(rt;
-        standing(alloc, &core)?.as_str(),
-        "call 0 client 0 committed 1\nrecord 0 value 1 pair 0\n"
-    );
-    Ok(())
+    )
 }
 
 #[test]
 fn release_in_an_open_turn_frees_the_record_for_it(rt: HostRuntime) -> Result<(), Fail> {
-    let alloc = rt.alloc();
-    let mut core = core(alloc, &[0], &[&[("bump", &[0])], &[("bump", &[0])]], 2)?;
-    play(
+    run(
         &rt,
-        &mut core,
+        &[0],
+        &[&[("bump", &[0])], &[("bump", &[0])]],
+        2,
         &[
-            (Enter(0), "opened"),
-            (Claim, "claimed 0 granted"),
-            (Admit, "free 0"),
-            (Load(Ticket(0)), "loaded 0"),
-            (Store(Ticket(0)), "stored"),
-            (Enter(1), "opened"),
-            (Enter(1), "refused turn open"),
-            (Release(Ticket(0)), "released 4294967296"),
-            (Claim, "claimed 0 granted"),
-            (Admit, "free 1"),
+            Play(&[
+                (Enter(0), "opened"),
+                (Claim, "claimed 0 granted"),
+                (Admit, "free 0"),
+                (Load(0), "loaded 0"),
+                (Store(0), "stored"),
+                (Enter(1), "opened"),
+                (Enter(1), "refused turn open"),
+                (Release(0), "released 4294967296"),
+                (Claim, "claimed 0 granted"),
+                (Admit, "free 1"),
+            ]),
+            Stands(
+                "call 0 client 0 running\ncall 1 client 1 running\nrecord 0 value 1 pair 4294967296\n",
+            ),
         ],
-    )?;
-    let end =
-        "call 0 client 0 running\ncall 1 client 1 running\nrecord 0 value 1 pair 4294967296\n";
-    assert_eq!(rt; standing(alloc, &core)?.as_str(), end);
-    Ok(())
+    )
 }
 
 #[test]
 fn lowest_refusal_that_stands_is_answered(rt: HostRuntime) -> Result<(), Fail> {
-    let alloc = rt.alloc();
-    let mut core = core(alloc, &[0], &[&[("bump", &[0])]], 1)?;
-    play(
+    run(
         &rt,
-        &mut core,
+        &[0],
+        &[&[("bump", &[0])]],
+        1,
         &[
-            (Claim, "refused no turn"),
-            (Load(Ticket(0)), "refused not running"),
-            (Front, "refused idle"),
-            (Enter(9), "refused no call"),
-            (Enter(0), "opened"),
-            (Finish(Ticket(9)), "refused turn open"),
+            Play(&[
+                (Claim, "refused no turn"),
+                (Load(0), "refused not running"),
+                (Front, "refused idle"),
+                (Enter(9), "refused no call"),
+                (Enter(0), "opened"),
+                (Finish(9), "refused turn open"),
+            ]),
+            Stands("record 0 value 0 pair 0\n"),
         ],
-    )?;
-    assert_eq!(rt;
-        standing(alloc, &core)?.as_str(),
-        "record 0 value 0 pair 0\n"
-    );
-    Ok(())
+    )
 }

@@ -1,13 +1,10 @@
 // Answers, and what stands in a core, in words.
 use crate::core_machine::Core;
-use crate::event::Event;
 use crate::line::Line;
 use crate::refusal::Refusal;
 use crate::seen::Seen;
 use crate::ticket::Ticket;
 use std::alloc::{AllocError, Global};
-use std::process::Abort;
-use std::test::Fail;
 use vll_proc::{Outputs, Reason, Reply};
 use vll_sca::{Placing, Status};
 
@@ -90,22 +87,6 @@ pub(super) fn said(alloc: Global, answer: Result<Seen, Refusal>) -> Result<Strin
         Err(refusal) => text.push_str(words_of(refusal))?,
     }
     Ok(text)
-}
-
-// Each of these events in turn is answered in these words.
-pub(super) fn play(
-    rt: &(impl AllocGlobal + Abort),
-    core: &mut Core<Placing>,
-    events: &[(Event, &str)],
-) -> Result<(), Fail> {
-    for (event, words) in events {
-        assert_eq!(rt;
-            said(rt.alloc(), core.step(*event))?.as_str(),
-            *words,
-            "{event:?}"
-        );
-    }
-    Ok(())
 }
 
 // Where a call stands, or its reply.

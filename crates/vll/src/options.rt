@@ -1,0 +1,59 @@
+ghost use Rattle.std.specs.Prelude.{◌≡◌, ◌↔◌, ◌≤◌, ℕ, IfSome, IsSome};
+
+use std::marker::Model;
+
+/// How `vll run` runs a scenario.
+#[derive(Clone, Copy, Debug)]
+pub(crate) struct RunOptions {
+    /// How many worker threads make the calls.
+    pub(crate) workers: Workers,
+    /// How many calls may wait at a time. None: as many as the scenario says.
+    pub(crate) cap: Option<Cap>,
+    /// How many places the contention analysis has for the records. None: as many as the scenario says.
+    pub(crate) bits: Option<Bits>,
+}
+
+/// A number of worker threads, 1 to 64.
+pub(crate) type Workers = UpTo<64>;
+
+/// A number of calls that may wait at a time, 1 to 65,536.
+pub(crate) type Cap = UpTo<65_536>;
+
+/// A number of places for the contention analysis, 1 to 1,048,576.
+pub(crate) type Bits = UpTo<1_048_576>;
+
+/// A whole number from 1 to `MOST`.
+#[derive(Clone, Copy, Debug)]
+pub(crate) struct UpTo<const MOST: u32>(u32);
+
+impl<const MOST: u32> Model for UpTo<MOST> {
+    ghost Value = { ℕ };
+
+    ghost view = { λ n. n.0 };
+
+    ghost invariant = { λ n. (1 ≤ n.0) × (n.0 ≤ MOST) };
+
+    ghost inverse = { λ n. record { 0 = n } };
+}
+
+impl<const MOST: u32> UpTo<MOST> {
+    /// The number, or `None` where it is 0 or greater than `MOST`.
+    pub(crate) fn new(number: u32) -> Option<UpTo<MOST>>
+        ensures some { IsSome result ↔ ((1 ≤ number) × (number ≤ MOST)) }
+        ensures value { IfSome result (λ n. n ≡ number) }
+    {
+        if 1 <= number && number <= MOST {
+            Some(UpTo(number))
+        } else {
+            None
+        }
+    }
+
+    pub(crate) fn get(self) -> u32
+        ensures value { result ≡ self.entry }
+        ensures least { 1 ≤ result }
+        ensures most { result ≤ MOST }
+    {
+        self.0
+    }
+}

@@ -1,0 +1,91 @@
+ghost use Rattle.std.specs.Prelude.{◌≡◌, ◌<◌, All, IfOk, IfSome};
+ghost use Rattle.vll_check.specs.Calls.{Fits};
+ghost use Rattle.vll_queue.specs.Shown.{named};
+
+use crate::fault::Fault;
+use crate::setup;
+use std::marker::Brand;
+use std::sync::Wait;
+use std::time::{CpuClock, Duration};
+use vll_check::{CallFault, Library};
+use vll_proc::Call;
+use vll_queue::{Begun, Engine, Name, Opening, Session};
+use vll_sca::Placing;
+
+// How many calls are made one after the other.
+const CALLS: u32 = 65_536;
+
+// How often they are made. The fastest counts, since other work disturbs the others.
+const REPEATS: u32 = 5;
+
+/// Prints how many nanoseconds of processor time a bump takes from `begin` to `finish`, where one thread makes one
+/// call after the other.
+pub(crate) fn measure_engine<R: Wait + CpuClock + Print + AllocGlobal>(
+    rt: &R,
+) -> Result<(), Fault> {
+    let mut fastest = u128::MAX;
+    for _ in 0..REPEATS {
+        let opening = setup::opening(rt.alloc(), 1, CALLS)?;
+        fastest = fastest.min(time_of::<Brand, R>(rt, opening)?.as_nanos());
+    }
+    println!(rt;
+        "begin, execute, release and finish of a bump, {CALLS} calls: {} ns a call",
+        fastest / u128::from(CALLS)
+    )?;
+    Ok(())
+}
+
+// The time that the calls take in an engine of this name.
+fn time_of<N: Name, R: Wait + CpuClock>(
+    rt: &R,
+    opening: Opening<Placing>,
+) -> Result<Duration, Fault>
+    requires { opening ≡ named N.library N.records N.config N.clients }
+{
+    let (engine, mut sessions) = opening.start::<N>();
+    let Some(mut session) = last::<N>(&mut sessions) else {
+        return Err(Fault::Refused);
+    };
+    let call = made(engine.library())?;
+    let start = rt.thread_cpu_time()?;
+    for _ in 0..CALLS {
+        cycle(rt, &engine, &mut session, call)?;
+    }
+    Ok(rt.thread_cpu_time()?.saturating_sub(start))
+}
+
+// A call, from begin to finish.
+fn cycle<N: Name>(
+    rt: &impl Wait,
+    engine: &Engine<N, Placing>,
+    session: &mut Session,
+    call: Call,
+) -> Result<(), Fault>
+    requires client { session.old.client < N.clients }
+    requires fits { Fits N.library call }
+    ensures { session.new ≡ session.old }
+{
+    match engine.begin(rt, session, call) {
+        Begun::Free(pass) => {
+            let done = engine.execute(rt, pass)?;
+            engine.finish(rt, engine.release(done))?;
+            Ok(())
+        }
+        Begun::Blocked(_) | Begun::Refused(_) => Err(Fault::Refused),
+    }
+}
+
+// The last session of a list.
+fn last<N: Name>(sessions: &mut Vec<Session>) -> Option<Session>
+    requires { All (λ s. s.client < N.clients) sessions.old.items }
+    ensures { IfSome result (λ s. s.client < N.clients) }
+{
+    sessions.pop()
+}
+
+// The bump of record 0.
+fn made(library: &Library) -> Result<Call, CallFault>
+    ensures { IfOk result (Fits library.now) }
+{
+    library.call("bump", &[0])
+}

@@ -1,0 +1,5 @@
+-- The name is that of the opening.
+use Rattle.vll_server.proofs.serving.run.Given as goal
+
+abbrev pub ghosts-run_named : goal.ghosts-run_named
+ghosts-run_named g a = record { library = a.opening.library; records = a.opening.records; config = a.opening.config; clients = a.opening.clients }

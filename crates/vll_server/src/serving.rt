@@ -1,0 +1,189 @@
+//! A run of a scenario's scripts by worker threads, and the text of its outcome.
+ghost use Rattle.std.specs.Prelude.{◌≡◌, ◌≤◌, ◌<◌, ◌^◌, ◌↔◌, false, true, All, IfErr, IfOk, OnOk, length, sum_by};
+ghost use Rattle.std.specs.Io.KnownBytes.{Appends};
+ghost use Rattle.vll_check.specs.Calls.{Fits};
+ghost use Rattle.vll_queue.specs.Closed.{IsSerial, calls_in};
+ghost use Rattle.vll_queue.specs.Shown.{named};
+ghost use Rattle.vll_server.specs.Kept.{lists_of};
+ghost use Rattle.vll_server.specs.Merge.{IsMerge};
+ghost use Rattle.vll_server.specs.Serve.{Serves, config_for, scripts_of};
+ghost use Rattle.vll_server.specs.Setup.{catalog_of};
+ghost use Rattle.vll_server.specs.Streams.{AppendsBeginning};
+ghost use Rattle.vll_server.specs.Text.{closed_text};
+
+use crate::fault::{ServeFault, WriteFault};
+use crate::order::is_merge;
+use crate::outcome::write_outcome;
+use crate::scenario::Scenario;
+use crate::stream::Sink;
+use crate::tokens::tokens_of;
+use std::alloc::{AllocError, Global};
+use std::marker::Brand;
+use std::sync::Wait;
+use std::thread::Threads;
+use vll_core::{Config, OpenFault};
+use vll_proc::Call;
+use vll_queue::{Closed, Name, NotClosed, Opening};
+use vll_sca::Placing;
+use vll_workers::{Gate, RunError, Token};
+
+/// Has a scenario's scripts run by so many worker threads, 1 to 64, and writes the text of the outcome: a line for
+/// each call in the order in which the calls entered, and then one for each record. The gate is told of each call that
+/// is executed. The scenario's cap, bits and hash are the engine's; its limit and its schedule are not read, since the
+/// engine takes as many calls as the scripts have.
+///
+/// Each script's calls enter in its order. The replies and records are those of the entered calls made one at a time,
+/// in the order in which they entered, and each pair word is 0.
+///
+/// Nothing is written before the run has ended well and its order was tested. `Run`, `Unfinished`, `NoMemory` and
+/// `Order` come before that, and leave the writer as it was; `NoMemory` comes too where the text cannot be made, which
+/// is before its first byte is written. `Write` comes exactly where the writer has failed; a beginning of the text has
+/// been written then.
+pub fn serve<R: Threads + Wait + Sync, W: Wait + Sync, G: Gate + Sync, S: Sink>(
+    rt: &R,
+    wait: &W,
+    alloc: Global,
+    scenario: Scenario,
+    workers: u32,
+    gate: &G,
+    writer: &mut S,
+) -> Result<(), ServeFault>
+    requires workers { (1 ≤ workers) × (workers ≤ 64) }
+    requires writer { S.failed writer.old ≡ false }
+    ensures ok { OnOk result (Serves scenario (Appends (S.contents writer.old) (S.contents writer.new))) }
+    ensures write { result ≡ Err ServeFault.Write
+        → Serves scenario (AppendsBeginning (S.contents writer.old) (S.contents writer.new)) }
+    ensures before { IfErr result (λ why. ¬ (why ≡ ServeFault.Write) → writer.new ≡ writer.old) }
+    ensures failed { (result ≡ Err ServeFault.Write) ↔ (S.failed writer.new ≡ true) }
+{
+    let closed = run(rt, wait, alloc, scenario, workers, gate)?;
+    match write_outcome(alloc, writer, &closed) {
+        Ok(()) => Ok(()),
+        Err(WriteFault::NoMemory) => Err(ServeFault::NoMemory),
+        Err(WriteFault::Write) => Err(ServeFault::Write),
+    }
+}
+
+// Has a scenario's scripts run, and answers what they leave.
+fn run<R: Threads + Wait + Sync, W: Wait + Sync, G: Gate + Sync>(
+    rt: &R,
+    wait: &W,
+    alloc: Global,
+    scenario: Scenario,
+    workers: u32,
+    gate: &G,
+) -> Result<Closed, ServeFault>
+    requires { (1 ≤ workers) × (workers ≤ 64) }
+    ensures closed { IfOk result (λ closed. Serves scenario (λ text. closed_text closed.journal.items
+        closed.records.items closed.pairs.items ≡ text)) }
+    ensures before { ¬ (result ≡ Err ServeFault.Write) }
+{
+    let (opening, scripts) = opening_of(alloc, scenario)?;
+    run_named::<Brand, R, W, G>(rt, wait, alloc, opening, scripts, workers, gate)
+}
+
+/// An engine over a scenario's records and procedures, which has no name yet, and the scripts. The engine has the
+/// scenario's cap, bits and hash, a client for each script, and takes as many calls as the scripts have. All its
+/// memory is taken here.
+pub fn opening_of(
+    alloc: Global,
+    scenario: Scenario,
+) -> Result<(Opening<Placing>, Vec<Vec<Call>>), AllocError>
+    ensures library { IfOk result (λ made. made.0.library ≡ catalog_of scenario) }
+    ensures records { IfOk result (λ made. made.0.records ≡ scenario.records) }
+    ensures config { IfOk result (λ made. made.0.config ≡ config_for scenario) }
+    ensures clients { IfOk result (λ made. made.0.clients ≡ length scenario.scripts) }
+    ensures scripts { IfOk result (λ made. lists_of made.1.items ≡ scenario.scripts) }
+    ensures few { IfOk result (λ made. length made.1.items ≤ 1024) }
+    ensures short { IfOk result (λ made. All (λ script. length script.items < 2 ^ 32) made.1.items) }
+    ensures fits { IfOk result (λ made. All (λ script. All (Fits (catalog_of scenario)) script.items) made.1.items) }
+{
+    let Scenario {
+        records,
+        library,
+        scripts,
+        config,
+        placing,
+        ..
+    } = scenario;
+    let config = Config {
+        cap: config.cap,
+        limit: number_of_calls(scripts.as_slice()).max(1),
+        bits: config.bits,
+    };
+    let clients = scripts.len() as u32;
+    match Opening::new(alloc, records, library, config, placing, clients) {
+        Ok(opening) => Ok((opening, scripts)),
+        Err(OpenFault::NoMemory) => Err(AllocError),
+        // A scenario has the sizes that an engine can be opened with.
+        Err(OpenFault::Records | OpenFault::Limit | OpenFault::Cap | OpenFault::Bits) => {
+            unreachable!()
+        }
+    }
+}
+
+// How many calls all scripts have together.
+fn number_of_calls(scripts: &[Vec<Call>]) -> u32
+    requires { sum_by length (lists_of scripts.now) ≤ 65536 }
+    ensures { result ≡ sum_by length (lists_of scripts.now) }
+{
+    let mut count = 0;
+    for script in scripts {
+        count += script.len() as u32;
+    }
+    count
+}
+
+// Has the scripts run in an engine of this name, and answers what it leaves.
+fn run_named<N: Name + Send + Sync, R: Threads + Wait + Sync, W: Wait + Sync, G: Gate + Sync>(
+    rt: &R,
+    wait: &W,
+    alloc: Global,
+    opening: Opening<Placing>,
+    scripts: Vec<Vec<Call>>,
+    workers: u32,
+    gate: &G,
+) -> Result<Closed, ServeFault>
+    requires workers { (1 ≤ workers) × (workers ≤ 64) }
+    requires opening { opening ≡ named N.library N.records N.config N.clients }
+    requires clients { N.clients ≡ length scripts.items }
+    requires few { length scripts.items ≤ 1024 }
+    requires short { All (λ script. length script.items < 2 ^ 32) scripts.items }
+    requires fits { All (λ script. All (Fits N.library) script.items) scripts.items }
+    ensures serial { IfOk result (IsSerial N.library N.records) }
+    ensures merge { IfOk result (λ closed. IsMerge (calls_in closed.journal.items) (lists_of scripts.items)) }
+    ensures before { ¬ (result ≡ Err ServeFault.Write) }
+{
+    let (engine, sessions) = opening.start::<N>();
+    let tokens = tokens_of(alloc, sessions, scripts)?;
+    let tokens = match vll_workers::run(rt, wait, alloc, &engine, tokens, workers, gate) {
+        Ok(tokens) => tokens,
+        Err(RunError { fault, .. }) => return Err(ServeFault::Run(fault)),
+    };
+    match engine.close(Vec::new(alloc)) {
+        Ok(closed) => in_order(alloc, closed, tokens),
+        Err(
+            NotClosed {
+                running,
+                waiting,
+                ..
+            },
+        ) => Err(ServeFault::Unfinished { running, waiting }),
+    }
+}
+
+// What a run left, where the calls of each token's script entered in its order and no others did.
+fn in_order(alloc: Global, closed: Closed, tokens: Vec<Token>) -> Result<Closed, ServeFault>
+    ensures same { IfOk result (λ left. left ≡ closed) }
+    ensures merge { IfOk result (λ left. IsMerge (calls_in left.journal.items) (scripts_of tokens.items)) }
+    ensures before { ¬ (result ≡ Err ServeFault.Write) }
+{
+    if is_merge(alloc, closed.journal.as_slice(), tokens.as_slice())? {
+        Ok(closed)
+    } else {
+        Err(ServeFault::Order)
+    }
+}
+
+#[cfg(test)]
+mod tests;

@@ -1,0 +1,4 @@
+use Rattle.vll_workers.proofs.tests.runs.no_tokens_is_well.Given as goal
+
+abbrev pub ghosts-has_none : goal.ghosts-has_none
+ghosts-has_none g a = record { library = a.opening.library; records = a.opening.records; config = a.opening.config; clients = a.opening.clients }

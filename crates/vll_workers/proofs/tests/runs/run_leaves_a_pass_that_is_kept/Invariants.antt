@@ -1,0 +1,4 @@
+use Rattle.vll_workers.proofs.tests.runs.run_leaves_a_pass_that_is_kept.Given as goal
+
+abbrev pub ghosts-leaves_a_kept_pass : goal.ghosts-leaves_a_kept_pass
+ghosts-leaves_a_kept_pass g a = record { library = a.opening.library; records = a.opening.records; config = a.opening.config; clients = a.opening.clients }

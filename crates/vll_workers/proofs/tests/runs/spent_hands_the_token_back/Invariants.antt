@@ -1,0 +1,4 @@
+use Rattle.vll_workers.proofs.tests.runs.spent_hands_the_token_back.Given as goal
+
+abbrev pub ghosts-is_spent : goal.ghosts-is_spent
+ghosts-is_spent g a = record { library = a.opening.library; records = a.opening.records; config = a.opening.config; clients = a.opening.clients }

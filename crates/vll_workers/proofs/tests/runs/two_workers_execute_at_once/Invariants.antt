@@ -1,0 +1,4 @@
+use Rattle.vll_workers.proofs.tests.runs.two_workers_execute_at_once.Given as goal
+
+abbrev pub ghosts-meet : goal.ghosts-meet
+ghosts-meet g a = record { library = a.opening.library; records = a.opening.records; config = a.opening.config; clients = a.opening.clients }

@@ -1,0 +1,66 @@
+ghost use Rattle.std.specs.Prelude.{◌≡◌, All, IfSome};
+ghost use Rattle.vll_workers.specs.Tokens.{IsOf};
+
+use crate::crew::Crew;
+use crate::token::Token;
+use std::alloc::Global;
+use std::collections::VecDeque;
+use std::marker::{Model, PhantomData};
+
+// The tokens that no worker holds. The one that has been here longest is taken first.
+#[derive(Drop)]
+pub(crate) struct Pool<C: Crew> {
+    tokens: VecDeque<Token>,
+    of: PhantomData<C>,
+}
+
+impl<C: Crew> Model for Pool<C> {
+    ghost use Rattle.std.specs.Prelude.{List, All};
+    ghost use Rattle.vll_workers.specs.Shown.{TokenShown};
+    ghost use Rattle.vll_workers.specs.Tokens.{IsOf};
+
+    ghost Value = { List TokenShown };
+
+    ghost view = { λ p. p.tokens.items };
+
+    ghost invariant = { λ p. All (IsOf C.tokens) p.tokens.items };
+}
+
+impl<C: Crew> Pool<C> {
+    // A pool without tokens, and without room for any.
+    pub(crate) fn new(alloc: Global) -> Pool<C> {
+        Pool {
+            tokens: VecDeque::new(alloc),
+            of: PhantomData,
+        }
+    }
+
+    // These tokens come into the pool, which is as large as their list, in place of those that were there.
+    pub(crate) fn fill(&mut self, tokens: Vec<Token>)
+        requires { All (IsOf C.tokens) tokens.items }
+        ensures { self.new ≡ tokens.items }
+    {
+        self.tokens = VecDeque::from(tokens);
+    }
+
+    // Whether no token is here.
+    pub(crate) fn is_empty(&self) -> bool {
+        self.tokens.is_empty()
+    }
+
+    pub(crate) fn take(&mut self) -> Option<Token>
+        ensures { IfSome result (IsOf C.tokens) }
+    {
+        self.tokens.pop_front()
+    }
+
+    // Puts a token back. The pool has room for all tokens of the run, so one that finds it full stands in it twice:
+    // it is dropped, and the run misses it at its end.
+    pub(crate) fn put(&mut self, token: Token)
+        requires { IsOf C.tokens token }
+    {
+        if self.tokens.len() < self.tokens.capacity() {
+            self.tokens.push_back_reserved(token);
+        }
+    }
+}

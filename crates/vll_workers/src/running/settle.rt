@@ -1,0 +1,65 @@
+ghost use Rattle.std.specs.Prelude.{◌≡◌, All, IfOk, IfErr, IsTrue, IsFalse, IsPermutation, MatchBool};
+ghost use Rattle.std.specs.List.Sorted.{IsStrictlyIncreasing};
+ghost use Rattle.vll_workers.specs.Tokens.{AreBack, IsThrough, clients_of};
+ghost use Rattle.vll_workers.specs.declared.fault.RunFault.TheVariants as RunFault;
+
+use crate::crew::Crew;
+use crate::fault::{RunError, RunFault};
+use crate::kept::Kept;
+use crate::token::Token;
+
+// What came of a run whose tokens have these clients, in rising order.
+pub(super) fn settle<C: Crew>(kept: Kept<C>, clients: &[u32]) -> Result<Vec<Token>, RunError>
+    requires { IsPermutation (clients_of C.tokens) clients.now }
+    ensures ok { IfOk result (λ back. AreBack C.tokens back.items × All IsThrough back.items) }
+    ensures spent { IfErr result (λ e. e.fault ≡ RunFault.Spent → AreBack C.tokens e.tokens.items × (¬
+        All IsThrough e.tokens.items)) }
+    ensures not_begun { IfErr result (λ e. (¬ (e.fault ≡ RunFault.NoMemory)) × (¬ (e.fault ≡ RunFault.Spawn))) }
+{
+    let (mut tokens, lost) = kept.into_parts();
+    tokens.sort_unstable_by_key(|token| token.client());
+    if lost || !are_each_once(tokens.as_slice(), clients) {
+        return Err(RunError {
+            fault: RunFault::Lost,
+            tokens,
+        });
+    }
+    if !are_through(tokens.as_slice()) {
+        return Err(RunError {
+            fault: RunFault::Spent,
+            tokens,
+        });
+    }
+    Ok(tokens)
+}
+
+// Whether these tokens are of these clients, one of each, in rising order.
+fn are_each_once(tokens: &[Token], clients: &[u32]) -> bool
+    ensures clients { IsTrue result → clients_of tokens.now ≡ clients.now }
+    ensures rising { IsTrue result → IsStrictlyIncreasing clients.now }
+{
+    if tokens.len() != clients.len() {
+        return false;
+    }
+    for i in 0..tokens.len() {
+        if tokens[i].client() != clients[i] {
+            return false;
+        }
+        if i > 0 && clients[i - 1] >= clients[i] {
+            return false;
+        }
+    }
+    true
+}
+
+// Whether every call of each token has entered.
+fn are_through(tokens: &[Token]) -> bool
+    ensures { MatchBool result (All IsThrough tokens.now) (¬ All IsThrough tokens.now) }
+{
+    for token in tokens {
+        if token.next() as usize != token.script().len() {
+            return false;
+        }
+    }
+    true
+}

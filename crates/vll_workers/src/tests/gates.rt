@@ -1,0 +1,78 @@
+// Gates that watch which calls are executed.
+use crate::gate::Gate;
+use std::sync::atomic::{AtomicU64, Ordering};
+use vll_core::Ticket;
+
+// How long the first call waits for the second.
+const MOST_TURNS: u64 = 100_000_000;
+
+// Holds ticket 0 back until ticket 1 has its reply.
+#[derive(Drop)]
+pub(super) struct Meeting {
+    // How many turns ticket 0 has waited.
+    pub(super) turns: AtomicU64,
+    pub(super) has_begun: AtomicU64,
+    pub(super) has_met: AtomicU64,
+}
+
+impl Meeting {
+    pub(super) fn new() -> Meeting {
+        Meeting {
+            turns: AtomicU64::new(0),
+            has_begun: AtomicU64::new(0),
+            has_met: AtomicU64::new(0),
+        }
+    }
+}
+
+impl Gate for Meeting {
+    fn before(&self, ticket: Ticket) {
+        if ticket != Ticket(0) {
+            return;
+        }
+        self.has_begun.store(1, Ordering::SeqCst);
+        for turns in 0..MOST_TURNS {
+            if self.has_met.load(Ordering::SeqCst) == 1 {
+                self.turns.store(turns, Ordering::SeqCst);
+                return;
+            }
+        }
+        self.turns.store(MOST_TURNS, Ordering::SeqCst);
+    }
+
+    fn after(&self, ticket: Ticket) {
+        if ticket == Ticket(1) {
+            self.has_met.store(1, Ordering::SeqCst);
+        }
+    }
+}
+
+// Counts the calls, and adds up their tickets.
+#[derive(Drop)]
+pub(super) struct Tally {
+    pub(super) before: AtomicU64,
+    pub(super) after: AtomicU64,
+    pub(super) tickets: AtomicU64,
+}
+
+impl Tally {
+    pub(super) fn new() -> Tally {
+        Tally {
+            before: AtomicU64::new(0),
+            after: AtomicU64::new(0),
+            tickets: AtomicU64::new(0),
+        }
+    }
+}
+
+impl Gate for Tally {
+    fn before(&self, ticket: Ticket) {
+        self.before.fetch_add(1, Ordering::SeqCst);
+        self.tickets
+            .fetch_add(u64::from(ticket.0), Ordering::SeqCst);
+    }
+
+    fn after(&self, _ticket: Ticket) {
+        self.after.fetch_add(1, Ordering::SeqCst);
+    }
+}

@@ -1,0 +1,239 @@
+ghost use Rattle.std.specs.Prelude.{◌≡◌, ◌<◌, All};
+ghost use Rattle.vll_queue.specs.Shown.{named};
+
+use super::gates::{Meeting, Tally};
+use super::procedures::opening;
+use super::tokens::{all_bumping, are_home, bump_of, bumping, closes};
+use crate::fault::{RunError, RunFault};
+use crate::gate::OpenGate;
+use crate::running::run;
+use std::alloc::Global;
+use std::marker::Brand;
+use std::process::Abort;
+use std::sync::Wait;
+use std::sync::atomic::Ordering;
+use std::test::*;
+use std::thread::Threads;
+use vll_core::Ticket;
+use vll_queue::{Begun, Engine, Name, Opening, Pass, Session};
+use vll_sca::Placing;
+
+// 4 clients of 1,000 calls on one record, by 8 workers: each call finds what the one before it has left.
+fn counts<N: Name + Send + Sync, R: Wait + Threads + Abort + Sync>(
+    rt: &R,
+    alloc: Global,
+    opening: Opening<Placing>,
+) -> Result<(), Fail>
+    requires { opening ≡ named N.library N.records N.config N.clients }
+{
+    let (engine, sessions) = opening.start::<N>();
+    let tokens = all_bumping::<N>(rt, alloc, engine.library(), sessions, 1, 1_000)?;
+    match run(rt, rt, alloc, &engine, tokens, 8, &OpenGate) {
+        Ok(tokens) => are_home(rt, tokens.as_slice(), 4, 1_000),
+        Err(_) => panic!(rt; "the run has a fault"),
+    }
+    let mut outputs = Vec::with_capacity(alloc, 4_000)?;
+    for output in 1..=4_000u64 {
+        outputs.push(output)?;
+    }
+    closes(rt, alloc, engine, &[4_000], outputs.as_slice());
+    Ok(())
+}
+
+#[test]
+fn eight_workers_lose_no_bump(rt: HostRuntime) -> Result<(), Fail> {
+    let opening = opening(rt.alloc(), 1, 4_000, 4)?;
+    counts::<Brand, HostRuntime>(&rt, rt.alloc(), opening)
+}
+
+// The first call is held back until the second has its reply, so two threads are at work.
+fn meet<N: Name + Send + Sync, R: Wait + Threads + Abort + Sync>(
+    rt: &R,
+    alloc: Global,
+    opening: Opening<Placing>,
+) -> Result<(), Fail>
+    requires { opening ≡ named N.library N.records N.config N.clients }
+{
+    let (engine, sessions) = opening.start::<N>();
+    let tokens = all_bumping::<N>(rt, alloc, engine.library(), sessions, 2, 1)?;
+    let gate = Meeting::new();
+    match run(rt, rt, alloc, &engine, tokens, 2, &gate) {
+        Ok(tokens) => are_home(rt, tokens.as_slice(), 2, 1),
+        Err(_) => panic!(rt; "the run has a fault"),
+    }
+    assert_eq!(rt; gate.has_begun.load(Ordering::SeqCst), 1);
+    assert!(rt; gate.turns.load(Ordering::SeqCst) < 100_000_000);
+    closes(rt, alloc, engine, &[1, 1], &[1, 1]);
+    Ok(())
+}
+
+#[test]
+fn two_workers_execute_at_once(rt: HostRuntime) -> Result<(), Fail> {
+    let opening = opening(rt.alloc(), 2, 2, 2)?;
+    meet::<Brand, HostRuntime>(&rt, rt.alloc(), opening)
+}
+
+// An engine for one call, and a script of two.
+fn is_spent<N: Name + Send + Sync, R: Wait + Threads + Abort + Sync>(
+    rt: &R,
+    alloc: Global,
+    opening: Opening<Placing>,
+) -> Result<(), Fail>
+    requires { opening ≡ named N.library N.records N.config N.clients }
+{
+    let (engine, sessions) = opening.start::<N>();
+    let tokens = all_bumping::<N>(rt, alloc, engine.library(), sessions, 1, 2)?;
+    match run(rt, rt, alloc, &engine, tokens, 2, &OpenGate) {
+        Ok(_) => panic!(rt; "the run is well"),
+        Err(RunError { fault, tokens }) => {
+            assert_eq!(rt; fault, RunFault::Spent);
+            are_home(rt, tokens.as_slice(), 1, 1);
+        }
+    }
+    closes(rt, alloc, engine, &[1], &[1]);
+    Ok(())
+}
+
+#[test]
+fn spent_hands_the_token_back(rt: HostRuntime) -> Result<(), Fail> {
+    let opening = opening(rt.alloc(), 1, 1, 1)?;
+    is_spent::<Brand, HostRuntime>(&rt, rt.alloc(), opening)
+}
+
+// Without tokens there is nothing to do, and no thread is started.
+fn has_none<N: Name + Send + Sync, R: Wait + Threads + Abort + Sync>(
+    rt: &R,
+    alloc: Global,
+    opening: Opening<Placing>,
+)
+    requires { opening ≡ named N.library N.records N.config N.clients }
+{
+    let (engine, _) = opening.start::<N>();
+    match run(rt, rt, alloc, &engine, Vec::new(alloc), 8, &OpenGate) {
+        Ok(tokens) => assert!(rt; tokens.is_empty()),
+        Err(_) => panic!(rt; "the run has a fault"),
+    }
+    closes(rt, alloc, engine, &[0], &[]);
+}
+
+#[test]
+fn no_tokens_is_well(rt: HostRuntime) -> Result<(), Fail> {
+    let opening = opening(rt.alloc(), 1, 1, 0)?;
+    has_none::<Brand, HostRuntime>(&rt, rt.alloc(), opening);
+    Ok(())
+}
+
+// The bump of a record begins free.
+fn begins<N: Name, R: Wait + Abort>(
+    rt: &R,
+    engine: &Engine<N, Placing>,
+    session: &mut Session,
+    record: u64,
+) -> Pass
+    requires { session.old.client < N.clients }
+    ensures { session.new ≡ session.old }
+{
+    let call = bump_of(rt, engine.library(), record);
+    match engine.begin(rt, session, call) {
+        Begun::Free(pass) => pass,
+        Begun::Blocked(_) => panic!(rt; "the call is blocked"),
+        Begun::Refused(_) => panic!(rt; "the call is refused"),
+    }
+}
+
+// The bump of a record begins blocked.
+fn waits<N: Name, R: Wait + Abort>(
+    rt: &R,
+    engine: &Engine<N, Placing>,
+    session: &mut Session,
+    record: u64,
+)
+    requires { session.old.client < N.clients }
+    ensures { session.new ≡ session.old }
+{
+    let call = bump_of(rt, engine.library(), record);
+    match engine.begin(rt, session, call) {
+        Begun::Free(pass) => {
+            ends(rt, engine, pass);
+            panic!(rt; "the call is free")
+        }
+        Begun::Blocked(_) => {}
+        Begun::Refused(_) => panic!(rt; "the call is refused"),
+    }
+}
+
+// A pass is spent to its end.
+fn ends<N: Name, R: Wait + Abort>(rt: &R, engine: &Engine<N, Placing>, pass: Pass) {
+    match engine.execute(rt, pass) {
+        Ok(done) => match engine.finish(rt, engine.release(done)) {
+            Ok(_) => {}
+            Err(_) => panic!(rt; "the pass is lost"),
+        },
+        Err(_) => panic!(rt; "the pass is lost"),
+    }
+}
+
+// The last session of a list.
+fn last_of<N: Name>(rt: &impl Abort, sessions: &mut Vec<Session>) -> Session
+    requires { All (λ s. s.client < N.clients) sessions.old.items }
+    ensures session { result.client < N.clients }
+    ensures others { All (λ s. s.client < N.clients) sessions.new.items }
+{
+    match sessions.pop() {
+        Some(session) => session,
+        None => panic!(rt; "there is no session"),
+    }
+}
+
+// The front runs and stays so, and behind it waits a call that only the scan finds: the run brings that one to its
+// reply, and leaves the pass that is kept.
+fn leaves_a_kept_pass<N: Name + Send + Sync, R: Wait + Threads + Abort + Sync>(
+    rt: &R,
+    alloc: Global,
+    opening: Opening<Placing>,
+) -> Result<(), Fail>
+    requires { opening ≡ named N.library N.records N.config N.clients }
+{
+    let (engine, mut sessions) = opening.start::<N>();
+    let idle = last_of::<N>(rt, &mut sessions);
+    let mut second = last_of::<N>(rt, &mut sessions);
+    let mut first = last_of::<N>(rt, &mut sessions);
+    let kept = begins(rt, &engine, &mut first, 0);
+    let other = begins(rt, &engine, &mut second, 1);
+    waits(rt, &engine, &mut second, 1);
+    ends(rt, &engine, other);
+    let ran = runs_the_waiting_call(rt, alloc, &engine, idle);
+    let found = engine.reply(rt, &mut second, Ticket(2));
+    ends(rt, &engine, kept);
+    assert!(rt; found.is_some());
+    closes(rt, alloc, engine, &[1, 2], &[1, 1, 2]);
+    ran
+}
+
+// One worker, with a token of no calls, brings ticket 2 to its reply and nothing else.
+fn runs_the_waiting_call<N: Name + Send + Sync, R: Wait + Threads + Abort + Sync>(
+    rt: &R,
+    alloc: Global,
+    engine: &Engine<N, Placing>,
+    session: Session,
+) -> Result<(), Fail>
+    requires { session.client < N.clients }
+{
+    let gate = Tally::new();
+    let mut tokens = Vec::new(alloc);
+    tokens.push(bumping::<N>(rt, alloc, engine.library(), session, 0, 0)?)?;
+    match run(rt, rt, alloc, engine, tokens, 1, &gate) {
+        Ok(tokens) => assert_eq!(rt; tokens.len(), 1),
+        Err(_) => panic!(rt; "the run has a fault"),
+    }
+    assert_eq!(rt; gate.before.load(Ordering::SeqCst), 1);
+    assert_eq!(rt; gate.after.load(Ordering::SeqCst), 1);
+    assert_eq!(rt; gate.tickets.load(Ordering::SeqCst), 2);
+    Ok(())
+}
+
+#[test]
+fn run_leaves_a_pass_that_is_kept(rt: HostRuntime) -> Result<(), Fail> {
+    let opening = opening(rt.alloc(), 2, 3, 3)?;
+    leaves_a_kept_pass::<Brand, HostRuntime>(&rt, rt.alloc(), opening)
+}

@@ -1,0 +1,122 @@
+// Tokens over bump, and what comes of them.
+ghost use Rattle.std.specs.Prelude.{◌≡◌, ◌<◌, ◌^◌, All, IfOk, length};
+ghost use Rattle.vll_check.specs.Calls.{Fits};
+ghost use Rattle.vll_workers.specs.Tokens.{AreFit};
+
+use crate::token::Token;
+use std::alloc::Global;
+use std::process::Abort;
+use std::test::*;
+use vll_check::Library;
+use vll_core::Line;
+use vll_proc::{Call, Reply};
+use vll_queue::{Engine, Name, Session};
+use vll_sca::Placing;
+
+// The bump of a record.
+pub(super) fn bump_of(rt: &impl Abort, library: &Library, record: u64) -> Call
+    ensures { Fits library.now result }
+{
+    match library.call("bump", &[record]) {
+        Ok(call) => call,
+        Err(_) => panic!(rt; "there is no bump of record {record}"),
+    }
+}
+
+// A script of so many bumps of a record.
+fn script(
+    rt: &impl Abort,
+    alloc: Global,
+    library: &Library,
+    record: u64,
+    times: u32,
+) -> Result<Vec<Call>, Fail>
+    ensures fits { IfOk result (λ s. All (Fits library.now) s.items) }
+    ensures few { IfOk result (λ s. length s.items < 2 ^ 32) }
+{
+    let mut script = Vec::with_capacity(alloc, times as usize)?;
+    for _ in 0..times {
+        script.push_reserved(bump_of(rt, library, record));
+    }
+    Ok(script)
+}
+
+// A token of so many bumps of a record.
+pub(super) fn bumping<N: Name>(
+    rt: &impl Abort,
+    alloc: Global,
+    library: &Library,
+    session: Session,
+    record: u64,
+    times: u32,
+) -> Result<Token, Fail>
+    requires library { library.now ≡ N.library }
+    requires client { session.client < N.clients }
+    ensures { IfOk result (λ t. (t.client < N.clients) × All (Fits N.library) t.script) }
+{
+    let script = script(rt, alloc, library, record, times)?;
+    Ok(Token::new(session.client(), session, script))
+}
+
+// A token for each session, of so many bumps of the record with its client's number, where there are so many.
+pub(super) fn all_bumping<N: Name>(
+    rt: &impl Abort,
+    alloc: Global,
+    library: &Library,
+    sessions: Vec<Session>,
+    records: u32,
+    times: u32,
+) -> Result<Vec<Token>, Fail>
+    requires library { library.now ≡ N.library }
+    requires clients { All (λ s. s.client < N.clients) sessions.items }
+    requires records { 0 < records }
+    ensures { IfOk result (λ t. AreFit N.library N.clients t.items) }
+{
+    let mut sessions = sessions;
+    let mut tokens = Vec::new(alloc);
+    while let Some(session) = sessions.pop() {
+        let record = u64::from(session.client() % records);
+        tokens.push(bumping::<N>(rt, alloc, library, session, record, times)?)?;
+    }
+    Ok(tokens)
+}
+
+// The tokens are of clients 0, 1 and so on, and so many calls of each have entered.
+pub(super) fn are_home(rt: &impl Abort, tokens: &[Token], clients: usize, next: u32) {
+    assert_eq!(rt; tokens.len(), clients);
+    for (client, token) in tokens.iter().enumerate() {
+        assert_eq!(rt; token.client() as usize, client);
+        assert_eq!(rt; token.next(), next);
+    }
+}
+
+// The output of a committed call that has one.
+pub(super) fn output_of(line: &Line) -> Option<u64> {
+    match &line.reply {
+        Some(Reply::Committed(outputs)) if outputs.len() == 1 => outputs.get(0),
+        _ => None,
+    }
+}
+
+// The engine closes with these records, no open claim, and these outputs in order of entry.
+pub(super) fn closes<N: Name>(
+    rt: &impl Abort,
+    alloc: Global,
+    engine: Engine<N, Placing>,
+    records: &[u64],
+    outputs: &[u64],
+) {
+    match engine.close(Vec::new(alloc)) {
+        Ok(closed) => {
+            assert_eq!(rt; closed.records.as_slice(), records);
+            for pair in closed.pairs.as_slice() {
+                assert_eq!(rt; *pair, 0);
+            }
+            assert_eq!(rt; closed.journal.len(), outputs.len());
+            for (line, output) in closed.journal.as_slice().iter().zip(outputs) {
+                assert_eq!(rt; output_of(line), Some(*output));
+            }
+        }
+        Err(_) => panic!(rt; "calls are left"),
+    }
+}

@@ -1,0 +1,104 @@
+ghost use Rattle.std.specs.Prelude.{◌≡◌, ◌<◌, ◌==◌, ◌^◌, All, IfSome, IfNone, Some, length, slice_get};
+ghost use Rattle.vll_check.specs.Calls.{Fits};
+ghost use Rattle.vll_workers.specs.Shown.{token};
+ghost use Rattle.vll_workers.specs.Begin.{begun_token};
+ghost use Rattle.vll_workers.specs.Tokens.{IsThrough};
+
+use std::marker::Model;
+use std::sync::Wait;
+use vll_proc::Call;
+use vll_queue::{Begun, Engine, Name, Session};
+use vll_sca::Place;
+
+/// A client's turn in a run: its session, its script, and how many calls of the script have entered. Whoever holds
+/// it enters the client's calls, so they enter one after the other.
+#[derive(Drop)]
+pub struct Token {
+    client: u32,
+    script: Vec<Call>,
+    next: u32,
+    session: Session,
+}
+
+impl Model for Token {
+    ghost use Rattle.std.specs.Prelude.{◌≡◌, ◌≤◌, ◌<◌, ◌^◌, length};
+    ghost use Rattle.vll_workers.specs.Shown.{TokenShown};
+
+    ghost Value = { TokenShown };
+
+    ghost view = { λ t. record { client = t.client; script = t.script.items; next = t.next } };
+
+    ghost invariant = { λ t. (t.session.client ≡ t.client) × (t.next ≤ length t.script.items) × (length
+        t.script.items < 2 ^ 32) };
+}
+
+impl Token {
+    /// A token of which no call has entered. The session is the client's, and the script has fewer than 2^32 calls.
+    pub fn new(client: u32, session: Session, script: Vec<Call>) -> Token
+        requires session { session.client ≡ client }
+        requires few { length script.items < 2 ^ 32 }
+        ensures { result ≡ token client script.items 0 }
+    {
+        Token {
+            client,
+            script,
+            next: 0,
+            session,
+        }
+    }
+
+    /// Whose token it is.
+    pub fn client(&self) -> u32
+        ensures { result ≡ self.now.client }
+    {
+        self.client
+    }
+
+    /// The client's calls, in order.
+    pub fn script(&self) -> &[Call]
+        ensures { result.now ≡ self.now.script }
+    {
+        self.script.as_slice()
+    }
+
+    /// How many calls of the script have entered, which is the index of the next one.
+    pub fn next(&self) -> u32
+        ensures { result ≡ self.now.next }
+    {
+        self.next
+    }
+
+    /// The client's session.
+    pub fn into_session(self) -> Session
+        ensures { result.client ≡ self.client }
+    {
+        self.session
+    }
+
+    // The next call, where one is left.
+    pub(crate) fn next_call(&self) -> Option<Call>
+        ensures call { result ≡ slice_get self.now.script self.now.next }
+        ensures through { IfNone result (IsThrough self.now) }
+    {
+        self.script.get(self.next as usize).copied()
+    }
+
+    // The next call begins, and counts as entered unless it is refused.
+    pub(crate) fn begin<N: Name, H: Place + Send + Drop>(
+        &mut self,
+        wait: &impl Wait,
+        engine: &Engine<N, H>,
+        call: Call,
+    ) -> Begun
+        requires client { self.old.client < N.clients }
+        requires fits { Fits N.library call }
+        requires call { slice_get self.old.script self.old.next ≡ Some call }
+        ensures { self.new ≡ begun_token self.old result }
+    {
+        let begun = engine.begin(wait, &mut self.session, call);
+        if !matches!(&begun, Begun::Refused(_)) {
+            self.next += 1;
+        }
+        begun
+    }
+}
