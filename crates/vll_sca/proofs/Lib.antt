@@ -1,3 +1,4 @@
 pub mod Scanning
 pub mod Steps
 pub mod Rows
+pub mod Words

@@ -1,3 +1,4 @@
+pub mod Marks
 pub mod Status
 pub mod Placing
 pub mod Scan

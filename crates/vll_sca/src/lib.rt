@@ -4,6 +4,7 @@
 mod bits;
 mod entry;
 mod laws;
+mod marks;
 mod pairs;
 mod place;
 mod status;
