@@ -2,3 +2,5 @@ pub mod Scanning
 pub mod Steps
 pub mod Rows
 pub mod Words
+pub mod Meeting
+pub mod Finding

@@ -1,5 +1,6 @@
-pub mod Marks
 pub mod Status
 pub mod Placing
 pub mod Scan
 pub mod Laws
+pub mod Marks
+pub mod ClaimMarks

@@ -1,4 +1,4 @@
--- Marks on places: the bits of words, and what claims make of them.
+-- The bits of words, as marks on places.
 use Rattle.std.specs.Prelude.{ℕ, ◌*◌, ◌/◌, ◌%◌, Bool, List, length, map, ◌==◌, slice_index}
 use Rattle.std.specs.List.{range_with_len}
 use Rattle.std.specs.Int.{bit_at}

@@ -2,6 +2,7 @@
 #![tactic(auto)]
 
 mod bits;
+mod claim_marks;
 mod entry;
 mod laws;
 mod marks;
