@@ -1,5 +1,5 @@
 -- The first entry that may run, as a loop over the entries comes to know it by the marks.
-use Rattle.std.proofs.Common.{◌≡◌, ℕ, ◌+◌, ◌<◌, ◌≤◌, Bool, true, false, not, ◌&&◌, List, [], length, map, take, get_or, Some, None, position, refl, sym, ap, ◌∙◌, zero-add, subst, arith, lt-ltb, le-ltb, inl, inr}
+use Rattle.std.proofs.Common.{◌≡◌, ℕ, ◌+◌, ◌<◌, ◌≤◌, Bool, true, false, not, ◌&&◌, List, [], length, map, take, get_or, Option, Some, None, unwrap_or, refl, sym, ap, ◌∙◌, zero-add, subst, arith, lt-ltb, le-ltb, inl, inr}
 use Rattle.std.specs.List.{list_any, enumerate_from, position_or_len}
 use Rattle.std.proofs.lemmas.Bool.{and_from, and_left, and_right, cases_eq, cond-true, cond-false}
 use Rattle.std.proofs.lemmas.List.{get_or_default}
@@ -13,6 +13,7 @@ use Rattle.vll_sca.specs.Status.{is_waiting, is_gone}
 use Rattle.vll_sca.specs.Scan.{hashed, holds_back, may_run, scan}
 use Rattle.vll_sca.specs.ClaimMarks.{HasRoom, IsClear, meets, with_claims, claims_left}
 use Rattle.vll_sca.proofs.Meeting.{meets_is_held}
+use Rattle.vll_sca.proofs.Scanning.{scanned_within}
 
 -- ---- what the arms of a match on the status say
 
@@ -83,3 +84,8 @@ module _ (place : ℕ → ℕ) (bits : ℕ) (entries : List Entry) where
 
   pub does_not_wait : (i : ℕ) (e : Entry) → is_waiting e.status ≡ false → may_run place bits entries (i, e) ≡ false
   does_not_wait i e other = and_left (is_waiting e.status) _ other
+
+  -- what a scan passes is within the entries
+  pub passed_within : (found : Option ℕ) → found ≡ scan place bits entries → unwrap_or found (length entries) ≤ length entries
+  passed_within None is = omega arith
+  passed_within (Some i) is = let below : i < length entries = scanned_within place bits entries i (sym is) in omega arith

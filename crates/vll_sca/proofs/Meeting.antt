@@ -230,18 +230,27 @@ take_past_suc (x ∷ xs) (suc i) past = ap (λ ys. x ∷ ys) (take_past_suc xs i
 take_past : {X : Type 0} (xs : List X) (i : ℕ) → None ≡ slice_get xs i → take (i + 1) xs ≡ take i xs
 take_past xs i past = subst (λ n. take n xs ≡ take i xs) (let e : suc i ≡ i + 1 = omega arith in e) (take_past_suc xs i past)
 
-module _ (b : Bool) (h : Claim → Claim) (cs : List Claim) (i : ℕ) (before m : ClaimMarks) where
+module _ (b : Bool) (h : Claim → Claim) (cs : List Claim) (i : ℕ) (before m new : ClaimMarks) (n : ℕ) where
   -- the marks after one more claim
-  pub with_claims-next : (c : Claim) → Some c ≡ slice_get cs i → m ≡ with_claims b (map h (take i cs)) before
-      → with_claims b (h c ∷ []) m ≡ with_claims b (map h (take (i + 1) cs)) before
-  with_claims-next c here so_far =
-      ap (with_claims b (h c ∷ [])) so_far
-      ∙ sym (ap (λ ds. with_claims b ds before) (ap (map h) (take_next cs i c here) ∙ map-append h (take i cs) (c ∷ []))
-      ∙ with_claims-append b (map h (take i cs)) (h c ∷ []) before)
+  pub record ClaimMarked : Type 0 where
+    pub so_far : new ≡ with_claims b (map h (take (i + 1) cs)) before
+    pub room : HasRoom n new
+
+  pub claim_is_marked : (c : Claim) → Some c ≡ slice_get cs i → m ≡ with_claims b (map h (take i cs)) before → HasRoom n m
+      → new ≡ with_claims b (h c ∷ []) m → ClaimMarked
+  claim_is_marked c here so_far room marked = record {
+    so_far = marked ∙ ap (with_claims b (h c ∷ [])) so_far
+        ∙ sym (ap (λ ds. with_claims b ds before) (ap (map h) (take_next cs i c here) ∙ map-append h (take i cs) (c ∷ []))
+        ∙ with_claims-append b (map h (take i cs)) (h c ∷ []) before);
+    room = subst (HasRoom n) (sym marked) (HasRoom-with_claims b (h c ∷ []) n m room);
+  }
 
   -- there is no claim more
-  pub with_claims-past : None ≡ slice_get cs i → m ≡ with_claims b (map h (take i cs)) before → m ≡ with_claims b (map h (take (i + 1) cs)) before
-  with_claims-past past so_far = so_far ∙ sym (ap (λ ds. with_claims b (map h ds) before) (take_past cs i past))
+  pub no_claim_is_left : None ≡ slice_get cs i → m ≡ with_claims b (map h (take i cs)) before → HasRoom n m → new ≡ m → ClaimMarked
+  no_claim_is_left past so_far room same = record {
+    so_far = same ∙ so_far ∙ sym (ap (λ ds. with_claims b (map h ds) before) (take_past cs i past));
+    room = subst (HasRoom n) (sym same) room;
+  }
 
 module _ (es : List Entry) (i : ℕ) (e : Entry) where
   next_left : i < length es → e ≡ get_or es i e → claims_left (take (i + 1) es) ≡ claims_left (take i es) ++ (cond (is_gone e.status) [] e.claims ++ [])

@@ -4,3 +4,4 @@ pub mod Scan
 pub mod Laws
 pub mod Marks
 pub mod ClaimMarks
+pub mod Bits

@@ -33,7 +33,12 @@ impl ClaimMarks {
 
     /// The first waiting entry that meets no mark of an earlier one. Each entry that is passed and runs or waits is
     /// marked after its own test, so that it meets the entries after it and not itself.
-    pub(crate) fn first_clear<H: Place>(&mut self, hash: &H, bits: u32, entries: &[Entry]) -> Option<usize>
+    pub(crate) fn first_clear<H: Place>(
+        &mut self,
+        hash: &H,
+        bits: u32,
+        entries: &[Entry],
+    ) -> Option<usize>
         requires bits { 1 ≤ bits }
         requires room { HasRoom bits self.old }
         requires clear { IsClear self.old }

@@ -6,7 +6,6 @@ mod claim_marks;
 mod entry;
 mod laws;
 mod marks;
-mod pairs;
 mod place;
 mod status;
 
