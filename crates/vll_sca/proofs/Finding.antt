@@ -1,34 +1,18 @@
 -- The first entry that may run, as a loop over the entries comes to know it by the marks.
-use Rattle.std.proofs.Common.{◌≡◌, ℕ, ◌+◌, ◌<◌, ◌≤◌, Bool, true, false, not, ◌&&◌, List, [], length, map, take, get_or, Option, Some, None, unwrap_or, refl, sym, ap, ◌∙◌, zero-add, subst, arith, lt-ltb, le-ltb, inl, inr}
+use Rattle.std.proofs.Common.{◌≡◌, ℕ, ◌+◌, ◌<◌, ◌≤◌, Bool, true, false, not, ◌&&◌, List, [], length, map, take, get_or, Option, Some, None, unwrap_or, sym, ap, ◌∙◌, zero-add, arith, lt-ltb, le-ltb, inl, inr}
 use Rattle.std.specs.List.{list_any, enumerate_from, position_or_len}
-use Rattle.std.proofs.lemmas.Bool.{and_from, and_left, and_right, cases_eq, cond-true, cond-false}
+use Rattle.std.proofs.lemmas.Bool.{cases_eq, cond-true, cond-false}
 use Rattle.std.proofs.lemmas.List.{get_or_default}
 use Rattle.std.proofs.lemmas.List.FromFn.{length-enumerate_from, get_or-enumerate_from}
 use Rattle.std.proofs.lemmas.List.Sums.{position_or_len_is}
 use Rattle.vll_sca.specs.declared.entry.Entry.{Entry}
 use Rattle.vll_sca.specs.declared.claim_marks.ClaimMarks.{ClaimMarks}
-use Rattle.vll_sca.specs.declared.status.Status.{Status}
-use Rattle.vll_sca.specs.declared.status.Status.TheVariants.{Running, Waiting, Gone}
-use Rattle.vll_sca.specs.Status.{is_waiting, is_gone}
-use Rattle.vll_sca.specs.Scan.{hashed, holds_back, may_run, scan}
+use Rattle.vll_sca.specs.declared.status.Status.TheVariants.{Gone}
+use Rattle.vll_sca.specs.Status.{is_waiting}
+use Rattle.vll_sca.specs.Scan.{hashed, may_run, scan}
 use Rattle.vll_sca.specs.ClaimMarks.{HasRoom, IsClear, meets, with_claims, claims_left}
 use Rattle.vll_sca.proofs.Meeting.{meets_is_held}
 use Rattle.vll_sca.proofs.Scanning.{scanned_within}
-
--- ---- what the arms of a match on the status say
-
-pub gone_is_gone : (s : Status) → s ≡ Gone → is_gone s ≡ true
-gone_is_gone s e = ap is_gone e
-
-pub left_is_not_gone : (s : Status) → (s ≡ Gone → ⊥) → is_gone s ≡ false
-left_is_not_gone Running other = refl
-left_is_not_gone Waiting other = refl
-left_is_not_gone Gone other = absurd (other refl)
-
-pub other_does_not_wait : (s : Status) → (s ≡ Waiting → ⊥) → is_waiting s ≡ false
-other_does_not_wait Running other = refl
-other_does_not_wait Waiting other = absurd (other refl)
-other_does_not_wait Gone other = refl
 
 module _ (place : ℕ → ℕ) (bits : ℕ) (entries : List Entry) where
   -- none of the first i entries may run
@@ -67,23 +51,13 @@ module _ (place : ℕ → ℕ) (bits : ℕ) (entries : List Entry) where
         | inr other ↦ none k d (omega arith)
       ]
 
-  -- what an entry's claims meet is what holds it back
-  pub met_is_held : (i : ℕ) (e : Entry) (before m : ClaimMarks) (met : Bool) → 1 ≤ bits → IsClear before → HasRoom bits before
+  -- an entry that waits, and whose claims meet no mark of the entries before it, may run; and no other
+  pub clear_may_run : (i : ℕ) (e : Entry) (before m : ClaimMarks) (clear : Bool) → 1 ≤ bits → IsClear before → HasRoom bits before
       → m ≡ with_claims true (map (hashed place bits) (claims_left (take i entries))) before
-      → met ≡ list_any (meets m) (map (hashed place bits) e.claims) → met ≡ list_any (λ d. holds_back place bits d e) (take i entries)
-  met_is_held i e before m met some clear room so_far is =
-      is ∙ ap (λ n. list_any (meets n) (map (hashed place bits) e.claims)) so_far ∙ meets_is_held place bits (take i entries) e before some clear room
-
-  pub runs : (i : ℕ) (e : Entry) (met : Bool) → e.status ≡ Waiting → met ≡ list_any (λ d. holds_back place bits d e) (take i entries) → met ≡ false
-      → may_run place bits entries (i, e) ≡ true
-  runs i e met waits is free = and_from (is_waiting e.status) _ (ap is_waiting waits) (ap not (sym is ∙ free))
-
-  pub held_back : (i : ℕ) (e : Entry) (met : Bool) → met ≡ list_any (λ d. holds_back place bits d e) (take i entries) → met ≡ true
-      → may_run place bits entries (i, e) ≡ false
-  held_back i e met is meets = and_right (is_waiting e.status) _ (ap not (sym is ∙ meets))
-
-  pub does_not_wait : (i : ℕ) (e : Entry) → is_waiting e.status ≡ false → may_run place bits entries (i, e) ≡ false
-  does_not_wait i e other = and_left (is_waiting e.status) _ other
+      → clear ≡ (is_waiting e.status && not (list_any (meets m) (map (hashed place bits) e.claims))) → clear ≡ may_run place bits entries (i, e)
+  clear_may_run i e before m clear some none_marked room so_far is =
+      is ∙ ap (λ met. is_waiting e.status && not met)
+      (ap (λ n. list_any (meets n) (map (hashed place bits) e.claims)) so_far ∙ meets_is_held place bits (take i entries) e before some none_marked room)
 
   -- what a scan passes is within the entries
   pub passed_within : (found : Option ℕ) → found ≡ scan place bits entries → unwrap_or found (length entries) ≤ length entries

@@ -1,6 +1,6 @@
 -- What an entry's claims meet among the marks of the entries before it is what holds it back; and marks that are
 -- taken back are gone.
-use Rattle.std.proofs.Common.{◌≡◌, ℕ, zero, suc, ◌+◌, ◌<◌, ◌≤◌, ◌%◌, Bool, true, false, not, cond, ◌&&◌, ◌||◌, ◌==◌, List, [], ◌∷◌, ◌++◌, length, map, take, get_or, set, slice_get, Some, None, refl, sym, ap, ap₂, ◌∙◌, subst, arith, length-set, get_or-set_same, get_or-set_other, eq-eqb, ne_eqb, inl, inr}
+use Rattle.std.proofs.Common.{◌≡◌, ℕ, zero, suc, ◌+◌, ◌<◌, ◌≤◌, Bool, true, false, not, cond, ◌&&◌, ◌||◌, ◌==◌, List, [], ◌∷◌, ◌++◌, length, map, take, get_or, set, slice_get, Some, None, refl, sym, ap, ap₂, ◌∙◌, subst, arith, length-set, get_or-set_same, get_or-set_other, eq-eqb, ne_eqb, inl, inr}
 use Rattle.std.specs.Prelude.{All}
 use Rattle.std.specs.List.{list_any, filter}
 use Rattle.std.proofs.lemmas.Bool.{cases_eq}
@@ -14,7 +14,7 @@ use Rattle.vll_record.specs.Claim.{is_write, conflicts, conflict}
 use Rattle.vll_sca.specs.declared.entry.Entry.{Entry}
 use Rattle.vll_sca.specs.declared.claim_marks.ClaimMarks.{ClaimMarks}
 use Rattle.vll_sca.specs.Status.{is_gone}
-use Rattle.vll_sca.specs.Scan.{hashed, hash_conflict, holds_back}
+use Rattle.vll_sca.specs.Scan.{hashed, holds_back}
 use Rattle.vll_sca.specs.ClaimMarks.{HasRoom, IsClear, meets, with_bits, written, read, with_claims, claims_left}
 
 -- ---- one of a list passes a test
@@ -252,19 +252,12 @@ module _ (b : Bool) (h : Claim → Claim) (cs : List Claim) (i : ℕ) (before m 
     room = subst (HasRoom n) (sym same) room;
   }
 
-module _ (es : List Entry) (i : ℕ) (e : Entry) where
-  next_left : i < length es → e ≡ get_or es i e → claims_left (take (i + 1) es) ≡ claims_left (take i es) ++ (cond (is_gone e.status) [] e.claims ++ [])
-  next_left within here =
-      ap claims_left (take_more es i e within ∙ ap (λ d. take i es ++ d ∷ []) (sym here)) ∙ claims_left-append (take i es) (e ∷ [])
+-- an entry that is not gone has its claims, and one that is gone has none
+pub claims_left-one : (e : Entry) → is_gone e.status ≡ false → claims_left (e ∷ []) ≡ e.claims
+claims_left-one e left = ap (λ gone. cond gone [] e.claims ++ []) left ∙ append-nil e.claims
 
-  -- an entry that is not gone adds its claims, and one that is gone adds none
-  pub claims_left-next : i < length es → e ≡ get_or es i e → is_gone e.status ≡ false → claims_left (take (i + 1) es) ≡ claims_left (take i es) ++ e.claims
-  claims_left-next within here left =
-      next_left within here ∙ ap (λ gone. claims_left (take i es) ++ (cond gone [] e.claims ++ [])) left ∙ ap (λ cs. claims_left (take i es) ++ cs) (append-nil e.claims)
-
-  pub claims_left-gone : i < length es → e ≡ get_or es i e → is_gone e.status ≡ true → claims_left (take (i + 1) es) ≡ claims_left (take i es)
-  claims_left-gone within here gone =
-      next_left within here ∙ ap (λ b. claims_left (take i es) ++ (cond b [] e.claims ++ [])) gone ∙ append-nil (claims_left (take i es))
+pub claims_left-gone : (e : Entry) → is_gone e.status ≡ true → claims_left (e ∷ []) ≡ []
+claims_left-gone e gone = ap (λ b. cond b [] e.claims ++ []) gone
 
 module _ (b : Bool) (h : Claim → Claim) (es : List Entry) (i : ℕ) (e : Entry) (before m new : ClaimMarks) (n : ℕ) where
   -- the marks after one more entry
@@ -272,18 +265,14 @@ module _ (b : Bool) (h : Claim → Claim) (es : List Entry) (i : ℕ) (e : Entry
     pub so_far : new ≡ with_claims b (map h (claims_left (take (i + 1) es))) before
     pub room : HasRoom n new
 
-  pub left_is_marked : i < length es → e ≡ get_or es i e → is_gone e.status ≡ false → m ≡ with_claims b (map h (claims_left (take i es))) before → HasRoom n m
-      → new ≡ with_claims b (map h e.claims) m → EntryMarked
-  left_is_marked within here left so_far room marked = record {
-    so_far = marked ∙ ap (with_claims b (map h e.claims)) so_far
-        ∙ sym (ap (λ ds. with_claims b ds before) (ap (map h) (claims_left-next es i e within here left) ∙ map-append h (claims_left (take i es)) e.claims)
-        ∙ with_claims-append b (map h (claims_left (take i es))) (map h e.claims) before);
-    room = subst (HasRoom n) (sym marked) (HasRoom-with_claims b (map h e.claims) n m room);
-  }
-
-  pub gone_is_not : i < length es → e ≡ get_or es i e → is_gone e.status ≡ true → m ≡ with_claims b (map h (claims_left (take i es))) before → HasRoom n m
-      → new ≡ m → EntryMarked
-  gone_is_not within here gone so_far room same = record {
-    so_far = same ∙ so_far ∙ sym (ap (λ ds. with_claims b (map h ds) before) (claims_left-gone es i e within here gone));
-    room = subst (HasRoom n) (sym same) room;
-  }
+  pub entry_is_marked : i < length es → e ≡ get_or es i e → m ≡ with_claims b (map h (claims_left (take i es))) before → HasRoom n m
+      → new ≡ with_claims b (map h (claims_left (e ∷ []))) m → EntryMarked
+  entry_is_marked within here so_far room marked =
+      let more : claims_left (take (i + 1) es) ≡ claims_left (take i es) ++ claims_left (e ∷ []) =
+      ap claims_left (take_more es i e within ∙ ap (λ d. take i es ++ d ∷ []) (sym here)) ∙ claims_left-append (take i es) (e ∷ []) in
+      record {
+        so_far = marked ∙ ap (with_claims b (map h (claims_left (e ∷ [])))) so_far
+            ∙ sym (ap (λ ds. with_claims b ds before) (ap (map h) more ∙ map-append h (claims_left (take i es)) (claims_left (e ∷ [])))
+            ∙ with_claims-append b (map h (claims_left (take i es))) (map h (claims_left (e ∷ []))) before);
+        room = subst (HasRoom n) (sym marked) (HasRoom-with_claims b (map h (claims_left (e ∷ []))) n m room);
+      }

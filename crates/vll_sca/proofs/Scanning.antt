@@ -68,7 +68,7 @@ moved_by_none : (o : Option ℕ) → o ≡ option_map (λ i. 0 + i) o
 moved_by_none None = refl
 moved_by_none (Some i) = ap Some (sym (zero-add i))
 
-pub not_waiting : (s : Status) → is_gone s ≡ true → is_waiting s ≡ false
+not_waiting : (s : Status) → is_gone s ≡ true → is_waiting s ≡ false
 not_waiting Running h = absurd (true≢false (sym h))
 not_waiting Waiting h = absurd (true≢false (sym h))
 not_waiting Gone h = refl

@@ -1,5 +1,5 @@
 -- The room for scans between one scan and the next.
-use Rattle.std.specs.Prelude.{ℕ, ◌≤◌}
+use Rattle.std.specs.Prelude.{◌≤◌}
 use Rattle.vll_sca.specs.declared.bits.TheConstants.{MOST_BITS}
 use Rattle.vll_sca.specs.declared.bits.Bits.TheInside.{Inside}
 use Rattle.vll_sca.specs.ClaimMarks.{HasRoom, IsClear}

@@ -1,5 +1,6 @@
-ghost use Rattle.std.specs.Prelude.{◌≡◌, ◌<◌, ◌≤◌, ◌%◌, false, true, [], ◌∷◌, length, map, IfOk};
+ghost use Rattle.std.specs.Prelude.{◌≡◌, ◌<◌, ◌≤◌, ◌&&◌, not, false, true, [], ◌∷◌, length, map, IfOk};
 ghost use Rattle.std.specs.List.{list_any};
+ghost use Rattle.vll_sca.specs.Status.{is_waiting};
 ghost use Rattle.vll_sca.specs.Scan.{hashed, scan};
 ghost use Rattle.vll_sca.specs.ClaimMarks.{HasRoom, IsClear, meets, with_claims, claims_left, passed};
 
@@ -31,8 +32,8 @@ impl ClaimMarks {
         })
     }
 
-    /// The first waiting entry that meets no mark of an earlier one. Each entry that is passed and runs or waits is
-    /// marked after its own test, so that it meets the entries after it and not itself.
+    /// The index of the first waiting entry that meets no mark of an earlier one, and `None` if there is none. Each
+    /// entry that is passed is marked after its own test, so that it is met by later entries and not by itself.
     pub(crate) fn first_clear<H: Place>(
         &mut self,
         hash: &H,
@@ -47,26 +48,54 @@ impl ClaimMarks {
             (map (hashed (H.place_of hash.now) bits) (claims_left (passed result entries.now))) self.old }
     {
         for (i, entry) in entries.iter().enumerate() {
-            match entry.status {
-                Status::Gone => {}
-                Status::Waiting if !self.meets(hash, bits, &entry.claims) => return Some(i),
-                _ => self.mark(hash, bits, &entry.claims),
+            if self.is_clear(hash, bits, entry) {
+                return Some(i);
             }
+            self.mark(hash, bits, entry);
         }
         None
     }
 
-    /// Takes back the marks of the entries that run or wait. It tests no mark.
+    /// Takes back the marks of these entries. It tests no mark.
     pub(crate) fn take_back<H: Place>(&mut self, hash: &H, bits: u32, entries: &[Entry])
         requires bits { 1 ≤ bits }
         requires room { HasRoom bits self.old }
         ensures { self.new ≡ with_claims false (map (hashed (H.place_of hash.now) bits) (claims_left entries.now)) self.old }
     {
         for entry in entries {
-            match entry.status {
-                Status::Gone => {}
-                _ => self.unmark(hash, bits, &entry.claims),
-            }
+            self.unmark(hash, bits, entry);
+        }
+    }
+
+    // The entry waits, and none of its claims meets a mark.
+    fn is_clear<H: Place>(&self, hash: &H, bits: u32, entry: &Entry) -> bool
+        requires bits { 1 ≤ bits }
+        requires room { HasRoom bits self.now }
+        ensures { result ≡ (is_waiting entry.now.status
+            && not (list_any (meets self.now) (map (hashed (H.place_of hash.now) bits) entry.now.claims))) }
+    {
+        matches!(entry.status, Status::Waiting) && !self.meets(hash, bits, &entry.claims)
+    }
+
+    // Marks the claims of an entry that runs or waits. One that is gone holds none back.
+    fn mark<H: Place>(&mut self, hash: &H, bits: u32, entry: &Entry)
+        requires bits { 1 ≤ bits }
+        requires room { HasRoom bits self.old }
+        ensures { self.new ≡ with_claims true (map (hashed (H.place_of hash.now) bits) (claims_left (entry.now ∷ []))) self.old }
+    {
+        if !matches!(entry.status, Status::Gone) {
+            self.mark_claims(hash, bits, &entry.claims);
+        }
+    }
+
+    // Takes back what `mark` has marked.
+    fn unmark<H: Place>(&mut self, hash: &H, bits: u32, entry: &Entry)
+        requires bits { 1 ≤ bits }
+        requires room { HasRoom bits self.old }
+        ensures { self.new ≡ with_claims false (map (hashed (H.place_of hash.now) bits) (claims_left (entry.now ∷ []))) self.old }
+    {
+        if !matches!(entry.status, Status::Gone) {
+            self.unmark_claims(hash, bits, &entry.claims);
         }
     }
 
@@ -86,7 +115,7 @@ impl ClaimMarks {
         false
     }
 
-    fn mark<H: Place>(&mut self, hash: &H, bits: u32, claims: &Claims)
+    fn mark_claims<H: Place>(&mut self, hash: &H, bits: u32, claims: &Claims)
         requires bits { 1 ≤ bits }
         requires room { HasRoom bits self.old }
         ensures { self.new ≡ with_claims true (map (hashed (H.place_of hash.now) bits) claims.now) self.old }
@@ -98,7 +127,7 @@ impl ClaimMarks {
         }
     }
 
-    fn unmark<H: Place>(&mut self, hash: &H, bits: u32, claims: &Claims)
+    fn unmark_claims<H: Place>(&mut self, hash: &H, bits: u32, claims: &Claims)
         requires bits { 1 ≤ bits }
         requires room { HasRoom bits self.old }
         ensures { self.new ≡ with_claims false (map (hashed (H.place_of hash.now) bits) claims.now) self.old }

@@ -1,5 +1,5 @@
 -- The marks that were made are those that are taken back, whether an entry was found or not.
-use Rattle.std.proofs.Common.{◌≡◌, ◌≤◌, true, false, map, length, ◌∙◌, sym, subst}
+use Rattle.std.proofs.Common.{◌≡◌, ◌≤◌, true, false, map, length, sym, subst}
 use Rattle.std.proofs.lemmas.List.{length-take-le}
 use Rattle.vll_sca.specs.Scan.{hashed}
 use Rattle.vll_sca.specs.ClaimMarks.{HasRoom, IsClear, with_claims, claims_left, passed}

@@ -1,5 +1,5 @@
 -- As many words as the places need, and all are 0.
-use Rattle.std.proofs.Common.{replicate, arith}
+use Rattle.std.proofs.Common.{arith}
 use Rattle.vll_sca.proofs.Words.{length-bits_of, bits_of_zeros}
 use Rattle.vll_sca.proofs.marks.Marks.new.Goals as goal
 

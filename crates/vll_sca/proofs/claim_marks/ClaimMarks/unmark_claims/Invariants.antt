@@ -2,7 +2,7 @@
 use Rattle.std.proofs.Common.{◌≡◌, false, map, take}
 use Rattle.vll_sca.specs.Scan.{hashed}
 use Rattle.vll_sca.specs.ClaimMarks.{HasRoom, with_claims}
-use Rattle.vll_sca.proofs.claim_marks.ClaimMarks.unmark.Given as goal
+use Rattle.vll_sca.proofs.claim_marks.ClaimMarks.unmark_claims.Given as goal
 
 abbrev pub invariant-loop-i : goal.invariant-loop-i
 invariant-loop-i g l = record {
