@@ -10,7 +10,7 @@ use Rattle.vll_sca.specs.declared.claim_marks.ClaimMarks.{ClaimMarks}
 use Rattle.vll_sca.specs.declared.status.Status.TheVariants.{Gone}
 use Rattle.vll_sca.specs.Status.{is_waiting}
 use Rattle.vll_sca.specs.Scan.{hashed, may_run, scan}
-use Rattle.vll_sca.specs.ClaimMarks.{HasRoom, IsClear, meets, with_claims, claims_left}
+use Rattle.vll_sca.specs.Private.ClaimMarks.{HasRoom, IsClear, meets, with_claims, claims_left}
 use Rattle.vll_sca.proofs.Meeting.{meets_is_held}
 use Rattle.vll_sca.proofs.Scanning.{scanned_within}
 
@@ -52,12 +52,12 @@ module _ (place : ℕ → ℕ) (bits : ℕ) (entries : List Entry) where
       ]
 
   -- an entry that waits, and whose claims meet no mark of the entries before it, may run; and no other
-  pub clear_may_run : (i : ℕ) (e : Entry) (before m : ClaimMarks) (clear : Bool) → 1 ≤ bits → IsClear before → HasRoom bits before
+  pub clear_may_run : (i : ℕ) (e : Entry) (before m : ClaimMarks) (clear : Bool) → IsClear before → HasRoom bits before
       → m ≡ with_claims true (map (hashed place bits) (claims_left (take i entries))) before
       → clear ≡ (is_waiting e.status && not (list_any (meets m) (map (hashed place bits) e.claims))) → clear ≡ may_run place bits entries (i, e)
-  clear_may_run i e before m clear some none_marked room so_far is =
+  clear_may_run i e before m clear none_marked room so_far is =
       is ∙ ap (λ met. is_waiting e.status && not met)
-      (ap (λ n. list_any (meets n) (map (hashed place bits) e.claims)) so_far ∙ meets_is_held place bits (take i entries) e before some none_marked room)
+      (ap (λ n. list_any (meets n) (map (hashed place bits) e.claims)) so_far ∙ meets_is_held place bits (take i entries) e before none_marked room)
 
   -- what a scan passes is within the entries
   pub passed_within : (found : Option ℕ) → found ≡ scan place bits entries → unwrap_or found (length entries) ≤ length entries

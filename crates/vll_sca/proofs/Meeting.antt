@@ -15,7 +15,7 @@ use Rattle.vll_sca.specs.declared.entry.Entry.{Entry}
 use Rattle.vll_sca.specs.declared.claim_marks.ClaimMarks.{ClaimMarks}
 use Rattle.vll_sca.specs.Status.{is_gone}
 use Rattle.vll_sca.specs.Scan.{hashed, holds_back}
-use Rattle.vll_sca.specs.ClaimMarks.{HasRoom, IsClear, meets, with_bits, written, read, with_claims, claims_left}
+use Rattle.vll_sca.specs.Private.ClaimMarks.{HasRoom, IsClear, meets, with_bits, written, read, with_claims, claims_left}
 
 -- ---- one of a list passes a test
 
@@ -131,6 +131,7 @@ with_claims-append b xs ys m =
 
 pub HasRoom-with_claims : (b : Bool) (cs : List Claim) (n : ℕ) (m : ClaimMarks) → HasRoom n m → HasRoom n (with_claims b cs m)
 HasRoom-with_claims b cs n m room = record {
+  some = room.some;
   writes = rw length-with_bits room.writes;
   reads = rw length-with_bits room.reads;
 }
@@ -199,14 +200,14 @@ module _ (place : ℕ → ℕ) (bits : ℕ) where
       ∙ conflict-append (map (hashed place bits) (cond (is_gone d.status) [] d.claims)) (map (hashed place bits) (claims_left ds)) (map (hashed place bits) e.claims))
 
   -- the claims of an entry meet a mark of these entries where one of them holds it back
-  pub meets_is_held : (ds : List Entry) (e : Entry) (m : ClaimMarks) → 1 ≤ bits → IsClear m → HasRoom bits m
+  pub meets_is_held : (ds : List Entry) (e : Entry) (m : ClaimMarks) → IsClear m → HasRoom bits m
       → list_any (meets (with_claims true (map (hashed place bits) (claims_left ds)) m)) (map (hashed place bits) e.claims)
       ≡ list_any (λ d. holds_back place bits d e) ds
-  meets_is_held ds e m some clear room =
+  meets_is_held ds e m clear room =
       let h = hashed place bits in
       let cs = map h (claims_left ds) in
       any_map-same h (meets (with_claims true cs m)) (λ y. list_any (λ x. conflicts x y) cs) e.claims
-      (λ c. meets_marked cs (h c) bits m clear room (omega arith))
+      (λ c. meets_marked cs (h c) bits m clear room (let some = room.some in omega arith))
       ∙ any_swap conflicts cs (map h e.claims)
       ∙ sym (held_by_claims ds e)
 

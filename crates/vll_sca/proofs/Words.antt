@@ -7,7 +7,7 @@ use Rattle.std.proofs.lemmas.Nat.{one_shl, pow_pos}
 use Rattle.std.proofs.lemmas.Nat.Bits.{bit_at_set_same, bit_at_set_other, bit_at_clear_same, bit_at_clear_other, bit_at-zero, and_pow}
 use Rattle.std.specs.Prelude.{All, bit_and, bit_or}
 use Rattle.std.specs.Int.{bit_at, bit_not}
-use Rattle.vll_sca.specs.Marks.{bit_of, bits_of}
+use Rattle.vll_sca.specs.Private.Marks.{bit_of, bits_of}
 
 pub length-bits_of : (words : List ℕ) → length (bits_of words) ≡ 64 * length words
 unfolding bits_of

@@ -24,7 +24,7 @@ impl Model for Bits {
 
     ghost Value = { ℕ };
 
-    ghost use Rattle.vll_sca.specs.Bits.{IsReady};
+    ghost use Rattle.vll_sca.specs.Private.Bits.{IsReady};
 
     ghost view = { λ b. b.count };
 

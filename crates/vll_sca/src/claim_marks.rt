@@ -2,7 +2,7 @@ ghost use Rattle.std.specs.Prelude.{◌≡◌, ◌<◌, ◌≤◌, ◌&&◌, not
 ghost use Rattle.std.specs.List.{list_any};
 ghost use Rattle.vll_sca.specs.Status.{is_waiting};
 ghost use Rattle.vll_sca.specs.Scan.{hashed, scan};
-ghost use Rattle.vll_sca.specs.ClaimMarks.{HasRoom, IsClear, meets, with_claims, claims_left, passed};
+ghost use Rattle.vll_sca.specs.Private.ClaimMarks.{HasRoom, IsClear, meets, with_claims, claims_left, passed};
 
 use crate::entry::Entry;
 use crate::marks::Marks;
@@ -23,6 +23,7 @@ pub(crate) struct ClaimMarks {
 impl ClaimMarks {
     /// Bits for the places below `n`, and none is marked.
     pub(crate) fn new(alloc: Global, n: usize) -> Result<ClaimMarks, AllocError>
+        requires { 1 ≤ n }
         ensures room { IfOk result (HasRoom n) }
         ensures clear { IfOk result IsClear }
     {
@@ -40,7 +41,6 @@ impl ClaimMarks {
         bits: u32,
         entries: &[Entry],
     ) -> Option<usize>
-        requires bits { 1 ≤ bits }
         requires room { HasRoom bits self.old }
         requires clear { IsClear self.old }
         ensures found { result ≡ scan (H.place_of hash.now) bits entries.now }
@@ -58,8 +58,7 @@ impl ClaimMarks {
 
     /// Takes back the marks of these entries. It tests no mark.
     pub(crate) fn take_back<H: Place>(&mut self, hash: &H, bits: u32, entries: &[Entry])
-        requires bits { 1 ≤ bits }
-        requires room { HasRoom bits self.old }
+        requires { HasRoom bits self.old }
         ensures { self.new ≡ with_claims false (map (hashed (H.place_of hash.now) bits) (claims_left entries.now)) self.old }
     {
         for entry in entries {
@@ -69,8 +68,7 @@ impl ClaimMarks {
 
     // The entry waits, and none of its claims meets a mark.
     fn is_clear<H: Place>(&self, hash: &H, bits: u32, entry: &Entry) -> bool
-        requires bits { 1 ≤ bits }
-        requires room { HasRoom bits self.now }
+        requires { HasRoom bits self.now }
         ensures { result ≡ (is_waiting entry.now.status
             && not (list_any (meets self.now) (map (hashed (H.place_of hash.now) bits) entry.now.claims))) }
     {
@@ -79,8 +77,7 @@ impl ClaimMarks {
 
     // Marks the claims of an entry that runs or waits. One that is gone holds none back.
     fn mark<H: Place>(&mut self, hash: &H, bits: u32, entry: &Entry)
-        requires bits { 1 ≤ bits }
-        requires room { HasRoom bits self.old }
+        requires { HasRoom bits self.old }
         ensures { self.new ≡ with_claims true (map (hashed (H.place_of hash.now) bits) (claims_left (entry.now ∷ []))) self.old }
     {
         if !matches!(entry.status, Status::Gone) {
@@ -90,8 +87,7 @@ impl ClaimMarks {
 
     // Takes back what `mark` has marked.
     fn unmark<H: Place>(&mut self, hash: &H, bits: u32, entry: &Entry)
-        requires bits { 1 ≤ bits }
-        requires room { HasRoom bits self.old }
+        requires { HasRoom bits self.old }
         ensures { self.new ≡ with_claims false (map (hashed (H.place_of hash.now) bits) (claims_left (entry.now ∷ []))) self.old }
     {
         if !matches!(entry.status, Status::Gone) {
@@ -101,8 +97,7 @@ impl ClaimMarks {
 
     // One of these claims meets a mark.
     fn meets<H: Place>(&self, hash: &H, bits: u32, claims: &Claims) -> bool
-        requires bits { 1 ≤ bits }
-        requires room { HasRoom bits self.now }
+        requires { HasRoom bits self.now }
         ensures { result ≡ list_any (meets self.now) (map (hashed (H.place_of hash.now) bits) claims.now) }
     {
         for i in 0..claims.len() {
@@ -116,8 +111,7 @@ impl ClaimMarks {
     }
 
     fn mark_claims<H: Place>(&mut self, hash: &H, bits: u32, claims: &Claims)
-        requires bits { 1 ≤ bits }
-        requires room { HasRoom bits self.old }
+        requires { HasRoom bits self.old }
         ensures { self.new ≡ with_claims true (map (hashed (H.place_of hash.now) bits) claims.now) self.old }
     {
         for i in 0..claims.len() {
@@ -128,8 +122,7 @@ impl ClaimMarks {
     }
 
     fn unmark_claims<H: Place>(&mut self, hash: &H, bits: u32, claims: &Claims)
-        requires bits { 1 ≤ bits }
-        requires room { HasRoom bits self.old }
+        requires { HasRoom bits self.old }
         ensures { self.new ≡ with_claims false (map (hashed (H.place_of hash.now) bits) claims.now) self.old }
     {
         for i in 0..claims.len() {

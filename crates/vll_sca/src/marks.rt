@@ -12,7 +12,7 @@ pub(crate) struct Marks {
 
 impl Model for Marks {
     ghost use Rattle.std.specs.Prelude.{Bool, List};
-    ghost use Rattle.vll_sca.specs.Marks.{bits_of};
+    ghost use Rattle.vll_sca.specs.Private.Marks.{bits_of};
 
     ghost Value = { List Bool };
 

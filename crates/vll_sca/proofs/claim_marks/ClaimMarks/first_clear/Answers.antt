@@ -9,7 +9,7 @@ pub returns-then-is_clear-clause-found : goal.returns-then-is_clear-clause-found
 returns-then-is_clear-clause-found g c =
     let place = g.H.Place.place_of c.args.hash.now in
     let clear = clear_may_run place c.args.bits c.args.entries.now c.loop-i.i c.index-entries-i.result c.args.self.now c.loop-i.self c.is_clear.result
-    c.requires.bits c.requires.clear c.requires.room c.loop-i.invariant.so_far c.is_clear.ensures in
+    c.requires.clear c.requires.room c.loop-i.invariant.so_far c.is_clear.ensures in
     found_here place c.args.bits c.args.entries.now c.loop-i.i c.index-entries-i.result c.loop-i-test.true c.index-entries-i.is c.loop-i.invariant.none
     (sym clear ∙ c.if-is_clear.true)
 
@@ -18,7 +18,7 @@ loop-i-preserved g c =
     let place = g.H.Place.place_of c.args.hash.now in
     let held = c.loop-i.invariant in
     let clear = clear_may_run place c.args.bits c.args.entries.now c.loop-i.i c.index-entries-i.result c.args.self.now c.loop-i.self c.is_clear.result
-    c.requires.bits c.requires.clear c.requires.room held.so_far c.is_clear.ensures in
+    c.requires.clear c.requires.room held.so_far c.is_clear.ensures in
     let step = entry_is_marked true (hashed place c.args.bits) c.args.entries.now c.loop-i.i c.index-entries-i.result
     c.args.self.now c.loop-i.self c.mark.new.self c.args.bits
     c.loop-i-test.true c.index-entries-i.is held.so_far held.room c.mark.ensures in

@@ -1,7 +1,7 @@
 -- The places of the claims so far are cleared.
 use Rattle.std.proofs.Common.{◌≡◌, false, map, take}
 use Rattle.vll_sca.specs.Scan.{hashed}
-use Rattle.vll_sca.specs.ClaimMarks.{HasRoom, with_claims}
+use Rattle.vll_sca.specs.Private.ClaimMarks.{HasRoom, with_claims}
 use Rattle.vll_sca.proofs.claim_marks.ClaimMarks.unmark_claims.Given as goal
 
 abbrev pub invariant-loop-i : goal.invariant-loop-i

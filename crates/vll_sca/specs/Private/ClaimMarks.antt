@@ -7,8 +7,9 @@ use Rattle.vll_sca.specs.declared.entry.Entry.{Entry}
 use Rattle.vll_sca.specs.declared.claim_marks.ClaimMarks.{ClaimMarks}
 use Rattle.vll_sca.specs.Status.{is_gone}
 
--- there are bits for the places below n
+-- there is a place below n, and there are bits for all places below n
 pub record HasRoom (n : ℕ) (m : ClaimMarks) : Type 0 where
+  pub some : 1 ≤ n
   pub writes : n ≤ length m.writes
   pub reads : n ≤ length m.reads
 

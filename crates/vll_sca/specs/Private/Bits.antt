@@ -2,11 +2,10 @@
 use Rattle.std.specs.Prelude.{◌≤◌}
 use Rattle.vll_sca.specs.declared.bits.TheConstants.{MOST_BITS}
 use Rattle.vll_sca.specs.declared.bits.Bits.TheInside.{Inside}
-use Rattle.vll_sca.specs.ClaimMarks.{HasRoom, IsClear}
+use Rattle.vll_sca.specs.Private.ClaimMarks.{HasRoom, IsClear}
 
--- at least one bit and not too many, each array has them all, and nothing is marked
+-- not too many bits, room for one mark of each kind on every place, and nothing is marked
 pub record IsReady (b : Inside) : Type 0 where
-  pub some : 1 ≤ b.count
   pub few : b.count ≤ MOST_BITS
   pub room : HasRoom b.count b.marks
   pub clear : IsClear b.marks
