@@ -1,3 +1,5 @@
+ghost use Rattle.std.specs.Prelude.{◌≡◌, ◌↔◌, IsTrue};
+
 use crate::outputs::Outputs;
 use vll_record::Claims;
 
@@ -33,4 +35,25 @@ pub struct Call {
     pub claims: Claims,
     /// For each key position the place of its claim, and then zeros.
     pub cells: [u8; 16],
+}
+
+impl PartialEq for Call {
+    ghost use Rattle.std.specs.Cmp.Rules.{comparing};
+    ghost use Rattle.std.proofs.Common.{rules};
+    ghost use Rattle.vll_proc.specs.Same.{is_same_call};
+
+    ghost eq = { is_same_call };
+
+    ghost laws = { Prim.search (comparing, rules) depth 9 };
+
+    fn eq(&self, other: &Call) -> bool
+        ensures value { result ≡ is_same_call self.now other.now }
+        ensures same { IsTrue result ↔ (self.now ≡ other.now) }
+    {
+        self.number == other.number
+            && self.arg_count == other.arg_count
+            && self.args == other.args
+            && self.cells == other.cells
+            && self.claims == other.claims
+    }
 }

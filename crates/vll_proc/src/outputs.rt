@@ -1,4 +1,4 @@
-ghost use Rattle.std.specs.Prelude.{◌≡◌, ◌<◌, ◌≤◌, ◌++◌, ◌∷◌, [], length, slice_get};
+ghost use Rattle.std.specs.Prelude.{◌≡◌, ◌<◌, ◌≤◌, ◌++◌, ◌∷◌, [], length, slice_get, IsTrue, ◌↔◌, ◌==◌};
 
 use std::marker::Model;
 
@@ -55,6 +55,13 @@ impl Outputs {
         }
     }
 
+    /// The outputs, in the order of the reply statements.
+    pub fn as_slice(&self) -> &[u64]
+        ensures { result.now ≡ self.now }
+    {
+        &self.places[..self.len as usize]
+    }
+
     // Puts an output behind all others.
     pub(crate) fn push(&mut self, value: u64)
         requires { length self.old < 8 }
@@ -62,5 +69,23 @@ impl Outputs {
     {
         self.places[self.len as usize] = value;
         self.len += 1;
+    }
+}
+
+impl PartialEq for Outputs {
+    ghost use Rattle.std.specs.Cmp.Lexicographic.{pointwise};
+    ghost use Rattle.std.specs.Cmp.Rules.{comparing};
+    ghost use Rattle.std.specs.Prelude.{◌==◌};
+    ghost use Rattle.std.proofs.Common.{rules};
+
+    ghost eq = { pointwise ◌==◌ };
+
+    ghost laws = { Prim.search (comparing, rules) };
+
+    fn eq(&self, other: &Outputs) -> bool
+        ensures value { result ≡ pointwise ◌==◌ self.now other.now }
+        ensures same { IsTrue result ↔ (self.now ≡ other.now) }
+    {
+        self.as_slice() == other.as_slice()
     }
 }
