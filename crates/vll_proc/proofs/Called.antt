@@ -18,7 +18,7 @@ use Rattle.vll_proc.specs.declared.syntax.KeyDecl.{KeyDecl}
 use Rattle.vll_proc.specs.declared.syntax.Proc.{Proc}
 use Rattle.vll_proc.specs.Made.{asked, place_of, IsCallOf}
 use Rattle.vll_proc.specs.Meaning.{record_named}
-use Rattle.vll_proc.specs.Running.{HasCells}
+use Rattle.vll_proc.specs.Private.Running.{HasCells}
 use Rattle.vll_proc.specs.WellFormed.{IsWellFormed, argument_is_declared}
 use Rattle.vll_record.proofs.ClaimsOf.{IsRising-claims_of, length-claims_of-le}
 use Rattle.vll_proc.proofs.Copy.{IsPlaceFor, both_true}

@@ -4,6 +4,5 @@ pub mod WellFormed
 pub mod Made
 pub mod Same
 pub mod Cells
-pub mod Running
-pub mod Kept
+pub mod Private
 pub mod Undeclared

@@ -38,13 +38,12 @@ pub struct Call {
 }
 
 impl PartialEq for Call {
-    ghost use Rattle.std.specs.Cmp.Rules.{comparing};
-    ghost use Rattle.std.proofs.Common.{rules};
     ghost use Rattle.vll_proc.specs.Same.{is_same_call};
+    ghost use Rattle.vll_proc.specs.Private.Same.{is_same_call-laws};
 
     ghost eq = { is_same_call };
 
-    ghost laws = { Prim.search (comparing, rules) depth 9 };
+    ghost laws = { is_same_call-laws };
 
     fn eq(&self, other: &Call) -> bool
         ensures value { result ≡ is_same_call self.now other.now }

@@ -14,7 +14,7 @@ impl Model for Outputs {
 
     ghost Value = { List ℕ };
 
-    ghost use Rattle.vll_proc.specs.Kept.{kept, from_list, IsCanonical, from_list-kept};
+    ghost use Rattle.vll_proc.specs.Private.Kept.{kept, from_list, IsCanonical, from_list-kept};
 
     ghost view = { kept };
 

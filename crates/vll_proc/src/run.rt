@@ -1,7 +1,7 @@
 ghost use Rattle.std.specs.Prelude.{◌≡◌, ◌+◌, ◌<◌, ◌≤◌, ◌&&◌, ◌^◌, ◌==◌, true, length, map, sum_by, nat_lt, OnOk};
 ghost use Rattle.std.specs.List.{list_all};
 ghost use Rattle.vll_proc.specs.Meaning.{sum, difference, product, quotient, remainder, value_of, effect, in_turn};
-ghost use Rattle.vll_proc.specs.Running.{scene_of, HasCells, ended, both_values};
+ghost use Rattle.vll_proc.specs.Private.Running.{scene_of, HasCells, ended, both_values};
 ghost use Rattle.vll_proc.specs.WellFormed.{all_leaves, throughout, key_is_below, arg_is_below, local_is_known, set_is_below, let_is_known, any_stmt, replies};
 
 use crate::call::{Call, Reason};
