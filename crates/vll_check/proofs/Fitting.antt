@@ -16,7 +16,7 @@ use Rattle.vll_check.specs.declared.fault.CallFault.TheVariants.{ArgCount, Recor
 use Rattle.vll_check.specs.Calls.{call_to, call_numbered, place_is_there, Fits, CallsProcedure}
 use Rattle.vll_check.specs.Catalog.{Catalog, IsCatalog}
 use Rattle.vll_check.specs.Faults.{check_fault}
-use Rattle.vll_check.specs.Making.{asked_for}
+use Rattle.vll_check.specs.Private.Making.{asked_for}
 use Rattle.vll_check.specs.Names.{number_named, has_name_twice}
 use Rattle.vll_check.proofs.Distinct.{number_named-distinct, number_named-stands}
 use Rattle.vll_check.proofs.Passed.{passed_all, named_there}

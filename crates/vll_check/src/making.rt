@@ -5,7 +5,7 @@ ghost use Rattle.vll_record.specs.Claim.{claims_of};
 ghost use Rattle.vll_proc.specs.Made.{call_of, place_of};
 ghost use Rattle.vll_proc.specs.Meaning.{record_named};
 ghost use Rattle.vll_proc.specs.WellFormed.{argument_is_declared};
-ghost use Rattle.vll_check.specs.Making.{asked_for, cell_of, IsPlaced};
+ghost use Rattle.vll_check.specs.Private.Making.{asked_for, cell_of, IsPlaced};
 
 use vll_proc::{Call, KeyAt, KeyDecl, Proc};
 use vll_record::{Claim, Claims, RecordId};
@@ -87,11 +87,9 @@ fn cells_of(keys: &[KeyDecl], args: &[u64], claims: &Claims) -> [u8; 16]
 fn place_of(claims: &Claims, id: u32) -> u8
     ensures { result ≡ place_of claims.now id }
 {
-    for i in 0..claims.len() {
-        let claim = claims.get(i).unwrap();
-        if claim.id.0 == id {
-            return i as u8;
-        }
-    }
-    claims.len() as u8
+    let none = claims.len();
+    claims
+        .iter()
+        .position(|claim| claim.id.0 == id)
+        .unwrap_or(none) as u8
 }

@@ -3,7 +3,7 @@ use Rattle.vll_record.specs.Canon.{laid}
 use Rattle.vll_record.specs.Claim.{claims_of}
 use Rattle.vll_record.specs.declared.claim.Claim.{Claim}
 use Rattle.vll_proc.specs.declared.call.Call.{Call}
-use Rattle.vll_check.specs.Making.{asked_for, cell_of}
+use Rattle.vll_check.specs.Private.Making.{asked_for, cell_of}
 use Rattle.vll_check.proofs.making.call_of.Goals as goal
 
 pub returns : goal.returns

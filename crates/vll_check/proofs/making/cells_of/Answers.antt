@@ -1,6 +1,6 @@
 use Rattle.std.proofs.Common.{◌∙◌, ap, set, arith}
 use Rattle.vll_proc.specs.Made.{place_of}
-use Rattle.vll_check.specs.Making.{cell_of}
+use Rattle.vll_check.specs.Private.Making.{cell_of}
 use Rattle.vll_check.proofs.ShortLists.{laid-mapped}
 use Rattle.vll_check.proofs.making.cells_of.Goals as goal
 

@@ -5,12 +5,8 @@ use Rattle.std.specs.declared.cmp.Ordering.{Ordering}
 use Rattle.std.specs.Ordering.{nat_cmp, is_lt}
 use Rattle.std.specs.List.Sorted.{IsSortedBy, IsStrictlySortedBy}
 use Rattle.vll_proc.specs.declared.syntax.Proc.{Proc}
-use Rattle.vll_check.specs.Entry.{Entry}
+use Rattle.vll_check.specs.Entry.{Entry, procedure_of}
 use Rattle.vll_check.specs.Faults.{check_fault}
-
--- the procedure of an entry
-abbrev pub procedure_of : Entry → Proc
-procedure_of e = e.procedure
 
 -- how two entries' names compare, byte by byte
 abbrev pub by_name : Entry → Entry → Ordering

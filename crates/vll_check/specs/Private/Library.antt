@@ -2,7 +2,7 @@
 use Rattle.std.specs.List.Sorted.{IsStrictlySortedBy}
 use Rattle.vll_check.specs.declared.library.Library.TheInside.{Inside}
 use Rattle.vll_check.specs.Catalog.{Catalog, IsCatalog}
-use Rattle.vll_check.specs.Order.{by_name, numbered, IsIndexed}
+use Rattle.vll_check.specs.Private.Order.{by_name, numbered, IsIndexed}
 
 -- what contracts see of it: the procedures by their numbers
 abbrev pub catalog_of : Inside → Catalog
