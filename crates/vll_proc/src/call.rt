@@ -1,7 +1,8 @@
 ghost use Rattle.std.specs.Prelude.{◌≡◌, ◌↔◌, IsTrue};
 
+use crate::limits::MOST_ARGS;
 use crate::outputs::Outputs;
-use vll_record::Claims;
+use vll_record::{Claims, MOST_CLAIMS};
 
 /// Why a call was aborted.
 #[derive(Clone, Copy, PartialEq, Eq, Debug)]
@@ -30,11 +31,11 @@ pub struct Call {
     pub number: u32,
     pub arg_count: u8,
     /// The arguments, and then zeros.
-    pub args: [u64; 8],
+    pub args: [u64; MOST_ARGS],
     /// The records that the key positions name, each once.
     pub claims: Claims,
     /// For each key position the place of its claim, and then zeros.
-    pub cells: [u8; 16],
+    pub cells: [u8; MOST_CLAIMS],
 }
 
 impl PartialEq for Call {

@@ -1,5 +1,6 @@
 -- Where a body stands while it runs on a call's cells, as a scene of its meaning.
 use Rattle.std.specs.Prelude.{ℕ, ◌<◌, Result, Ok, Err, slice_index}
+use Rattle.vll_record.specs.declared.claims.TheConstants.{MOST_CLAIMS}
 use Rattle.vll_proc.specs.declared.call.Call.{Call}
 use Rattle.vll_proc.specs.declared.call.Reason.{Reason}
 use Rattle.vll_proc.specs.declared.run.Progress.{Progress}
@@ -12,7 +13,7 @@ scene_of c p = record { named = c.cells; args = c.args; locals = p.locals; recor
 
 -- each key position of a call has one of the cells
 abbrev pub HasCells : Call → Type 0
-HasCells c = (k : ℕ) → k < 16 → slice_index c.cells k < 16
+HasCells c = (k : ℕ) → k < MOST_CLAIMS → slice_index c.cells k < MOST_CLAIMS
 
 -- the values of two operands, the left one first
 abbrev pub both_values : Expr → Expr → Scene → Result (ℕ × ℕ) Reason
