@@ -162,7 +162,7 @@ scan_of {H} {places} a core =
 pub wakes_scan : {H : Type 0} {places : H → ℕ → ℕ} (a : Inside H) → IsMachine places a → is_some (turn_of a.turn) ≡ false → Wakes places a event.Scan (found_by places a.queue)
 wakes_scan {H} {places} a core closed = record {
   is = by_ticket (shown a).state (scan (places a.queue.hash) a.queue.bits (map scanned_entry (shown a).state.entries)) (found_by places a.queue) closed (scan_of a core);
-  waits = λ t found. let p = picked_is (opening_of places (shown a)) (shown a).state t (scan_of a core ∙ found) in waits_at a t p.entry p.at p.waits;
+  waits = λ t found. let p = picked_is (places a.queue.hash) a.queue.bits (shown a).state t (scan_of a core ∙ found) in waits_at a t p.entry p.at p.waits;
   asks = refl;
   frees = refl;
   stores = refl;

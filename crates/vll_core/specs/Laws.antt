@@ -31,11 +31,11 @@ FrontTicketIsClear =
     (o : Opening) (s : State) (t : ℕ) (e : Entered)
     → IsReached o s → front s ≡ Some t → slice_get s.entries t ≡ Some e → (is_waiting e.status ≡ true) × (is_clear s t e.call.claims ≡ true)
 
--- the ticket that Scan picks waits, and is clear, whatever the hash and the number of bits
+-- the ticket that a scan finds waits, and is clear, whatever the places and the number of bits it scans by
 abbrev pub ScanTicketIsClear : Type 0
 ScanTicketIsClear =
-    (o : Opening) (s : State) (t : ℕ) (e : Entered)
-    → IsReached o s → scan o.place o.bits (map scanned s.entries) ≡ Some t → slice_get s.entries t ≡ Some e
+    (o : Opening) (place : ℕ → ℕ) (bits : ℕ) (s : State) (t : ℕ) (e : Entered)
+    → IsReached o s → scan place bits (map scanned s.entries) ≡ Some t → slice_get s.entries t ≡ Some e
     → (is_waiting e.status ≡ true) × (is_clear s t e.call.claims ≡ true)
 
 -- while a turn is open, fewer calls are entered than the limit, and fewer wait than the cap

@@ -21,8 +21,9 @@ pub fn front_ticket_is_clear()
     ensures { FrontTicketIsClear }
 {}
 
-/// The ticket that the contention analysis picks, in a state that lawful moves reach, waits and is
-/// clear, whatever the hash and the number of bits: a collision only holds a call back.
+/// The ticket that a contention analysis finds, in a state that lawful moves reach, waits and is
+/// clear, whatever places and whatever number of bits it goes by, also others than the machine's: a
+/// collision only holds a call back.
 pub fn scan_ticket_is_clear()
     ensures { ScanTicketIsClear }
 {}
