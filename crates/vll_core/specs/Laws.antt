@@ -9,10 +9,10 @@ use Rattle.vll_core.specs.declared.event.Event.{Event}
 use Rattle.vll_core.specs.declared.event.Event.TheVariants as event
 use Rattle.vll_core.specs.declared.seen.Seen.{Seen}
 use Rattle.vll_core.specs.declared.seen.Seen.TheVariants.{Loaded}
-use Rattle.vll_sca.specs.Status.{is_waiting, is_running, is_gone}
+use Rattle.vll_sca.specs.Status.{is_waiting, is_gone}
 use Rattle.vll_sca.specs.Scan.{scan}
 use Rattle.vll_core.specs.State.{Opening, Entered, State, Turn, entered, open_claims, counter, writes, records_before, value, is_clear}
-use Rattle.vll_core.specs.Machine.{waiting, front, scanned, step, opened, run}
+use Rattle.vll_core.specs.Machine.{waiting, running_count, front, scanned, step, opened, run}
 use Rattle.vll_core.specs.Moves.{Move, move, AreProper, IsReached, requested_by, stored_by, released_by, delta_if, is_on}
 
 -- every list of events, refused ones among them, reaches such a state
@@ -92,6 +92,6 @@ CountersStayWithinTheLimit =
 abbrev pub FinishedMachinesHaveTheSerialEnd : Type 0
 FinishedMachinesHaveTheSerialEnd =
     (o : Opening) (s : State)
-    → IsReached o s → s.turn ≡ None → waiting s ≡ 0 → count_by (λ (e : Entered). is_running e.status) s.entries ≡ 0
+    → IsReached o s → s.turn ≡ None → waiting s ≡ 0 → running_count s ≡ 0
     → ((t : ℕ) (e : Entered) → slice_get s.entries t ≡ Some e → is_gone e.status ≡ true)
     × ((r : ℕ) → (value o.base s r ≡ slice_index (end o.base.procs (entered s) o.base.records) r) × (counter s r ≡ 0))

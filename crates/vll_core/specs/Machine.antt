@@ -34,6 +34,10 @@ or_refuse (Some a) why go = go a
 abbrev pub waiting : State → ℕ
 waiting s = count_by (λ (e : Entered). is_waiting e.status) s.entries
 
+-- how many entered calls run
+abbrev pub running_count : State → ℕ
+running_count s = count_by (λ (e : Entered). is_running e.status) s.entries
+
 -- the first call of a script, if there is a script and a call left of it
 abbrev pub first_call : Option (List Call) → Option Call
 first_call None = None

@@ -7,13 +7,14 @@ mod event;
 mod laws;
 mod line;
 mod machine;
+mod opening;
 mod queue;
 mod refusal;
 mod seen;
 mod ticket;
 mod work;
 
-pub use config::{Config, OpenFault};
+pub use config::{Config, MOST_CALLS, MOST_RECORDS, MOST_WAITING, OpenFault};
 pub use core_machine::Core;
 pub use event::Event;
 pub use laws::{
@@ -24,6 +25,7 @@ pub use laws::{
 };
 pub use line::Line;
 pub use machine::Machine;
+pub use opening::open_fault;
 pub use queue::Queue;
 pub use refusal::Refusal;
 pub use seen::Seen;
