@@ -12,7 +12,7 @@ use Rattle.vll_core.specs.declared.refusal.Refusal.TheVariants.{TurnOpen, NoCall
 use Rattle.vll_core.specs.declared.seen.Seen.TheVariants.{Opened}
 use Rattle.vll_sca.specs.declared.status.Status.{Status}
 use Rattle.vll_sca.specs.Status.{is_waiting}
-use Rattle.vll_core.specs.State.{Opening, State, Turn}
+use Rattle.vll_core.specs.State.{Entered, Opening, State, Turn}
 use Rattle.vll_core.specs.Machine.{Outcome, refuse_if, or_refuse, waiting, first_call, next_call, rest_of, used, enter, step}
 use Rattle.vll_core.specs.Moves.{hand, move, moved}
 use Rattle.vll_core.specs.Queue.{statuses}

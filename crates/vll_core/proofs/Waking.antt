@@ -128,12 +128,16 @@ waits_at a t e at waits =
       waits = ap (λ (x : Entered). x.status) (sym there.is) ∙ only_waiting e.status waits;
     }
 
+-- the call of a ticket runs
+abbrev run_by : State → ℕ → Outcome
+run_by s t = Ok (Run t, with_status s t Running)
+
 -- where no turn is open, the machine goes by the ticket that it finds
 by_ticket : (s : State) (found same : Option ℕ) → is_some s.turn ≡ false → found ≡ same
-    → refuse_if (is_some s.turn) TurnOpen (or_refuse found Idle (λ (t : ℕ). Ok (Run t, with_status s t Running))) ≡ or_refuse same Idle (λ (t : ℕ). Ok (Run t, with_status s t Running))
+    → refuse_if (is_some s.turn) TurnOpen (or_refuse found Idle (run_by s)) ≡ or_refuse same Idle (run_by s)
 by_ticket s found same closed is =
-    ap (λ (b : Bool). refuse_if b TurnOpen (or_refuse found Idle (λ (t : ℕ). Ok (Run t, with_status s t Running)))) closed
-    ∙ ap (λ (x : Option ℕ). or_refuse x Idle (λ (t : ℕ). Ok (Run t, with_status s t Running))) is
+    ap (λ (b : Bool). refuse_if b TurnOpen (or_refuse found Idle (run_by s))) closed
+    ∙ ap (λ (x : Option ℕ). or_refuse x Idle (run_by s)) is
 
 -- ---- the front
 

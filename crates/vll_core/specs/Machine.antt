@@ -21,12 +21,12 @@ abbrev pub Outcome : Type 0
 Outcome = Result (Seen × State) Refusal
 
 -- refused where a test holds
-abbrev pub refuse_if : Bool → Refusal → Outcome → Outcome
+abbrev pub refuse_if : {A E : Type 0} → Bool → E → Result A E → Result A E
 refuse_if true why go = Err why
 refuse_if false why go = go
 
 -- refused where there is nothing to go on with
-abbrev pub or_refuse : {A : Type 0} → Option A → Refusal → (A → Outcome) → Outcome
+abbrev pub or_refuse : {A B E : Type 0} → Option A → E → (A → Result B E) → Result B E
 or_refuse None why go = Err why
 or_refuse (Some a) why go = go a
 
