@@ -109,7 +109,8 @@ fn has_none<N: Name + Send + Sync, R: Wait + Threads + Abort + Sync>(
     requires { opening ≡ named N.library N.records N.config N.clients }
 {
     let (engine, _) = opening.start::<N>();
-    match run(rt, rt, alloc, &engine, Vec::new(alloc), 8, &OpenGate) {
+    let tokens = Vec::new(alloc);
+    match run(rt, rt, alloc, &engine, tokens, 8, &OpenGate) {
         Ok(tokens) => assert!(rt; tokens.is_empty()),
         Err(_) => panic!(rt; "the run has a fault"),
     }
