@@ -10,7 +10,6 @@ use std::alloc::Global;
 use std::process::Abort;
 use std::test::*;
 use vll_check::Library;
-use vll_core::Line;
 use vll_proc::{Call, Reply};
 use vll_queue::{Engine, Name, Session};
 use vll_sca::Placing;
@@ -95,8 +94,8 @@ pub(super) fn are_home(rt: &impl Abort, tokens: &[Token], clients: usize, next: 
 }
 
 // The output of a committed call that has one.
-pub(super) fn output_of(line: &Line) -> Option<u64> {
-    match &line.reply {
+pub(super) fn output_of(reply: &Option<Reply>) -> Option<u64> {
+    match reply {
         Some(Reply::Committed(outputs)) if outputs.len() == 1 => outputs.get(0),
         _ => None,
     }
@@ -118,7 +117,7 @@ pub(super) fn closes<N: Name>(
             }
             assert_eq!(rt; closed.journal.len(), outputs.len());
             for (line, output) in closed.journal.as_slice().iter().zip(outputs) {
-                assert_eq!(rt; output_of(line), Some(*output));
+                assert_eq!(rt; output_of(&line.reply), Some(*output));
             }
         }
         Err(_) => panic!(rt; "calls are left"),
