@@ -18,7 +18,8 @@ use Rattle.vll_core.specs.Shown.{AreWords}
 use Rattle.vll_core.proofs.Finished.{finished_reached}
 use Rattle.vll_core.specs.declared.config.Config.{Config}
 use Rattle.vll_queue.specs.declared.closed.Closed.{Closed}
-use Rattle.vll_queue.specs.Closed.{AreDivided, AreAnswered, IsSerial, calls_in}
+use Rattle.vll_queue.specs.Closed.{AreAnswered, IsSerial, calls_in}
+use Rattle.vll_queue.specs.Private.Divided.{AreDivided}
 use Rattle.vll_queue.specs.Moment.{IsMoment}
 use Rattle.vll_queue.proofs.Lines.{line_at}
 
@@ -39,7 +40,7 @@ end_length procs (m ∷ more) records = end_length procs more (apply procs m.1 r
     applied_length None args now = refl
     applied_length (Some p) args now = length-applied p args now
 
--- the reply of the call at a place of a list
+-- the reply of the call at an index of a list
 answer_there : (procs : List Proc) (calls : List Made) (records : List ℕ) (t : ℕ) (m : Made) → slice_get calls t ≡ Some m → answer procs calls records t ≡ Some (apply procs m.1 (before procs calls records t)).reply
 answer_there procs calls records t m at = rw at refl
 

@@ -13,15 +13,17 @@ use Rattle.vll_core.specs.Machine.{run, step, running, with_entry, with_status, 
 use Rattle.vll_core.specs.Moves.{IsReached, moved, by_event}
 use Rattle.vll_core.specs.Shown.{Shown, opening_of}
 use Rattle.vll_queue.specs.declared.begun.BeginRefusal.{BeginRefusal}
-use Rattle.vll_queue.specs.Begin.{arrived, begun_by, refusal}
-use Rattle.vll_queue.specs.Kept.{AreWhole, IsKept}
-use Rattle.vll_queue.specs.Pass.{executed, finished, found, started, with_stores, with_end, only_if}
+use Rattle.vll_queue.specs.Begin.{refusal}
+use Rattle.vll_queue.specs.Private.Begun.{arrived, begun_by}
+use Rattle.vll_queue.specs.Private.Kept.{AreWhole, IsKept}
+use Rattle.vll_queue.specs.Pass.{found, only_if}
+use Rattle.vll_queue.specs.Private.Steps.{executed, finished, started, with_stores, with_end}
 use Rattle.vll_queue.proofs.Repeats.{run_reached}
 use Rattle.vll_queue.proofs.Running.{runs_at, status_put}
-use Rattle.vll_queue.proofs.Executes.{execution}
-use Rattle.vll_queue.proofs.Executed.{nothing_due, executable_is, executable_not, executed_by}
-use Rattle.vll_queue.proofs.Finishes.{finishing}
-use Rattle.vll_queue.proofs.Finished.{finishable_is, finished_by}
+use Rattle.vll_queue.proofs.LoadsStores.{execution}
+use Rattle.vll_queue.proofs.Execution.{nothing_due, executable_is, executable_not, executed_by}
+use Rattle.vll_queue.proofs.Releases.{finishing}
+use Rattle.vll_queue.proofs.Finishing.{finishable_is, finished_by}
 use Rattle.vll_queue.proofs.Wakes.{Waits, waking, front_step, scan_step, front_waits, found_waits}
 use Rattle.vll_queue.proofs.Whole.{at_rest, whole_arrived, whole_started, whole_executed, whole_finished}
 

@@ -9,7 +9,7 @@ use Rattle.vll_core.specs.Moves.{AreProper, IsReached, begun}
 use Rattle.vll_core.specs.Shown.{Shown, opening_of, library_of}
 use Rattle.vll_queue.specs.Shown.{SessionShown}
 use Rattle.vll_queue.specs.Opened.{sessions_of}
-use Rattle.vll_queue.specs.Kept.{IsKept}
+use Rattle.vll_queue.specs.Private.Kept.{IsKept}
 
 -- each session is of a client that there is
 pub sessions_below : (m n : ℕ) → n ≤ m → All (λ (s : SessionShown). s.client < m) (sessions_of n)

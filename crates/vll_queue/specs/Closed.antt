@@ -1,6 +1,5 @@
 -- What an engine leaves when it is closed.
-use Rattle.std.specs.Prelude.{◌≡◌, ℕ, ◌+◌, ◌<◌, true, List, length, map, All, Some, slice_get, slice_index}
-use Rattle.vll_record.specs.Word.{value_word_of, pair_word_of_record}
+use Rattle.std.specs.Prelude.{◌≡◌, ℕ, ◌+◌, ◌<◌, true, List, map, All, Some, slice_get}
 use Rattle.vll_proc.specs.Serial.{Made, end, answer}
 use Rattle.vll_sca.specs.Status.{is_gone}
 use Rattle.vll_check.specs.Catalog.{Catalog}
@@ -9,13 +8,6 @@ use Rattle.vll_core.specs.Journal.{journal_of}
 use Rattle.vll_core.specs.State.{Opening, State, Entered}
 use Rattle.vll_core.specs.Machine.{running_count, waiting}
 use Rattle.vll_queue.specs.declared.closed.Closed.{Closed}
-
--- the words of so many records, divided into their values and their pair words
-pub record AreDivided (count : ℕ) (words values pairs : List ℕ) : Type 0 where
-  pub as_many_values : length values ≡ count
-  pub as_many_pairs : length pairs ≡ count
-  pub each_value : (r : ℕ) → r < count → slice_index values r ≡ slice_index words (value_word_of r)
-  pub each_pair : (r : ℕ) → r < count → slice_index pairs r ≡ slice_index words (pair_word_of_record r)
 
 -- the calls of a journal, each with its client
 abbrev pub calls_in : List Line → List Made

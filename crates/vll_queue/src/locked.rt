@@ -2,11 +2,13 @@ ghost use Rattle.std.specs.Prelude.{◌≡◌, ◌<◌, length, option_map, IfOk
 ghost use Rattle.vll_check.specs.Calls.{Fits};
 ghost use Rattle.vll_core.specs.Machine.{front};
 ghost use Rattle.vll_core.specs.Shown.{opening_of};
-ghost use Rattle.vll_queue.specs.Begin.{Begins, begun_by, refusal};
+ghost use Rattle.vll_queue.specs.Begin.{Begins, refusal};
+ghost use Rattle.vll_queue.specs.Private.Begun.{begun_by};
 ghost use Rattle.vll_queue.specs.Closed.{AreLeft, IsEnded, IsSerial};
-ghost use Rattle.vll_queue.specs.Kept.{IsKept};
+ghost use Rattle.vll_queue.specs.Private.Kept.{IsKept};
 ghost use Rattle.vll_queue.specs.Moment.{IsMoment};
-ghost use Rattle.vll_queue.specs.Pass.{Finishes, Spends, executable, executed, finishable, finished, found, replied, started};
+ghost use Rattle.vll_queue.specs.Pass.{Finishes, Spends, executable, finishable, found, replied};
+ghost use Rattle.vll_queue.specs.Private.Steps.{executed, finished, started};
 
 use crate::begun::Begun;
 use crate::closed::{Closed, NotClosed};
@@ -42,7 +44,7 @@ impl<N: Name, H: Place> Model for Locked<N, H> {
     ghost use Rattle.vll_proc.specs.contracts.syntax.Stmt as stmt;
     ghost use Rattle.std.specs.Coded.{codes};
     ghost use Rattle.vll_core.specs.Shown.{Shown};
-    ghost use Rattle.vll_queue.specs.Kept.{IsKept};
+    ghost use Rattle.vll_queue.specs.Private.Kept.{IsKept};
 
     ghost Value = { Shown H };
 

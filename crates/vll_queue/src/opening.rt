@@ -33,7 +33,7 @@ impl<H: Place> Model for Opening<H> {
 
     ghost coded = { Prim.hlevel (codes, expr.the_row.coded, stmt.the_row.coded, H.code) };
 
-    ghost use Rattle.vll_queue.specs.Opened.{shown, IsOpening};
+    ghost use Rattle.vll_queue.specs.Private.Opened.{shown, IsOpening};
 
     ghost view = { shown };
 

@@ -1,7 +1,8 @@
 ghost use Rattle.std.specs.Prelude.{◌≡◌, ◌+◌, ◌*◌, length};
 ghost use Rattle.vll_core.specs.Machine.{running_count, waiting};
 ghost use Rattle.vll_core.specs.Shown.{opening_of};
-ghost use Rattle.vll_queue.specs.Closed.{AreDivided, IsEnded, IsSerial};
+ghost use Rattle.vll_queue.specs.Closed.{IsEnded, IsSerial};
+ghost use Rattle.vll_queue.specs.Private.Divided.{AreDivided};
 ghost use Rattle.vll_queue.specs.Moment.{IsMoment};
 
 use crate::closed::Closed;

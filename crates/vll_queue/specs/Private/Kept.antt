@@ -6,7 +6,7 @@ use Rattle.vll_core.specs.declared.config.Config.{Config}
 use Rattle.vll_core.specs.State.{Base, Entered, State}
 use Rattle.vll_core.specs.Shown.{Shown, opening_of, library_of}
 use Rattle.vll_queue.specs.Moment.{IsMoment}
-use Rattle.vll_queue.specs.Pass.{stores_due}
+use Rattle.vll_queue.specs.Private.Steps.{stores_due}
 
 -- an entry that has made no step
 abbrev pub is_fresh : Entered → Bool
