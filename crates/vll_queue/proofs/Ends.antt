@@ -1,24 +1,25 @@
 -- A machine in which every call is gone: its journal, its records and its pairs are those of the calls run one at a time.
 use Rattle.std.proofs.Common.{◌≡◌, ℕ, ◌+◌, ◌<◌, Bool, true, List, [], ◌∷◌, length, map, Option, Some, None, slice_get, slice_index, refl, sym, ap, ◌∙◌, subst, arith, if◌then◌else◌, option_map}
-use Rattle.std.specs.List.{count_by, enumerate_from}
+use Rattle.std.specs.List.{enumerate_from}
 use Rattle.std.proofs.lemmas.Grind.{same_number_lists}
 use Rattle.std.proofs.lemmas.List.{get_or-map, length-map}
 use Rattle.std.proofs.lemmas.Option.{same_Some, slice_get-map}
 use Rattle.vll_proc.proofs.Kept.{length-applied}
 use Rattle.vll_proc.specs.declared.syntax.Proc.{Proc}
 use Rattle.vll_proc.specs.Serial.{Made, apply, applied_at, end, before, answer}
-use Rattle.vll_sca.specs.Status.{is_running, is_gone}
+use Rattle.vll_sca.specs.Status.{is_gone}
 use Rattle.vll_check.specs.Catalog.{Catalog}
 use Rattle.vll_core.specs.declared.line.Line.{Line}
 use Rattle.vll_core.specs.State.{Base, Opening, Entered, State, entered, made, value, counter, reply_at}
-use Rattle.vll_core.specs.Machine.{waiting}
+use Rattle.vll_core.specs.Machine.{running_count, waiting}
 use Rattle.vll_core.specs.Moves.{IsReached}
 use Rattle.vll_core.specs.Journal.{journal_of, line_of}
 use Rattle.vll_core.specs.Shown.{AreWords}
 use Rattle.vll_core.proofs.Finished.{finished_reached}
 use Rattle.vll_core.specs.declared.config.Config.{Config}
 use Rattle.vll_queue.specs.declared.closed.Closed.{Closed}
-use Rattle.vll_queue.specs.Closed.{AreDivided, AreAnswered, IsSerial, calls_in}
+use Rattle.vll_queue.specs.Closed.{AreAnswered, IsSerial, calls_in}
+use Rattle.vll_queue.specs.Private.Divided.{AreDivided}
 use Rattle.vll_queue.specs.Moment.{IsMoment}
 use Rattle.vll_queue.proofs.Lines.{line_at}
 
@@ -39,7 +40,7 @@ end_length procs (m ∷ more) records = end_length procs more (apply procs m.1 r
     applied_length None args now = refl
     applied_length (Some p) args now = length-applied p args now
 
--- the reply of the call at a place of a list
+-- the reply of the call at an index of a list
 answer_there : (procs : List Proc) (calls : List Made) (records : List ℕ) (t : ℕ) (m : Made) → slice_get calls t ≡ Some m → answer procs calls records t ≡ Some (apply procs m.1 (before procs calls records t)).reply
 answer_there procs calls records t m at = rw at refl
 
@@ -87,7 +88,7 @@ pub record IsLeft (o : Base) (s : State) (values pairs : List ℕ) : Type 0 wher
   pub values_are : values ≡ end o.procs (entered s) o.records
   pub pairs_are : pairs ≡ map (λ (r : ℕ). 0) o.records
 
-pub left : (o : Opening) (s : State) (n : ℕ) (words values pairs : List ℕ) → IsReached o s → s.turn ≡ None → waiting s ≡ 0 → count_by (λ (e : Entered). is_running e.status) s.entries ≡ 0
+pub left : (o : Opening) (s : State) (n : ℕ) (words values pairs : List ℕ) → IsReached o s → s.turn ≡ None → waiting s ≡ 0 → running_count s ≡ 0
     → n ≡ length o.base.records → AreWords o.base s words → AreDivided n words values pairs → IsLeft o.base s values pairs
 left o s n words values pairs reached closed none_wait none_run count are divided =
     let law = finished_reached o s reached closed none_wait none_run in
@@ -98,10 +99,10 @@ left o s n words values pairs reached closed none_wait none_run count are divide
     }
 
 -- so what is left is serial
-pub serial_end : (library : Catalog) (records : List ℕ) (config : Config) (o : Opening) (s : State) (n : ℕ) (words divided : List ℕ) (c : Closed) → IsMoment library records config o s
-    → waiting s ≡ 0 → count_by (λ (e : Entered). is_running e.status) s.entries ≡ 0 → n ≡ length records
+pub serial_end : (library : Catalog) (records : List ℕ) (config : Config) (places : ℕ → ℕ) (o : Opening) (s : State) (n : ℕ) (words divided : List ℕ) (c : Closed) → IsMoment library records config places o s
+    → waiting s ≡ 0 → running_count s ≡ 0 → n ≡ length records
     → AreWords o.base s words → divided ≡ words → AreDivided n divided c.records.items c.pairs.items → c.journal.items ≡ journal_of o.base s → IsSerial library records c
-serial_end library records config o s n words divided c at none_wait none_run count are same each journal =
+serial_end library records config places o s n words divided c at none_wait none_run count are same each journal =
     let size : n ≡ length o.base.records = count ∙ ap (λ (b : Base). length b.records) (sym at.base) in
     let rest = left o s n words c.records.items c.pairs.items at.reached at.closed none_wait none_run size are (subst (λ (ws : List ℕ). AreDivided n ws c.records.items c.pairs.items) same each) in
     record {

@@ -8,7 +8,7 @@ use Rattle.vll_sca.specs.declared.status.Status.{Status}
 use Rattle.vll_sca.specs.Status.{is_running}
 use Rattle.vll_core.specs.State.{Base, Entered, State, entered, made, reply_at}
 use Rattle.vll_core.specs.Machine.{if_running, running, with_entry, with_status}
-use Rattle.vll_queue.proofs.Places.{get_set, set_here}
+use Rattle.vll_queue.proofs.Indices.{get_set, set_here}
 
 -- a running entry stands at its ticket
 pub runs_at : (x : Option Entered) (e : Entered) → if_running x ≡ Some e → (x ≡ Some e) × (is_running e.status ≡ true)

@@ -17,10 +17,11 @@ use Rattle.vll_core.specs.declared.seen.Seen.TheVariants.{Run}
 use Rattle.vll_core.specs.State.{Opening, Entered, State, Turn}
 use Rattle.vll_core.specs.Machine.{Outcome, or_refuse, refuse_if, front, scanned, step, told, with_status}
 use Rattle.vll_core.specs.Shown.{Shown, after}
-use Rattle.vll_queue.specs.Pass.{found, started}
-use Rattle.vll_queue.specs.Seen.{IsRun}
+use Rattle.vll_queue.specs.Pass.{found}
+use Rattle.vll_queue.specs.Private.Steps.{started}
+use Rattle.vll_queue.specs.Private.Seen.{IsRun}
 use Rattle.vll_queue.proofs.Truths.{both_true}
-use Rattle.vll_queue.proofs.Places.{entry_at}
+use Rattle.vll_queue.proofs.Indices.{entry_at}
 
 -- what Front or Scan comes to, by the ticket that it finds
 abbrev pub waking : State → Option ℕ → Outcome
@@ -61,7 +62,7 @@ Waits s t = (e : Entered) × (slice_get s.entries t ≡ Some e) × (is_waiting e
 
 -- the front waits
 pub front_waits : (s : State) (t : ℕ) → front s ≡ Some t → Waits s t
-front_waits s t h = by_place (position (λ (e : Entered). not (is_gone e.status)) s.entries) h
+front_waits s t h = by_index (position (λ (e : Entered). not (is_gone e.status)) s.entries) h
   where
     by_test : (u : ℕ) (e : Entered) → slice_get s.entries u ≡ Some e → (b : Bool) → is_waiting e.status ≡ b → (if b then Some u else None) ≡ Some t → Waits s t
     by_test u e at true is k = subst (Waits s) (same_Some u t k) (e, at, is)
@@ -72,11 +73,11 @@ front_waits s t h = by_place (position (λ (e : Entered). not (is_gone e.status)
     by_entry u None at k = absurd (cc k)
     by_entry u (Some e) at k = by_test u e at (is_waiting e.status) refl k
 
-    by_place : (x : Option ℕ)
+    by_index : (x : Option ℕ)
         → elim x as (λ _. Option ℕ) [ None ↦ None | Some u ↦ elim (slice_get s.entries u) as (λ _. Option ℕ) [ None ↦ None | Some e ↦ if is_waiting e.status then Some u else None ] ] ≡ Some t
         → Waits s t
-    by_place None k = absurd (cc k)
-    by_place (Some u) k = by_entry u (slice_get s.entries u) refl k
+    by_index None k = absurd (cc k)
+    by_index (Some u) k = by_entry u (slice_get s.entries u) refl k
 
 -- what the contention analysis finds waits
 pub found_waits : (o : Opening) (s : State) (t : ℕ) → found o s ≡ Some t → Waits s t

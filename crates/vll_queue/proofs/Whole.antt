@@ -10,11 +10,12 @@ use Rattle.vll_sca.specs.declared.status.Status.TheVariants.{Running, Waiting, G
 use Rattle.vll_sca.specs.Status.{is_running, is_waiting}
 use Rattle.vll_core.specs.State.{Base, Entered, State, entered, made, writes, reply_at, is_aborted}
 use Rattle.vll_core.specs.Machine.{with_entry, with_status}
-use Rattle.vll_queue.specs.Begin.{arrival, arrived, is_free}
-use Rattle.vll_queue.specs.Pass.{stores_due, with_stores, with_end}
-use Rattle.vll_queue.specs.Kept.{is_fresh, has_executed, is_whole, AreWhole}
+use Rattle.vll_queue.specs.Begin.{is_free}
+use Rattle.vll_queue.specs.Private.Begun.{arrival, arrived}
+use Rattle.vll_queue.specs.Private.Steps.{stores_due, with_stores, with_end}
+use Rattle.vll_queue.specs.Private.Kept.{is_fresh, has_executed, is_whole, AreWhole}
 use Rattle.vll_queue.proofs.Truths.{both_true, either_true, eq_yes, eq_same}
-use Rattle.vll_queue.proofs.Places.{at_set, at_push}
+use Rattle.vll_queue.proofs.Indices.{at_set, at_push}
 use Rattle.vll_queue.proofs.Running.{reply_put, status_put}
 
 -- what an entry of a running call stands at: none of its steps, or all its loads and stores and no release
@@ -62,7 +63,7 @@ whole_alike o s r t e same =
       | Gone ↦ true
     ]) same
 
--- one entry is put in the place of another of the same call
+-- one entry is put where another of the same call was
 pub whole_put : (o : Base) (s : State) (t : ℕ) (e f : Entered) → AreWhole o s → slice_get s.entries t ≡ Some e → made f ≡ made e → is_whole o s t f ≡ true → AreWhole o (with_entry s t f)
 whole_put o s t e f whole at same is u d there =
     whole_alike o s (with_entry s t f) u d (reply_put o s t e f u d at same)

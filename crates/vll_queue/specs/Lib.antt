@@ -1,8 +1,7 @@
 pub mod Shown
+pub mod Opened
 pub mod Moment
 pub mod Begin
 pub mod Pass
-pub mod Seen
 pub mod Closed
-pub mod Kept
-pub mod Opened
+pub mod Private

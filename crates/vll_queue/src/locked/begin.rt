@@ -2,7 +2,8 @@ ghost use Rattle.std.specs.Prelude.{◌≡◌, ◌<◌, None, length};
 ghost use Rattle.vll_check.specs.Calls.{Fits};
 ghost use Rattle.vll_core.specs.Moves.{IsReached};
 ghost use Rattle.vll_core.specs.Shown.{library_of, opening_of};
-ghost use Rattle.vll_queue.specs.Begin.{Begins, begun_by, refusal};
+ghost use Rattle.vll_queue.specs.Begin.{Begins, refusal};
+ghost use Rattle.vll_queue.specs.Private.Begun.{begun_by};
 
 use super::repeat::repeat;
 use super::seen::admitted;

@@ -2,8 +2,9 @@ ghost use Rattle.std.specs.Prelude.{◌≡◌, length, option_map};
 ghost use Rattle.vll_core.specs.Machine.{running};
 ghost use Rattle.vll_core.specs.Shown.{library_of, opening_of};
 ghost use Rattle.vll_core.specs.State.{Entered};
-ghost use Rattle.vll_queue.specs.Kept.{AreWhole};
-ghost use Rattle.vll_queue.specs.Pass.{Spends, executable, executed};
+ghost use Rattle.vll_queue.specs.Private.Kept.{AreWhole};
+ghost use Rattle.vll_queue.specs.Pass.{Spends, executable};
+ghost use Rattle.vll_queue.specs.Private.Steps.{executed};
 
 use super::repeat::repeat;
 use crate::lost::Lost;

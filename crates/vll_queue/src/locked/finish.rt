@@ -1,7 +1,7 @@
 ghost use Rattle.std.specs.Prelude.{◌≡◌, None};
 ghost use Rattle.vll_core.specs.Shown.{library_of};
-ghost use Rattle.vll_queue.specs.Kept.{AreWhole};
-ghost use Rattle.vll_queue.specs.Pass.{Replies, finished};
+ghost use Rattle.vll_queue.specs.Private.Kept.{AreWhole};
+ghost use Rattle.vll_queue.specs.Private.Steps.{Replies, finished};
 
 use super::execute::claims_of_running;
 use super::repeat::repeat;

@@ -1,6 +1,6 @@
 ghost use Rattle.std.specs.Prelude.{◌≡◌};
 ghost use Rattle.vll_core.specs.declared.seen.Seen.TheVariants.{Replied, Run};
-ghost use Rattle.vll_queue.specs.Seen.{Admits, IsAdmission, IsReply, IsRun};
+ghost use Rattle.vll_queue.specs.Private.Seen.{Admits, IsAdmission, IsReply, IsRun};
 
 use crate::begun::Begun;
 use crate::pass::Pass;

@@ -1,7 +1,7 @@
 use Rattle.std.proofs.Common.{sym, ◌∙◌}
 use Rattle.vll_core.specs.Shown.{opening_of}
 use Rattle.vll_queue.specs.Begin.{is_free}
-use Rattle.vll_queue.proofs.Begins.{turn_taken, begun_answer, not_refused, is_admission}
+use Rattle.vll_queue.proofs.Turns.{turn_taken, begun_answer, not_refused, is_admission}
 use Rattle.vll_queue.proofs.locked.begin.begin.Goals as goal
 
 pub unreachable-requires-in-Err-step : goal.unreachable-requires-in-Err-step

@@ -1,6 +1,6 @@
 use Rattle.std.proofs.Common.{refl, sym, ap, ◌≡◌, ◌-◌, ◌∙◌, true, false, arith, is_err}
 use Rattle.vll_core.specs.State.{State}
-use Rattle.vll_queue.proofs.Executed.{running_claims, nothing_due, load_lost, load_won}
+use Rattle.vll_queue.proofs.Execution.{running_claims, nothing_due, load_lost, load_won}
 use Rattle.vll_queue.proofs.locked.execute.execute.Goals as goal
 
 pub returns-then-claims-eq0-clause-answer : goal.returns-then-claims-eq0-clause-answer

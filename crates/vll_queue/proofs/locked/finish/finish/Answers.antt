@@ -1,7 +1,7 @@
 use Rattle.std.proofs.Common.{refl, sym, ◌∙◌}
 use Rattle.vll_queue.specs.Pass.{finishable}
-use Rattle.vll_queue.proofs.Executed.{running_claims}
-use Rattle.vll_queue.proofs.Finished.{ending_taken, ended_reply, ended_not, is_reply}
+use Rattle.vll_queue.proofs.Execution.{running_claims}
+use Rattle.vll_queue.proofs.Finishing.{ending_taken, ended_reply, ended_not, is_reply}
 use Rattle.vll_queue.proofs.locked.finish.finish.Goals as goal
 
 pub replied-requires : goal.replied-requires

@@ -1,4 +1,4 @@
--- Which item stands at which place of a list.
+-- Which item stands at which index of a list.
 use Rattle.std.proofs.Common.{◌≡◌, ℕ, zero, suc, refl, sym, arith, ◌<◌, ◌⊎◌, inl, inr, ◌+◌, List, [], ◌∷◌, length, ap, ◌∙◌, slice_get, slice_set, Some, ◌++◌, take, add-one, ⊎_elim}
 use Rattle.std.proofs.Math.Seq.{take-suc}
 use Rattle.std.proofs.lemmas.List.{set-get_or}
@@ -7,13 +7,13 @@ use Rattle.std.proofs.lemmas.Option.{slice_get_within, get_or_from_slice_get, sa
 pub take_next : {A : Type 0} (xs : List A) (n : ℕ) (x : A) → slice_get xs n ≡ Some x → take (n + 1) xs ≡ take n xs ++ x ∷ []
 take_next xs n x h = rw (add-one n, take-suc xs n x (slice_get_within xs n x h), get_or_from_slice_get xs n x x h) refl
 
--- each place within a list has an item
+-- each index within a list has an item
 pub entry_at : {A : Type 0} (xs : List A) (n : ℕ) → n < length xs → (x : A) × (slice_get xs n ≡ Some x)
 entry_at [] n h = absurd (omega arith)
 entry_at (x ∷ xs) zero h = (x, refl)
 entry_at (x ∷ xs) (suc n) h = entry_at xs n (omega arith)
 
--- an item of a list with one place changed
+-- an item of a list with one item changed
 pub at_set : {X : Type 0} (es : List X) (t : ℕ) (f : X) (v : ℕ) (d : X) → slice_get (slice_set es t f) v ≡ Some d → ((v ≡ t) × (d ≡ f)) ⊎ (slice_get es v ≡ Some d)
 at_set [] t f v d at = inr at
 at_set (x ∷ es) zero f zero d at = inl (refl, sym (same_Some f d at))

@@ -9,9 +9,9 @@ use Rattle.vll_core.specs.declared.refusal.Refusal.TheVariants.{OutOfStep, NotRu
 use Rattle.vll_core.specs.declared.seen.Seen.TheVariants.{Released, Replied}
 use Rattle.vll_core.specs.State.{Base, Opening, Entered, State, Turn, writes, reply_at, is_aborted, counter}
 use Rattle.vll_core.specs.Machine.{Outcome, or_refuse, refuse_if, run, step, state_after, running, with_entry, has_stored}
-use Rattle.vll_queue.specs.Pass.{with_end}
+use Rattle.vll_queue.specs.Private.Steps.{with_end}
 use Rattle.vll_queue.proofs.Truths.{lt_none}
-use Rattle.vll_queue.proofs.Places.{entry_at}
+use Rattle.vll_queue.proofs.Indices.{entry_at}
 use Rattle.vll_queue.proofs.Repeats.{run_more}
 use Rattle.vll_queue.proofs.Running.{runs_at, put_here, put_again, put_runs, reply_put}
 

@@ -8,12 +8,13 @@ use Rattle.vll_core.specs.declared.event.Event.TheVariants as event
 use Rattle.vll_core.specs.State.{Base, Opening, Entered, State}
 use Rattle.vll_core.specs.Machine.{run, step, running, with_entry, told}
 use Rattle.vll_core.specs.Shown.{Shown, opening_of, after}
-use Rattle.vll_queue.specs.Pass.{only_if, executable, executed, stores_due, with_stores}
-use Rattle.vll_queue.specs.Kept.{AreWhole}
+use Rattle.vll_queue.specs.Pass.{only_if, executable}
+use Rattle.vll_queue.specs.Private.Steps.{executed, stores_due, with_stores}
+use Rattle.vll_queue.specs.Private.Kept.{AreWhole}
 use Rattle.vll_queue.proofs.Truths.{eq_same}
-use Rattle.vll_queue.proofs.Places.{entry_at}
+use Rattle.vll_queue.proofs.Indices.{entry_at}
 use Rattle.vll_queue.proofs.Running.{runs_at, put_here}
-use Rattle.vll_queue.proofs.Executes.{load_step, load_refused, due_few, execution}
+use Rattle.vll_queue.proofs.LoadsStores.{load_step, load_refused, due_few, execution}
 use Rattle.vll_queue.proofs.Whole.{at_rest}
 
 -- a ticket that has a number of claims runs

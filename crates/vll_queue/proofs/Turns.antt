@@ -26,10 +26,11 @@ use Rattle.vll_queue.specs.declared.begun.BeginRefusal.{BeginRefusal}
 use Rattle.vll_queue.specs.declared.begun.BeginRefusal.TheVariants.{Spent, Busy}
 use Rattle.vll_queue.specs.declared.begun.Begun.{Begun}
 use Rattle.vll_queue.specs.declared.begun.Begun.TheVariants as begun
-use Rattle.vll_queue.specs.Begin.{Begins, refusal, is_free, arrival, arrived, begun_by}
-use Rattle.vll_queue.specs.Seen.{Admits, IsAdmission}
+use Rattle.vll_queue.specs.Begin.{Begins, refusal, is_free}
+use Rattle.vll_queue.specs.Private.Begun.{arrival, arrived, begun_by}
+use Rattle.vll_queue.specs.Private.Seen.{Admits, IsAdmission}
 use Rattle.vll_queue.proofs.Truths.{lt_none, eq_below}
-use Rattle.vll_queue.proofs.Places.{entry_at, take_next}
+use Rattle.vll_queue.proofs.Indices.{entry_at, take_next}
 use Rattle.vll_queue.proofs.Repeats.{run_more}
 
 -- a state in which the turn of a call is open

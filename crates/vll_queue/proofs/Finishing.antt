@@ -10,12 +10,13 @@ use Rattle.vll_core.specs.declared.seen.Seen.TheVariants.{Replied}
 use Rattle.vll_core.specs.State.{Base, Opening, Entered, State, reply_at}
 use Rattle.vll_core.specs.Machine.{Outcome, run, step, running, with_entry, has_stored, told}
 use Rattle.vll_core.specs.Shown.{Shown, opening_of, after}
-use Rattle.vll_queue.specs.Pass.{only_if, finishable, finished, with_end}
-use Rattle.vll_queue.specs.Kept.{AreWhole}
-use Rattle.vll_queue.specs.Seen.{IsReply}
+use Rattle.vll_queue.specs.Pass.{only_if, finishable}
+use Rattle.vll_queue.specs.Private.Steps.{finished, with_end}
+use Rattle.vll_queue.specs.Private.Kept.{AreWhole}
+use Rattle.vll_queue.specs.Private.Seen.{IsReply}
 use Rattle.vll_queue.proofs.Repeats.{run_refused}
 use Rattle.vll_queue.proofs.Running.{runs_at}
-use Rattle.vll_queue.proofs.Finishes.{release_refused, finish_refused, finishing}
+use Rattle.vll_queue.proofs.Releases.{release_refused, finish_refused, finishing}
 use Rattle.vll_queue.proofs.Whole.{at_rest}
 
 -- what Finish comes to behind all releases

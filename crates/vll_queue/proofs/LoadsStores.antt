@@ -10,9 +10,9 @@ use Rattle.vll_core.specs.declared.refusal.Refusal.TheVariants.{OutOfStep, NotRu
 use Rattle.vll_core.specs.declared.seen.Seen.TheVariants.{Loaded, Stored}
 use Rattle.vll_core.specs.State.{Base, Opening, Entered, State, writes, reply_at, is_aborted, value}
 use Rattle.vll_core.specs.Machine.{or_refuse, refuse_if, run, step, state_after, running, with_entry, has_stored}
-use Rattle.vll_queue.specs.Pass.{stores_due, with_stores}
+use Rattle.vll_queue.specs.Private.Steps.{stores_due, with_stores}
 use Rattle.vll_queue.proofs.Truths.{eq_same, eq_whole, lt_no, lt_none, lt_yes}
-use Rattle.vll_queue.proofs.Places.{entry_at}
+use Rattle.vll_queue.proofs.Indices.{entry_at}
 use Rattle.vll_queue.proofs.Repeats.{run_more}
 use Rattle.vll_queue.proofs.Running.{runs_at, put_here, put_again, put_runs, reply_put}
 
