@@ -1,5 +1,5 @@
 -- What is known of a call that was made for a checked procedure, and of one that a library makes.
-use Rattle.std.proofs.Common.{◌≡◌, ◌↔◌, ℕ, ◌-◌, ◌<◌, Bool, true, false, ◌&&◌, ◌==◌, nat_lt, List, [], ◌∷◌, length, map, take, take_at, replicate, Option, Some, None, Result, Ok, Err, refl, sym, ap, ◌∙◌, subst, if◌then◌else◌, slice_get}
+use Rattle.std.proofs.Common.{◌≡◌, ◌↔◌, ℕ, suc, ◌-◌, ◌<◌, ◌≤◌, arith, Bool, true, false, ◌&&◌, ◌==◌, nat_lt, List, [], ◌∷◌, length, map, take, take_at, replicate, Option, Some, None, Result, Ok, Err, refl, sym, ap, ◌∙◌, subst, if◌then◌else◌, slice_get}
 use Rattle.std.specs.List.{All, AllByRecursion, list_all}
 use Rattle.std.proofs.lemmas.Bool.{eqb-true, false≢true}
 use Rattle.std.proofs.lemmas.Option.{slice_get_within, get_or_from_slice_get}
@@ -7,17 +7,18 @@ use Rattle.std.proofs.lemmas.List.Elements.{All-from_recursion}
 use Rattle.vll_proc.specs.declared.limits.TheConstants.{MOST_ARGS}
 use Rattle.vll_record.specs.Claim.{claims_of, with_claim, stronger}
 use Rattle.vll_record.specs.declared.claim.Claim.{Claim}
+use Rattle.vll_record.specs.declared.claim.Mode.{Mode}
 use Rattle.vll_proc.specs.declared.call.Call.{Call}
 use Rattle.vll_proc.specs.declared.syntax.KeyDecl.{KeyDecl}
 use Rattle.vll_proc.specs.declared.syntax.Proc.{Proc}
-use Rattle.vll_proc.specs.Made.{asked, call_of, IsCallOf}
+use Rattle.vll_proc.specs.Made.{asking, asked_by, asked, call_of, IsCallOf}
+use Rattle.vll_proc.specs.Meaning.{record_named}
 use Rattle.vll_proc.specs.WellFormed as formed
 use Rattle.vll_check.specs.declared.fault.CallFault.{CallFault}
 use Rattle.vll_check.specs.declared.fault.CallFault.TheVariants.{ArgCount, RecordRange}
 use Rattle.vll_check.specs.Calls.{call_to, call_numbered, place_is_there, Fits, CallsProcedure}
 use Rattle.vll_check.specs.Catalog.{Catalog, IsCatalog}
 use Rattle.vll_check.specs.Faults.{check_fault}
-use Rattle.vll_check.specs.Private.Making.{asked_for}
 use Rattle.vll_check.specs.Names.{number_named, has_name_twice}
 use Rattle.vll_check.proofs.Distinct.{number_named-distinct, number_named-stands}
 use Rattle.vll_check.proofs.Passed.{passed_all, named_there}
@@ -43,12 +44,28 @@ all_claims n [] h = tt
 all_claims n (c ∷ cs) h = all_with n c (claims_of cs) h.0 (all_claims n cs h.1)
 
 all_asked : (n : ℕ) (args : List ℕ) (keys : List KeyDecl) → list_all (formed.record_is_there n) keys ≡ true → list_all (place_is_there n args) keys ≡ true
-    → AllByRecursion (λ (d : Claim). d.id < n) (map (asked_for args) keys)
+    → AllByRecursion (λ (d : Claim). d.id < n) (asked_by args keys)
 all_asked n args [] there given = tt
 all_asked n args (k ∷ keys) there given =
     let here = both_true (formed.record_is_there n k) (list_all (formed.record_is_there n) keys) there in
     let place = both_true (place_is_there n args k) (list_all (place_is_there n args) keys) given in
-    (named_there n args k here.0 place.0, all_asked n args keys here.1 place.1)
+    by_name (record_named args k.at) (named_there n args k here.0 place.0) (all_asked n args keys here.1 place.1)
+  where
+    by_name : (o : Option ℕ) → ((r : ℕ) → o ≡ Some r → r < n) → AllByRecursion (λ (d : Claim). d.id < n) (asked_by args keys) → AllByRecursion (λ (d : Claim). d.id < n) (asking k.mode o (asked_by args keys))
+    by_name None within rest = rest
+    by_name (Some r) within rest = (within r refl, rest)
+
+asking-le : (m : Mode) (o : Option ℕ) (cs : List Claim) → length (asking m o cs) ≤ suc (length cs)
+asking-le m None cs = omega arith
+asking-le m (Some r) cs = omega arith
+
+-- each key position asks for one record at most
+pub length-asked_by-le : (args : List ℕ) (keys : List KeyDecl) → length (asked_by args keys) ≤ length keys
+length-asked_by-le args [] = omega arith
+length-asked_by-le args (k ∷ keys) =
+    let rest = length-asked_by-le args keys in
+    let one = asking-le k.mode (record_named args k.at) (asked_by args keys) in
+    omega arith
 
 -- the claims that arguments in range place are of the records
 claims_within : (n : ℕ) (p : Proc) (args : List ℕ) → check_fault n p ≡ None → list_all (place_is_there n args) p.keys ≡ true → All (λ (d : Claim). d.id < n) (claims_of (asked p args))

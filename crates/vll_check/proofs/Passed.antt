@@ -1,6 +1,8 @@
 -- What is known of a procedure that passes the tests, and of the records that its keys name.
-use Rattle.std.proofs.Common.{◌≡◌, ℕ, ◌<◌, Bool, true, false, List, refl, slice_index, Option, None}
-use Rattle.std.proofs.lemmas.Bool.{ltb-true}
+use Rattle.std.proofs.Common.{◌≡◌, ℕ, zero, suc, ◌<◌, ◌^◌, ◌&&◌, Bool, true, false, List, [], ◌∷◌, length, get_or, IfSome, arith, refl, slice_index, Option, Some, None, subst}
+use Rattle.std.specs.List.{list_all}
+use Rattle.std.proofs.lemmas.Bool.{ltb-true, false≢true}
+use Rattle.std.proofs.lemmas.Option.{same_Some, get_or_from_slice_get}
 use Rattle.vll_record.specs.declared.claim.Mode.{Mode}
 use Rattle.vll_proc.specs.declared.syntax.KeyAt.{KeyAt}
 use Rattle.vll_proc.specs.declared.syntax.KeyAt.TheVariants as at
@@ -10,6 +12,7 @@ use Rattle.vll_proc.specs.Meaning.{record_named}
 use Rattle.vll_proc.specs.WellFormed as formed
 use Rattle.vll_check.specs.declared.fault.CheckFault.{CheckFault}
 use Rattle.vll_check.specs.Calls.{place_is_there}
+use Rattle.vll_check.specs.Private.Making.{IsPlaced}
 use Rattle.vll_check.specs.Faults.{fault_unless, check_fault}
 
 passed : (b : Bool) (fault : CheckFault) (behind : Option CheckFault) → fault_unless b fault behind ≡ None → (b ≡ true) × (behind ≡ None)
@@ -49,9 +52,35 @@ passed_all records p e =
 
 -- a key position's record is one of the records
 named_within : (records : ℕ) (args : List ℕ) (mode : Mode) (place : KeyAt) → formed.record_is_there records (record { mode = mode; at = place }) ≡ true
-    → place_is_there records args (record { mode = mode; at = place }) ≡ true → record_named args place < records
-named_within records args mode (at.Fixed r) there given = ltb-true r records there
-named_within records args mode (at.Arg i) there given = ltb-true (slice_index args i) records given
+    → place_is_there records args (record { mode = mode; at = place }) ≡ true → (r : ℕ) → record_named args place ≡ Some r → r < records
+named_within records args mode (at.Fixed n) there given r is = subst (λ (x : ℕ). x < records) (same_Some n r is) (ltb-true n records there)
+named_within records args mode (at.Arg i) there given r is = subst (λ (x : ℕ). x < records) (get_or_from_slice_get args i r 0 is) (ltb-true (slice_index args i) records given)
 
-pub named_there : (records : ℕ) (args : List ℕ) (k : KeyDecl) → formed.record_is_there records k ≡ true → place_is_there records args k ≡ true → record_named args k.at < records
+pub named_there : (records : ℕ) (args : List ℕ) (k : KeyDecl) → formed.record_is_there records k ≡ true → place_is_there records args k ≡ true → (r : ℕ) → record_named args k.at ≡ Some r → r < records
 named_there records args k there given = named_within records args k.mode k.at there given
+
+small_record : (records : ℕ) (o : Option ℕ) → records < 2 ^ 32 → ((r : ℕ) → o ≡ Some r → r < records) → IfSome o (λ (r : ℕ). r < 2 ^ 32)
+small_record records None few within = tt
+small_record records (Some r) few within = let below = within r refl in omega arith
+
+both_true : (a b : Bool) → (a && b) ≡ true → (a ≡ true) × (b ≡ true)
+both_true true b e = (refl, e)
+both_true false b e = absurd (false≢true e)
+
+all_at : (p : KeyDecl → Bool) (ks : List KeyDecl) (i : ℕ) (d : KeyDecl) → list_all p ks ≡ true → i < length ks → p (get_or ks i d) ≡ true
+all_at p [] i d h lt = absurd (omega arith)
+all_at p (k ∷ ks) zero d h lt = (both_true _ _ h).0
+all_at p (k ∷ ks) (suc i) d h lt = all_at p ks i d (both_true _ _ h).1 (omega arith)
+
+-- each key position of a checked procedure is placed, where arguments in range are given, as many as it declares
+pub all_placed : (records : ℕ) (p : Proc) (args : List ℕ) → records < 2 ^ 32 → check_fault records p ≡ None → length args ≡ p.args → list_all (place_is_there records args) p.keys ≡ true
+    → (i : ℕ) (d : KeyDecl) → i < length p.keys → IsPlaced args (length args) (get_or p.keys i d)
+all_placed records p args few checks count given i d lt =
+    let passed = passed_all records p checks in
+    let key : KeyDecl = get_or p.keys i d in
+    let within : (r : ℕ) → record_named args key.at ≡ Some r → r < records =
+    named_there records args key (all_at (formed.record_is_there records) p.keys i d passed.1 lt) (all_at (place_is_there records args) p.keys i d given lt) in
+    record {
+      known = rw count (all_at (formed.argument_is_declared p.args) p.keys i d passed.0.key_args lt);
+      fits = small_record records (record_named args key.at) few within;
+    }

@@ -1,11 +1,11 @@
 //! Calls of a procedure, made of their arguments.
-ghost use Rattle.std.specs.Prelude.{◌≡◌, ◌≤◌, ◌<◌, ◌^◌, length, map, true, All};
+ghost use Rattle.std.specs.Prelude.{◌≡◌, ◌≤◌, ◌<◌, ◌^◌, length, map, true, All, Some};
 ghost use Rattle.vll_record.specs.Canon.{laid};
 ghost use Rattle.vll_record.specs.Claim.{claims_of};
-ghost use Rattle.vll_proc.specs.Made.{call_of, place_of};
+ghost use Rattle.vll_proc.specs.Made.{asked_by, call_of, place_of};
 ghost use Rattle.vll_proc.specs.Meaning.{record_named};
 ghost use Rattle.vll_proc.specs.WellFormed.{argument_is_declared};
-ghost use Rattle.vll_check.specs.Private.Making.{asked_for, cell_of, IsPlaced};
+ghost use Rattle.vll_check.specs.Private.Making.{cell_of, IsPlaced};
 
 use vll_proc::{Call, KeyAt, KeyDecl, MOST_ARGS, Proc};
 use vll_record::{Claim, Claims, MOST_CLAIMS, RecordId};
@@ -31,7 +31,7 @@ pub(crate) fn call_of(number: u32, procedure: &Proc, args: &[u64]) -> Call
 // The record that a key position names.
 fn record_of(key: &KeyDecl, args: &[u64]) -> u32
     requires placed { IsPlaced args.now (length args.now) key.now }
-    ensures { result ≡ record_named args.now key.now.at }
+    ensures { record_named args.now key.now.at ≡ Some result }
 {
     match key.at {
         KeyAt::Fixed(r) => r,
@@ -43,7 +43,7 @@ fn record_of(key: &KeyDecl, args: &[u64]) -> u32
 fn claims_of(keys: &[KeyDecl], args: &[u64]) -> Claims
     requires keys { length keys.now ≤ MOST_CLAIMS }
     requires placed { All (IsPlaced args.now (length args.now)) keys.now }
-    ensures { result ≡ claims_of (map (asked_for args.now) keys.now) }
+    ensures { result ≡ claims_of (asked_by args.now keys.now) }
 {
     match keys {
         [] => Claims::new(),

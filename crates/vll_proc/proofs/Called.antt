@@ -1,10 +1,10 @@
 -- What a made call says of its procedure: each key position has the cell of its claim.
-use Rattle.std.proofs.Common.{◌≡◌, ℕ, zero, suc, ◌-◌, ◌<◌, ◌≤◌, Bool, true, false, ◌==◌, List, [], ◌∷◌, length, map, take, replicate, get_or, Option, Some, None, slice_index, refl, sym, ap, ◌∙◌, arith, ⊎_elim, if◌then◌else◌}
+use Rattle.std.proofs.Common.{◌≡◌, ℕ, zero, suc, ◌-◌, ◌<◌, ◌≤◌, Bool, true, false, ◌==◌, List, [], ◌∷◌, length, map, take, replicate, get_or, Option, Some, None, slice_index, refl, sym, ap, ap₂, unwrap_or, slice_get, ◌∙◌, arith, ⊎_elim, if◌then◌else◌}
 use Rattle.std.specs.List.{list_all}
 use Rattle.std.proofs.lemmas.Bool.{ltb-true, cases_lt, leb-true, eq-eqb, cond-true}
 use Rattle.std.proofs.lemmas.Map.Views.{exact_unsigned_eq}
 use Rattle.std.proofs.lemmas.List.{get_or-map, get_or_append_left, get_or-append_right, get_or-take, get_or_past, length-map}
-use Rattle.std.proofs.lemmas.Option.{slice_get_within, none-some}
+use Rattle.std.proofs.lemmas.Option.{slice_get_within, none-some, slice_get-get_or}
 use Rattle.vll_record.specs.declared.claims.TheConstants.{MOST_CLAIMS}
 use Rattle.vll_record.specs.Canon.{laid}
 use Rattle.vll_record.specs.declared.claim.Claim.{Claim}
@@ -17,8 +17,8 @@ use Rattle.vll_proc.specs.declared.syntax.KeyAt.{KeyAt}
 use Rattle.vll_proc.specs.declared.syntax.KeyAt.TheVariants as at
 use Rattle.vll_proc.specs.declared.syntax.KeyDecl.{KeyDecl}
 use Rattle.vll_proc.specs.declared.syntax.Proc.{Proc}
-use Rattle.vll_proc.specs.Made.{asked, place_of, IsCallOf}
-use Rattle.vll_proc.specs.Meaning.{record_named}
+use Rattle.vll_proc.specs.Made.{asking, asked_by, asked, place_of, place_for, IsCallOf}
+use Rattle.vll_proc.specs.Meaning.{record_named, found_at}
 use Rattle.vll_proc.specs.Private.Running.{HasCells}
 use Rattle.vll_proc.specs.WellFormed.{IsWellFormed, argument_is_declared}
 use Rattle.vll_record.proofs.ClaimsOf.{IsRising-claims_of, length-claims_of-le}
@@ -72,17 +72,59 @@ list_all_get p [] k d h lt = absurd (omega arith)
 list_all_get p (x ∷ xs) zero d h lt = (both_true _ _ h).0
 list_all_get p (x ∷ xs) (suc k) d h lt = list_all_get p xs k d (both_true _ _ h).1 (omega arith)
 
+-- the record of a key position, where it names one
+abbrev pub number_named : List ℕ → KeyDecl → ℕ
+number_named args k = unwrap_or (record_named args k.at) 0
+
+-- the claim that it asks for there
+abbrev pub claim_named : List ℕ → KeyDecl → Claim
+claim_named args k = record { id = number_named args k; mode = k.mode }
+
+-- a declared position names a record
+pub names_one : (n : ℕ) (args : List ℕ) (k : KeyDecl) → argument_is_declared n k ≡ true → n ≤ length args → record_named args k.at ≡ Some (number_named args k)
+names_one n args k h le = named k.at h
+  where
+    named : (at : KeyAt) → argument_is_declared n (record k { at = at }) ≡ true → record_named args at ≡ Some (unwrap_or (record_named args at) 0)
+    named (at.Fixed r) h = refl
+    named (at.Arg i) h =
+        let lt = ltb-true i n h in
+        let there : slice_get args i ≡ Some (get_or args i 0) = slice_get-get_or args i 0 (omega arith) in
+        there ∙ ap Some (sym (ap (λ (o : Option ℕ). unwrap_or o 0) there))
+
+-- what declared positions ask for
+pub asked_by-declared : (n : ℕ) (args : List ℕ) (keys : List KeyDecl) → list_all (argument_is_declared n) keys ≡ true → n ≤ length args → asked_by args keys ≡ map (claim_named args) keys
+asked_by-declared n args [] h le = refl
+asked_by-declared n args (k ∷ ks) h le =
+    let both = both_true _ _ h in
+    ap (λ (o : Option ℕ). asking k.mode o (asked_by args ks)) (names_one n args k both.0 le)
+    ∙ ap (λ (cs : List Claim). claim_named args k ∷ cs) (asked_by-declared n args ks both.1 le)
+
+slice_get-take : (n : ℕ) (xs : List ℕ) (i : ℕ) → i < n → slice_get (take n xs) i ≡ slice_get xs i
+slice_get-take zero xs i lt = absurd (omega arith)
+slice_get-take (suc n) [] i lt = refl
+slice_get-take (suc n) (x ∷ xs) zero lt = refl
+slice_get-take (suc n) (x ∷ xs) (suc i) lt = slice_get-take n xs i (omega arith)
+
 -- a key is named alike by the arguments and by those of them that were passed
 record_named-take : (n : ℕ) (args : List ℕ) (k : KeyDecl) → argument_is_declared n k ≡ true → record_named (take n args) k.at ≡ record_named args k.at
 record_named-take n args k h = named k.at h
   where
     named : (at : KeyAt) → argument_is_declared n (record k { at = at }) ≡ true → record_named (take n args) at ≡ record_named args at
     named (at.Fixed r) h = refl
-    named (at.Arg i) h = get_or-take n args i 0 (ltb-true i n h)
+    named (at.Arg i) h = slice_get-take n args i (ltb-true i n h)
 
 -- the claims of a made call
 pub claims_made : (p : Proc) (c : Call) → IsCallOf p c → c.claims ≡ claims_of (asked p (take c.arg_count c.args))
 claims_made p c made = ap (λ (x : Call). x.claims) made.made
+
+-- as many arguments were passed as are declared
+args_passed : (p : Proc) (c : Call) → IsCallOf p c → p.args ≤ length (take c.arg_count c.args)
+args_passed p c made = omega (arith, ap (λ (x : Call). x.arg_count) made.made, made.count)
+
+-- they are those of the records that its key positions name
+pub claims_named : (p : Proc) (c : Call) → IsWellFormed p → IsCallOf p c → c.claims ≡ claims_of (map (claim_named (take c.arg_count c.args)) p.keys)
+claims_named p c formed made =
+    claims_made p c made ∙ ap claims_of (asked_by-declared p.args (take c.arg_count c.args) p.keys formed.key_args (args_passed p c made))
 
 pub claims_rise : (p : Proc) (c : Call) → IsCallOf p c → IsRising c.claims
 claims_rise p c made = rw (claims_made p c made) (IsRising-claims_of (asked p (take c.arg_count c.args)))
@@ -90,45 +132,51 @@ claims_rise p c made = rw (claims_made p c made) (IsRising-claims_of (asked p (t
 pub claims_few : (p : Proc) (c : Call) → IsWellFormed p → IsCallOf p c → length c.claims ≤ MOST_CLAIMS
 claims_few p c formed made =
     let few = leb-true (length p.keys) MOST_CLAIMS formed.few_keys in
-    let as_asked = length-claims_of-le (asked p (take c.arg_count c.args)) in
-    rw (claims_made p c made) (omega (arith, length-map p.keys (λ (k : KeyDecl). let d : Claim = record { id = record_named (take c.arg_count c.args) k.at; mode = k.mode } in d)))
+    let as_asked = length-claims_of-le (map (claim_named (take c.arg_count c.args)) p.keys) in
+    rw (claims_named p c formed made) (omega (arith, length-map p.keys (claim_named (take c.arg_count c.args))))
 
 pub some_key : KeyDecl
 some_key = record { mode = Read; at = at.Fixed 0 }
 
 -- the record that a key position names, by the arguments that were passed
-pub key_record : (p : Proc) (c : Call) → IsWellFormed p → IsCallOf p c → (k : ℕ) → k < length p.keys
-    → slice_index (map (λ (d : KeyDecl). record_named c.args d.at) p.keys) k ≡ record_named (take c.arg_count c.args) (get_or p.keys k some_key).at
-key_record p c formed made k lt =
+pub key_record : (p : Proc) (c : Call) (records : List ℕ) → IsWellFormed p → IsCallOf p c → (k : ℕ) → k < length p.keys
+    → slice_index (map (λ (d : KeyDecl). found_at records (record_named c.args d.at)) p.keys) k ≡ number_named (take c.arg_count c.args) (get_or p.keys k some_key)
+key_record p c records formed made k lt =
     let key : KeyDecl = get_or p.keys k some_key in
     let declared : argument_is_declared c.arg_count key ≡ true =
     rw made.count (list_all_get (argument_is_declared p.args) p.keys k some_key formed.key_args lt) in
-    get_or-map (λ (d : KeyDecl). record_named c.args d.at) p.keys k some_key 0 lt ∙ sym (record_named-take c.arg_count c.args key declared)
+    get_or-map (λ (d : KeyDecl). found_at records (record_named c.args d.at)) p.keys k some_key 0 lt
+    ∙ ap (found_at records) (sym (record_named-take c.arg_count c.args key declared) ∙ names_one p.args (take c.arg_count c.args) key (list_all_get (argument_is_declared p.args) p.keys k some_key formed.key_args lt) (args_passed p c made))
 
 -- the cell of a key position is the place of the claim of the record that it names
-pub key_place : (p : Proc) (c : Call) → IsWellFormed p → IsCallOf p c → (k : ℕ) → k < length p.keys
-    → IsPlaceFor c.claims (slice_index c.cells k) (slice_index (map (λ (d : KeyDecl). record_named c.args d.at) p.keys) k)
-key_place p c formed made k lt =
+pub key_place : (p : Proc) (c : Call) (records : List ℕ) → IsWellFormed p → IsCallOf p c → (k : ℕ) → k < length p.keys
+    → IsPlaceFor c.claims (slice_index c.cells k) (slice_index (map (λ (d : KeyDecl). found_at records (record_named c.args d.at)) p.keys) k)
+key_place p c records formed made k lt =
     let args : List ℕ = take c.arg_count c.args in
     let key : KeyDecl = get_or p.keys k some_key in
-    let cell : KeyDecl → ℕ = λ d. place_of (claims_of (asked p args)) (record_named args d.at) in
-    let cell_is : slice_index c.cells k ≡ cell key =
-    ap (λ (x : Call). slice_index x.cells k) made.made ∙ slice_index-laid MOST_CLAIMS (map cell p.keys) k ∙ get_or-map cell p.keys k some_key 0 lt in
-    let claimed = mode_on-asked (λ (d : KeyDecl). record { id = record_named args d.at; mode = d.mode }) p.keys k some_key lt in
-    rw (cell_is, key_record p c formed made k lt, claims_made p c made)
-    (place_of-stands (claims_of (asked p args)) (record_named args key.at) claimed.0 (mode_on-claims_of (asked p args) (record_named args key.at) ∙ claimed.1))
+    let cell : KeyDecl → ℕ = λ d. place_for (claims_of (asked p args)) (record_named args d.at) in
+    let claims : List Claim = claims_of (map (claim_named args) p.keys) in
+    let declared : argument_is_declared p.args key ≡ true = list_all_get (argument_is_declared p.args) p.keys k some_key formed.key_args lt in
+    let same : cell key ≡ place_of claims (number_named args key) =
+    ap₂ (λ (cs : List Claim) (o : Option ℕ). place_for (claims_of cs) o)
+    (asked_by-declared p.args args p.keys formed.key_args (args_passed p c made)) (names_one p.args args key declared (args_passed p c made)) in
+    let cell_is : slice_index c.cells k ≡ place_of claims (number_named args key) =
+    ap (λ (x : Call). slice_index x.cells k) made.made ∙ slice_index-laid MOST_CLAIMS (map cell p.keys) k ∙ get_or-map cell p.keys k some_key 0 lt ∙ same in
+    let claimed = mode_on-asked (claim_named args) p.keys k some_key lt in
+    rw (cell_is, key_record p c records formed made k lt, claims_named p c formed made)
+    (place_of-stands claims (number_named args key) claimed.0 (mode_on-claims_of (map (claim_named args) p.keys) (number_named args key) ∙ claimed.1))
 
 -- each key position has one of the cells
 pub HasCells-made : (p : Proc) (c : Call) → IsWellFormed p → IsCallOf p c → HasCells c
 HasCells-made p c formed made k lt =
     ⊎_elim
     (λ (within : k < length p.keys).
-    let place = key_place p c formed made k within in
+    let place = key_place p c [] formed made k within in
     let few = claims_few p c formed made in
     omega (arith, slice_get_within c.claims (slice_index c.cells k) place.claim place.stands))
     (λ (past : length p.keys ≤ k).
     let args : List ℕ = take c.arg_count c.args in
-    let cell : KeyDecl → ℕ = λ d. place_of (claims_of (asked p args)) (record_named args d.at) in
+    let cell : KeyDecl → ℕ = λ d. place_for (claims_of (asked p args)) (record_named args d.at) in
     let cell_is : slice_index c.cells k ≡ 0 =
     ap (λ (x : Call). slice_index x.cells k) made.made ∙ slice_index-laid MOST_CLAIMS (map cell p.keys) k
     ∙ get_or_past (map cell p.keys) k 0 (omega (arith, length-map p.keys cell)) in

@@ -36,17 +36,17 @@ unfolding SameEnd
 same_end cells claims (Ok s) a b p q = (p.0 ∙ sym q.0, λ i c is. ((p.1 i c is).0, (q.1 i c is).0, sym (p.1 i c is).1 ∙ (q.1 i c is).1))
 same_end cells claims (Err why) a b p q = (p.0 ∙ sym q.0, λ i c is. ((p.1 i c is).0, (q.1 i c is).0, sym (p.1 i c is).1 ∙ (q.1 i c is).1))
 
-local : (p : Proc) (c : Call) (m n : List ℕ) → IsWellFormed p → IsCallOf p c → AgreeAt c.claims m n → SameEnd c.claims (applied p c.args m) (applied p c.args n)
+local : (p : Proc) (c : Call) (m n : List ℕ) → IsWellFormed p → IsCallOf p c → AgreeAt c.claims m n → SameEnd c.claims (applied p c m) (applied p c n)
 local p c m n formed made agree =
     let cells : List ℕ = cells_of m c.claims in
-    same_end cells c.claims (in_turn (map effect p.body) (cell_opening c cells)) (applied p c.args m) (applied p c.args n)
+    same_end cells c.claims (in_turn (map effect p.body) (cell_opening c cells)) (applied p c m) (applied p c n)
     (told_on p c cells m formed made (room m c.claims) (λ i d is. ((agree i d is).0, slice_index-cells m c.claims i d is)))
     (told_on p c cells n formed made (room m c.claims) (λ i d is. ((agree i d is).1, slice_index-cells m c.claims i d is ∙ (agree i d is).2)))
 
-pub same_reply : (p : Proc) (c : Call) (m n : List ℕ) → IsWellFormed p → IsCallOf p c → AgreeAt c.claims m n → (applied p c.args m).reply ≡ (applied p c.args n).reply
+pub same_reply : (p : Proc) (c : Call) (m n : List ℕ) → IsWellFormed p → IsCallOf p c → AgreeAt c.claims m n → (applied p c m).reply ≡ (applied p c n).reply
 unfolding SameEnd
 same_reply p c m n formed made agree = (local p c m n formed made agree).0
 
-pub same_values : (p : Proc) (c : Call) (m n : List ℕ) → IsWellFormed p → IsCallOf p c → AgreeAt c.claims m n → AgreeAt c.claims (applied p c.args m).records (applied p c.args n).records
+pub same_values : (p : Proc) (c : Call) (m n : List ℕ) → IsWellFormed p → IsCallOf p c → AgreeAt c.claims m n → AgreeAt c.claims (applied p c m).records (applied p c n).records
 unfolding SameEnd
 same_values p c m n formed made agree = (local p c m n formed made agree).1

@@ -107,7 +107,7 @@ set_still_below m n (If' e k first l second) le h = refl
 set_still_below m n (Abort code) le h = refl
 set_still_below m n (Reply e) le h = refl
 
--- a well-formed body reads and sets sixteen key positions at most, and eight arguments
+-- a well-formed body reads and sets no more key positions and arguments than there may be
 pub keys_known : (p : Proc) → IsWellFormed p → list_all (throughout (key_is_below MOST_CLAIMS) (set_is_below MOST_CLAIMS)) p.body ≡ true
 keys_known p formed =
     let few = leb-true (length p.keys) MOST_CLAIMS formed.few_keys in
@@ -136,15 +136,15 @@ abbrev pub cell_opening : Call → List ℕ → Scene
 cell_opening c cells = record { named = c.cells; args = c.args; locals = replicate MOST_LOCALS 0; records = cells; outputs = [] }
 
 opening_alike : (p : Proc) (c : Call) (cells records : List ℕ) (formed : IsWellFormed p) (made : IsCallOf p c) → length c.claims ≤ length cells → Holds cells c.claims records
-    → IsAlike (cells_bridge p c.claims (claims_rise p c made)) nothing_set (cell_opening c cells) (opening_scene p c.args records)
+    → IsAlike (cells_bridge p c.claims (claims_rise p c made)) nothing_set (cell_opening c cells) (opening_scene p c records)
 opening_alike p c cells records formed made room holds =
-    record { args = λ i lt. refl; named = key_place p c formed made; locals = λ i is. refl; as_many = refl; values = (holds, room); outputs = refl }
+    record { args = λ i lt. refl; named = key_place p c records formed made; locals = λ i is. refl; as_many = refl; values = (holds, room); outputs = refl }
 
 -- the body ends on the cells as on the records
 ends_alike : (p : Proc) (c : Call) (cells records : List ℕ) (formed : IsWellFormed p) (made : IsCallOf p c) → length c.claims ≤ length cells → Holds cells c.claims records
-    → EndAlike (cells_bridge p c.claims (claims_rise p c made)) (body_set_behind p.body nothing_set) (in_turn (map effect p.body) (cell_opening c cells)) (body p c.args records)
+    → EndAlike (cells_bridge p c.claims (claims_rise p c made)) (body_set_behind p.body nothing_set) (in_turn (map effect p.body) (cell_opening c cells)) (body p c records)
 ends_alike p c cells records formed made room holds =
-    alike_in_turn (cells_bridge p c.claims (claims_rise p c made)) nothing_set p.body (cell_opening c cells) (opening_scene p c.args records)
+    alike_in_turn (cells_bridge p c.claims (claims_rise p c made)) nothing_set p.body (cell_opening c cells) (opening_scene p c records)
     (opening_alike p c cells records formed made room holds) (formed.known_keys, formed.known_args, formed.set_locals)
 
 -- what an end on cells says of the end on records
@@ -160,13 +160,13 @@ told_by_end p claims rising set cells records (Ok s) (Err why) holds h = absurd 
 told_by_end p claims rising set cells records (Err why) (Ok t) holds h = absurd h
 
 pub told_on : (p : Proc) (c : Call) (cells records : List ℕ) → IsWellFormed p → IsCallOf p c → length c.claims ≤ length cells → Holds cells c.claims records
-    → ToldBy cells c.claims (in_turn (map effect p.body) (cell_opening c cells)) (applied p c.args records)
+    → ToldBy cells c.claims (in_turn (map effect p.body) (cell_opening c cells)) (applied p c records)
 told_on p c cells records formed made room holds =
-    told_by_end p c.claims (claims_rise p c made) (body_set_behind p.body nothing_set) cells records (in_turn (map effect p.body) (cell_opening c cells)) (body p c.args records) holds
+    told_by_end p c.claims (claims_rise p c made) (body_set_behind p.body nothing_set) cells records (in_turn (map effect p.body) (cell_opening c cells)) (body p c records) holds
     (ends_alike p c cells records formed made room holds)
 
 pub told : (p : Proc) (c : Call) (cells records : List ℕ) (r : Result Scene Reason) → IsWellFormed p → IsCallOf p c → length cells ≡ MOST_CLAIMS
-    → in_turn (map effect p.body) (cell_opening c cells) ≡ r → Holds cells c.claims records → ToldBy cells c.claims r (applied p c.args records)
+    → in_turn (map effect p.body) (cell_opening c cells) ≡ r → Holds cells c.claims records → ToldBy cells c.claims r (applied p c records)
 told p c cells records r formed made whole e holds =
     let few = claims_few p c formed made in
     rw (← e) (told_on p c cells records formed made (omega arith) holds)

@@ -1,8 +1,9 @@
 -- The call of a procedure with given arguments.
-use Rattle.std.specs.Prelude.{◌≡◌, ℕ, suc, ◌==◌, List, [], ◌∷◌, map, length, take, if◌then◌else◌}
+use Rattle.std.specs.Prelude.{◌≡◌, ℕ, suc, ◌==◌, List, [], ◌∷◌, map, length, take, Option, Some, None, if◌then◌else◌}
 use Rattle.vll_record.specs.declared.claims.TheConstants.{MOST_CLAIMS}
 use Rattle.vll_proc.specs.declared.limits.TheConstants.{MOST_ARGS}
 use Rattle.vll_record.specs.declared.claim.Claim.{Claim}
+use Rattle.vll_record.specs.declared.claim.Mode.{Mode}
 use Rattle.vll_record.specs.Claim.{claims_of}
 use Rattle.vll_record.specs.Canon.{laid}
 use Rattle.vll_proc.specs.declared.call.Call.{Call}
@@ -10,14 +11,29 @@ use Rattle.vll_proc.specs.declared.syntax.KeyDecl.{KeyDecl}
 use Rattle.vll_proc.specs.declared.syntax.Proc.{Proc}
 use Rattle.vll_proc.specs.Meaning.{record_named}
 
--- what the key positions ask for
+-- a key position asks for the record that it names, and for none where it names none
+abbrev pub asking : Mode → Option ℕ → List Claim → List Claim
+asking m (Some r) others = record { id = r; mode = m } ∷ others
+asking m None others = others
+
+-- what key positions ask for
+abbrev pub asked_by : List ℕ → List KeyDecl → List Claim
+asked_by args [] = []
+asked_by args (k ∷ ks) = asking k.mode (record_named args k.at) (asked_by args ks)
+
+-- what a procedure's key positions ask for
 abbrev pub asked : Proc → List ℕ → List Claim
-asked p args = map (λ (k : KeyDecl). record { id = record_named args k.at; mode = k.mode }) p.keys
+asked p args = asked_by args p.keys
 
 -- the place of a record's claim
 abbrev pub place_of : List Claim → ℕ → ℕ
 place_of [] r = 0
 place_of (c ∷ cs) r = if c.id == r then 0 else suc (place_of cs r)
+
+-- the place of the claim of a record that a key position names, and 0 where it names none
+abbrev pub place_for : List Claim → Option ℕ → ℕ
+place_for cs (Some r) = place_of cs r
+place_for cs None = 0
 
 -- the call of procedure number n with these arguments: its claims are those of its key positions
 abbrev pub call_of : ℕ → Proc → List ℕ → Call
@@ -26,7 +42,7 @@ call_of n p args = record {
   arg_count = length args;
   args = laid MOST_ARGS 0 args;
   claims = claims_of (asked p args);
-  cells = laid MOST_CLAIMS 0 (map (λ (k : KeyDecl). place_of (claims_of (asked p args)) (record_named args k.at)) p.keys);
+  cells = laid MOST_CLAIMS 0 (map (λ (k : KeyDecl). place_for (claims_of (asked p args)) (record_named args k.at)) p.keys);
 }
 
 -- a call that was made for the procedure

@@ -1,6 +1,7 @@
 -- What a procedure's body means on a whole map of records: by cases on the syntax, operands from left to right, and the first reason ends the call.
-use Rattle.std.specs.Prelude.{ℕ, ◌+◌, ◌-◌, ◌*◌, ◌/◌, ◌%◌, ◌^◌, ◌==◌, min, max, Bool, List, [], ◌∷◌, ◌++◌, map, replicate, Result, Ok, Err, nat_lt, if◌then◌else◌, slice_index, slice_set}
+use Rattle.std.specs.Prelude.{ℕ, ◌+◌, ◌-◌, ◌*◌, ◌/◌, ◌%◌, ◌^◌, ◌==◌, min, max, Bool, List, [], ◌∷◌, ◌++◌, length, map, replicate, Result, Ok, Err, nat_lt, if◌then◌else◌, Option, Some, None, slice_get, slice_index, slice_set}
 use Rattle.vll_proc.specs.declared.limits.TheConstants.{MOST_LOCALS}
+use Rattle.vll_proc.specs.declared.call.Call.{Call}
 use Rattle.vll_proc.specs.declared.call.Reason.{Reason}
 use Rattle.vll_proc.specs.declared.call.Reason.TheVariants.{Code, Overflow, Underflow, ZeroDivisor}
 use Rattle.vll_proc.specs.declared.syntax.KeyAt.{KeyAt}
@@ -113,21 +114,26 @@ abbrev mutual
   list_effect end_of-Stmt s = Ok s
   list_effect (more_of-Stmt st rest) s = and_then (effect st s) (list_effect rest)
 
--- the record that a key position names
-abbrev pub record_named : List ℕ → KeyAt → ℕ
-record_named args (at.Fixed r) = r
-record_named args (at.Arg i) = slice_index args i
+-- the record that a key position names, and `None` where it names none
+abbrev pub record_named : List ℕ → KeyAt → Option ℕ
+record_named args (at.Fixed r) = Some r
+record_named args (at.Arg i) = slice_get args i
 
--- where the body of a procedure begins
-abbrev pub opening_scene : Proc → List ℕ → List ℕ → Scene
-opening_scene p args records = record {
-  named = map (λ (k : KeyDecl). record_named args k.at) p.keys;
-  args = args;
+-- where a body finds that record: behind the last where there is none, and there it reads 0 and drops what it stores
+abbrev pub found_at : List ℕ → Option ℕ → ℕ
+found_at records (Some r) = r
+found_at records None = length records
+
+-- where the body of a procedure begins, for a call
+abbrev pub opening_scene : Proc → Call → List ℕ → Scene
+opening_scene p c records = record {
+  named = map (λ (k : KeyDecl). found_at records (record_named c.args k.at)) p.keys;
+  args = c.args;
   locals = replicate MOST_LOCALS 0;
   records = records;
   outputs = [];
 }
 
--- the meaning of a procedure's body on a whole map of records
-abbrev pub body : Proc → List ℕ → List ℕ → Result Scene Reason
-body p args records = in_turn (map effect p.body) (opening_scene p args records)
+-- the meaning of a procedure's body for a call, on a whole map of records
+abbrev pub body : Proc → Call → List ℕ → Result Scene Reason
+body p c records = in_turn (map effect p.body) (opening_scene p c records)

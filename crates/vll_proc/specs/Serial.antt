@@ -17,18 +17,18 @@ abbrev pub after : List ℕ → Result Scene Reason → After
 after records (Ok s) = record { records = s.records; reply = Committed s.outputs }
 after records (Err why) = record { records = records; reply = Aborted why }
 
--- a procedure's body applied to the records
-abbrev pub applied : Proc → List ℕ → List ℕ → After
-applied p args records = after records (body p args records)
+-- a procedure's body for a call, applied to the records
+abbrev pub applied : Proc → Call → List ℕ → After
+applied p c records = after records (body p c records)
 
 -- a number that no procedure has does nothing; no call that a library makes has one
-abbrev pub applied_at : Option Proc → List ℕ → List ℕ → After
-applied_at (Some p) args records = applied p args records
-applied_at None args records = record { records = records; reply = Committed [] }
+abbrev pub applied_at : Option Proc → Call → List ℕ → After
+applied_at (Some p) c records = applied p c records
+applied_at None c records = record { records = records; reply = Committed [] }
 
 -- the call applied to the records: what its body means, or nothing where that ends with a reason
 abbrev pub apply : List Proc → Call → List ℕ → After
-apply procs c records = applied_at (slice_get procs c.number) c.args records
+apply procs c records = applied_at (slice_get procs c.number) c records
 
 -- a client and its call
 abbrev pub Made : Type 0

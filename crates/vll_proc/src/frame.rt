@@ -67,9 +67,9 @@ impl Frame {
         requires formed { IsWellFormed procedure.now }
         requires made { IsCallOf procedure.now call.now }
         ensures reply { (records : List ℕ) → Holds self.old call.now.claims records
-            → result ≡ (applied procedure.now call.now.args records).reply }
+            → result ≡ (applied procedure.now call.now records).reply }
         ensures cells { (records : List ℕ) → Holds self.old call.now.claims records
-            → Holds self.new call.now.claims (applied procedure.now call.now.args records).records }
+            → Holds self.new call.now.claims (applied procedure.now call.now records).records }
         ensures aborted { (why : Reason) → result ≡ Aborted why → self.new ≡ self.old }
         ensures whole { length self.new ≡ MOST_CLAIMS }
     {

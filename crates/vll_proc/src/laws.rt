@@ -16,23 +16,23 @@ ghost use Rattle.vll_proc.specs.WellFormed.{IsWellFormed};
 pub fn changes_claimed_records_alone()
     ensures { (p : Proc) (c : Call) (records : List ℕ) → IsWellFormed p → IsCallOf p c
         → (r : ℕ) → mode_on c.claims r ≢ Some Write
-        → slice_index (applied p c.args records).records r ≡ slice_index records r }
+        → slice_index (applied p c records).records r ≡ slice_index records r }
 {}
 
 /// A call adds no record and removes none.
 pub fn keeps_the_number_of_records()
-    ensures { (p : Proc) (args records : List ℕ)
-        → length (applied p args records).records ≡ length records }
+    ensures { (p : Proc) (c : Call) (records : List ℕ)
+        → length (applied p c records).records ≡ length records }
 {}
 
 /// What a call answers, and the values that it leaves in the records of its claims, depend on the
 /// values of those records alone.
 pub fn depends_on_claimed_records_alone()
     ensures replies { (p : Proc) (c : Call) (m n : List ℕ) → IsWellFormed p → IsCallOf p c
-        → AgreeAt c.claims m n → (applied p c.args m).reply ≡ (applied p c.args n).reply }
+        → AgreeAt c.claims m n → (applied p c m).reply ≡ (applied p c n).reply }
     ensures values { (p : Proc) (c : Call) (m n : List ℕ) → IsWellFormed p → IsCallOf p c
         → AgreeAt c.claims m n
-        → AgreeAt c.claims (applied p c.args m).records (applied p c.args n).records }
+        → AgreeAt c.claims (applied p c m).records (applied p c n).records }
 {}
 
 /// A well-formed procedure meets no key position and no argument beyond those that it declares, and

@@ -1,6 +1,6 @@
-use Rattle.std.proofs.Common.{◌∙◌, ap, set, arith}
+use Rattle.std.proofs.Common.{◌∙◌, ap, sym, set, arith}
 use Rattle.vll_record.specs.declared.claims.TheConstants.{MOST_CLAIMS}
-use Rattle.vll_proc.specs.Made.{place_of}
+use Rattle.vll_proc.specs.Made.{place_for}
 use Rattle.vll_check.specs.Private.Making.{cell_of}
 use Rattle.vll_check.proofs.ShortLists.{laid-mapped}
 use Rattle.vll_check.proofs.making.cells_of.Goals as goal
@@ -8,6 +8,6 @@ use Rattle.vll_check.proofs.making.cells_of.Goals as goal
 pub loop-i-preserved : goal.loop-i-preserved
 loop-i-preserved c =
     let claims = c.args.claims.now in
-    let cell = c.place_of.ensures ∙ ap (place_of claims) c.record_of.ensures in
+    let cell = c.place_of.ensures ∙ sym (ap (place_for claims) c.record_of.ensures) in
     ap (λ cells. set cells c.loop-i.i c.place_of.result) c.loop-i.invariant
     ∙ laid-mapped (cell_of claims c.args.args.now) MOST_CLAIMS c.args.keys.now c.loop-i.i _ c.place_of.result (omega arith) (omega arith) cell
