@@ -1,4 +1,4 @@
-use Rattle.std.proofs.Common.{◌≡◌, ◌++◌, ◌∷◌, [], ◌∙◌, List, ap, refl}
+use Rattle.std.proofs.Common.{◌++◌, ◌∷◌, [], ◌∙◌, List, ap, refl}
 use Rattle.std.proofs.lemmas.List.Elements.{All-nil}
 use Rattle.vll_workers.specs.Shown.{TokenShown}
 use Rattle.vll_workers.proofs.Distinct.{distinct_none, distinct_push}
