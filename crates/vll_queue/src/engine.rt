@@ -27,8 +27,8 @@ use vll_sca::Place;
 /// clauses of `begin`, `next_front`, `next_scan`, `execute`, `finish` and `reply` carry is that *some* lawful state of
 /// this opening would answer so: one that lawful moves reach from it, in which no turn is open. The state in which
 /// nothing has entered is such a state. So a clause excludes an answer that no lawful state gives, and does not tell
-/// the caller which state was found. That each answer is that of the state found is proved of the value behind the
-/// lock, whose method each of these calls in one line.
+/// the caller which state was found. That each answer is exactly that of the state found is proved of the value behind
+/// the lock, whose method each of these calls in one line.
 #[derive(Drop)]
 pub struct Engine<N: Name, H: Place + Send + Drop> {
     library: Library,
@@ -134,7 +134,8 @@ impl<N: Name, H: Place + Send + Drop> Engine<N, H> {
 
     /// The records, their pair words and the journal, if no call runs or waits: each line has its reply, the
     /// records are those of the journal's calls made one at a time, and each pair word is 0. Else all is handed back,
-    /// with the numbers of those that run and wait, which some lawful state has. The list may lack sessions.
+    /// with the numbers of those that run and wait: the clause says that some lawful state has them, and the locked
+    /// value's method that they are exactly the machine's. The list may lack sessions.
     pub fn close(self, sessions: Vec<Session>) -> Result<Closed, NotClosed<N, H>>
         ensures moment { IfOk result (λ c. (o : Opening) × (s : State) × IsMoment N.library N.records
             N.config N.places o s × IsEnded o s c) }
