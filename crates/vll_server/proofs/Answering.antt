@@ -15,10 +15,10 @@ use Rattle.vll_server.specs.declared.fault.ScenarioFault.{ScenarioFault}
 use Rattle.vll_server.specs.declared.fault.ScenarioFault.TheVariants as fault
 use Rattle.vll_server.specs.declared.shape.Parts.{Parts}
 use Rattle.vll_server.specs.Reading.{IsAnswerBy, ReadsEnough, Reads, Tells, data_of}
-use Rattle.vll_server.specs.Scenario.{IsTree, call_at, config_of, each_given, first_check, first_check_from, in_call, most_bytes, ok_unless, or_else, refuse_if, script_made, scripts_made, setup_of, tree_or_json}
+use Rattle.vll_server.specs.Scenario.{IsTree, call_at, config_of, each_given, first_check, first_check_from, in_call, ok_unless, or_else, refuse_if, script_made, scripts_made, setup_of, tree_or_json}
 use Rattle.vll_server.specs.Setup.{Setup, has_sizes, is_allowed}
 use Rattle.vll_server.specs.Shape.{◌>>=◌, GivesUnlessMemory}
-use Rattle.vll_server.specs.Streams.{ReadsAll}
+use Rattle.vll_server.specs.Streams.{AreTooMany, ReadsAll}
 
 -- ---- the tree of the bytes
 
@@ -86,7 +86,7 @@ reads_fault of go old new fault.NameTwice known = known_fault of go old new faul
 
 -- ---- a reader that tells its bytes
 
-answer_whole : {A : Type 0} (of : Option Data → Result A ScenarioFault) (all bytes rest : List ℕ) (r : Result A ScenarioFault) → all ≡ bytes ++ rest → (most_bytes < length bytes) ⊎ (rest ≡ []) → IsAnswerBy of bytes r → IsAnswerBy of all r
+answer_whole : {A : Type 0} (of : Option Data → Result A ScenarioFault) (all bytes rest : List ℕ) (r : Result A ScenarioFault) → all ≡ bytes ++ rest → AreTooMany bytes ⊎ (rest ≡ []) → IsAnswerBy of bytes r → IsAnswerBy of all r
 answer_whole of all bytes rest r is (inl many) (inl size) = inl (omega (arith, ap length is, length-append bytes rest), size.1)
 answer_whole of all bytes rest r is (inl many) (inr fits) = absurd (omega (arith, fits.0))
 answer_whole of all bytes rest r is (inr end) answer = subst (λ xs. IsAnswerBy of xs r) (sym (is ∙ ap (λ xs. bytes ++ xs) end ∙ append-nil bytes)) answer

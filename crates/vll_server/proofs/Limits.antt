@@ -8,17 +8,10 @@ use Rattle.std.proofs.lemmas.Bool.{leb-true, false≢true}
 use Rattle.vll_core.specs.declared.config.Config.{Config}
 use Rattle.vll_core.specs.declared.event.Event.{Event}
 use Rattle.vll_proc.specs.declared.syntax.Proc.{Proc}
-use Rattle.vll_server.specs.Setup.{has_sizes, is_allowed, is_up_to}
+use Rattle.vll_server.specs.declared.limits.TheConstants.{MOST_CLIENTS, MOST_EVENTS, MOST_PROCS}
+use Rattle.vll_server.specs.Setup.{HasSizes, IsAllowed, has_sizes, is_allowed, is_up_to}
 
 -- ---- sizes
-
-pub record HasSizes {C : Type 0} (records : List ℕ) (procs : List Proc) (scripts : List (List C)) (schedule : List Event) : Type 0 where
-  pub some_record : 1 ≤ length records
-  pub few_records : length records ≤ 65536
-  pub few_procs : length procs ≤ 1048576
-  pub few_clients : length scripts ≤ 1024
-  pub few_calls : sum_by length scripts ≤ 65536
-  pub few_events : length schedule ≤ 1048576
 
 both_true : (a b : Bool) → (a && b) ≡ true → (a ≡ true) × (b ≡ true)
 both_true true b e = (refl, e)
@@ -28,10 +21,10 @@ pub sizes_say : {C : Type 0} (records : List ℕ) (procs : List Proc) (scripts :
 sizes_say records procs scripts schedule e =
     let one = nat_le 1 (length records) in
     let two = nat_le (length records) 65536 in
-    let three = nat_le (length procs) 1048576 in
-    let four = nat_le (length scripts) 1024 in
+    let three = nat_le (length procs) MOST_PROCS in
+    let four = nat_le (length scripts) MOST_CLIENTS in
     let five = nat_le (sum_by length scripts) 65536 in
-    let first_five = both_true (one && two && three && four && five) (nat_le (length schedule) 1048576) e in
+    let first_five = both_true (one && two && three && four && five) (nat_le (length schedule) MOST_EVENTS) e in
     let first_four = both_true (one && two && three && four) five first_five.0 in
     let first_three = both_true (one && two && three) four first_four.0 in
     let first_two = both_true (one && two) three first_three.0 in
@@ -39,18 +32,13 @@ sizes_say records procs scripts schedule e =
     record {
       some_record = leb-true 1 (length records) first.0;
       few_records = leb-true (length records) 65536 first.1;
-      few_procs = leb-true (length procs) 1048576 first_two.1;
-      few_clients = leb-true (length scripts) 1024 first_three.1;
+      few_procs = leb-true (length procs) MOST_PROCS first_two.1;
+      few_clients = leb-true (length scripts) MOST_CLIENTS first_three.1;
       few_calls = leb-true (sum_by length scripts) 65536 first_four.1;
-      few_events = leb-true (length schedule) 1048576 first_five.1;
+      few_events = leb-true (length schedule) MOST_EVENTS first_five.1;
     }
 
 -- ---- what is chosen
-
-pub record IsAllowed (config : Config) : Type 0 where
-  pub limit : (1 ≤ config.limit) × (config.limit ≤ 65536)
-  pub cap : (1 ≤ config.cap) × (config.cap ≤ 65536)
-  pub bits : (1 ≤ config.bits) × (config.bits ≤ 1048576)
 
 up_to_says : (most n : ℕ) → is_up_to most n ≡ true → (1 ≤ n) × (n ≤ most)
 up_to_says most n e =

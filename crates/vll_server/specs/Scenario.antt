@@ -87,10 +87,6 @@ abbrev pub IsTree : List ℕ → Option Data → Type 0
 IsTree bytes (Some d) = IsUtf8 bytes × (read bytes ≡ Some d)
 IsTree bytes None = IsUtf8 bytes → read bytes ≡ None
 
--- the most bytes that are read
-abbrev pub most_bytes : ℕ
-most_bytes = 16777216
-
 -- a tree, or that the bytes are none
 abbrev pub tree_or_json : Option Data → Result Data ScenarioFault
 tree_or_json None = Err fault.Json

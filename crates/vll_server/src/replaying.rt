@@ -14,7 +14,7 @@ use crate::fault::ReplayFault;
 use crate::outcome::write_text;
 use crate::read::read_scenario;
 use crate::replay_text::{push_event_lines, push_state};
-use crate::scenario::Scenario;
+use crate::scenario::{Scenario, ScenarioParts};
 use crate::stream::{Sink, Source};
 use sqlite_items::Items;
 use std::alloc::{AllocError, Global};
@@ -70,14 +70,14 @@ fn core_of(alloc: Global, scenario: Scenario) -> Result<(Core<Placing>, Items<Ev
     ensures state { IfOk result (λ made. made.0.state ≡ opened scenario.scripts) }
     ensures schedule { IfOk result (λ made. made.1 ≡ scenario.schedule) }
 {
-    let Scenario {
+    let ScenarioParts {
         records,
         library,
         scripts,
         config,
         placing,
         schedule,
-    } = scenario;
+    } = scenario.into_parts();
     match Core::open(alloc, records, library, scripts, config, placing) {
         Ok(core) => Ok((core, schedule)),
         Err(OpenFault::NoMemory) => Err(AllocError),

@@ -12,9 +12,10 @@ ghost use Rattle.vll_server.specs.Streams.{AppendsBeginning};
 ghost use Rattle.vll_server.specs.Text.{closed_text};
 
 use crate::fault::{ServeFault, WriteFault};
+use crate::limits::MOST_CLIENTS;
 use crate::order::is_merge;
 use crate::outcome::write_outcome;
-use crate::scenario::Scenario;
+use crate::scenario::{Scenario, ScenarioParts};
 use crate::stream::Sink;
 use crate::tokens::tokens_of;
 use std::alloc::{AllocError, Global};
@@ -82,10 +83,10 @@ fn run<R: Threads + Wait + Sync, W: Wait + Sync, G: Gate + Sync>(
     run_named::<Brand, R, W, G>(rt, wait, alloc, opening, scripts, workers, gate)
 }
 
-/// An engine over a scenario's records and procedures, which has no name yet, and the scripts. The engine has the
-/// scenario's cap, bits and hash, a client for each script, and takes as many calls as the scripts have. All its
-/// memory is taken here.
-pub fn opening_of(
+// An engine over a scenario's records and procedures, which has no name yet, and the scripts. The engine has the
+// scenario's cap, bits and hash, a client for each script, and takes as many calls as the scripts have. All its
+// memory is taken here.
+fn opening_of(
     alloc: Global,
     scenario: Scenario,
 ) -> Result<(Opening<Placing>, Vec<Vec<Call>>), AllocError>
@@ -94,18 +95,18 @@ pub fn opening_of(
     ensures config { IfOk result (λ made. made.0.config ≡ config_for scenario) }
     ensures clients { IfOk result (λ made. made.0.clients ≡ length scenario.scripts) }
     ensures scripts { IfOk result (λ made. lists_of made.1.items ≡ scenario.scripts) }
-    ensures few { IfOk result (λ made. length made.1.items ≤ 1024) }
+    ensures few { IfOk result (λ made. length made.1.items ≤ MOST_CLIENTS) }
     ensures short { IfOk result (λ made. All (λ script. length script.items < 2 ^ 32) made.1.items) }
     ensures fits { IfOk result (λ made. All (λ script. All (Fits (catalog_of scenario)) script.items) made.1.items) }
 {
-    let Scenario {
+    let ScenarioParts {
         records,
         library,
         scripts,
         config,
         placing,
         ..
-    } = scenario;
+    } = scenario.into_parts();
     let config = Config {
         cap: config.cap,
         limit: number_of_calls(scripts.as_slice()).max(1),
@@ -147,7 +148,7 @@ fn run_named<N: Name + Send + Sync, R: Threads + Wait + Sync, W: Wait + Sync, G:
     requires workers { (1 ≤ workers) × (workers ≤ 64) }
     requires opening { opening ≡ named N.library N.records N.config N.clients }
     requires clients { N.clients ≡ length scripts.items }
-    requires few { length scripts.items ≤ 1024 }
+    requires few { length scripts.items ≤ MOST_CLIENTS }
     requires short { All (λ script. length script.items < 2 ^ 32) scripts.items }
     requires fits { All (λ script. All (Fits N.library) script.items) scripts.items }
     ensures serial { IfOk result (IsSerial N.library N.records) }

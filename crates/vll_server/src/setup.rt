@@ -8,6 +8,7 @@ ghost use Rattle.vll_server.specs.declared.fault.ScenarioFault.TheVariants as Sc
 
 use crate::asked::Asked;
 use crate::fault::ScenarioFault;
+use crate::limits::{MOST_CLIENTS, MOST_EVENTS, MOST_PROCS};
 use crate::scenario::Scenario;
 use crate::shape::Parts;
 use sqlite_items::Items;
@@ -19,13 +20,7 @@ use vll_sca::Placing;
 
 const MOST_RECORDS: usize = 65_536;
 
-const MOST_PROCS: usize = 1_048_576;
-
-const MOST_CLIENTS: usize = 1_024;
-
 const MOST_CALLS: usize = 65_536;
-
-const MOST_EVENTS: usize = 1_048_576;
 
 const MOST_LIMIT: u32 = 65_536;
 
@@ -144,7 +139,7 @@ fn checked_of(
     records: u32,
     procs: Items<Proc>,
 ) -> Result<Vec<Checked>, ScenarioFault>
-    requires { length procs ≤ 1048576 }
+    requires { length procs ≤ MOST_PROCS }
     ensures passed { IfOk result (λ cs. first_check records procs ≡ None) }
     ensures procs { IfOk result (λ cs. map (λ c. c.procedure) cs.items ≡ procs) }
     ensures records { IfOk result (λ cs. All (λ c. c.records ≡ records) cs.items) }
@@ -178,7 +173,7 @@ fn scripts_of(
     library: &Library,
     scripts: &[Items<Asked>],
 ) -> Result<Vec<Vec<Call>>, ScenarioFault>
-    requires clients { length scripts.now ≤ 1024 }
+    requires clients { length scripts.now ≤ MOST_CLIENTS }
     requires calls { sum_by length scripts.now ≤ 65536 }
     ensures { GivesUnlessMemory (made_lists result) (scripts_made library.now scripts.now) }
 {

@@ -1,5 +1,6 @@
-use Rattle.std.proofs.Common.{◌≡◌, ◌-◌, false, length}
+use Rattle.std.proofs.Common.{◌≡◌, ◌+◌, ◌-◌, false, length}
 use Rattle.std.specs.Io.KnownBytes.{Consumes}
+use Rattle.vll_server.specs.declared.limits.TheConstants.{MOST_BYTES}
 use Rattle.vll_server.proofs.bytes.read_bytes.Given as goal
 
 abbrev pub invariant-pieces : goal.invariant-pieces
@@ -9,4 +10,4 @@ invariant-pieces g l = record {
 }
 
 abbrev pub decreases-pieces : goal.decreases-pieces
-decreases-pieces g l = 16777217 - length l.bytes.items
+decreases-pieces g l = MOST_BYTES + 1 - length l.bytes.items
