@@ -75,8 +75,7 @@ fn run<R: Threads + Wait + Sync, W: Wait + Sync, G: Gate + Sync>(
     gate: &G,
 ) -> Result<Closed, ServeFault>
     requires { (1 ≤ workers) × (workers ≤ 64) }
-    ensures closed { IfOk result (λ closed. Serves scenario (λ text. closed_text closed.journal.items
-        closed.records.items closed.pairs.items ≡ text)) }
+    ensures closed { IfOk result (λ closed. Serves scenario (λ text. closed_text closed ≡ text)) }
     ensures before { ¬ (result ≡ Err ServeFault.Write) }
 {
     let (opening, scripts) = opening_of(alloc, scenario)?;
@@ -159,17 +158,28 @@ fn run_named<N: Name + Send + Sync, R: Threads + Wait + Sync, W: Wait + Sync, G:
     let tokens = tokens_of(alloc, sessions, scripts)?;
     let tokens = match vll_workers::run(rt, wait, alloc, &engine, tokens, workers, gate) {
         Ok(tokens) => tokens,
-        Err(RunError { fault, .. }) => return Err(ServeFault::Run(fault)),
+        Err(error) => return Err(run_fault(error)),
     };
     match engine.close(Vec::new(alloc)) {
         Ok(closed) => in_order(alloc, closed, tokens),
-        Err(
-            NotClosed {
-                running,
-                waiting,
-                ..
-            },
-        ) => Err(ServeFault::Unfinished { running, waiting }),
+        Err(left) => Err(unfinished(left)),
+    }
+}
+
+// What is answered where the workers' run did not end well.
+fn run_fault(error: RunError) -> ServeFault
+    ensures { result ≡ ServeFault.Run error.fault }
+{
+    ServeFault::Run(error.fault)
+}
+
+// What is answered where calls were left in the engine.
+fn unfinished<N: Name>(left: NotClosed<N, Placing>) -> ServeFault
+    ensures { result ≡ ServeFault.Unfinished left.running left.waiting }
+{
+    ServeFault::Unfinished {
+        running: left.running,
+        waiting: left.waiting,
     }
 }
 
