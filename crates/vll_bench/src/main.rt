@@ -5,6 +5,7 @@ mod engine;
 mod events;
 mod fault;
 mod runs;
+mod scripts;
 mod setup;
 mod task;
 mod workload;

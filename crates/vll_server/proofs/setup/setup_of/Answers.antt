@@ -6,6 +6,7 @@ use Rattle.vll_server.specs.Kept.{lists_of}
 use Rattle.vll_server.specs.Scenario.{scripts_made}
 use Rattle.vll_server.specs.Setup.{has_sizes}
 use Rattle.vll_server.proofs.Fitting.{scripts_fit, scripts_sizes}
+use Rattle.vll_server.proofs.Bounds.{allowed_says, sizes_say}
 use Rattle.vll_server.proofs.setup.setup_of.Goals as goal
 
 pub invariant_of-result : goal.invariant_of-result
@@ -22,8 +23,9 @@ invariant_of-result c =
     record {
       records = as_many;
       setup = record {
-        sizes = scripts_sizes records library.procs parts.schedule library parts.scripts made scripts ∙ ap₂ (λ rs ps. has_sizes rs ps parts.scripts parts.schedule) kept procs ∙ sizes;
-        allowed = rw (← c.is_allowed.ensures) c.if-not-is_allowed.false;
+        sizes = sizes_say records library.procs made parts.schedule
+            (scripts_sizes records library.procs parts.schedule library parts.scripts made scripts ∙ ap₂ (λ rs ps. has_sizes rs ps parts.scripts parts.schedule) kept procs ∙ sizes);
+        allowed = allowed_says _ (rw (← c.is_allowed.ensures) c.if-not-is_allowed.false);
         fits = subst (λ (n : ℕ). All (λ script. All (Fits (record { records = n; procs = library.procs })) script) made) as_many (scripts_fit library parts.scripts made scripts);
       };
     }

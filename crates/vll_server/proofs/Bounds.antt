@@ -1,15 +1,19 @@
 -- The limits of a scenario, one by one.
-use Rattle.std.proofs.Common.{◌≡◌, ℕ, ◌≤◌, Bool, true, false, ◌&&◌, nat_le, List, [], ◌∷◌, length, refl, arith}
+use Rattle.std.proofs.Common.{◌≡◌, ℕ, ◌≤◌, ◌<◌, ◌^◌, Bool, true, false, ◌&&◌, nat_le, List, [], ◌∷◌, length, refl, arith}
 use Rattle.std.specs.Prelude.{sum_by}
+use Rattle.std.specs.Global.{Vec}
 use Rattle.std.specs.List.{All}
-use Rattle.std.proofs.lemmas.List.Elements.{All-cons, All-nil}
+use Rattle.std.proofs.lemmas.List.Elements.{All-cons, All-nil, All-weaker}
 use Rattle.std.proofs.lemmas.List.Sums.{sum_by-cons}
 use Rattle.std.proofs.lemmas.Bool.{leb-true, false≢true}
+use Rattle.vll_proc.specs.declared.call.Call.{Call}
 use Rattle.vll_core.specs.declared.config.Config.{Config}
 use Rattle.vll_core.specs.declared.event.Event.{Event}
 use Rattle.vll_proc.specs.declared.syntax.Proc.{Proc}
 use Rattle.vll_server.specs.declared.limits.TheConstants.{MOST_CLIENTS, MOST_EVENTS, MOST_PROCS}
+use Rattle.vll_server.specs.Kept.{lists_of}
 use Rattle.vll_server.specs.Setup.{HasSizes, IsAllowed, has_sizes, is_allowed, is_up_to}
+use Rattle.vll_server.proofs.Fitting.{in_lists}
 
 -- ---- sizes
 
@@ -61,3 +65,9 @@ allowed_says config e =
 pub each_short : {C : Type 0} (most : ℕ) (lists : List (List C)) → sum_by length lists ≤ most → All (λ (list : List C). length list ≤ most) lists
 each_short {C} most [] few = All-nil (λ (list : List C). length list ≤ most)
 each_short {C} most (list ∷ lists) few = All-cons (λ (l : List C). length l ≤ most) list lists (omega (arith, sum_by-cons length list lists)) (each_short most lists (omega (arith, sum_by-cons length list lists)))
+
+-- where all scripts together have few calls, a number of 32 bits counts those of each
+pub scripts_short : (scripts : List (Vec Call)) → sum_by length (lists_of scripts) ≤ 65536 → All (λ (script : Vec Call). length script.items < 2 ^ 32) scripts
+scripts_short scripts few =
+    in_lists (λ script. length script < 2 ^ 32) scripts
+    (All-weaker (λ (script : List Call). length script ≤ 65536) (λ (script : List Call). length script < 2 ^ 32) (λ script short. omega arith) (lists_of scripts) (each_short 65536 (lists_of scripts) few))
