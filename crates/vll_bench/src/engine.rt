@@ -1,6 +1,7 @@
 ghost use Rattle.std.specs.Prelude.{◌≡◌, ◌<◌, All, IfOk, IfSome};
 ghost use Rattle.vll_check.specs.Calls.{Fits};
-ghost use Rattle.vll_queue.specs.Shown.{named};
+ghost use Rattle.vll_queue.specs.Shown.{IsNamed};
+ghost use Rattle.vll_sca.specs.Placing.{placing};
 
 use crate::fault::Fault;
 use crate::setup;
@@ -40,7 +41,7 @@ fn time_of<N: Name, R: Wait + CpuClock>(
     rt: &R,
     opening: Opening<Placing>,
 ) -> Result<Duration, Fault>
-    requires { opening ≡ named N.library N.records N.config N.clients }
+    requires { IsNamed placing N.library N.records N.config N.places N.clients opening }
 {
     let (engine, mut sessions) = opening.start::<N>();
     let Some(mut session) = last::<N>(&mut sessions) else {

@@ -1,6 +1,7 @@
 ghost use Rattle.std.specs.Prelude.{◌≡◌, ◌≤◌, ◌<◌, ◌^◌, All, length};
 ghost use Rattle.vll_check.specs.Calls.{Fits};
-ghost use Rattle.vll_queue.specs.Shown.{named};
+ghost use Rattle.vll_queue.specs.Shown.{IsNamed};
+ghost use Rattle.vll_sca.specs.Placing.{placing};
 
 use crate::fault::Fault;
 use crate::scripts::{opening, tokens};
@@ -45,7 +46,7 @@ fn time_of<N: Name + Send + Sync, R: Threads + Wait + Clock + Sync>(
     workers: u32,
 ) -> Result<Duration, Fault>
     requires workers { (1 ≤ workers) × (workers ≤ 64) }
-    requires opening { opening ≡ named N.library N.records N.config N.clients }
+    requires opening { IsNamed placing N.library N.records N.config N.places N.clients opening }
     requires clients { N.clients ≡ length scripts.items }
     requires few { length scripts.items ≤ MOST_CLIENTS }
     requires short { All (λ script. length script.items < 2 ^ 32) scripts.items }

@@ -74,12 +74,17 @@ pub statuses_shown : (es : List QueueEntry) (ws : List Work) → length ws ≡ l
     → map (λ (e : Entered). e.status) (entries_of es ws) ≡ map (λ (e : QueueEntry). e.status) es
 statuses_shown es ws same = map_shown (λ (e : QueueEntry). e.status) (λ (e : Entered). e.status) es ws (λ e w. refl) same
 
+-- as many calls pass a test of their status as entries of the queue
+pub counted_shown : (p : Status → Bool) (es : List QueueEntry) (ws : List Work) → length ws ≡ length es
+    → count_by (λ (e : Entered). p e.status) (entries_of es ws) ≡ count_by p (map (λ (e : QueueEntry). e.status) es)
+counted_shown p es ws same =
+    sym (fold-map (λ (m : ℕ) (s : Status). m + cond (p s) 1 0) (λ (e : Entered). e.status) 0 (entries_of es ws))
+    ∙ ap (λ (ss : List Status). count_by p ss) (statuses_shown es ws same)
+
 -- as many calls wait as entries of the queue
 pub waiting_shown : (es : List QueueEntry) (ws : List Work) → length ws ≡ length es
     → count_by (λ (e : Entered). is_waiting e.status) (entries_of es ws) ≡ count_by is_waiting (map (λ (e : QueueEntry). e.status) es)
-waiting_shown es ws same =
-    sym (fold-map (λ (m : ℕ) (s : Status). m + cond (is_waiting s) 1 0) (λ (e : Entered). e.status) 0 (entries_of es ws))
-    ∙ ap (λ (ss : List Status). count_by is_waiting ss) (statuses_shown es ws same)
+waiting_shown es ws same = counted_shown is_waiting es ws same
 
 -- an entry of the queue is put
 pub entry_put : (es : List QueueEntry) (ws : List Work) (t : ℕ) (e : QueueEntry) (w : Work)

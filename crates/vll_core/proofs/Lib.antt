@@ -23,7 +23,8 @@ pub mod QueueScan
 pub mod Proper
 pub mod Fitted
 pub mod FirstWords
-pub mod Opening
+pub mod Faults
+pub mod Begun
 pub mod Journal
 pub mod QueueLaws
 pub mod CorePairs

@@ -2,6 +2,7 @@ pub mod State
 pub mod Machine
 pub mod Moves
 pub mod Laws
+pub mod Faults
 pub mod Queue
 pub mod QueueKept
 pub mod Journal

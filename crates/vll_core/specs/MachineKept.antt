@@ -5,6 +5,7 @@ use Rattle.vll_proc.specs.declared.call.Call.{Call}
 use Rattle.vll_proc.specs.Serial.{Made, before}
 use Rattle.vll_check.specs.Calls.{Fits}
 use Rattle.vll_check.specs.Catalog.{Catalog, IsCatalog}
+use Rattle.vll_core.specs.declared.config.TheConstants.{MOST_RECORDS}
 use Rattle.vll_core.specs.declared.machine.OpenTurn.{OpenTurn}
 use Rattle.vll_core.specs.declared.machine.Machine.TheInside.{Inside}
 use Rattle.vll_core.specs.declared.work.Work.{Work}
@@ -35,7 +36,7 @@ pub record IsMachine {H : Type 0} (place : H → ℕ → ℕ) (c : Inside H) : T
   pub reached : IsReached (opening_of place (shown c)) (shown c).state
   pub words : AreWords (shown c).base (shown c).state c.words.items
   pub some_records : 1 ≤ length c.opening.items
-  pub few_records : length c.opening.items ≤ 65536
+  pub few_records : length c.opening.items ≤ MOST_RECORDS
   pub records : c.library.value.records ≡ length c.opening.items
   pub catalog : IsCatalog c.library.value
   pub queue : IsQueued c.queue

@@ -5,6 +5,8 @@ use Rattle.vll_record.specs.declared.claim.Claim.{Claim}
 use Rattle.vll_sca.specs.declared.status.Status.{Status}
 use Rattle.vll_sca.specs.declared.entry.Entry.{Entry}
 use Rattle.vll_sca.specs.Status.{is_waiting, is_running, is_gone}
+use Rattle.vll_sca.specs.declared.bits.TheConstants.{MOST_BITS}
+use Rattle.vll_core.specs.declared.config.TheConstants.{MOST_CALLS, MOST_WAITING}
 use Rattle.vll_core.specs.declared.line.Line.{Line}
 use Rattle.vll_core.specs.declared.queue.Queue.TheInside.{Inside}
 use Rattle.vll_core.specs.Queue.{QueueEntry, Queued, has_reply, is_left}
@@ -26,11 +28,11 @@ kept a = record { cap = a.cap; limit = a.limit; bits = a.bits; hash = a.hash; en
 -- the first ticket that is not gone and the counts are those of the statuses, and there is room up to the limit
 pub record IsKept {H : Type 0} (a : Inside H) : Type 0 where
   pub some_calls : 1 ≤ a.limit
-  pub few_calls : a.limit ≤ 65536
+  pub few_calls : a.limit ≤ MOST_CALLS
   pub some_wait : 1 ≤ a.cap
-  pub few_wait : a.cap ≤ 65536
+  pub few_wait : a.cap ≤ MOST_WAITING
   pub some_bits : 1 ≤ a.bits
-  pub few_bits : a.bits ≤ 1048576
+  pub few_bits : a.bits ≤ MOST_BITS
   pub capped : count_by is_waiting (statuses_of a.entries.items) ≤ a.cap
   pub within : length a.entries.items ≤ a.limit
   pub as_many : length a.journal.items ≡ length a.entries.items

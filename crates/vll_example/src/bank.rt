@@ -1,7 +1,8 @@
 // A bank over the engine: a transfer and a sum of the accounts that it changes.
 ghost use Rattle.std.specs.Prelude.{◌≡◌, ◌<◌, All, IfOk, IfSome};
 ghost use Rattle.vll_check.specs.Calls.{Fits};
-ghost use Rattle.vll_queue.specs.Shown.{named};
+ghost use Rattle.vll_queue.specs.Shown.{IsNamed};
+ghost use Rattle.vll_sca.specs.Placing.{placing};
 
 use crate::fault::Fault;
 use crate::procedures::library;
@@ -30,7 +31,7 @@ pub(crate) fn open<R: Wait + Print>(rt: &R, alloc: Global) -> Result<(), Fault> 
 // The engine takes its name from the opening. So it is started in a function over the name, whose other types have
 // nothing to do with it.
 fn serve<N: Name, R: Wait + Print>(rt: &R, opening: Opening<Placing>) -> Result<(), Fault>
-    requires { opening ≡ named N.library N.records N.config N.clients }
+    requires { IsNamed placing N.library N.records N.config N.places N.clients opening }
 {
     let (engine, mut sessions) = opening.start::<N>();
     let Some(mut other) = last::<N>(&mut sessions) else {

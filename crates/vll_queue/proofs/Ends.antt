@@ -98,10 +98,10 @@ left o s n words values pairs reached closed none_wait none_run count are divide
     }
 
 -- so what is left is serial
-pub serial_end : (library : Catalog) (records : List ℕ) (config : Config) (o : Opening) (s : State) (n : ℕ) (words divided : List ℕ) (c : Closed) → IsMoment library records config o s
+pub serial_end : (library : Catalog) (records : List ℕ) (config : Config) (places : ℕ → ℕ) (o : Opening) (s : State) (n : ℕ) (words divided : List ℕ) (c : Closed) → IsMoment library records config places o s
     → waiting s ≡ 0 → count_by (λ (e : Entered). is_running e.status) s.entries ≡ 0 → n ≡ length records
     → AreWords o.base s words → divided ≡ words → AreDivided n divided c.records.items c.pairs.items → c.journal.items ≡ journal_of o.base s → IsSerial library records c
-serial_end library records config o s n words divided c at none_wait none_run count are same each journal =
+serial_end library records config places o s n words divided c at none_wait none_run count are same each journal =
     let size : n ≡ length o.base.records = count ∙ ap (λ (b : Base). length b.records) (sym at.base) in
     let rest = left o s n words c.records.items c.pairs.items at.reached at.closed none_wait none_run size are (subst (λ (ws : List ℕ). AreDivided n ws c.records.items c.pairs.items) same each) in
     record {

@@ -28,15 +28,16 @@ use Rattle.vll_queue.proofs.Wakes.{Waits, waking, front_step, scan_step, front_w
 use Rattle.vll_queue.proofs.Whole.{at_rest, whole_arrived, whole_started, whole_executed, whole_finished}
 
 -- another state of the same machine
-pub kept_at : {H : Type 0} {library : Catalog} {records : List ℕ} {config : Config} {clients : ℕ} {place : H → ℕ → ℕ} (c : Shown H) (s : State) → IsKept library records config clients place c
+pub kept_at : {H : Type 0} {library : Catalog} {records : List ℕ} {config : Config} {places : ℕ → ℕ} {clients : ℕ} {place : H → ℕ → ℕ} (c : Shown H) (s : State) → IsKept library records config places clients place c
     → IsReached (opening_of place c) s → s.turn ≡ None → length s.scripts ≡ length c.state.scripts → AreWhole c.base s → length s.entries ≤ config.limit
-    → IsKept library records config clients place (record c { state = s })
+    → IsKept library records config places clients place (record c { state = s })
 kept_at c s kept reached closed scripts whole within = record {
   moment = record {
     base = kept.moment.base;
     cap = kept.moment.cap;
     limit = kept.moment.limit;
     bits = kept.moment.bits;
+    place = kept.moment.place;
     reached = reached;
     closed = closed;
   };
@@ -48,11 +49,11 @@ kept_at c s kept reached closed scripts whole within = record {
 }
 
 -- a call begins, or is refused
-pub kept_begun : {H : Type 0} {library : Catalog} {records : List ℕ} {config : Config} {clients : ℕ} {place : H → ℕ → ℕ} (c d : Shown H) (client : ℕ) (call : Call) → IsKept library records config clients place c
+pub kept_begun : {H : Type 0} {library : Catalog} {records : List ℕ} {config : Config} {places : ℕ → ℕ} {clients : ℕ} {place : H → ℕ → ℕ} (c d : Shown H) (client : ℕ) (call : Call) → IsKept library records config places clients place c
     → d ≡ record c { state = begun_by (refusal (opening_of place c) c.state) c.state client call } → IsReached (opening_of place d) d.state
-    → IsKept library records config clients place d
-kept_begun {H = H} {library = library} {records = records} {config = config} {clients = clients} {place = place} c d client call kept is reached =
-    subst (IsKept library records config clients place) (sym is) (by_refusal (refusal (opening_of place c) c.state) refl)
+    → IsKept library records config places clients place d
+kept_begun {H = H} {library = library} {records = records} {config = config} {places = places} {clients = clients} {place = place} c d client call kept is reached =
+    subst (IsKept library records config places clients place) (sym is) (by_refusal (refusal (opening_of place c) c.state) refl)
   where
     by_tests : (spent busy : Bool) → (if spent then Some Spent else (if busy then Some Busy else None)) ≡ None → spent ≡ false
     by_tests true busy h = absurd (cc h)
@@ -61,7 +62,7 @@ kept_begun {H = H} {library = library} {records = records} {config = config} {cl
     longer : (n m limit k : ℕ) → n < m → m ≡ limit → k ≡ n + 1 → k ≤ limit
     longer n m limit k h i j = omega (arith, h, i, j)
 
-    by_refusal : (r : Option BeginRefusal) → refusal (opening_of place c) c.state ≡ r → IsKept library records config clients place (record c { state = begun_by r c.state client call })
+    by_refusal : (r : Option BeginRefusal) → refusal (opening_of place c) c.state ≡ r → IsKept library records config places clients place (record c { state = begun_by r c.state client call })
     by_refusal (Some why) refused = kept
     by_refusal None allowed =
         let room = le_no c.limit (length c.state.entries) (by_tests (nat_le c.limit (length c.state.entries)) (nat_le c.cap (waiting c.state)) allowed) in
@@ -87,23 +88,23 @@ executed_cases o s t whole = by_entry (running s t) refl
         made all zero none = (nothing_due o s t e whole runs none).1
         made all (suc n) some = executed_by o s t None (executable_not s t e runs (omega (arith, all, some)))
 
-pub kept_executed : {H : Type 0} {library : Catalog} {records : List ℕ} {config : Config} {clients : ℕ} {place : H → ℕ → ℕ} (c d : Shown H) (t : ℕ) → IsKept library records config clients place c
-    → d ≡ record c { state = executed c.base c.state t } → IsKept library records config clients place d
-kept_executed {H = H} {library = library} {records = records} {config = config} {clients = clients} {place = place} c d t kept is =
-    subst (IsKept library records config clients place) (sym is) (⊎_elim same changed (executed_cases c.base c.state t kept.whole))
+pub kept_executed : {H : Type 0} {library : Catalog} {records : List ℕ} {config : Config} {places : ℕ → ℕ} {clients : ℕ} {place : H → ℕ → ℕ} (c d : Shown H) (t : ℕ) → IsKept library records config places clients place c
+    → d ≡ record c { state = executed c.base c.state t } → IsKept library records config places clients place d
+kept_executed {H = H} {library = library} {records = records} {config = config} {places = places} {clients = clients} {place = place} c d t kept is =
+    subst (IsKept library records config places clients place) (sym is) (⊎_elim same changed (executed_cases c.base c.state t kept.whole))
   where
     o : Opening
     o = opening_of place c
 
-    same : executed c.base c.state t ≡ c.state → IsKept library records config clients place (record c { state = executed c.base c.state t })
-    same stays = subst (λ (s : State). IsKept library records config clients place (record c { state = s })) (sym stays) kept
+    same : executed c.base c.state t ≡ c.state → IsKept library records config places clients place (record c { state = executed c.base c.state t })
+    same stays = subst (λ (s : State). IsKept library records config places clients place (record c { state = s })) (sym stays) kept
 
     changed : (e : Entered) × (executed c.base c.state t ≡ with_entry c.state t (with_stores c.base c.state t e)) × (running c.state t ≡ Some e) × (e.loads ≡ 0) × (e.stores ≡ 0) × (e.releases ≡ 0)
-        → IsKept library records config clients place (record c { state = executed c.base c.state t })
+        → IsKept library records config places clients place (record c { state = executed c.base c.state t })
     changed (e, now, runs, unloaded, unstored, unreleased) =
         let at = runs_at (slice_get c.state.entries t) e runs in
         let n = length e.call.claims in
-        subst (λ (s : State). IsKept library records config clients place (record c { state = s })) (sym now)
+        subst (λ (s : State). IsKept library records config places clients place (record c { state = s })) (sym now)
         (kept_at c (with_entry c.state t (with_stores c.base c.state t e)) kept
         (subst (IsReached o) (execution o c.state t e runs unloaded unstored) (run_reached o (run o c.state (replicate n (event.Load t))) (replicate n (event.Store t)) (run_reached o c.state (replicate n (event.Load t)) kept.moment.reached)))
         kept.moment.closed refl (whole_executed c.base c.state t e kept.whole at.0 at.1 unreleased)
@@ -126,23 +127,23 @@ finished_cases o s t whole = by_entry (running s t) refl
             inr (e, finished_by o s t (Some e) (finishable_is o s t e true runs stored), runs, stored, (at_rest o s t e whole at.0 at.1).unreleased)
         by_stores false unstored = inl (finished_by o s t None (finishable_is o s t e false runs unstored))
 
-pub kept_finished : {H : Type 0} {library : Catalog} {records : List ℕ} {config : Config} {clients : ℕ} {place : H → ℕ → ℕ} (c d : Shown H) (t : ℕ) → IsKept library records config clients place c
-    → d ≡ record c { state = finished c.base c.state t } → IsKept library records config clients place d
-kept_finished {H = H} {library = library} {records = records} {config = config} {clients = clients} {place = place} c d t kept is =
-    subst (IsKept library records config clients place) (sym is) (⊎_elim same changed (finished_cases c.base c.state t kept.whole))
+pub kept_finished : {H : Type 0} {library : Catalog} {records : List ℕ} {config : Config} {places : ℕ → ℕ} {clients : ℕ} {place : H → ℕ → ℕ} (c d : Shown H) (t : ℕ) → IsKept library records config places clients place c
+    → d ≡ record c { state = finished c.base c.state t } → IsKept library records config places clients place d
+kept_finished {H = H} {library = library} {records = records} {config = config} {places = places} {clients = clients} {place = place} c d t kept is =
+    subst (IsKept library records config places clients place) (sym is) (⊎_elim same changed (finished_cases c.base c.state t kept.whole))
   where
     o : Opening
     o = opening_of place c
 
-    same : finished c.base c.state t ≡ c.state → IsKept library records config clients place (record c { state = finished c.base c.state t })
-    same stays = subst (λ (s : State). IsKept library records config clients place (record c { state = s })) (sym stays) kept
+    same : finished c.base c.state t ≡ c.state → IsKept library records config places clients place (record c { state = finished c.base c.state t })
+    same stays = subst (λ (s : State). IsKept library records config places clients place (record c { state = s })) (sym stays) kept
 
     changed : (e : Entered) × (finished c.base c.state t ≡ with_entry c.state t (with_end e)) × (running c.state t ≡ Some e) × (has_stored c.base c.state t e ≡ true) × (e.releases ≡ 0)
-        → IsKept library records config clients place (record c { state = finished c.base c.state t })
+        → IsKept library records config places clients place (record c { state = finished c.base c.state t })
     changed (e, now, runs, stored, unreleased) =
         let at = runs_at (slice_get c.state.entries t) e runs in
         let r = run o c.state (replicate (length e.call.claims) (event.Release t)) in
-        subst (λ (s : State). IsKept library records config clients place (record c { state = s })) (sym now)
+        subst (λ (s : State). IsKept library records config places clients place (record c { state = s })) (sym now)
         (kept_at c (with_entry c.state t (with_end e)) kept
         (moved r (by_event (event.Finish t)) (Replied (reply_at c.base c.state t e)) (with_entry c.state t (with_end e)) (run_reached o c.state (replicate (length e.call.claims) (event.Release t)) kept.moment.reached) tt
         (finishing o c.state t e kept.moment.closed runs stored unreleased))
@@ -150,24 +151,24 @@ kept_finished {H = H} {library = library} {records = records} {config = config} 
         (subst (λ (m : ℕ). m ≤ config.limit) (sym (length-set c.state.entries t (with_end e))) kept.within))
 
 -- a waiting ticket, if one was found, began to run
-kept_woken : {H : Type 0} {library : Catalog} {records : List ℕ} {config : Config} {clients : ℕ} {place : H → ℕ → ℕ} (c d : Shown H) (e : Event) (x : Option ℕ) → IsKept library records config clients place c
+kept_woken : {H : Type 0} {library : Catalog} {records : List ℕ} {config : Config} {places : ℕ → ℕ} {clients : ℕ} {place : H → ℕ → ℕ} (c d : Shown H) (e : Event) (x : Option ℕ) → IsKept library records config places clients place c
     → step (opening_of place c) c.state e ≡ waking c.state x → ((t : ℕ) → x ≡ Some t → Waits c.state t)
-    → d ≡ record c { state = started c.state x } → IsKept library records config clients place d
-kept_woken {library = library} {records = records} {config = config} {clients = clients} {place = place} c d e None kept steps waits is = subst (IsKept library records config clients place) (sym is) kept
-kept_woken {library = library} {records = records} {config = config} {clients = clients} {place = place} c d e (Some t) kept steps waits is =
+    → d ≡ record c { state = started c.state x } → IsKept library records config places clients place d
+kept_woken {library = library} {records = records} {config = config} {places = places} {clients = clients} {place = place} c d e None kept steps waits is = subst (IsKept library records config places clients place) (sym is) kept
+kept_woken {library = library} {records = records} {config = config} {places = places} {clients = clients} {place = place} c d e (Some t) kept steps waits is =
     let there = waits t refl in
     let put = status_put c.state t there.0 Running there.1 in
-    subst (IsKept library records config clients place) (sym is)
+    subst (IsKept library records config places clients place) (sym is)
     (kept_at c (with_status c.state t Running) kept
     (moved c.state (by_event e) (Run t) (with_status c.state t Running) kept.moment.reached tt steps)
     (ap (λ (s : State). s.turn) put ∙ kept.moment.closed) (ap (λ (s : State). length s.scripts) put)
     (whole_started c.base c.state t there.0 kept.whole there.1 there.2)
     (subst (λ (m : ℕ). m ≤ config.limit) (sym (ap (λ (s : State). length s.entries) put ∙ length-set c.state.entries t (record there.0 { status = Running }))) kept.within))
 
-pub kept_front : {H : Type 0} {library : Catalog} {records : List ℕ} {config : Config} {clients : ℕ} {place : H → ℕ → ℕ} (c d : Shown H) → IsKept library records config clients place c
-    → d ≡ record c { state = started c.state (front c.state) } → IsKept library records config clients place d
+pub kept_front : {H : Type 0} {library : Catalog} {records : List ℕ} {config : Config} {places : ℕ → ℕ} {clients : ℕ} {place : H → ℕ → ℕ} (c d : Shown H) → IsKept library records config places clients place c
+    → d ≡ record c { state = started c.state (front c.state) } → IsKept library records config places clients place d
 kept_front {place = place} c d kept is = kept_woken c d event.Front (front c.state) kept (front_step (opening_of place c) c.state kept.moment.closed) (front_waits c.state) is
 
-pub kept_scan : {H : Type 0} {library : Catalog} {records : List ℕ} {config : Config} {clients : ℕ} {place : H → ℕ → ℕ} (c d : Shown H) → IsKept library records config clients place c
-    → d ≡ record c { state = started c.state (found (opening_of place c) c.state) } → IsKept library records config clients place d
+pub kept_scan : {H : Type 0} {library : Catalog} {records : List ℕ} {config : Config} {places : ℕ → ℕ} {clients : ℕ} {place : H → ℕ → ℕ} (c d : Shown H) → IsKept library records config places clients place c
+    → d ≡ record c { state = started c.state (found (opening_of place c) c.state) } → IsKept library records config places clients place d
 kept_scan {place = place} c d kept is = kept_woken c d event.Scan (found (opening_of place c) c.state) kept (scan_step (opening_of place c) c.state kept.moment.closed) (found_waits (opening_of place c) c.state) is

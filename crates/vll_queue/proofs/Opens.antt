@@ -18,13 +18,14 @@ sessions_below m (suc n) few = All-push (λ (s : SessionShown). s.client < m) (s
 
 -- a machine with empty scripts, in which nothing is entered, is one that an engine can lock
 pub kept_first : {H : Type 0} (place : H → ℕ → ℕ) (c : Shown H) (scripts : List (Vec Call)) → c.state ≡ opened (map (λ (v : Vec Call). v.items) scripts) → All (λ (v : Vec Call). v.items ≡ []) scripts → c.limit ≤ 65536
-    → IsKept (library_of c) c.base.records (record { cap = c.cap; limit = c.limit; bits = c.bits }) (length c.state.scripts) place c
+    → IsKept (library_of c) c.base.records (record { cap = c.cap; limit = c.limit; bits = c.bits }) (place c.hash) (length c.state.scripts) place c
 kept_first place c scripts is empty few = record {
   moment = record {
     base = refl;
     cap = refl;
     limit = refl;
     bits = refl;
+    place = refl;
     reached = subst (IsReached (opening_of place c)) (sym is) (begun (map (λ (v : Vec Call). v.items) scripts) proper);
     closed = ap (λ (s : State). s.turn) is;
   };

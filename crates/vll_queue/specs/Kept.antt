@@ -33,8 +33,8 @@ abbrev pub AreWhole : Base → State → Type 0
 AreWhole o s = (t : ℕ) (e : Entered) → slice_get s.entries t ≡ Some e → is_whole o s t e ≡ true
 
 -- the machine is of this opening, in a state that lawful moves reach, with no open turn and every call whole
-pub record IsKept {H : Type 0} (library : Catalog) (records : List ℕ) (config : Config) (clients : ℕ) (place : H → ℕ → ℕ) (c : Shown H) : Type 0 where
-  pub moment : IsMoment library records config (opening_of place c) c.state
+pub record IsKept {H : Type 0} (library : Catalog) (records : List ℕ) (config : Config) (places : ℕ → ℕ) (clients : ℕ) (place : H → ℕ → ℕ) (c : Shown H) : Type 0 where
+  pub moment : IsMoment library records config places (opening_of place c) c.state
   pub library_is : library_of c ≡ library
   pub clients_are : length c.state.scripts ≡ clients
   pub whole : AreWhole c.base c.state

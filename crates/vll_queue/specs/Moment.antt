@@ -9,11 +9,12 @@ use Rattle.vll_core.specs.Moves.{IsReached}
 abbrev pub base_of : Catalog → List ℕ → Base
 base_of library records = record { procs = library.procs; records = records }
 
--- the machine behind the lock was opened with these, is in a state that lawful moves reach, and has no open turn
-pub record IsMoment (library : Catalog) (records : List ℕ) (config : Config) (o : Opening) (s : State) : Type 0 where
+-- the machine behind the lock was opened with these, so that its scan goes by these places, is in a state that lawful moves reach, and has no open turn
+pub record IsMoment (library : Catalog) (records : List ℕ) (config : Config) (places : ℕ → ℕ) (o : Opening) (s : State) : Type 0 where
   pub base : o.base ≡ base_of library records
   pub cap : o.cap ≡ config.cap
   pub limit : o.limit ≡ config.limit
   pub bits : o.bits ≡ config.bits
+  pub place : o.place ≡ places
   pub reached : IsReached o s
   pub closed : s.turn ≡ None

@@ -61,7 +61,7 @@ impl<N: Name, H: Place + Send + Drop> Engine<N, H> {
     pub fn begin(&self, wait: &impl Wait, session: &mut Session, call: Call) -> Begun
         requires client { session.old.client < N.clients }
         requires fits { Fits N.library call }
-        ensures answer { (o : Opening) × (s : State) × IsMoment N.library N.records N.config o s × Begins
+        ensures answer { (o : Opening) × (s : State) × IsMoment N.library N.records N.config N.places o s × Begins
             o s call result }
         ensures session { session.new ≡ session.old }
     {
@@ -72,7 +72,7 @@ impl<N: Name, H: Place + Send + Drop> Engine<N, H> {
 
     /// A pass for the lowest ticket that is not gone, where it waits: all before it are gone.
     pub fn next_front(&self, wait: &impl Wait) -> Option<Pass>
-        ensures { (o : Opening) × (s : State) × IsMoment N.library N.records N.config o s × (option_map (λ
+        ensures { (o : Opening) × (s : State) × IsMoment N.library N.records N.config N.places o s × (option_map (λ
             p. p.ticket) result ≡ front s) }
     {
         self.locked.lock(wait).next_front(&self.library)
@@ -80,7 +80,7 @@ impl<N: Name, H: Place + Send + Drop> Engine<N, H> {
 
     /// A pass for the first waiting ticket that is in hash conflict with no earlier one that runs or waits.
     pub fn next_scan(&self, wait: &impl Wait) -> Option<Pass>
-        ensures { (o : Opening) × (s : State) × IsMoment N.library N.records N.config o s × (option_map (λ
+        ensures { (o : Opening) × (s : State) × IsMoment N.library N.records N.config N.places o s × (option_map (λ
             p. p.ticket) result ≡ found o s) }
     {
         self.locked.lock(wait).next_scan(&self.library)
@@ -89,7 +89,7 @@ impl<N: Name, H: Place + Send + Drop> Engine<N, H> {
     /// Loads each claim's record, runs the body, and stores each Write claim's record unless the call aborts.
     /// `Lost` where the ticket is not running, or has made its loads: nothing changes, and the pass is spent.
     pub fn execute(&self, wait: &impl Wait, pass: Pass) -> Result<Done, Lost>
-        ensures { (o : Opening) × (s : State) × IsMoment N.library N.records N.config o s × Spends (λ d.
+        ensures { (o : Opening) × (s : State) × IsMoment N.library N.records N.config N.places o s × Spends (λ d.
             d.ticket) (executable s pass.ticket) pass.ticket result }
     {
         self.locked.lock(wait).execute(&self.library, pass)
@@ -107,7 +107,7 @@ impl<N: Name, H: Place + Send + Drop> Engine<N, H> {
     /// the order of their tickets. `Lost` where the ticket is not running, or has loads or stores left: nothing
     /// changes, and the pass is spent.
     pub fn finish(&self, wait: &impl Wait, released: Released) -> Result<(Ticket, Reply), Lost>
-        ensures { (o : Opening) × (s : State) × IsMoment N.library N.records N.config o s × Finishes
+        ensures { (o : Opening) × (s : State) × IsMoment N.library N.records N.config N.places o s × Finishes
             o.base s released.ticket result }
     {
         self.locked.lock(wait).finish(&self.library, released)
@@ -116,7 +116,7 @@ impl<N: Name, H: Place + Send + Drop> Engine<N, H> {
     /// The reply in the ticket's line; `None` where there is no such line or it has no reply yet.
     pub fn reply(&self, wait: &impl Wait, session: &mut Session, ticket: Ticket) -> Option<Reply>
         requires client { session.old.client < N.clients }
-        ensures answer { (o : Opening) × (s : State) × IsMoment N.library N.records N.config o s × (result
+        ensures answer { (o : Opening) × (s : State) × IsMoment N.library N.records N.config N.places o s × (result
             ≡ replied o.base s ticket) }
         ensures session { session.new ≡ session.old }
     {
@@ -129,7 +129,7 @@ impl<N: Name, H: Place + Send + Drop> Engine<N, H> {
     /// with the numbers of those that run and wait. The list may lack sessions.
     pub fn close(self, sessions: Vec<Session>) -> Result<Closed, NotClosed<N, H>>
         ensures moment { IfOk result (λ c. (o : Opening) × (s : State) × IsMoment N.library N.records
-            N.config o s × IsEnded o s c) }
+            N.config N.places o s × IsEnded o s c) }
         ensures serial { IfOk result (λ c. IsSerial N.library N.records c) }
         ensures back { IfErr result (λ n. n.sessions ≡ sessions) }
         ensures left { IfErr result (λ n. 0 < n.running + n.waiting) }

@@ -50,13 +50,13 @@ impl<N: Name, H: Place> Model for Locked<N, H> {
 
     ghost view = { λ s. s.machine };
 
-    ghost invariant = { λ s. IsKept N.library N.records N.config N.clients H.place_of s.machine };
+    ghost invariant = { λ s. IsKept N.library N.records N.config N.places N.clients H.place_of s.machine };
 }
 
 impl<N: Name, H: Place> Locked<N, H> {
     // A machine in which every call is whole and no turn is open.
     pub(crate) fn new(machine: Machine<H>) -> Locked<N, H>
-        requires { IsKept N.library N.records N.config N.clients H.place_of machine }
+        requires { IsKept N.library N.records N.config N.places N.clients H.place_of machine }
         ensures { result ≡ machine }
     {
         Locked {
@@ -70,7 +70,7 @@ impl<N: Name, H: Place> Locked<N, H> {
         requires library { library.now ≡ N.library }
         requires client { client < N.clients }
         requires fits { Fits N.library call }
-        ensures moment { IsMoment N.library N.records N.config (opening_of H.place_of self.old)
+        ensures moment { IsMoment N.library N.records N.config N.places (opening_of H.place_of self.old)
             self.old.state }
         ensures answer { Begins (opening_of H.place_of self.old) self.old.state call result }
         ensures state { self.new ≡ record self.old {
@@ -87,7 +87,7 @@ impl<N: Name, H: Place> Locked<N, H> {
     // The lowest ticket that is not gone begins to run, where it waits.
     pub(crate) fn next_front(&mut self, library: &Library) -> Option<Pass>
         requires library { library.now ≡ N.library }
-        ensures moment { IsMoment N.library N.records N.config (opening_of H.place_of self.old)
+        ensures moment { IsMoment N.library N.records N.config N.places (opening_of H.place_of self.old)
             self.old.state }
         ensures answer { option_map (λ p. p.ticket) result ≡ front self.old.state }
         ensures state { self.new ≡ record self.old { state = started self.old.state (front self.old.state) } }
@@ -103,7 +103,7 @@ impl<N: Name, H: Place> Locked<N, H> {
     // The ticket that the contention analysis finds begins to run.
     pub(crate) fn next_scan(&mut self, library: &Library) -> Option<Pass>
         requires library { library.now ≡ N.library }
-        ensures moment { IsMoment N.library N.records N.config (opening_of H.place_of self.old)
+        ensures moment { IsMoment N.library N.records N.config N.places (opening_of H.place_of self.old)
             self.old.state }
         ensures answer { option_map (λ p. p.ticket) result ≡ found (opening_of H.place_of self.old)
             self.old.state }
@@ -123,7 +123,7 @@ impl<N: Name, H: Place> Locked<N, H> {
     // The call of a ticket makes all its loads and stores.
     pub(crate) fn execute(&mut self, library: &Library, pass: Pass) -> Result<Done, Lost>
         requires library { library.now ≡ N.library }
-        ensures moment { IsMoment N.library N.records N.config (opening_of H.place_of self.old)
+        ensures moment { IsMoment N.library N.records N.config N.places (opening_of H.place_of self.old)
             self.old.state }
         ensures answer { Spends (λ d. d.ticket) (executable self.old.state pass.ticket) pass.ticket result }
         ensures state { self.new ≡ record self.old {
@@ -143,7 +143,7 @@ impl<N: Name, H: Place> Locked<N, H> {
         released: Released,
     ) -> Result<(Ticket, Reply), Lost>
         requires library { library.now ≡ N.library }
-        ensures moment { IsMoment N.library N.records N.config (opening_of H.place_of self.old)
+        ensures moment { IsMoment N.library N.records N.config N.places (opening_of H.place_of self.old)
             self.old.state }
         ensures answer { Finishes self.old.base self.old.state released.ticket result }
         ensures state { self.new ≡ record self.old {
@@ -158,7 +158,7 @@ impl<N: Name, H: Place> Locked<N, H> {
 
     // The reply in the line of a ticket, if there is one.
     pub(crate) fn reply(&self, ticket: Ticket) -> Option<Reply>
-        ensures moment { IsMoment N.library N.records N.config (opening_of H.place_of self.now)
+        ensures moment { IsMoment N.library N.records N.config N.places (opening_of H.place_of self.now)
             self.now.state }
         ensures answer { result ≡ replied self.now.base self.now.state ticket }
     {
@@ -187,7 +187,7 @@ impl<N: Name, H: Place + Drop> Locked<N, H> {
         requires room { room ≡ length N.records }
         requires running { count_by (λ (e : Entered). is_running e.status) self.state.entries ≡ 0 }
         requires waiting { count_by (λ (e : Entered). is_waiting e.status) self.state.entries ≡ 0 }
-        ensures moment { IsMoment N.library N.records N.config (opening_of H.place_of self) self.state }
+        ensures moment { IsMoment N.library N.records N.config N.places (opening_of H.place_of self) self.state }
         ensures ended { IsEnded (opening_of H.place_of self) self.state result }
         ensures serial { IsSerial N.library N.records result }
     {

@@ -14,6 +14,8 @@ pub trait Name {
 
     ghost config: { Config };
 
+    ghost places: { ℕ → ℕ };
+
     ghost clients: { ℕ };
 }
 
@@ -25,6 +27,8 @@ impl Name for Brand {
     ghost records = { [] };
 
     ghost config = { record { cap = 0; limit = 0; bits = 0 } };
+
+    ghost places = { λ r. r };
 
     ghost clients = { 0 };
 }

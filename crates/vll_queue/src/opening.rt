@@ -1,7 +1,7 @@
 ghost use Rattle.std.specs.Prelude.{◌≡◌, ◌≤◌, ◌<◌, ◌↔◌, [], All, Err, IfOk, IfNone, length};
 ghost use Rattle.vll_core.specs.declared.config.OpenFault.TheVariants as OpenFault;
 ghost use Rattle.vll_queue.specs.Opened.{IsWithin, fault_of, sessions_of};
-ghost use Rattle.vll_queue.specs.Shown.{named};
+ghost use Rattle.vll_queue.specs.Shown.{IsNamed, opening};
 
 use crate::engine::Engine;
 use crate::locked::Locked;
@@ -35,9 +35,9 @@ impl<H: Place> Model for Opening<H> {
     ghost use Rattle.std.specs.Coded.{codes};
     ghost use Rattle.vll_queue.specs.Shown.{OpeningShown};
 
-    ghost Value = { OpeningShown };
+    ghost Value = { OpeningShown H };
 
-    ghost coded = { Prim.hlevel (codes, expr.the_row.coded, stmt.the_row.coded) };
+    ghost coded = { Prim.hlevel (codes, expr.the_row.coded, stmt.the_row.coded, H.code) };
 
     ghost use Rattle.vll_queue.specs.Opened.{shown, IsOpening};
 
@@ -74,7 +74,7 @@ impl<H: Place + Drop> Opening<H> {
             × (1 ≤ config.limit) × (config.limit ≤ 65536)
             × (1 ≤ config.cap) × (config.cap ≤ 65536)
             × (¬ ((1 ≤ config.bits) × (config.bits ≤ 1048576)))) }
-        ensures opened { IfOk result (λ o. o ≡ named library records.items config clients) }
+        ensures opened { IfOk result (λ o. o ≡ opening library records.items config hash clients) }
     {
         if let Some(fault) = fault_of(records.len(), config) {
             return Err(fault);
@@ -89,7 +89,7 @@ impl<H: Place + Drop> Opening<H> {
 impl<H: Place + Send + Drop> Opening<H> {
     /// The engine, and a session for each client, in order. The name is one that names this opening.
     pub fn start<N: Name>(self) -> (Engine<N, H>, Vec<Session>)
-        requires named { self ≡ named N.library N.records N.config N.clients }
+        requires named { IsNamed H.place_of N.library N.records N.config N.places N.clients self }
         ensures sessions { result.1.items ≡ sessions_of N.clients }
         ensures clients { All (λ s. s.client < N.clients) result.1.items }
     {
@@ -114,7 +114,7 @@ fn opened<H: Place + Drop>(
 ) -> Result<Opening<H>, AllocError>
     requires records { library.records ≡ length records.items }
     requires within { IsWithin (length records.items) config }
-    ensures { IfOk result (λ o. o ≡ named library records.items config clients) }
+    ensures { IfOk result (λ o. o ≡ opening library records.items config hash clients) }
 {
     let room = Room::new(alloc, records.len() as u32)?;
     let sessions = sessions(alloc, clients)?;

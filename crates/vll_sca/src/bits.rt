@@ -9,6 +9,9 @@ use crate::status::Status;
 use std::alloc::Global;
 use std::marker::Model;
 
+/// The most bits that records can share: 2^20.
+pub const MOST_BITS: u32 = 1_048_576;
+
 /// The room for a scan: how many bits records share. Contracts see their number.
 #[derive(Drop)]
 pub struct Bits {
@@ -17,32 +20,33 @@ pub struct Bits {
 
 impl Model for Bits {
     ghost use Rattle.std.specs.Prelude.{ℕ, ◌≤◌};
+    ghost use Rattle.vll_sca.specs.declared.bits.TheConstants.{MOST_BITS};
 
     ghost Value = { ℕ };
 
     ghost view = { λ b. b.count };
 
-    ghost invariant = { λ b. (1 ≤ b.count) × (b.count ≤ 1048576) };
+    ghost invariant = { λ b. (1 ≤ b.count) × (b.count ≤ MOST_BITS) };
 }
 
 /// Why there is no room for scans.
 #[derive(Clone, Copy, PartialEq, Eq, Debug)]
 pub enum BitsFault {
-    /// The number of bits is not 1 to 1,048,576.
+    /// The number of bits is not 1 to `MOST_BITS`.
     Size,
     /// Memory was refused.
     NoMemory,
 }
 
 impl Bits {
-    /// Room for scans over this many bits. `Size` comes exactly where the number is not 1 to 1,048,576, before
+    /// Room for scans over this many bits. `Size` comes exactly where the number is not 1 to `MOST_BITS`, before
     /// any memory is asked for, and `NoMemory` only where memory was refused.
     pub fn new(alloc: Global, n: u32) -> Result<Bits, BitsFault>
-        ensures size { result ≡ Err BitsFault.Size ↔ ¬ ((1 ≤ n) × (n ≤ 1048576)) }
+        ensures size { result ≡ Err BitsFault.Size ↔ ¬ ((1 ≤ n) × (n ≤ MOST_BITS)) }
         ensures made { (result ≡ Ok n) ⊎ (result ≡ Err BitsFault.Size) ⊎ (result ≡ Err BitsFault.NoMemory) }
     {
         let _ = alloc;
-        if n < 1 || n > 1_048_576 {
+        if n < 1 || n > MOST_BITS {
             return Err(BitsFault::Size);
         }
         Ok(Bits { count: n })

@@ -3,7 +3,8 @@ ghost use Rattle.std.specs.Prelude.{◌≡◌, ◌≤◌, ◌<◌, ◌^◌, ◌�
 ghost use Rattle.std.specs.Io.KnownBytes.{Appends};
 ghost use Rattle.vll_check.specs.Calls.{Fits};
 ghost use Rattle.vll_queue.specs.Closed.{IsSerial, calls_in};
-ghost use Rattle.vll_queue.specs.Shown.{named};
+ghost use Rattle.vll_queue.specs.Shown.{IsNamed};
+ghost use Rattle.vll_sca.specs.Placing.{placing};
 ghost use Rattle.vll_server.specs.Kept.{lists_of};
 ghost use Rattle.vll_server.specs.Merge.{IsMerge};
 ghost use Rattle.vll_server.specs.Serve.{Serves, config_for, scripts_of};
@@ -92,6 +93,7 @@ fn opening_of(
     ensures library { IfOk result (λ made. made.0.library ≡ catalog_of scenario) }
     ensures records { IfOk result (λ made. made.0.records ≡ scenario.records) }
     ensures config { IfOk result (λ made. made.0.config ≡ config_for scenario) }
+    ensures hash { IfOk result (λ made. made.0.hash ≡ scenario.placing) }
     ensures clients { IfOk result (λ made. made.0.clients ≡ length scenario.scripts) }
     ensures scripts { IfOk result (λ made. lists_of made.1.items ≡ scenario.scripts) }
     ensures few { IfOk result (λ made. length made.1.items ≤ MOST_CLIENTS) }
@@ -145,7 +147,7 @@ fn run_named<N: Name + Send + Sync, R: Threads + Wait + Sync, W: Wait + Sync, G:
     gate: &G,
 ) -> Result<Closed, ServeFault>
     requires workers { (1 ≤ workers) × (workers ≤ 64) }
-    requires opening { opening ≡ named N.library N.records N.config N.clients }
+    requires opening { IsNamed placing N.library N.records N.config N.places N.clients opening }
     requires clients { N.clients ≡ length scripts.items }
     requires few { length scripts.items ≤ MOST_CLIENTS }
     requires short { All (λ script. length script.items < 2 ^ 32) scripts.items }

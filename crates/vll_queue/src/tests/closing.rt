@@ -1,6 +1,7 @@
 // Closing, with and without a pass that is out.
 ghost use Rattle.std.specs.Prelude.{◌≡◌};
-ghost use Rattle.vll_queue.specs.Shown.{named};
+ghost use Rattle.vll_queue.specs.Shown.{IsNamed};
+ghost use Rattle.vll_sca.specs.Placing.{placing};
 
 use super::playing::{begins_free, closes, finishes, last_of};
 use super::procedures::opening;
@@ -14,7 +15,7 @@ use std::test::*;
 use vll_sca::Placing;
 
 fn closes_once_nothing_runs<N: Name, R: Wait + Abort>(rt: &R, opening: Opening<Placing>)
-    requires { opening ≡ named N.library N.records N.config N.clients }
+    requires { IsNamed placing N.library N.records N.config N.places N.clients opening }
 {
     let (engine, mut sessions) = opening.start::<N>();
     let mut session = last_of::<N>(rt, &mut sessions);

@@ -1,6 +1,7 @@
 // What a session is told of its calls.
 ghost use Rattle.std.specs.Prelude.{◌≡◌};
-ghost use Rattle.vll_queue.specs.Shown.{named};
+ghost use Rattle.vll_queue.specs.Shown.{IsNamed};
+ghost use Rattle.vll_sca.specs.Placing.{placing};
 
 use super::playing::{
     begins_blocked, begins_free, begins_refused, closes, finishes, is_given, last_of, output_of,
@@ -17,7 +18,7 @@ use vll_core::Ticket;
 use vll_sca::Placing;
 
 fn reply_comes<N: Name, R: Wait + Abort>(rt: &R, opening: Opening<Placing>)
-    requires { opening ≡ named N.library N.records N.config N.clients }
+    requires { IsNamed placing N.library N.records N.config N.places N.clients opening }
 {
     let (engine, mut sessions) = opening.start::<N>();
     let mut session = last_of::<N>(rt, &mut sessions);
@@ -41,7 +42,7 @@ fn reply_comes_when_the_call_is_finished(rt: HostRuntime) -> Result<(), Fail> {
 }
 
 fn refuses_by_cap_and_limit<N: Name, R: Wait + Abort>(rt: &R, opening: Opening<Placing>)
-    requires { opening ≡ named N.library N.records N.config N.clients }
+    requires { IsNamed placing N.library N.records N.config N.places N.clients opening }
 {
     let (engine, mut sessions) = opening.start::<N>();
     let mut session = last_of::<N>(rt, &mut sessions);

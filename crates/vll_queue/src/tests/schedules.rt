@@ -1,6 +1,7 @@
 // Blocked calls that run by the front, and by the contention analysis.
 ghost use Rattle.std.specs.Prelude.{◌≡◌};
-ghost use Rattle.vll_queue.specs.Shown.{named};
+ghost use Rattle.vll_queue.specs.Shown.{IsNamed};
+ghost use Rattle.vll_sca.specs.Placing.{placing};
 
 use super::playing::{
     begins_blocked, begins_free, closes, finishes, is_given, is_not_given, last_of,
@@ -15,7 +16,7 @@ use std::test::*;
 use vll_sca::Placing;
 
 fn runs_at_the_front<N: Name, R: Wait + Abort>(rt: &R, opening: Opening<Placing>)
-    requires { opening ≡ named N.library N.records N.config N.clients }
+    requires { IsNamed placing N.library N.records N.config N.places N.clients opening }
 {
     let (engine, mut sessions) = opening.start::<N>();
     let mut session = last_of::<N>(rt, &mut sessions);
@@ -38,7 +39,7 @@ fn blocked_bump_runs_at_the_front(rt: HostRuntime) -> Result<(), Fail> {
 
 // Ticket 0 keeps record 0. Ticket 1 is gone from record 1, which ticket 3 waits for behind ticket 2.
 fn runs_past_the_front<N: Name, R: Wait + Abort>(rt: &R, opening: Opening<Placing>)
-    requires { opening ≡ named N.library N.records N.config N.clients }
+    requires { IsNamed placing N.library N.records N.config N.places N.clients opening }
 {
     let (engine, mut sessions) = opening.start::<N>();
     let mut first = last_of::<N>(rt, &mut sessions);

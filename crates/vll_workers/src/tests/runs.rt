@@ -1,5 +1,6 @@
 ghost use Rattle.std.specs.Prelude.{◌≡◌, ◌<◌, All};
-ghost use Rattle.vll_queue.specs.Shown.{named};
+ghost use Rattle.vll_queue.specs.Shown.{IsNamed};
+ghost use Rattle.vll_sca.specs.Placing.{placing};
 
 use super::gates::{Meeting, Tally};
 use super::procedures::opening;
@@ -24,7 +25,7 @@ fn counts<N: Name + Send + Sync, R: Wait + Threads + Abort + Sync>(
     alloc: Global,
     opening: Opening<Placing>,
 ) -> Result<(), Fail>
-    requires { opening ≡ named N.library N.records N.config N.clients }
+    requires { IsNamed placing N.library N.records N.config N.places N.clients opening }
 {
     let (engine, sessions) = opening.start::<N>();
     let tokens = all_bumping::<N>(rt, alloc, engine.library(), sessions, 1, 1_000)?;
@@ -52,7 +53,7 @@ fn meet<N: Name + Send + Sync, R: Wait + Threads + Abort + Sync>(
     alloc: Global,
     opening: Opening<Placing>,
 ) -> Result<(), Fail>
-    requires { opening ≡ named N.library N.records N.config N.clients }
+    requires { IsNamed placing N.library N.records N.config N.places N.clients opening }
 {
     let (engine, sessions) = opening.start::<N>();
     let tokens = all_bumping::<N>(rt, alloc, engine.library(), sessions, 2, 1)?;
@@ -79,7 +80,7 @@ fn is_spent<N: Name + Send + Sync, R: Wait + Threads + Abort + Sync>(
     alloc: Global,
     opening: Opening<Placing>,
 ) -> Result<(), Fail>
-    requires { opening ≡ named N.library N.records N.config N.clients }
+    requires { IsNamed placing N.library N.records N.config N.places N.clients opening }
 {
     let (engine, sessions) = opening.start::<N>();
     let tokens = all_bumping::<N>(rt, alloc, engine.library(), sessions, 1, 2)?;
@@ -106,7 +107,7 @@ fn has_none<N: Name + Send + Sync, R: Wait + Threads + Abort + Sync>(
     alloc: Global,
     opening: Opening<Placing>,
 )
-    requires { opening ≡ named N.library N.records N.config N.clients }
+    requires { IsNamed placing N.library N.records N.config N.places N.clients opening }
 {
     let (engine, _) = opening.start::<N>();
     match run(rt, rt, alloc, &engine, Vec::new(alloc), 8, &OpenGate) {
@@ -192,7 +193,7 @@ fn leaves_a_kept_pass<N: Name + Send + Sync, R: Wait + Threads + Abort + Sync>(
     alloc: Global,
     opening: Opening<Placing>,
 ) -> Result<(), Fail>
-    requires { opening ≡ named N.library N.records N.config N.clients }
+    requires { IsNamed placing N.library N.records N.config N.places N.clients opening }
 {
     let (engine, mut sessions) = opening.start::<N>();
     let idle = last_of::<N>(rt, &mut sessions);

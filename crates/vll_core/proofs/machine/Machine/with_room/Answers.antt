@@ -1,15 +1,17 @@
-use Rattle.vll_core.proofs.machine.Machine.open.Given.{Over}
-use Rattle.std.proofs.Common.{rules, ap, ◌∙◌, refl, arith, ◌≡◌, ◌≤◌, length, None, vec_capacity, sym, subst, All}
+use Rattle.vll_core.proofs.Faults.{openable}
+use Rattle.vll_core.proofs.machine.Machine.with_room.Given.{Over}
+use Rattle.std.proofs.Common.{rules, ℕ, ap, ◌∙◌, refl, ◌≡◌, ◌≤◌, length, None, vec_capacity, sym, subst, All}
 use Rattle.vll_proc.specs.declared.call.Call.{Call}
 use Rattle.std.specs.Global.{Vec}
 use Rattle.vll_check.specs.Calls.{Fits}
 use Rattle.vll_check.specs.Catalog.{Catalog, IsCatalog}
 use Rattle.vll_core.specs.declared.machine.Machine.TheInside.{Inside}
+use Rattle.vll_core.specs.Faults.{open_fault}
 use Rattle.vll_core.specs.Queue.{empty}
 use Rattle.vll_core.specs.Shown.{AreFirstWords, begun}
 use Rattle.vll_core.proofs.Entries.{shown_queued}
-use Rattle.vll_core.proofs.Opening.{IsFresh, filled, shown_begun, core_begun}
-use Rattle.vll_core.proofs.machine.Machine.open.Goals as goal
+use Rattle.vll_core.proofs.Begun.{IsFresh, filled, shown_begun, core_begun}
+use Rattle.vll_core.proofs.machine.Machine.with_room.Goals as goal
 
 abbrev made : (g : Over) → goal.After-of g → Inside g.row.H.Denot
 made g c = record {
@@ -35,13 +37,12 @@ pub invariant_of-result : goal.invariant_of-result
 invariant_of-result g c =
     let words : AreFirstWords c.args.records.items c.in_ok-words.words.items = search rules in
     let room : c.args.config.limit ≤ vec_capacity c.in_ok-work.work = search rules in
-    let some : 1 ≤ length c.args.records.items = omega (arith, c.requires.records, c.records-count.ensures.records, c.if-count-lt1.false) in
-    let few : length c.args.records.items ≤ 65536 = omega (arith, c.requires.records, c.records-count.ensures.records, c.if-count-gt65536.false) in
+    let ok = openable (length c.args.records.items) c.args.config (ap (λ (n : ℕ). open_fault n c.args.config) (sym c.requires.records) ∙ c.requires.allowed) in
     let same : c.args.library.now ≡ c.of.result.value = sym c.of.ensures in
-    core_begun _ _ (made g c) (fresh g c) words some few (ap (λ (l : Catalog). l.records) c.of.ensures ∙ c.requires.records)
-    (subst IsCatalog same c.records-count.ensures.catalog) (shown_queued _ _ c.queue.invariant c.queue.view_is) (rw (queue_is g c) room)
+    core_begun _ _ (made g c) (fresh g c) words ok.records_are.some ok.records_are.few (ap (λ (l : Catalog). l.records) c.of.ensures ∙ c.requires.records)
+    (subst IsCatalog same c.requires.catalog) (shown_queued _ _ c.queue.invariant c.queue.view_is) (rw (queue_is g c) room)
     (subst (λ (l : Catalog). All (λ (v : Vec Call). All (Fits l) v.items) c.args.scripts.items) same c.requires.fits)
 
-pub returns-clause-opened : goal.returns-clause-opened
-returns-clause-opened g c =
+pub returns : goal.returns
+returns g c =
     shown_begun _ _ (made g c) (fresh g c) ∙ ap (λ (l : Catalog). begun l c.args.records.items c.args.scripts.items c.args.config c.args.hash) c.of.ensures
