@@ -1,12 +1,14 @@
 -- The tokens that a run is handed and those that come back have the same scripts, in the same order.
-use Rattle.std.proofs.Common.{◌≡◌, ℕ, zero, suc, ◌+◌, ◌-◌, ◌<◌, ◌≤◌, List, [], ◌∷◌, ◌++◌, map, length, reverse, Option, Some, None, refl, ap, ap₂, ◌∙◌, sym, arith, slice_get, slice_index, subst, append_assoc, zero-add, Result, Ok, Err, IfOk}
+use Rattle.std.proofs.Common.{◌≡◌, ℕ, zero, suc, ◌+◌, ◌-◌, ◌<◌, ◌≤◌, List, [], ◌∷◌, ◌++◌, map, length, reverse, Option, Some, None, refl, ap, ap₂, ◌∙◌, sym, arith, slice_get, slice_index, subst, append_assoc, zero-add, nat_eq, false, Result, Ok, Err, IfOk}
 use Rattle.std.specs.Global.{Vec}
-use Rattle.std.specs.List.{All}
+use Rattle.std.specs.List.{All, AllByRecursion, IsDistinct}
 use Rattle.std.specs.List.Sorted.{IsStrictlyIncreasing}
 use Rattle.std.specs.Option.{option_map}
+use Rattle.std.proofs.lemmas.Bool.Decides.{nat_tests}
 use Rattle.std.proofs.lemmas.List.{length-map, map-append, reverse-append}
 use Rattle.std.proofs.lemmas.List.Elements.{All-map}
 use Rattle.std.proofs.lemmas.List.Sorted.{length_permutation}
+use Rattle.std.proofs.lemmas.Map.Keys.{IsDistinct-cons, IsDistinct-from_apart}
 use Rattle.std.proofs.lemmas.Option.{get_or_from_slice_get, same_Some, slice_get-map, slice_get_past, slice_get_within}
 use Rattle.vll_proc.specs.declared.call.Call.{Call}
 use Rattle.vll_proc.specs.Serial.{Made}
@@ -171,6 +173,18 @@ are_fit library clients scripts count fits = all_from (λ (t : TokenShown). (t.c
         let at = tokens_at 0 (lists_of scripts) i t is in
         let within = slice_get_within (lists_of scripts) i t.script at.1 in
         (omega (arith, within, at.0, length-map scripts (λ (v : Vec Call). v.items)), all_at (All (Fits library)) (lists_of scripts) i t.script listed at.1)
+
+-- a client before the first is none of the scripts' tokens
+apart : (n client : ℕ) (scripts : List (List Call)) → n < client → AllByRecursion (λ m. nat_eq n m ≡ false) (clients_of (tokens_from client scripts))
+apart n client [] before = tt
+apart n client (script ∷ scripts) before = (grind (arith, nat_tests), apart n (suc client) scripts (omega (arith, before)))
+
+-- the scripts' tokens are of distinct clients
+pub are_distinct : (client : ℕ) (scripts : List (List Call)) → IsDistinct nat_eq (clients_of (tokens_from client scripts))
+are_distinct client [] = IsDistinct-from_apart nat_eq [] (λ i j d before within. let nothing : j < 0 = within in absurd (omega (arith, nothing)))
+are_distinct client (script ∷ scripts) =
+    let first : client < suc client = omega arith in
+    IsDistinct-cons nat_eq client (clients_of (tokens_from (suc client) scripts)) (apart client (suc client) scripts first) (are_distinct (suc client) scripts)
 
 -- a merge of the scripts that came back is one of those that were handed in
 pub merge_back : (scripts : List (List Call)) (handed back : List TokenShown) (calls : List Made) → handed ≡ tokens_from 0 scripts → AreBack handed back → IsMerge calls (scripts_of back) → IsMerge calls scripts

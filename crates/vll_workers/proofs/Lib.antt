@@ -1,3 +1,5 @@
 pub mod Owned
+pub mod Distinct
 pub mod Settled
 pub mod Fit
+mod Sessions

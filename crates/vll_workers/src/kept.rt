@@ -37,8 +37,7 @@ impl<C: Crew> Kept<C> {
         })
     }
 
-    // Keeps a token. There is room for all tokens of the run, so one that finds none stands twice: it is dropped,
-    // and the run misses it at its end.
+    // Keeps a token. There is room for every token of the run; one that found none would be missed at the run's end.
     pub(crate) fn keep(&mut self, token: Token)
         requires { IsOf C.tokens token }
     {

@@ -54,8 +54,8 @@ impl<C: Crew> Pool<C> {
         self.tokens.pop_front()
     }
 
-    // Puts a token back. The pool has room for all tokens of the run, so one that finds it full stands in it twice:
-    // it is dropped, and the run misses it at its end.
+    // Puts a token back. The pool has room for every token of the run; one that found none would be missed at the
+    // run's end.
     pub(crate) fn put(&mut self, token: Token)
         requires { IsOf C.tokens token }
     {

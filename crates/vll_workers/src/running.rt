@@ -1,5 +1,6 @@
-ghost use Rattle.std.specs.Prelude.{◌≡◌, ◌≤◌, All, IfOk, IfErr, length};
-ghost use Rattle.vll_workers.specs.Tokens.{AreFit, AreBack, IsThrough};
+ghost use Rattle.std.specs.Prelude.{◌≡◌, ◌≤◌, All, IfOk, IfErr, length, nat_eq};
+ghost use Rattle.std.specs.List.{IsDistinct};
+ghost use Rattle.vll_workers.specs.Tokens.{AreFit, AreBack, IsThrough, clients_of};
 ghost use Rattle.vll_workers.specs.declared.fault.RunFault.TheVariants as RunFault;
 
 use crate::fault::{RunError, RunFault};
@@ -17,8 +18,9 @@ mod settle;
 mod start;
 
 /// Enters every call of the tokens' scripts in the engine, each script in its order, and brings them to their
-/// replies, by so many worker threads, 1 to 64. It waits until they have ended. Calls that were in the engine before
-/// and wait are brought on too; one whose pass is kept elsewhere is left, with those that wait for it.
+/// replies, by so many worker threads, 1 to 64. The tokens are of distinct clients of this engine. It waits until the
+/// workers have ended. Calls that were in the engine before and wait are brought on too; one whose pass is kept
+/// elsewhere is left, with those that wait for it.
 ///
 /// The tokens come back in rising order of their clients, each with `next` the length of its script. The memory that
 /// is needed is taken before the first thread is started. Where some threads cannot be started the others do the
@@ -26,8 +28,8 @@ mod start;
 ///
 /// `NoMemory` and `Spawn`, where no thread could be started, hand the tokens back as they came: no call has entered.
 /// `Spent` is answered after all has ended where the engine took no more calls, and hands all tokens back in rising
-/// order. `Lost`, with the tokens that were found, is answered before it, where a pass was lost or the tokens are not
-/// those that came: two of one client are lost.
+/// order. `Lost`, with the tokens that were found, is answered before it, if a pass was lost or a client's token is
+/// missing at the end.
 pub fn run<
     N: Name + Send + Sync,
     H: Place + Send + Sync + Drop,
@@ -45,6 +47,7 @@ pub fn run<
 ) -> Result<Vec<Token>, RunError>
     requires workers { (1 ≤ workers) × (workers ≤ 64) }
     requires fit { AreFit N.library N.clients tokens.items }
+    requires distinct { IsDistinct nat_eq (clients_of tokens.items) }
     ensures ok { IfOk result (λ back. AreBack tokens.items back.items × All IsThrough back.items) }
     ensures no_memory { IfErr result (λ e. e.fault ≡ RunFault.NoMemory → e.tokens ≡ tokens) }
     ensures spawn { IfErr result (λ e. e.fault ≡ RunFault.Spawn → e.tokens ≡ tokens) }

@@ -1,4 +1,4 @@
-ghost use Rattle.std.specs.Prelude.{◌≡◌, ◌<◌, ◌==◌, ◌^◌, All, IfSome, IfNone, Some, length, slice_get};
+ghost use Rattle.std.specs.Prelude.{◌≡◌, ◌<◌, ◌≤◌, ◌==◌, ◌^◌, All, IfSome, IfNone, Some, length, slice_get};
 ghost use Rattle.vll_check.specs.Calls.{Fits};
 ghost use Rattle.vll_workers.specs.Shown.{token};
 ghost use Rattle.vll_workers.specs.Begin.{begun_token};
@@ -54,16 +54,18 @@ impl Token {
         self.client
     }
 
-    /// The client's calls, in order.
+    /// The client's calls, in order: fewer than 2^32.
     pub fn script(&self) -> &[Call]
-        ensures { result.now ≡ self.now.script }
+        ensures calls { result.now ≡ self.now.script }
+        ensures few { length self.now.script < 2 ^ 32 }
     {
         self.script.as_slice()
     }
 
-    /// How many calls of the script have entered, which is the index of the next one.
+    /// How many calls of the script have entered, which is the index of the next one: at most as many as there are.
     pub fn next(&self) -> u32
-        ensures { result ≡ self.now.next }
+        ensures count { result ≡ self.now.next }
+        ensures within { self.now.next ≤ length self.now.script }
     {
         self.next
     }

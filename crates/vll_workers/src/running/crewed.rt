@@ -1,4 +1,6 @@
-ghost use Rattle.std.specs.Prelude.{◌≡◌, ◌≤◌, All, IfOk, IfErr, IsPermutation};
+ghost use Rattle.std.specs.Prelude.{◌≡◌, ◌≤◌, All, IfOk, IfErr, IsPermutation, nat_eq};
+ghost use Rattle.std.specs.List.{IsDistinct};
+ghost use Rattle.std.specs.List.Sorted.{IsStrictlyIncreasing};
 ghost use Rattle.vll_workers.specs.Tokens.{AreFit, AreBack, IsOf, IsThrough, clients_of};
 ghost use Rattle.vll_workers.specs.declared.fault.RunFault.TheVariants as RunFault;
 
@@ -45,6 +47,7 @@ pub(super) fn run_crew<
 ) -> Result<Vec<Token>, RunError>
     requires crew { C.tokens ≡ tokens.items }
     requires fit { AreFit N.library N.clients tokens.items }
+    requires distinct { IsDistinct nat_eq (clients_of tokens.items) }
     ensures ok { IfOk result (λ back. AreBack tokens.items back.items × All IsThrough back.items) }
     ensures no_memory { IfErr result (λ e. e.fault ≡ RunFault.NoMemory → e.tokens ≡ tokens) }
     ensures spawn { IfErr result (λ e. e.fault ≡ RunFault.Spawn → e.tokens ≡ tokens) }
@@ -76,7 +79,9 @@ pub(super) fn run_crew<
 
 // The room for the run of these tokens by so many workers.
 fn room_for<C: Crew>(alloc: Global, tokens: &[Token], workers: u32) -> Result<Room<C>, AllocError>
-    ensures { IfOk result (λ r. IsPermutation (clients_of tokens.now) r.clients.items) }
+    requires { IsDistinct nat_eq (clients_of tokens.now) }
+    ensures same { IfOk result (λ r. IsPermutation (clients_of tokens.now) r.clients.items) }
+    ensures rising { IfOk result (λ r. IsStrictlyIncreasing r.clients.items) }
 {
     let mut rooms = Vec::with_capacity(alloc, workers as usize)?;
     for _ in 0..workers {
@@ -91,7 +96,9 @@ fn room_for<C: Crew>(alloc: Global, tokens: &[Token], workers: u32) -> Result<Ro
 
 // The tokens' clients, in rising order.
 fn clients_in_order(alloc: Global, tokens: &[Token]) -> Result<Vec<u32>, AllocError>
-    ensures { IfOk result (λ c. IsPermutation (clients_of tokens.now) c.items) }
+    requires { IsDistinct nat_eq (clients_of tokens.now) }
+    ensures same { IfOk result (λ c. IsPermutation (clients_of tokens.now) c.items) }
+    ensures rising { IfOk result (λ c. IsStrictlyIncreasing c.items) }
 {
     let mut clients = Vec::with_capacity(alloc, tokens.len())?;
     for token in tokens {

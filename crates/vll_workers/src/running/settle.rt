@@ -10,7 +10,8 @@ use crate::token::Token;
 
 // What came of a run whose tokens have these clients, in rising order.
 pub(super) fn settle<C: Crew>(kept: Kept<C>, clients: &[u32]) -> Result<Vec<Token>, RunError>
-    requires { IsPermutation (clients_of C.tokens) clients.now }
+    requires same { IsPermutation (clients_of C.tokens) clients.now }
+    requires rising { IsStrictlyIncreasing clients.now }
     ensures ok { IfOk result (λ back. AreBack C.tokens back.items × All IsThrough back.items) }
     ensures spent { IfErr result (λ e. e.fault ≡ RunFault.Spent → AreBack C.tokens e.tokens.items × (¬
         All IsThrough e.tokens.items)) }
@@ -18,7 +19,7 @@ pub(super) fn settle<C: Crew>(kept: Kept<C>, clients: &[u32]) -> Result<Vec<Toke
 {
     let (mut tokens, lost) = kept.into_parts();
     tokens.sort_unstable_by_key(|token| token.client());
-    if lost || !are_each_once(tokens.as_slice(), clients) {
+    if lost || !are_of(tokens.as_slice(), clients) {
         return Err(RunError {
             fault: RunFault::Lost,
             tokens,
@@ -33,19 +34,15 @@ pub(super) fn settle<C: Crew>(kept: Kept<C>, clients: &[u32]) -> Result<Vec<Toke
     Ok(tokens)
 }
 
-// Whether these tokens are of these clients, one of each, in rising order.
-fn are_each_once(tokens: &[Token], clients: &[u32]) -> bool
-    ensures clients { IsTrue result → clients_of tokens.now ≡ clients.now }
-    ensures rising { IsTrue result → IsStrictlyIncreasing clients.now }
+// Whether these tokens are of these clients, in the same order.
+fn are_of(tokens: &[Token], clients: &[u32]) -> bool
+    ensures { IsTrue result → clients_of tokens.now ≡ clients.now }
 {
     if tokens.len() != clients.len() {
         return false;
     }
-    for i in 0..tokens.len() {
-        if tokens[i].client() != clients[i] {
-            return false;
-        }
-        if i > 0 && clients[i - 1] >= clients[i] {
+    for (i, token) in tokens.iter().enumerate() {
+        if token.client() != clients[i] {
             return false;
         }
     }

@@ -4,7 +4,7 @@ ghost use Rattle.vll_sca.specs.Placing.{placing};
 
 use super::gates::{Meeting, Tally};
 use super::procedures::opening;
-use super::tokens::{all_bumping, are_home, bump_of, bumping, closes};
+use super::tokens::{all_bumping, are_home, bump_of, bumping, closes, output_of};
 use crate::fault::{RunError, RunFault};
 use crate::gate::OpenGate;
 use crate::running::run;
@@ -101,6 +101,43 @@ fn spent_hands_the_token_back(rt: HostRuntime) -> Result<(), Fail> {
     is_spent::<Brand, HostRuntime>(&rt, rt.alloc(), opening)
 }
 
+// Two clients of two calls each: as many enter as the limit allows, and the run is spent only if that leaves some.
+fn enters_up_to_the_limit<N: Name + Send + Sync, R: Wait + Threads + Abort + Sync>(
+    rt: &R,
+    alloc: Global,
+    opening: Opening<Placing>,
+    entered: usize,
+) -> Result<(), Fail>
+    requires { opening ≡ named N.library N.records N.config N.clients }
+{
+    let (engine, sessions) = opening.start::<N>();
+    let tokens = all_bumping::<N>(rt, alloc, engine.library(), sessions, 2, 2)?;
+    let fault = match run(rt, rt, alloc, &engine, tokens, 2, &OpenGate) {
+        Ok(_) => None,
+        Err(RunError { fault, .. }) => Some(fault),
+    };
+    let expected = if entered < 4 {
+        Some(RunFault::Spent)
+    } else {
+        None
+    };
+    assert_eq!(rt; fault, expected);
+    match engine.close(Vec::new(alloc)) {
+        Ok(closed) => assert_eq!(rt; closed.journal.len(), entered),
+        Err(_) => panic!(rt; "calls are left"),
+    }
+    Ok(())
+}
+
+#[test]
+fn run_is_spent_only_at_the_limit(rt: HostRuntime) -> Result<(), Fail> {
+    for (limit, entered) in [(1, 1), (3, 3), (4, 4), (5, 4), (65_536, 4)] {
+        let opening = opening(rt.alloc(), 2, limit, 2)?;
+        enters_up_to_the_limit::<Brand, HostRuntime>(&rt, rt.alloc(), opening, entered)?;
+    }
+    Ok(())
+}
+
 // Without tokens there is nothing to do, and no thread is started.
 fn has_none<N: Name + Send + Sync, R: Wait + Threads + Abort + Sync>(
     rt: &R,
@@ -110,7 +147,8 @@ fn has_none<N: Name + Send + Sync, R: Wait + Threads + Abort + Sync>(
     requires { IsNamed placing N.library N.records N.config N.places N.clients opening }
 {
     let (engine, _) = opening.start::<N>();
-    match run(rt, rt, alloc, &engine, Vec::new(alloc), 8, &OpenGate) {
+    let tokens = Vec::new(alloc);
+    match run(rt, rt, alloc, &engine, tokens, 8, &OpenGate) {
         Ok(tokens) => assert!(rt; tokens.is_empty()),
         Err(_) => panic!(rt; "the run has a fault"),
     }
@@ -142,12 +180,13 @@ fn begins<N: Name, R: Wait + Abort>(
     }
 }
 
-// The bump of a record begins blocked.
+// The bump of a record begins blocked, under this ticket.
 fn waits<N: Name, R: Wait + Abort>(
     rt: &R,
     engine: &Engine<N, Placing>,
     session: &mut Session,
     record: u64,
+    ticket: Ticket,
 )
     requires { session.old.client < N.clients }
     ensures { session.new ≡ session.old }
@@ -158,7 +197,7 @@ fn waits<N: Name, R: Wait + Abort>(
             ends(rt, engine, pass);
             panic!(rt; "the call is free")
         }
-        Begun::Blocked(_) => {}
+        Begun::Blocked(blocked) => assert_eq!(rt; blocked, ticket),
         Begun::Refused(_) => panic!(rt; "the call is refused"),
     }
 }
@@ -187,7 +226,7 @@ fn last_of<N: Name>(rt: &impl Abort, sessions: &mut Vec<Session>) -> Session
 }
 
 // The front runs and stays so, and behind it waits a call that only the scan finds: the run brings that one to its
-// reply, and leaves the pass that is kept.
+// reply, which is the second bump's, and leaves the pass that is kept.
 fn leaves_a_kept_pass<N: Name + Send + Sync, R: Wait + Threads + Abort + Sync>(
     rt: &R,
     alloc: Global,
@@ -201,12 +240,12 @@ fn leaves_a_kept_pass<N: Name + Send + Sync, R: Wait + Threads + Abort + Sync>(
     let mut first = last_of::<N>(rt, &mut sessions);
     let kept = begins(rt, &engine, &mut first, 0);
     let other = begins(rt, &engine, &mut second, 1);
-    waits(rt, &engine, &mut second, 1);
+    waits(rt, &engine, &mut second, 1, Ticket(2));
     ends(rt, &engine, other);
     let ran = runs_the_waiting_call(rt, alloc, &engine, idle);
-    let found = engine.reply(rt, &mut second, Ticket(2));
+    let reply = engine.reply(rt, &mut second, Ticket(2));
     ends(rt, &engine, kept);
-    assert!(rt; found.is_some());
+    assert_eq!(rt; output_of(&reply), Some(2));
     closes(rt, alloc, engine, &[1, 2], &[1, 1, 2]);
     ran
 }

@@ -1,14 +1,15 @@
 // Tokens over bump, and what comes of them.
-ghost use Rattle.std.specs.Prelude.{◌≡◌, ◌<◌, ◌^◌, All, IfOk, length};
+ghost use Rattle.std.specs.Prelude.{◌≡◌, ◌<◌, ◌^◌, All, IfOk, length, nat_eq};
+ghost use Rattle.std.specs.List.{IsDistinct};
 ghost use Rattle.vll_check.specs.Calls.{Fits};
-ghost use Rattle.vll_workers.specs.Tokens.{AreFit};
+ghost use Rattle.vll_queue.specs.Opened.{sessions_of};
+ghost use Rattle.vll_workers.specs.Tokens.{AreFit, clients_of};
 
 use crate::token::Token;
 use std::alloc::Global;
 use std::process::Abort;
 use std::test::*;
 use vll_check::Library;
-use vll_core::Line;
 use vll_proc::{Call, Reply};
 use vll_queue::{Engine, Name, Session};
 use vll_sca::Placing;
@@ -52,7 +53,8 @@ pub(super) fn bumping<N: Name>(
 ) -> Result<Token, Fail>
     requires library { library.now ≡ N.library }
     requires client { session.client < N.clients }
-    ensures { IfOk result (λ t. (t.client < N.clients) × All (Fits N.library) t.script) }
+    ensures fit { IfOk result (λ t. (t.client < N.clients) × All (Fits N.library) t.script) }
+    ensures client { IfOk result (λ t. t.client ≡ session.client) }
 {
     let script = script(rt, alloc, library, record, times)?;
     Ok(Token::new(session.client(), session, script))
@@ -68,9 +70,10 @@ pub(super) fn all_bumping<N: Name>(
     times: u32,
 ) -> Result<Vec<Token>, Fail>
     requires library { library.now ≡ N.library }
-    requires clients { All (λ s. s.client < N.clients) sessions.items }
+    requires sessions { sessions.items ≡ sessions_of N.clients }
     requires records { 0 < records }
-    ensures { IfOk result (λ t. AreFit N.library N.clients t.items) }
+    ensures fit { IfOk result (λ t. AreFit N.library N.clients t.items) }
+    ensures distinct { IfOk result (λ t. IsDistinct nat_eq (clients_of t.items)) }
 {
     let mut sessions = sessions;
     let mut tokens = Vec::new(alloc);
@@ -91,8 +94,8 @@ pub(super) fn are_home(rt: &impl Abort, tokens: &[Token], clients: usize, next: 
 }
 
 // The output of a committed call that has one.
-pub(super) fn output_of(line: &Line) -> Option<u64> {
-    match &line.reply {
+pub(super) fn output_of(reply: &Option<Reply>) -> Option<u64> {
+    match reply {
         Some(Reply::Committed(outputs)) if outputs.len() == 1 => outputs.get(0),
         _ => None,
     }
@@ -114,7 +117,7 @@ pub(super) fn closes<N: Name>(
             }
             assert_eq!(rt; closed.journal.len(), outputs.len());
             for (line, output) in closed.journal.as_slice().iter().zip(outputs) {
-                assert_eq!(rt; output_of(line), Some(*output));
+                assert_eq!(rt; output_of(&line.reply), Some(*output));
             }
         }
         Err(_) => panic!(rt; "calls are left"),

@@ -32,7 +32,7 @@ returns-in_default-get c left =
     let token = c.in-Some.token.now in
     let lines = lines-next journal i line c.loop-line-test.true c.line-item.is in
     let there = slice_get_read tokens (length tokens) line.client token refl c.in-Some.ensures.lookup.3.0 c.in-Some.ensures.lookup.1 in
-    let script : script_at (scripts_of tokens) line.client ≡ c.script.result.now = script_at-there tokens line.client token there ∙ sym c.script.ensures in
+    let script : script_at (scripts_of tokens) line.client ≡ c.script.result.now = script_at-there tokens line.client token there ∙ sym c.script.ensures.calls in
     let none = slice_get_past c.script.result.now (slice_index next line.client) c.in_default-get.ensures.lookup.3 in
     not_left (scripts_of tokens) next line.client line.call (calls_in (drop (i + 1) journal))
     (λ is. let both = sym is ∙ ap (λ (cs : List Call). slice_get cs (slice_index next line.client)) script ∙ none in cc both)
@@ -50,7 +50,7 @@ returns-then-not-is_same_call c left =
     let call = c.in-Some-get.call.now in
     let lines = lines-next journal i line c.loop-line-test.true c.line-item.is in
     let there = slice_get_read tokens (length tokens) line.client token refl c.in-Some.ensures.lookup.3.0 c.in-Some.ensures.lookup.1 in
-    let script : script_at (scripts_of tokens) line.client ≡ c.script.result.now = script_at-there tokens line.client token there ∙ sym c.script.ensures in
+    let script : script_at (scripts_of tokens) line.client ≡ c.script.result.now = script_at-there tokens line.client token there ∙ sym c.script.ensures.calls in
     let found = slice_get_read c.script.result.now (length c.script.result.now) (slice_index next line.client) call refl c.in-Some-get.ensures.lookup.3.0 c.in-Some-get.ensures.lookup.1 in
     not_left (scripts_of tokens) next line.client line.call (calls_in (drop (i + 1) journal))
     (λ is. let same = same_Some call line.call (sym found ∙ sym (ap (λ (cs : List Call). slice_get cs (slice_index next line.client)) script) ∙ is) in let no = c.if-not-is_same_call.ensures.1 same in cc no)
@@ -68,7 +68,7 @@ loop-line-preserved c =
     let more = calls_in (drop (i + 1) journal) in
     let lines = lines-next journal i line c.loop-line-test.true c.line-item.is in
     let there = slice_get_read tokens (length tokens) line.client token refl c.in-Some.ensures.lookup.3.0 c.in-Some.ensures.lookup.1 in
-    let script : script_at (scripts_of tokens) line.client ≡ c.script.result.now = script_at-there tokens line.client token there ∙ sym c.script.ensures in
+    let script : script_at (scripts_of tokens) line.client ≡ c.script.result.now = script_at-there tokens line.client token there ∙ sym c.script.ensures.calls in
     let found = slice_get_read c.script.result.now (length c.script.result.now) (slice_index next line.client) call refl c.in-Some-get.ensures.lookup.3.0 c.in-Some-get.ensures.lookup.1 in
     let same : call ≡ line.call = c.if-not-is_same_call.ensures.0 refl in
     let is_next : IsNext (scripts_of tokens) next line.client line.call = record {

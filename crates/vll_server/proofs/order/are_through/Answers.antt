@@ -10,7 +10,7 @@ returns-then-next-client c =
     let i = c.loop-client.client in
     let token = c.index-tokens-client.result in
     let is = slice_get_read tokens (length tokens) i token refl (omega arith) c.index-tokens-client.is in
-    (λ no. absurd (cc no), λ left. let end = at_end tokens c.args.next.now i token is left in absurd (omega (arith, end, ap length c.script.ensures)))
+    (λ no. absurd (cc no), λ left. let end = at_end tokens c.args.next.now i token is left in absurd (omega (arith, end, ap length c.script.ensures.calls)))
 
 pub loop-client-preserved : goal.loop-client-preserved
 loop-client-preserved c =
@@ -20,7 +20,7 @@ loop-client-preserved c =
     let token = c.index-tokens-client.result in
     let is = slice_get_read tokens (length tokens) i token refl (omega arith) c.index-tokens-client.is in
     let here : (t : TokenShown) → slice_get tokens i ≡ Some t → length t.script ≤ slice_index next i =
-    λ t at. let same = ap (λ (u : TokenShown). length u.script) (same_Some token t (sym is ∙ at)) in omega (arith, same, ap length c.script.ensures) in
+    λ t at. let same = ap (λ (u : TokenShown). length u.script) (same_Some token t (sym is ∙ at)) in omega (arith, same, ap length c.script.ensures.calls) in
     let all = below_more (λ k. (t : TokenShown) → slice_get tokens k ≡ Some t → length t.script ≤ slice_index next k) i (λ k below t at. c.loop-client.invariant k t below at) here in
     λ k t below at. all k below t at
 

@@ -1,12 +1,13 @@
-use Rattle.std.proofs.Common.{◌≡◌, ◌∙◌, ℕ, List, IfOk, sym, subst, length}
+use Rattle.std.proofs.Common.{◌≡◌, ◌∙◌, ℕ, List, IfOk, sym, subst, length, nat_eq}
+use Rattle.std.specs.List.{IsDistinct}
 use Rattle.vll_queue.specs.declared.closed.Closed.{Closed}
 use Rattle.vll_queue.specs.Closed.{calls_in}
 use Rattle.vll_workers.specs.Shown.{TokenShown}
-use Rattle.vll_workers.specs.Tokens.{AreFit}
+use Rattle.vll_workers.specs.Tokens.{AreFit, clients_of}
 use Rattle.vll_server.specs.Kept.{lists_of}
 use Rattle.vll_server.specs.Merge.{IsMerge}
 use Rattle.vll_server.specs.Serve.{scripts_of}
-use Rattle.vll_server.proofs.Handed.{are_fit, left_back}
+use Rattle.vll_server.proofs.Handed.{are_distinct, are_fit, left_back}
 use Rattle.vll_server.proofs.serving.run_named.Goals as goal
 
 -- the tokens are the scripts', whose calls the library makes
@@ -14,6 +15,12 @@ pub run-requires-clause-fit : goal.run-requires-clause-fit
 run-requires-clause-fit g c κs within =
     subst (λ (ts : List TokenShown). AreFit g.N.Name.library g.N.Name.clients ts) (sym c.in_ok-tokens.ensures)
     (are_fit g.N.Name.library g.N.Name.clients c.args.scripts.items c.requires.clients c.requires.fits)
+
+-- they are of distinct clients
+pub run-requires-clause-distinct : goal.run-requires-clause-distinct
+run-requires-clause-distinct g c κs within =
+    subst (λ (ts : List TokenShown). IsDistinct nat_eq (clients_of ts)) (sym c.in_ok-tokens.ensures)
+    (are_distinct 0 (lists_of c.args.scripts.items))
 
 -- the tokens that came back have the scripts
 pub returns-in-Ok-close-clause-merge : goal.returns-in-Ok-close-clause-merge

@@ -8,7 +8,7 @@ use Rattle.vll_workers.proofs.running.settle.are_through.Goals as goal
 pub loop-token-preserved : goal.loop-token-preserved
 loop-token-preserved c =
     let token = c.token-item.result in
-    let through : IsThrough token = sym c.next.ensures ∙ c.if-next-script.false ∙ ap length c.script.ensures in
+    let through : IsThrough token = sym c.next.ensures.count ∙ c.if-next-script.false ∙ ap length c.script.ensures.calls in
     All-more IsThrough c.args.tokens.now c.loop-token.token-index token c.loop-token-test.true c.loop-token.invariant
     (subst IsThrough c.token-item.is through)
 

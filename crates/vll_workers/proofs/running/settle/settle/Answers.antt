@@ -8,14 +8,14 @@ pub returns-then-not-are_through-clause-spent : goal.returns-then-not-are_throug
 returns-then-not-are_through-clause-spent g c _ =
     let back : AreBack g.C.Crew.tokens c.sort_unstable_by_key.new.self.items =
     are_back g.C.Crew.tokens _ c.sort_unstable_by_key.new.self.items c.as_slice.result.now c.args.clients.now
-    c.requires c.into_parts-tokens.ensures c.sort_unstable_by_key.ensures.permutation c.as_slice.ensures.value
-    (c.are_each_once.ensures.clients c.if-not-are_each_once.false) (c.are_each_once.ensures.rising c.if-not-are_each_once.false) in
+    c.requires.same c.into_parts-tokens.ensures c.sort_unstable_by_key.ensures.permutation c.as_slice.ensures.value
+    (c.are_of.ensures c.if-not-are_of.false) c.requires.rising in
     (back, λ all. c.if-not-are_through.ensures (subst (All IsThrough) (sym c.as_slice-2.ensures.value) all))
 
 pub returns-clause-ok : goal.returns-clause-ok
 returns-clause-ok g c =
     let back : AreBack g.C.Crew.tokens c.sort_unstable_by_key.new.self.items =
     are_back g.C.Crew.tokens _ c.sort_unstable_by_key.new.self.items c.as_slice.result.now c.args.clients.now
-    c.requires c.into_parts-tokens.ensures c.sort_unstable_by_key.ensures.permutation c.as_slice.ensures.value
-    (c.are_each_once.ensures.clients c.if-not-are_each_once.false) (c.are_each_once.ensures.rising c.if-not-are_each_once.false) in
+    c.requires.same c.into_parts-tokens.ensures c.sort_unstable_by_key.ensures.permutation c.as_slice.ensures.value
+    (c.are_of.ensures c.if-not-are_of.false) c.requires.rising in
     (back, subst (All IsThrough) c.as_slice-2.ensures.value c.if-not-are_through.ensures)

@@ -1,11 +1,17 @@
-use Rattle.std.proofs.Common.{◌<◌, All, vec_len}
-use Rattle.vll_workers.specs.Tokens.{AreFit}
+-- The sessions that are left are of the first clients, and the tokens that are made of the others.
+use Rattle.std.proofs.Common.{◌≡◌, ◌≤◌, All, length, nat_eq, vec_len}
+use Rattle.std.specs.List.{IsDistinct}
+use Rattle.vll_queue.specs.Opened.{sessions_of}
+use Rattle.vll_workers.specs.Tokens.{AreFit, clients_of}
 use Rattle.vll_workers.proofs.tests.tokens.all_bumping.Given as goal
 
 abbrev pub invariant-loop-session : goal.invariant-loop-session
 invariant-loop-session g l = record {
-  clients : All (λ s. s.client < g.N.Name.clients) l.sessions.items;
+  sessions : l.sessions.items ≡ sessions_of (length l.sessions.items);
+  within : length l.sessions.items ≤ g.N.Name.clients;
+  above : All (λ t. length l.sessions.items ≤ t.client) l.tokens.items;
   fit : AreFit g.N.Name.library g.N.Name.clients l.tokens.items;
+  distinct : IsDistinct nat_eq (clients_of l.tokens.items);
 }
 
 abbrev pub decreases-loop-session : goal.decreases-loop-session
