@@ -65,9 +65,9 @@ pub enum ScenarioFault {
         index: u32,
         fault: CallFault,
     },
-    /// More than 16,777,216 bytes; no record or more than 65,536; more than 1,048,576 procedures, 1,024
-    /// clients, 65,536 calls in all scripts or 1,048,576 events; a limit or a cap that is not 1 to 65,536, or a
-    /// number of bits that is not 1 to 1,048,576.
+    /// More than `MOST_BYTES` bytes, `MOST_PROCS` procedures, `MOST_CLIENTS` clients, `MOST_EVENTS` events, or
+    /// `MOST_CALLS` calls in all scripts; or records, a limit, a cap or bits with which no machine can be opened, as
+    /// `open_fault` of `vll_core` says.
     #[error("size")]
     Size,
     #[error("no memory")]

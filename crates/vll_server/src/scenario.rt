@@ -6,9 +6,9 @@ ghost use Rattle.vll_server.specs.Setup.{IsSetup, catalog_of};
 use sqlite_items::Items;
 use std::marker::Model;
 use vll_check::Library;
-use vll_core::{Config, Event};
+use vll_core::{Config, Event, MOST_WAITING};
 use vll_proc::Call;
-use vll_sca::Placing;
+use vll_sca::{MOST_BITS, Placing};
 
 /// A scenario: the records' first values, the procedures, each client's script of calls, what is chosen for
 /// the machine, and the events that a replay takes.
@@ -91,22 +91,22 @@ impl Scenario {
         }
     }
 
-    /// The scenario with this cap, which is how many calls may wait at a time, 1 to 65,536, in place of its own.
+    /// The scenario with this cap, which is how many calls may wait at a time, 1 to `MOST_WAITING` of `vll_core`, in place of its own.
     /// All else stays as it was.
     pub fn with_cap(mut self, cap: u32) -> Scenario
         requires least { 1 ≤ cap }
-        requires most { cap ≤ 65536 }
+        requires most { cap ≤ MOST_WAITING }
         ensures { result ≡ record self { config = record self.config { cap = cap } } }
     {
         self.config.cap = cap;
         self
     }
 
-    /// The scenario with this many places for the contention analysis, 1 to 1,048,576, in place of its own.
+    /// The scenario with this many places for the contention analysis, 1 to `MOST_BITS` of `vll_sca`, in place of its own.
     /// All else stays as it was.
     pub fn with_bits(mut self, bits: u32) -> Scenario
         requires least { 1 ≤ bits }
-        requires most { bits ≤ 1048576 }
+        requires most { bits ≤ MOST_BITS }
         ensures { result ≡ record self { config = record self.config { bits = bits } } }
     {
         self.config.bits = bits;

@@ -23,7 +23,7 @@ use std::alloc::{AllocError, Global};
 use std::marker::Brand;
 use std::sync::Wait;
 use std::thread::Threads;
-use vll_core::{Config, OpenFault};
+use vll_core::{Config, MOST_CALLS, OpenFault};
 use vll_proc::Call;
 use vll_queue::{Closed, Name, NotClosed, Opening};
 use vll_sca::Placing;
@@ -126,7 +126,7 @@ fn opening_of(
 
 // How many calls all scripts have together.
 fn number_of_calls(scripts: &[Vec<Call>]) -> u32
-    requires { sum_by length (lists_of scripts.now) ≤ 65536 }
+    requires { sum_by length (lists_of scripts.now) ≤ MOST_CALLS }
     ensures { result ≡ sum_by length (lists_of scripts.now) }
 {
     let mut count = 0;

@@ -5,12 +5,13 @@ use Rattle.std.specs.List.{All}
 use Rattle.vll_proc.specs.declared.call.Call.{Call}
 use Rattle.vll_check.specs.Calls.{Fits}
 use Rattle.vll_check.specs.Catalog.{Catalog}
+use Rattle.vll_core.specs.declared.config.TheConstants.{MOST_CALLS}
 use Rattle.vll_server.proofs.Bounds.{scripts_short}
 use Rattle.vll_server.proofs.serving.opening_of.Goals as goal
 
 pub returns-in-Ok-clause-short : goal.returns-in-Ok-clause-short
 returns-in-Ok-clause-short c =
-    let few = subst (λ (scripts : List (List Call)). sum_by length scripts ≤ 65536) (sym c.into_parts-records.ensures.scripts) c.into_parts-records.ensures.kept.sizes.few_calls in
+    let few = subst (λ (scripts : List (List Call)). sum_by length scripts ≤ MOST_CALLS) (sym c.into_parts-records.ensures.scripts) c.into_parts-records.ensures.kept.sizes.few_calls in
     scripts_short c.into_parts-records.result.scripts.items few
 
 -- the library is that of the scenario
