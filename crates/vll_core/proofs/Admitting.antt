@@ -32,8 +32,8 @@ use Rattle.vll_core.proofs.Places.{all_at, at_push}
 use Rattle.vll_core.proofs.AtWork.{procedure_fits}
 use Rattle.vll_core.proofs.Reached.{turn_has_room}
 use Rattle.vll_core.proofs.SerialRun.{length_before}
-use Rattle.vll_core.proofs.CoreState.{length_shown, waiting_shown, entry_pushed, all_from, at_work_pushed, replied_pushed, queued_admitted}
-use Rattle.vll_core.proofs.CoreSteps.{library_same, Takes, taken_reached, taken_words}
+use Rattle.vll_core.proofs.MachineState.{length_shown, waiting_shown, entry_pushed, all_from, at_work_pushed, replied_pushed, queued_admitted}
+use Rattle.vll_core.proofs.MachineSteps.{library_same, Takes, taken_reached, taken_words}
 
 -- ---- the plain machine
 

@@ -28,7 +28,7 @@ use Rattle.vll_core.proofs.Counters.{counters_within}
 use Rattle.vll_core.proofs.Deltas.{counter_request}
 use Rattle.vll_core.proofs.Places.{all_at}
 use Rattle.vll_core.proofs.Values.{others_stay}
-use Rattle.vll_core.proofs.CorePairs.{pair_word_within, word_read, words_set_pair}
+use Rattle.vll_core.proofs.WordChanges.{pair_word_within, word_read, words_set_pair}
 
 -- ---- the plain machine
 

@@ -22,9 +22,9 @@ use Rattle.vll_core.specs.MachineKept.{IsMachine}
 use Rattle.vll_core.proofs.Tests.{le_no}
 use Rattle.vll_core.proofs.Places.{all_at}
 use Rattle.vll_core.proofs.Fitted.{proper_fits}
-use Rattle.vll_core.proofs.CoreWords.{words_stay}
-use Rattle.vll_core.proofs.CoreState.{length_shown, counted_shown, waiting_shown}
-use Rattle.vll_core.proofs.CoreSteps.{Refuses, Takes, taken_reached, taken_words}
+use Rattle.vll_core.proofs.WordsKept.{words_stay}
+use Rattle.vll_core.proofs.MachineState.{length_shown, counted_shown, waiting_shown}
+use Rattle.vll_core.proofs.MachineSteps.{Refuses, Takes, taken_reached, taken_words}
 
 -- ---- the plain machine
 

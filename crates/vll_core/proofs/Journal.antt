@@ -20,7 +20,7 @@ use Rattle.vll_core.specs.MachineKept.{IsMachine}
 use Rattle.vll_core.proofs.Tests.{both_true}
 use Rattle.vll_core.proofs.Kept.{IsEntryKept}
 use Rattle.vll_core.proofs.Reached.{kept_reached}
-use Rattle.vll_core.proofs.CoreState.{statuses_shown, entry_shown, made_shown}
+use Rattle.vll_core.proofs.MachineState.{statuses_shown, entry_shown, made_shown}
 
 -- where a ticket's call stands
 pub status_shown : {H : Type 0} {places : H → ℕ → ℕ} (c : Inside H) (s : Shown H) (t : ℕ) → IsMachine places c → shown c ≡ s → slice_get (statuses c.queue) t ≡ option_map (λ (e : Entered). e.status) (slice_get s.state.entries t)

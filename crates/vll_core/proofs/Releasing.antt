@@ -20,10 +20,10 @@ use Rattle.vll_core.specs.Shown.{AreWords, opening_of}
 use Rattle.vll_core.specs.View.{entries_of, shown}
 use Rattle.vll_core.specs.MachineKept.{IsMachine, AreAtWork, AreReplied}
 use Rattle.vll_core.proofs.Claiming.{delta_here, delta_elsewhere}
-use Rattle.vll_core.proofs.CorePairs.{pair_word_within, word_read, words_set_pair}
-use Rattle.vll_core.proofs.CoreRuns.{Runs, entered_as, same_work}
-use Rattle.vll_core.proofs.CoreState.{work_put, at_work_put, replied_put}
-use Rattle.vll_core.proofs.CoreSteps.{Refuses, Takes, taken_reached}
+use Rattle.vll_core.proofs.WordChanges.{pair_word_within, word_read, words_set_pair}
+use Rattle.vll_core.proofs.RunningWorks.{Runs, entered_as, same_work}
+use Rattle.vll_core.proofs.MachineState.{work_put, at_work_put, replied_put}
+use Rattle.vll_core.proofs.MachineSteps.{Refuses, Takes, taken_reached}
 use Rattle.vll_core.proofs.Deltas.{counter_release}
 use Rattle.vll_core.proofs.Places.{all_at}
 use Rattle.vll_core.proofs.Values.{others_stay}

@@ -24,11 +24,11 @@ use Rattle.vll_core.specs.View.{shown}
 use Rattle.vll_core.specs.Work.{IsAtWork}
 use Rattle.vll_core.specs.MachineKept.{IsMachine}
 use Rattle.vll_core.proofs.AtWork.{aborted_at_work, few_writes}
-use Rattle.vll_core.proofs.CorePairs.{words_set_value, value_word_within}
-use Rattle.vll_core.proofs.CoreRuns.{Runs, entered_as}
-use Rattle.vll_core.proofs.CoreState.{work_put, at_work_put, replied_put}
-use Rattle.vll_core.proofs.CoreSteps.{Refuses, Takes, taken_reached}
-use Rattle.vll_core.proofs.CoreWords.{counters_stay}
+use Rattle.vll_core.proofs.WordChanges.{words_set_value, value_word_within}
+use Rattle.vll_core.proofs.RunningWorks.{Runs, entered_as}
+use Rattle.vll_core.proofs.MachineState.{work_put, at_work_put, replied_put}
+use Rattle.vll_core.proofs.MachineSteps.{Refuses, Takes, taken_reached}
+use Rattle.vll_core.proofs.WordsKept.{counters_stay}
 use Rattle.vll_core.proofs.Kept.{IsEntryKept}
 use Rattle.vll_core.proofs.OwnClaims.{at_filter}
 use Rattle.vll_core.proofs.Places.{all_at, entry_at}

@@ -23,8 +23,8 @@ use Rattle.vll_core.specs.MachineKept.{IsMachine, made_of}
 use Rattle.vll_core.proofs.Events.{front_is}
 use Rattle.vll_core.proofs.Picked.{picked_is}
 use Rattle.vll_core.proofs.QueueLaws.{machine_front}
-use Rattle.vll_core.proofs.CoreState.{shown_at, entry_shown, map_shown, statuses_shown, entry_changed, length_changed, made_changed, fits_same, at_work_same, replied_changed, queued_started}
-use Rattle.vll_core.proofs.CoreSteps.{Refuses, Takes, taken_reached, taken_words}
+use Rattle.vll_core.proofs.MachineState.{shown_at, entry_shown, map_shown, statuses_shown, entry_changed, length_changed, made_changed, fits_same, at_work_same, replied_changed, queued_started}
+use Rattle.vll_core.proofs.MachineSteps.{Refuses, Takes, taken_reached, taken_words}
 
 -- ---- an event that finds a waiting ticket, or none
 

@@ -78,7 +78,7 @@ impl<H: Place> Core<H> {
     }
 
     /// Opens a turn for a call that is handed in, for a client that has a script, an empty one too; the script
-    /// stays at its place. Refused, in this order, by `TurnOpen`, `Spent` and `Busy`, as Enter is. A refusal
+    /// stays as it is. Refused, in this order, by `TurnOpen`, `Spent` and `Busy`, as Enter is. A refusal
     /// changes nothing. It takes no memory.
     pub fn enter(&mut self, client: u32, call: Call) -> Result<(), Refusal>
         requires client { client < length self.old.state.scripts }

@@ -25,11 +25,7 @@ use vll_proc::Call;
 use vll_sca::{Place, Status};
 
 mod enter;
-mod finish;
-mod load;
-mod release;
-mod run;
-mod store;
+mod running;
 mod turn;
 mod wake;
 
@@ -59,7 +55,7 @@ pub struct Machine<H: Place> {
     work: Vec<Work>,
     turn: Option<OpenTurn>,
     scripts: Vec<Vec<Call>>,
-    // The place of each script's next call.
+    // The index of each script's next call.
     next: Vec<usize>,
 }
 

@@ -193,8 +193,8 @@ impl<H: Place> Queue<H> {
         ensures scanned { self.new ≡ scanned H.place_of self.old }
     {
         let first = self.first as usize;
-        let place = self.bits.scan(&self.hash, &self.entries[first..])?;
-        let ticket = Ticket((first + place) as u32);
+        let index = self.bits.scan(&self.hash, &self.entries[first..])?;
+        let ticket = Ticket((first + index) as u32);
         self.start(ticket);
         Some(ticket)
     }
@@ -214,9 +214,9 @@ impl<H: Place> Queue<H> {
         requires { slice_get (statuses self.old) ticket ≡ Some Status.Running }
         ensures { self.new ≡ finished self.old ticket reply }
     {
-        let place = ticket.0 as usize;
-        self.entries[place].status = Status::Gone;
-        let line = &mut self.journal[place];
+        let index = ticket.0 as usize;
+        self.entries[index].status = Status::Gone;
+        let line = &mut self.journal[index];
         line.reply = Some(reply);
         self.running -= 1;
         self.first = first_left(&self.entries, self.first);

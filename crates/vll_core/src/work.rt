@@ -118,9 +118,9 @@ impl Work {
             → self.now.loads ≡ length call.now.claims
             → p.1 ≡ slice_index (apply procs call.now records).records p.0.id) }
     {
-        let place = place_of_write(&call.claims, self.stores)?;
-        let claim = call.claims.get(place)?;
-        Some((claim, self.frame.get(place)))
+        let index = index_of_write(&call.claims, self.stores)?;
+        let claim = call.claims.get(index)?;
+        Some((claim, self.frame.get(index)))
     }
 
     /// One more store is made.
@@ -165,8 +165,8 @@ impl Work {
     }
 }
 
-// The place of a Write claim, by its number among the Write claims, and `None` where there are not so many.
-fn place_of_write(claims: &Claims, number: u8) -> Option<usize>
+// The index of a Write claim, by its number among the Write claims, and `None` where there are not so many.
+fn index_of_write(claims: &Claims, number: u8) -> Option<usize>
     ensures claim { option_and_then (slice_get claims.now) result ≡ slice_get (filter writes_record claims.now) number }
     ensures within { IfSome result (λ i. i < 16) }
 {

@@ -11,7 +11,7 @@ use Rattle.vll_core.specs.Moves.{IsReached, by_event, moved, requested_by, relea
 use Rattle.vll_core.specs.Shown.{Shown, AreWords, library_of, opening_of, after}
 use Rattle.vll_core.specs.View.{turn_of, shown}
 use Rattle.vll_core.specs.MachineKept.{IsMachine}
-use Rattle.vll_core.proofs.CoreWords.{words_stay}
+use Rattle.vll_core.proofs.WordsKept.{words_stay}
 
 -- no turn is shown where none is kept
 pub closed_turn : (x : Option OpenTurn) (b : Bool) → b ≡ is_some x → b ≡ false → is_some (turn_of x) ≡ false

@@ -2,8 +2,8 @@ use Rattle.std.proofs.Common.{◌≡◌, suc, true, false, filter, drop, slice_g
 use Rattle.std.specs.Option.{option_map_or}
 use Rattle.vll_record.specs.Claim.{is_write}
 use Rattle.vll_core.proofs.AtWork.{write_here, write_behind, write_passed, none_left}
-use Rattle.vll_core.proofs.work.place_of_write.Goals as goal
-use Rattle.vll_core.proofs.work.place_of_write.Goals.{then-is_write+else-left-eq0, else-is_write}
+use Rattle.vll_core.proofs.work.index_of_write.Goals as goal
+use Rattle.vll_core.proofs.work.index_of_write.Goals.{then-is_write+else-left-eq0, else-is_write}
 
 pub loop-i-init : goal.loop-i-init
 loop-i-init c = refl

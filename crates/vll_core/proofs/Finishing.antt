@@ -22,9 +22,9 @@ use Rattle.vll_core.specs.Queue.{QueueEntry, Queued, statuses, finished}
 use Rattle.vll_core.specs.Shown.{opening_of}
 use Rattle.vll_core.specs.View.{entered_of, shown}
 use Rattle.vll_core.specs.MachineKept.{IsMachine}
-use Rattle.vll_core.proofs.CoreState.{entry_changed, made_changed, fits_same, at_work_same, replied_changed, queued_finished, length_changed}
-use Rattle.vll_core.proofs.CoreSteps.{Refuses, Takes, taken_reached, taken_words}
-use Rattle.vll_core.proofs.CoreRunning.{RunsAt, now_at, now_shown, stored_by_work, stored_shown, replies}
+use Rattle.vll_core.proofs.MachineState.{entry_changed, made_changed, fits_same, at_work_same, replied_changed, queued_finished, length_changed}
+use Rattle.vll_core.proofs.MachineSteps.{Refuses, Takes, taken_reached, taken_words}
+use Rattle.vll_core.proofs.RunningCalls.{RunsAt, now_at, now_shown, stored_by_work, stored_shown, replies}
 
 -- ---- the plain machine
 

@@ -16,8 +16,8 @@ use Rattle.vll_core.specs.Shown.{Shown}
 use Rattle.vll_core.specs.View.{shown}
 use Rattle.vll_core.specs.Work.{IsAtWork}
 use Rattle.vll_core.specs.MachineKept.{IsMachine}
-use Rattle.vll_core.proofs.CoreRunning.{RunsAt, runs_told, read_work, work_there, now_shown}
-use Rattle.vll_core.proofs.CoreState.{entry_shown}
+use Rattle.vll_core.proofs.RunningCalls.{RunsAt, runs_told, read_work, work_there, now_shown}
+use Rattle.vll_core.proofs.MachineState.{entry_shown}
 
 -- an entry with its call's work
 abbrev pub entered_as : ℕ → Call → Status → Work → Entered

@@ -23,9 +23,9 @@ use Rattle.vll_core.specs.Work.{IsAtWork}
 use Rattle.vll_core.specs.MachineKept.{IsMachine}
 use Rattle.vll_core.proofs.Places.{all_at}
 use Rattle.vll_core.proofs.Reached.{load_reached}
-use Rattle.vll_core.proofs.CoreState.{entry_shown, work_put, at_work_put, replied_put}
-use Rattle.vll_core.proofs.CoreSteps.{Refuses, Takes, taken_reached, taken_words}
-use Rattle.vll_core.proofs.CoreRunning.{RunsAt, now_at, now_shown}
+use Rattle.vll_core.proofs.MachineState.{entry_shown, work_put, at_work_put, replied_put}
+use Rattle.vll_core.proofs.MachineSteps.{Refuses, Takes, taken_reached, taken_words}
+use Rattle.vll_core.proofs.RunningCalls.{RunsAt, now_at, now_shown}
 
 -- ---- the plain machine
 

@@ -28,7 +28,7 @@ use Rattle.vll_core.specs.Work.{IsAtWork}
 use Rattle.vll_core.specs.MachineKept.{IsMachine, made_of}
 use Rattle.vll_core.proofs.Tests.{both_true}
 use Rattle.vll_core.proofs.Places.{all_at, entry_at}
-use Rattle.vll_core.proofs.CoreState.{entry_shown, none_shown, made_shown}
+use Rattle.vll_core.proofs.MachineState.{entry_shown, none_shown, made_shown}
 
 abbrev call_of : Entered → Call
 call_of e = e.call

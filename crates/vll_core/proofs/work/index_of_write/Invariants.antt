@@ -1,6 +1,6 @@
 use Rattle.std.proofs.Common.{◌≡◌, filter, drop, slice_get}
 use Rattle.vll_record.specs.Claim.{is_write}
-use Rattle.vll_core.proofs.work.place_of_write.Given as goal
+use Rattle.vll_core.proofs.work.index_of_write.Given as goal
 
 -- the Write claim that is sought is number `left` of those from here on
 abbrev pub invariant-loop-i : goal.invariant-loop-i
