@@ -1,17 +1,17 @@
 -- A machine in which every call is gone: its journal, its records and its pairs are those of the calls run one at a time.
 use Rattle.std.proofs.Common.{◌≡◌, ℕ, ◌+◌, ◌<◌, Bool, true, List, [], ◌∷◌, length, map, Option, Some, None, slice_get, slice_index, refl, sym, ap, ◌∙◌, subst, arith, if◌then◌else◌, option_map}
-use Rattle.std.specs.List.{count_by, enumerate_from}
+use Rattle.std.specs.List.{enumerate_from}
 use Rattle.std.proofs.lemmas.Grind.{same_number_lists}
 use Rattle.std.proofs.lemmas.List.{get_or-map, length-map}
 use Rattle.std.proofs.lemmas.Option.{same_Some, slice_get-map}
 use Rattle.vll_proc.proofs.Kept.{length-applied}
 use Rattle.vll_proc.specs.declared.syntax.Proc.{Proc}
 use Rattle.vll_proc.specs.Serial.{Made, apply, applied_at, end, before, answer}
-use Rattle.vll_sca.specs.Status.{is_running, is_gone}
+use Rattle.vll_sca.specs.Status.{is_gone}
 use Rattle.vll_check.specs.Catalog.{Catalog}
 use Rattle.vll_core.specs.declared.line.Line.{Line}
 use Rattle.vll_core.specs.State.{Base, Opening, Entered, State, entered, made, value, counter, reply_at}
-use Rattle.vll_core.specs.Machine.{waiting}
+use Rattle.vll_core.specs.Machine.{running_count, waiting}
 use Rattle.vll_core.specs.Moves.{IsReached}
 use Rattle.vll_core.specs.Journal.{journal_of, line_of}
 use Rattle.vll_core.specs.Shown.{AreWords}
@@ -87,7 +87,7 @@ pub record IsLeft (o : Base) (s : State) (values pairs : List ℕ) : Type 0 wher
   pub values_are : values ≡ end o.procs (entered s) o.records
   pub pairs_are : pairs ≡ map (λ (r : ℕ). 0) o.records
 
-pub left : (o : Opening) (s : State) (n : ℕ) (words values pairs : List ℕ) → IsReached o s → s.turn ≡ None → waiting s ≡ 0 → count_by (λ (e : Entered). is_running e.status) s.entries ≡ 0
+pub left : (o : Opening) (s : State) (n : ℕ) (words values pairs : List ℕ) → IsReached o s → s.turn ≡ None → waiting s ≡ 0 → running_count s ≡ 0
     → n ≡ length o.base.records → AreWords o.base s words → AreDivided n words values pairs → IsLeft o.base s values pairs
 left o s n words values pairs reached closed none_wait none_run count are divided =
     let law = finished_reached o s reached closed none_wait none_run in
@@ -99,7 +99,7 @@ left o s n words values pairs reached closed none_wait none_run count are divide
 
 -- so what is left is serial
 pub serial_end : (library : Catalog) (records : List ℕ) (config : Config) (places : ℕ → ℕ) (o : Opening) (s : State) (n : ℕ) (words divided : List ℕ) (c : Closed) → IsMoment library records config places o s
-    → waiting s ≡ 0 → count_by (λ (e : Entered). is_running e.status) s.entries ≡ 0 → n ≡ length records
+    → waiting s ≡ 0 → running_count s ≡ 0 → n ≡ length records
     → AreWords o.base s words → divided ≡ words → AreDivided n divided c.records.items c.pairs.items → c.journal.items ≡ journal_of o.base s → IsSerial library records c
 serial_end library records config places o s n words divided c at none_wait none_run count are same each journal =
     let size : n ≡ length o.base.records = count ∙ ap (λ (b : Base). length b.records) (sym at.base) in

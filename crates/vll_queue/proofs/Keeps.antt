@@ -1,5 +1,5 @@
 -- Each call of the engine leaves a machine that the locked value may hold.
-use Rattle.std.proofs.Common.{◌≡◌, ℕ, zero, suc, ◌<◌, ◌≤◌, ◌+◌, Bool, true, false, ◌==◌, nat_le, List, length, Option, Some, None, slice_get, refl, sym, ap, ◌∙◌, subst, arith, if◌then◌else◌, ◌⊎◌, inl, inr, ⊎_elim, length-append, length-set}
+use Rattle.std.proofs.Common.{◌≡◌, ℕ, zero, suc, Bool, true, false, ◌==◌, List, length, Option, Some, None, slice_get, refl, sym, ap, ◌∙◌, subst, arith, ◌⊎◌, inl, inr, ⊎_elim}
 use Rattle.std.proofs.Math.ListN.{replicate}
 use Rattle.vll_check.specs.Catalog.{Catalog}
 use Rattle.vll_proc.specs.declared.call.Call.{Call}
@@ -9,15 +9,13 @@ use Rattle.vll_core.specs.declared.event.Event.{Event}
 use Rattle.vll_core.specs.declared.event.Event.TheVariants as event
 use Rattle.vll_core.specs.declared.seen.Seen.TheVariants.{Run, Replied}
 use Rattle.vll_core.specs.State.{Base, Opening, Entered, State, reply_at}
-use Rattle.vll_core.specs.Machine.{run, step, running, with_entry, with_status, has_stored, waiting, front}
+use Rattle.vll_core.specs.Machine.{run, step, running, with_entry, with_status, has_stored, front}
 use Rattle.vll_core.specs.Moves.{IsReached, moved, by_event}
 use Rattle.vll_core.specs.Shown.{Shown, opening_of}
 use Rattle.vll_queue.specs.declared.begun.BeginRefusal.{BeginRefusal}
-use Rattle.vll_queue.specs.declared.begun.BeginRefusal.TheVariants.{Spent, Busy}
 use Rattle.vll_queue.specs.Begin.{arrived, begun_by, refusal}
 use Rattle.vll_queue.specs.Kept.{AreWhole, IsKept}
 use Rattle.vll_queue.specs.Pass.{executed, finished, found, started, with_stores, with_end, only_if}
-use Rattle.vll_queue.proofs.Truths.{le_no}
 use Rattle.vll_queue.proofs.Repeats.{run_reached}
 use Rattle.vll_queue.proofs.Running.{runs_at, status_put}
 use Rattle.vll_queue.proofs.Executes.{execution}
@@ -29,9 +27,9 @@ use Rattle.vll_queue.proofs.Whole.{at_rest, whole_arrived, whole_started, whole_
 
 -- another state of the same machine
 pub kept_at : {H : Type 0} {library : Catalog} {records : List ℕ} {config : Config} {places : ℕ → ℕ} {clients : ℕ} {place : H → ℕ → ℕ} (c : Shown H) (s : State) → IsKept library records config places clients place c
-    → IsReached (opening_of place c) s → s.turn ≡ None → length s.scripts ≡ length c.state.scripts → AreWhole c.base s → length s.entries ≤ config.limit
+    → IsReached (opening_of place c) s → s.turn ≡ None → length s.scripts ≡ length c.state.scripts → AreWhole c.base s
     → IsKept library records config places clients place (record c { state = s })
-kept_at c s kept reached closed scripts whole within = record {
+kept_at c s kept reached closed scripts whole = record {
   moment = record {
     base = kept.moment.base;
     cap = kept.moment.cap;
@@ -44,8 +42,6 @@ kept_at c s kept reached closed scripts whole within = record {
   library_is = kept.library_is;
   clients_are = scripts ∙ kept.clients_are;
   whole = whole;
-  within = within;
-  few = kept.few;
 }
 
 -- a call begins, or is refused
@@ -55,21 +51,12 @@ pub kept_begun : {H : Type 0} {library : Catalog} {records : List ℕ} {config :
 kept_begun {H = H} {library = library} {records = records} {config = config} {places = places} {clients = clients} {place = place} c d client call kept is reached =
     subst (IsKept library records config places clients place) (sym is) (by_refusal (refusal (opening_of place c) c.state) refl)
   where
-    by_tests : (spent busy : Bool) → (if spent then Some Spent else (if busy then Some Busy else None)) ≡ None → spent ≡ false
-    by_tests true busy h = absurd (cc h)
-    by_tests false busy h = refl
-
-    longer : (n m limit k : ℕ) → n < m → m ≡ limit → k ≡ n + 1 → k ≤ limit
-    longer n m limit k h i j = omega (arith, h, i, j)
-
     by_refusal : (r : Option BeginRefusal) → refusal (opening_of place c) c.state ≡ r → IsKept library records config places clients place (record c { state = begun_by r c.state client call })
     by_refusal (Some why) refused = kept
     by_refusal None allowed =
-        let room = le_no c.limit (length c.state.entries) (by_tests (nat_le c.limit (length c.state.entries)) (nat_le c.cap (waiting c.state)) allowed) in
         let there : d ≡ record c { state = arrived c.state client call } = is ∙ ap (λ (r : Option BeginRefusal). record c { state = begun_by r c.state client call }) allowed in
         kept_at c (arrived c.state client call) kept (subst (λ (x : Shown H). IsReached (opening_of place x) x.state) there reached) kept.moment.closed refl
         (whole_arrived c.base c.state client call kept.whole)
-        (longer (length c.state.entries) c.limit config.limit _ room kept.moment.limit (length-append c.state.entries _))
 
 -- the entry of an execution, if there is one
 pub executed_cases : (o : Base) (s : State) (t : ℕ) → AreWhole o s
@@ -107,8 +94,7 @@ kept_executed {H = H} {library = library} {records = records} {config = config} 
         subst (λ (s : State). IsKept library records config places clients place (record c { state = s })) (sym now)
         (kept_at c (with_entry c.state t (with_stores c.base c.state t e)) kept
         (subst (IsReached o) (execution o c.state t e runs unloaded unstored) (run_reached o (run o c.state (replicate n (event.Load t))) (replicate n (event.Store t)) (run_reached o c.state (replicate n (event.Load t)) kept.moment.reached)))
-        kept.moment.closed refl (whole_executed c.base c.state t e kept.whole at.0 at.1 unreleased)
-        (subst (λ (m : ℕ). m ≤ config.limit) (sym (length-set c.state.entries t (with_stores c.base c.state t e))) kept.within))
+        kept.moment.closed refl (whole_executed c.base c.state t e kept.whole at.0 at.1 unreleased))
 
 -- the entry of an end, if there is one
 pub finished_cases : (o : Base) (s : State) (t : ℕ) → AreWhole o s
@@ -147,8 +133,7 @@ kept_finished {H = H} {library = library} {records = records} {config = config} 
         (kept_at c (with_entry c.state t (with_end e)) kept
         (moved r (by_event (event.Finish t)) (Replied (reply_at c.base c.state t e)) (with_entry c.state t (with_end e)) (run_reached o c.state (replicate (length e.call.claims) (event.Release t)) kept.moment.reached) tt
         (finishing o c.state t e kept.moment.closed runs stored unreleased))
-        kept.moment.closed refl (whole_finished c.base c.state t e kept.whole at.0)
-        (subst (λ (m : ℕ). m ≤ config.limit) (sym (length-set c.state.entries t (with_end e))) kept.within))
+        kept.moment.closed refl (whole_finished c.base c.state t e kept.whole at.0))
 
 -- a waiting ticket, if one was found, began to run
 kept_woken : {H : Type 0} {library : Catalog} {records : List ℕ} {config : Config} {places : ℕ → ℕ} {clients : ℕ} {place : H → ℕ → ℕ} (c d : Shown H) (e : Event) (x : Option ℕ) → IsKept library records config places clients place c
@@ -162,8 +147,7 @@ kept_woken {library = library} {records = records} {config = config} {places = p
     (kept_at c (with_status c.state t Running) kept
     (moved c.state (by_event e) (Run t) (with_status c.state t Running) kept.moment.reached tt steps)
     (ap (λ (s : State). s.turn) put ∙ kept.moment.closed) (ap (λ (s : State). length s.scripts) put)
-    (whole_started c.base c.state t there.0 kept.whole there.1 there.2)
-    (subst (λ (m : ℕ). m ≤ config.limit) (sym (ap (λ (s : State). length s.entries) put ∙ length-set c.state.entries t (record there.0 { status = Running }))) kept.within))
+    (whole_started c.base c.state t there.0 kept.whole there.1 there.2))
 
 pub kept_front : {H : Type 0} {library : Catalog} {records : List ℕ} {config : Config} {places : ℕ → ℕ} {clients : ℕ} {place : H → ℕ → ℕ} (c d : Shown H) → IsKept library records config places clients place c
     → d ≡ record c { state = started c.state (front c.state) } → IsKept library records config places clients place d

@@ -11,6 +11,5 @@ pub mod Executed
 pub mod Finished
 pub mod Wakes
 pub mod Keeps
-pub mod Counts
 pub mod Ends
 pub mod Opens

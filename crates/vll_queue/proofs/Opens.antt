@@ -17,9 +17,9 @@ sessions_below m zero few = λ k d low. absurd (omega (arith, low))
 sessions_below m (suc n) few = All-push (λ (s : SessionShown). s.client < m) (sessions_of n) (record { client = n }) (sessions_below m n (omega arith)) (omega arith)
 
 -- a machine with empty scripts, in which nothing is entered, is one that an engine can lock
-pub kept_first : {H : Type 0} (place : H → ℕ → ℕ) (c : Shown H) (scripts : List (Vec Call)) → c.state ≡ opened (map (λ (v : Vec Call). v.items) scripts) → All (λ (v : Vec Call). v.items ≡ []) scripts → c.limit ≤ 65536
+pub kept_first : {H : Type 0} (place : H → ℕ → ℕ) (c : Shown H) (scripts : List (Vec Call)) → c.state ≡ opened (map (λ (v : Vec Call). v.items) scripts) → All (λ (v : Vec Call). v.items ≡ []) scripts
     → IsKept (library_of c) c.base.records (record { cap = c.cap; limit = c.limit; bits = c.bits }) (place c.hash) (length c.state.scripts) place c
-kept_first place c scripts is empty few = record {
+kept_first place c scripts is empty = record {
   moment = record {
     base = refl;
     cap = refl;
@@ -32,15 +32,10 @@ kept_first place c scripts is empty few = record {
   library_is = refl;
   clients_are = refl;
   whole = λ t e at. absurd (nothing t e (ap (λ (s : State). slice_get s.entries t) (sym is) ∙ at));
-  within = none_yet (length c.state.entries) (ap (λ (s : State). length s.entries) is);
-  few = few;
 }
   where
     nothing : (t : ℕ) (e : Entered) → slice_get [] t ≡ Some e → ⊥
     nothing t e at = cc at
-
-    none_yet : (n : ℕ) → n ≡ 0 → n ≤ c.limit
-    none_yet n h = omega (arith, h)
 
     map_empty : (xs : List (Vec Call)) → All (λ (v : Vec Call). v.items ≡ []) xs → All (λ (cs : List Call). cs ≡ []) (map (λ (v : Vec Call). v.items) xs)
     map_empty xs each = All-map (λ (cs : List Call). cs ≡ []) (λ (v : Vec Call). v.items) xs each

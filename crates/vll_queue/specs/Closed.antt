@@ -1,5 +1,5 @@
 -- What an engine leaves when it is closed.
-use Rattle.std.specs.Prelude.{◌≡◌, ℕ, ◌<◌, true, List, length, map, All, Some, slice_get, slice_index}
+use Rattle.std.specs.Prelude.{◌≡◌, ℕ, ◌+◌, ◌<◌, true, List, length, map, All, Some, slice_get, slice_index}
 use Rattle.vll_record.specs.Word.{value_word_of, pair_word_of_record}
 use Rattle.vll_proc.specs.Serial.{Made, end, answer}
 use Rattle.vll_sca.specs.Status.{is_gone}
@@ -7,6 +7,7 @@ use Rattle.vll_check.specs.Catalog.{Catalog}
 use Rattle.vll_core.specs.declared.line.Line.{Line}
 use Rattle.vll_core.specs.Journal.{journal_of}
 use Rattle.vll_core.specs.State.{Opening, State, Entered}
+use Rattle.vll_core.specs.Machine.{running_count, waiting}
 use Rattle.vll_queue.specs.declared.closed.Closed.{Closed}
 
 -- the words of so many records, divided into their values and their pair words
@@ -30,6 +31,12 @@ pub record IsSerial (library : Catalog) (records : List ℕ) (c : Closed) : Type
   pub answered : AreAnswered library records c.journal.items
   pub at_end : c.records.items ≡ end library.procs (calls_in c.journal.items) records
   pub none_open : c.pairs.items ≡ map (λ (r : ℕ). 0) records
+
+-- of the state so many calls run and so many wait, and these are not none
+pub record AreLeft (s : State) (run wait : ℕ) : Type 0 where
+  pub running : run ≡ running_count s
+  pub waiting : wait ≡ waiting s
+  pub some : 0 < run + wait
 
 -- every call of the state is gone, and the journal is that of the state
 pub record IsEnded (o : Opening) (s : State) (c : Closed) : Type 0 where

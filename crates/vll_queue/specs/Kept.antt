@@ -1,7 +1,5 @@
 -- What the type of the locked value keeps.
-use Rattle.std.specs.Prelude.{◌≡◌, ℕ, Bool, true, ◌==◌, ◌&&◌, ◌||◌, ◌≤◌, List, length, Some, slice_get}
-use Rattle.vll_sca.specs.declared.status.Status.{Status}
-use Rattle.vll_sca.specs.Status.{is_running, is_waiting, is_gone}
+use Rattle.std.specs.Prelude.{◌≡◌, ℕ, Bool, true, ◌==◌, ◌&&◌, ◌||◌, List, length, Some, slice_get}
 use Rattle.vll_sca.specs.declared.status.Status.TheVariants.{Running, Waiting, Gone}
 use Rattle.vll_check.specs.Catalog.{Catalog}
 use Rattle.vll_core.specs.declared.config.Config.{Config}
@@ -9,12 +7,6 @@ use Rattle.vll_core.specs.State.{Base, Entered, State}
 use Rattle.vll_core.specs.Shown.{Shown, opening_of, library_of}
 use Rattle.vll_queue.specs.Moment.{IsMoment}
 use Rattle.vll_queue.specs.Pass.{stores_due}
-
--- an entry's call stands there
-abbrev pub has_status : Status → Entered → Bool
-has_status Running e = is_running e.status
-has_status Waiting e = is_waiting e.status
-has_status Gone e = is_gone e.status
 
 -- an entry that has made no step
 abbrev pub is_fresh : Entered → Bool
@@ -38,5 +30,3 @@ pub record IsKept {H : Type 0} (library : Catalog) (records : List ℕ) (config 
   pub library_is : library_of c ≡ library
   pub clients_are : length c.state.scripts ≡ clients
   pub whole : AreWhole c.base c.state
-  pub within : length c.state.entries ≤ config.limit
-  pub few : config.limit ≤ 65536

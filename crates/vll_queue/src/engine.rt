@@ -3,7 +3,7 @@ ghost use Rattle.vll_check.specs.Calls.{Fits};
 ghost use Rattle.vll_core.specs.Machine.{front};
 ghost use Rattle.vll_core.specs.State.{Opening, State};
 ghost use Rattle.vll_queue.specs.Begin.{Begins};
-ghost use Rattle.vll_queue.specs.Closed.{IsEnded, IsSerial};
+ghost use Rattle.vll_queue.specs.Closed.{AreLeft, IsEnded, IsSerial};
 ghost use Rattle.vll_queue.specs.Moment.{IsMoment};
 ghost use Rattle.vll_queue.specs.Pass.{Finishes, Spends, executable, found, replied};
 
@@ -23,8 +23,12 @@ use vll_sca::Place;
 
 /// The engine. Many threads may share it; each call that takes `wait` holds the lock once.
 ///
-/// What a call answers is said of the moment at which it got the lock: the plain machine's state at that moment is
-/// one that lawful moves reach from this opening, and no turn is open.
+/// Other threads change what lies behind the lock, so no clause can name the state that a call finds there. What the
+/// clauses of `begin`, `next_front`, `next_scan`, `execute`, `finish` and `reply` carry is that *some* lawful state of
+/// this opening would answer so: one that lawful moves reach from it, in which no turn is open. The state in which
+/// nothing has entered is such a state. So a clause excludes an answer that no lawful state gives, and does not tell
+/// the caller which state was found. That each answer is that of the state found is proved of the value behind the
+/// lock, whose method each of these calls in one line.
 #[derive(Drop)]
 pub struct Engine<N: Name, H: Place + Send + Drop> {
     library: Library,
@@ -55,9 +59,9 @@ impl<N: Name, H: Place + Send + Drop> Engine<N, H> {
     }
 
     /// A session's client enters a call, which requests all its claims and gets the next ticket. `Free` with a pass
-    /// where no open claim conflicts with a claim of the call, and else `Blocked`; a blocked call keeps its claims.
-    /// A refusal enters nothing and takes no claim: `Spent` where as many calls as the limit have entered, `Busy`
-    /// where that is not so and as many as the cap wait.
+    /// if no open claim conflicts with a claim of the call, and else `Blocked`; a blocked call keeps its claims.
+    /// A refusal enters nothing and takes no claim: `Spent` if as many calls as the limit have entered, `Busy`
+    /// if that is not so and as many as the cap wait. The clause says this of some lawful state; the session stays.
     pub fn begin(&self, wait: &impl Wait, session: &mut Session, call: Call) -> Begun
         requires client { session.old.client < N.clients }
         requires fits { Fits N.library call }
@@ -70,7 +74,8 @@ impl<N: Name, H: Place + Send + Drop> Engine<N, H> {
             .begin(&self.library, session.client, call)
     }
 
-    /// A pass for the lowest ticket that is not gone, where it waits: all before it are gone.
+    /// A pass for the lowest ticket that is not gone, if it waits: all before it are gone. The clause says this of
+    /// some lawful state.
     pub fn next_front(&self, wait: &impl Wait) -> Option<Pass>
         ensures { (o : Opening) × (s : State) × IsMoment N.library N.records N.config N.places o s × (option_map (λ
             p. p.ticket) result ≡ front s) }
@@ -78,7 +83,8 @@ impl<N: Name, H: Place + Send + Drop> Engine<N, H> {
         self.locked.lock(wait).next_front(&self.library)
     }
 
-    /// A pass for the first waiting ticket that is in hash conflict with no earlier one that runs or waits.
+    /// A pass for the first waiting ticket that is in hash conflict with no earlier one that runs or waits, by the
+    /// places of this opening's hash. The clause says this of some lawful state.
     pub fn next_scan(&self, wait: &impl Wait) -> Option<Pass>
         ensures { (o : Opening) × (s : State) × IsMoment N.library N.records N.config N.places o s × (option_map (λ
             p. p.ticket) result ≡ found o s) }
@@ -87,7 +93,8 @@ impl<N: Name, H: Place + Send + Drop> Engine<N, H> {
     }
 
     /// Loads each claim's record, runs the body, and stores each Write claim's record unless the call aborts.
-    /// `Lost` where the ticket is not running, or has made its loads: nothing changes, and the pass is spent.
+    /// `Lost` if the ticket is not running, or has made its loads: nothing changes, and the pass is spent. The clause
+    /// says this of some lawful state.
     pub fn execute(&self, wait: &impl Wait, pass: Pass) -> Result<Done, Lost>
         ensures { (o : Opening) × (s : State) × IsMoment N.library N.records N.config N.places o s × Spends (λ d.
             d.ticket) (executable s pass.ticket) pass.ticket result }
@@ -103,9 +110,9 @@ impl<N: Name, H: Place + Send + Drop> Engine<N, H> {
         Released { ticket }
     }
 
-    /// The call is gone, and its line gets the reply, which is what it answers where the calls run one at a time in
-    /// the order of their tickets. `Lost` where the ticket is not running, or has loads or stores left: nothing
-    /// changes, and the pass is spent.
+    /// The call is gone, and its line gets the reply, which is what it answers if the calls run one at a time in
+    /// the order of their tickets. `Lost` if the ticket is not running, or has loads or stores left: nothing
+    /// changes, and the pass is spent. The clause says this of some lawful state.
     pub fn finish(&self, wait: &impl Wait, released: Released) -> Result<(Ticket, Reply), Lost>
         ensures { (o : Opening) × (s : State) × IsMoment N.library N.records N.config N.places o s × Finishes
             o.base s released.ticket result }
@@ -113,7 +120,8 @@ impl<N: Name, H: Place + Send + Drop> Engine<N, H> {
         self.locked.lock(wait).finish(&self.library, released)
     }
 
-    /// The reply in the ticket's line; `None` where there is no such line or it has no reply yet.
+    /// The reply in the ticket's line; `None` if there is no such line or it has no reply yet. The clause says this of
+    /// some lawful state; the session stays.
     pub fn reply(&self, wait: &impl Wait, session: &mut Session, ticket: Ticket) -> Option<Reply>
         requires client { session.old.client < N.clients }
         ensures answer { (o : Opening) × (s : State) × IsMoment N.library N.records N.config N.places o s × (result
@@ -124,32 +132,23 @@ impl<N: Name, H: Place + Send + Drop> Engine<N, H> {
         self.locked.lock(wait).reply(ticket)
     }
 
-    /// The records, their pair words and the journal, where no call runs or waits: each line has its reply, the
+    /// The records, their pair words and the journal, if no call runs or waits: each line has its reply, the
     /// records are those of the journal's calls made one at a time, and each pair word is 0. Else all is handed back,
-    /// with the numbers of those that run and wait. The list may lack sessions.
+    /// with the numbers of those that run and wait, which some lawful state has. The list may lack sessions.
     pub fn close(self, sessions: Vec<Session>) -> Result<Closed, NotClosed<N, H>>
         ensures moment { IfOk result (λ c. (o : Opening) × (s : State) × IsMoment N.library N.records
             N.config N.places o s × IsEnded o s c) }
         ensures serial { IfOk result (λ c. IsSerial N.library N.records c) }
         ensures back { IfErr result (λ n. n.sessions ≡ sessions) }
         ensures left { IfErr result (λ n. 0 < n.running + n.waiting) }
+        ensures counts { IfErr result (λ n. (o : Opening) × (s : State) × IsMoment N.library N.records N.config
+            N.places o s × AreLeft s n.running n.waiting) }
     {
         let Engine {
             library,
             locked,
             room,
         } = self;
-        let locked = locked.into_inner();
-        let running = locked.running();
-        let waiting = locked.waiting();
-        if running > 0 || waiting > 0 {
-            return Err(NotClosed {
-                engine: Engine::new(library, locked, room),
-                sessions,
-                running,
-                waiting,
-            });
-        }
-        Ok(locked.close(room))
+        locked.into_inner().close(library, room, sessions)
     }
 }

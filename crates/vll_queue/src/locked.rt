@@ -1,26 +1,26 @@
-ghost use Rattle.std.specs.Prelude.{◌≡◌, ◌<◌, length, count_by, option_map, is_none, Ok, Err, ℕ};
+ghost use Rattle.std.specs.Prelude.{◌≡◌, ◌<◌, length, option_map, IfOk, IfErr};
 ghost use Rattle.vll_check.specs.Calls.{Fits};
-ghost use Rattle.vll_sca.specs.Status.{is_running, is_waiting};
 ghost use Rattle.vll_core.specs.Machine.{front};
 ghost use Rattle.vll_core.specs.Shown.{opening_of};
-ghost use Rattle.vll_core.specs.State.{Entered};
 ghost use Rattle.vll_queue.specs.Begin.{Begins, begun_by, refusal};
-ghost use Rattle.vll_queue.specs.Closed.{IsSerial, IsEnded};
+ghost use Rattle.vll_queue.specs.Closed.{AreLeft, IsEnded, IsSerial};
 ghost use Rattle.vll_queue.specs.Kept.{IsKept};
 ghost use Rattle.vll_queue.specs.Moment.{IsMoment};
 ghost use Rattle.vll_queue.specs.Pass.{Finishes, Spends, executable, executed, finishable, finished, found, replied, started};
 
 use crate::begun::Begun;
-use crate::closed::Closed;
+use crate::closed::{Closed, NotClosed};
+use crate::engine::Engine;
 use crate::lost::Lost;
 use crate::name::Name;
 use crate::pass::{Done, Pass, Released};
 use crate::room::Room;
+use crate::session::Session;
 use std::marker::{Model, PhantomData};
 use vll_check::Library;
 use vll_core::{Event, Machine, Ticket};
 use vll_proc::{Call, Reply};
-use vll_sca::{Place, Status};
+use vll_sca::Place;
 
 mod begin;
 mod close;
@@ -30,7 +30,7 @@ mod repeat;
 mod seen;
 
 // What lies behind the lock: the machine. To a contract it is the machine's state, with what is fixed from the
-// opening on.
+// opening on. What the methods answer is said exactly of that state.
 #[derive(Drop)]
 pub(crate) struct Locked<N: Name, H: Place> {
     machine: Machine<H>,
@@ -165,34 +165,36 @@ impl<N: Name, H: Place> Locked<N, H> {
         let line = self.machine.journal().get(ticket.0 as usize)?;
         line.reply
     }
-
-    // How many calls run.
-    pub(crate) fn running(&self) -> u32
-        ensures { result ≡ count_by (λ (e : Entered). is_running e.status) self.now.state.entries }
-    {
-        close::count(&self.machine, Status::Running)
-    }
-
-    // How many calls wait.
-    pub(crate) fn waiting(&self) -> u32
-        ensures { result ≡ count_by (λ (e : Entered). is_waiting e.status) self.now.state.entries }
-    {
-        close::count(&self.machine, Status::Waiting)
-    }
 }
 
-impl<N: Name, H: Place + Drop> Locked<N, H> {
-    // The records, pair words and journal at the end.
-    pub(crate) fn close(self, room: Room) -> Closed
+impl<N: Name, H: Place + Send + Drop> Locked<N, H> {
+    // What is left where no call runs or waits. Where one does, exactly as many run and wait as is told, and the
+    // engine goes on.
+    pub(crate) fn close(
+        self,
+        library: Library,
+        room: Room,
+        sessions: Vec<Session>,
+    ) -> Result<Closed, NotClosed<N, H>>
+        requires library { library ≡ N.library }
         requires room { room ≡ length N.records }
-        requires running { count_by (λ (e : Entered). is_running e.status) self.state.entries ≡ 0 }
-        requires waiting { count_by (λ (e : Entered). is_waiting e.status) self.state.entries ≡ 0 }
         ensures moment { IsMoment N.library N.records N.config N.places (opening_of H.place_of self) self.state }
-        ensures ended { IsEnded (opening_of H.place_of self) self.state result }
-        ensures serial { IsSerial N.library N.records result }
+        ensures ended { IfOk result (λ c. IsEnded (opening_of H.place_of self) self.state c) }
+        ensures serial { IfOk result (λ c. IsSerial N.library N.records c) }
+        ensures counts { IfErr result (λ n. AreLeft self.state n.running n.waiting) }
+        ensures back { IfErr result (λ n. n.sessions ≡ sessions) }
     {
+        let running = self.machine.running();
+        let waiting = self.machine.waiting();
+        if running > 0 || waiting > 0 {
+            return Err(NotClosed {
+                engine: Engine::new(library, self, room),
+                sessions,
+                running,
+                waiting,
+            });
+        }
         let Locked { machine, of: _ } = self;
-        let (words, journal) = machine.into_parts();
-        close::closed(words.as_slice(), journal, room)
+        Ok(close::closed::<N, H>(machine, room))
     }
 }

@@ -1,7 +1,7 @@
 use std::marker::Brand;
 
-/// Names what an engine was opened with, so that the engine and the value behind its lock agree on it. It has no
-/// functions. A caller starts an engine in a function that is generic over `N: Name`, which takes the `Opening` and
+/// Names what an engine was opened with, of the hash the places that it gives to records, so that the engine and the
+/// value behind its lock agree on it. It has no functions. A caller starts an engine in a function that is generic over `N: Name`, which takes the `Opening` and
 /// whose signature has no other type over `N`, and calls that function with `std::marker::Brand`.
 pub trait Name {
     ghost use Rattle.std.specs.Prelude.{ℕ, List};

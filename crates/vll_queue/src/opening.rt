@@ -1,6 +1,6 @@
-ghost use Rattle.std.specs.Prelude.{◌≡◌, ◌≤◌, ◌<◌, ◌↔◌, [], All, Err, IfOk, IfNone, length};
-ghost use Rattle.vll_core.specs.declared.config.OpenFault.TheVariants as OpenFault;
-ghost use Rattle.vll_queue.specs.Opened.{IsWithin, fault_of, sessions_of};
+ghost use Rattle.std.specs.Prelude.{◌≡◌, ◌<◌, [], All, IfOk, length};
+ghost use Rattle.vll_core.specs.Faults.{Refuses, open_fault};
+ghost use Rattle.vll_queue.specs.Opened.{sessions_of};
 ghost use Rattle.vll_queue.specs.Shown.{IsNamed, opening};
 
 use crate::engine::Engine;
@@ -11,15 +11,9 @@ use crate::session::Session;
 use std::alloc::{AllocError, Global};
 use std::marker::Model;
 use vll_check::Library;
-use vll_core::{Config, Core, OpenFault};
+use vll_core::{Config, Core, OpenFault, open_fault};
 use vll_proc::Call;
 use vll_sca::Place;
-
-const MOST_RECORDS: usize = 65_536;
-
-const MOST_CALLS: u32 = 65_536;
-
-const MOST_BITS: u32 = 1_048_576;
 
 /// An engine that has no name yet. Contracts see what it was opened with.
 #[derive(Drop)]
@@ -48,9 +42,8 @@ impl<H: Place> Model for Opening<H> {
 
 impl<H: Place + Drop> Opening<H> {
     /// An engine over these records in which nothing is entered, with so many clients. The lowest fault that stands
-    /// is answered: `Records` where there are not 1 to 65,536 records, `Limit` where the limit is not 1 to 65,536,
-    /// `Cap` where the cap is not 1 to 65,536, and `Bits` where the number of bits is not 1 to 1,048,576; `NoMemory`
-    /// comes only where none of these stands and memory was refused. All memory of the engine is taken here.
+    /// is answered, as `open_fault` of `vll_core` tells it: `Records`, `Limit`, `Cap` or `Bits`; where none stands,
+    /// `NoMemory` is the only one. All memory of the engine is taken here.
     pub fn new(
         alloc: Global,
         records: Vec<u64>,
@@ -60,29 +53,21 @@ impl<H: Place + Drop> Opening<H> {
         clients: u32,
     ) -> Result<Opening<H>, OpenFault>
         requires records { library.records ≡ length records.items }
-        ensures records { result ≡ Err OpenFault.Records
-            ↔ ¬ ((1 ≤ length records.items) × (length records.items ≤ 65536)) }
-        ensures limit { result ≡ Err OpenFault.Limit
-            ↔ ((1 ≤ length records.items) × (length records.items ≤ 65536)
-            × (¬ ((1 ≤ config.limit) × (config.limit ≤ 65536)))) }
-        ensures cap { result ≡ Err OpenFault.Cap
-            ↔ ((1 ≤ length records.items) × (length records.items ≤ 65536)
-            × (1 ≤ config.limit) × (config.limit ≤ 65536)
-            × (¬ ((1 ≤ config.cap) × (config.cap ≤ 65536)))) }
-        ensures bits { result ≡ Err OpenFault.Bits
-            ↔ ((1 ≤ length records.items) × (length records.items ≤ 65536)
-            × (1 ≤ config.limit) × (config.limit ≤ 65536)
-            × (1 ≤ config.cap) × (config.cap ≤ 65536)
-            × (¬ ((1 ≤ config.bits) × (config.bits ≤ 1048576)))) }
+        ensures refused { Refuses (open_fault (length records.items) config) result }
         ensures opened { IfOk result (λ o. o ≡ opening library records.items config hash clients) }
     {
-        if let Some(fault) = fault_of(records.len(), config) {
+        if let Some(fault) = open_fault(records.len(), config) {
             return Err(fault);
         }
-        match opened(alloc, records, library, config, hash, clients) {
-            Ok(opening) => Ok(opening),
-            Err(AllocError) => Err(OpenFault::NoMemory),
-        }
+        let room = Room::new(alloc, records.len() as u32)?;
+        let sessions = sessions(alloc, clients)?;
+        let scripts = scripts(alloc, clients)?;
+        let core = Core::open(alloc, records, library, scripts, config, hash)?;
+        Ok(Opening {
+            core,
+            sessions,
+            room,
+        })
     }
 }
 
@@ -101,52 +86,6 @@ impl<H: Place + Send + Drop> Opening<H> {
         let (machine, library) = core.into_parts();
         (Engine::new(library, Locked::new(machine), room), sessions)
     }
-}
-
-// The engine, where nothing but memory can be refused.
-fn opened<H: Place + Drop>(
-    alloc: Global,
-    records: Vec<u64>,
-    library: Library,
-    config: Config,
-    hash: H,
-    clients: u32,
-) -> Result<Opening<H>, AllocError>
-    requires records { library.records ≡ length records.items }
-    requires within { IsWithin (length records.items) config }
-    ensures { IfOk result (λ o. o ≡ opening library records.items config hash clients) }
-{
-    let room = Room::new(alloc, records.len() as u32)?;
-    let sessions = sessions(alloc, clients)?;
-    let scripts = scripts(alloc, clients)?;
-    match Core::open(alloc, records, library, scripts, config, hash) {
-        Ok(core) => Ok(Opening {
-            core,
-            sessions,
-            room,
-        }),
-        Err(_) => Err(AllocError),
-    }
-}
-
-// Why nothing can be opened, before any memory is asked for.
-fn fault_of(records: usize, config: Config) -> Option<OpenFault>
-    ensures fault { result ≡ fault_of records config }
-    ensures within { IfNone result (IsWithin records config) }
-{
-    if records < 1 || records > MOST_RECORDS {
-        return Some(OpenFault::Records);
-    }
-    if config.limit < 1 || config.limit > MOST_CALLS {
-        return Some(OpenFault::Limit);
-    }
-    if config.cap < 1 || config.cap > MOST_CALLS {
-        return Some(OpenFault::Cap);
-    }
-    if config.bits < 1 || config.bits > MOST_BITS {
-        return Some(OpenFault::Bits);
-    }
-    None
 }
 
 // A session for each client, in order.

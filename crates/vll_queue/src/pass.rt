@@ -44,7 +44,7 @@ impl Model for Released {
 }
 
 impl Pass {
-    /// The place of the call in the order of entry.
+    /// The number of the call in the order of entry, from 0.
     pub fn ticket(&self) -> Ticket
         ensures { result ≡ self.now.ticket }
     {
@@ -53,7 +53,7 @@ impl Pass {
 }
 
 impl Done {
-    /// The place of the call in the order of entry.
+    /// The number of the call in the order of entry, from 0.
     pub fn ticket(&self) -> Ticket
         ensures { result ≡ self.now.ticket }
     {
@@ -62,7 +62,7 @@ impl Done {
 }
 
 impl Released {
-    /// The place of the call in the order of entry.
+    /// The number of the call in the order of entry, from 0.
     pub fn ticket(&self) -> Ticket
         ensures { result ≡ self.now.ticket }
     {

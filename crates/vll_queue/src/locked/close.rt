@@ -1,33 +1,31 @@
-ghost use Rattle.std.specs.Prelude.{◌≡◌, ◌≤◌, ◌+◌, ◌*◌, ◌==◌, ℕ, length, count_by, map};
-ghost use Rattle.vll_core.specs.State.{Entered};
-ghost use Rattle.vll_queue.specs.Kept.{has_status};
-ghost use Rattle.vll_queue.specs.Closed.{AreDivided};
+ghost use Rattle.std.specs.Prelude.{◌≡◌, ◌+◌, ◌*◌, length};
+ghost use Rattle.vll_core.specs.Machine.{running_count, waiting};
+ghost use Rattle.vll_core.specs.Shown.{opening_of};
+ghost use Rattle.vll_queue.specs.Closed.{AreDivided, IsEnded, IsSerial};
+ghost use Rattle.vll_queue.specs.Moment.{IsMoment};
 
 use crate::closed::Closed;
+use crate::name::Name;
 use crate::room::Room;
-use vll_core::{Line, Machine, Ticket};
+use vll_core::{Line, Machine};
 use vll_record::{RecordId, pair_word, value_word};
-use vll_sca::{Place, Status};
+use vll_sca::Place;
 
-// How many calls have a status.
-pub(super) fn count<H: Place>(machine: &Machine<H>, status: Status) -> u32
-    requires { length machine.now.state.entries ≤ 65536 }
-    ensures { result ≡ count_by (has_status status) machine.now.state.entries }
+// What a machine leaves in which no call runs or waits.
+pub(super) fn closed<N: Name, H: Place + Drop>(machine: Machine<H>, room: Room) -> Closed
+    requires moment { IsMoment N.library N.records N.config N.places (opening_of H.place_of machine) machine.state }
+    requires none_runs { running_count machine.state ≡ 0 }
+    requires none_waits { waiting machine.state ≡ 0 }
+    requires room { room ≡ length N.records }
+    ensures ended { IsEnded (opening_of H.place_of machine) machine.state result }
+    ensures serial { IsSerial N.library N.records result }
 {
-    let mut count = 0;
-    for ticket in 0..machine.journal().len() as u32 {
-        let Some(found) = machine.state(Ticket(ticket)) else {
-            unreachable!()
-        };
-        if found == status {
-            count += 1;
-        }
-    }
-    count
+    let (words, journal) = machine.into_parts();
+    divided(words.as_slice(), journal, room)
 }
 
 // The words divided into the records' values and their pairs, with the journal.
-pub(super) fn closed(words: &[u64], journal: Vec<Line>, room: Room) -> Closed
+fn divided(words: &[u64], journal: Vec<Line>, room: Room) -> Closed
     requires long { length words.now ≡ 1 + 2 * room }
     ensures words { AreDivided room words.now result.records.items result.pairs.items }
     ensures journal { result.journal.items ≡ journal.items }

@@ -38,19 +38,21 @@ fn library(alloc: Global, records: u32) -> Result<Library, Fail>
     Ok(Library::new(records, procs)?)
 }
 
-// An opening over so many records that hold 0, by the hash that leaves their numbers as they are.
+// An opening over so many records that hold 0.
 pub(super) fn opening_of(
     alloc: Global,
     records: u32,
     config: Config,
+    hash: Placing,
     clients: u32,
 ) -> Result<Result<Opening<Placing>, OpenFault>, Fail> {
     let library = library(alloc, records)?;
     let values = vec![in alloc; 0; records as usize]?;
-    Ok(Opening::new(alloc, values, library, config, Placing::Modulo, clients))
+    Ok(Opening::new(alloc, values, library, config, hash, clients))
 }
 
-// An opening over so many records that hold 0, for so many calls of which so many may wait.
+// An opening over so many records that hold 0, for so many calls of which so many may wait, by the hash that leaves
+// the records' numbers as they are.
 pub(super) fn opening(
     alloc: Global,
     records: u32,
@@ -63,5 +65,5 @@ pub(super) fn opening(
         limit,
         bits: 64,
     };
-    Ok(opening_of(alloc, records, config, clients)??)
+    Ok(opening_of(alloc, records, config, Placing::Modulo, clients)??)
 }

@@ -1,6 +1,6 @@
 use Rattle.std.proofs.Common.{◌≤◌, vec_capacity}
 use Rattle.vll_queue.specs.Closed.{AreDivided}
-use Rattle.vll_queue.proofs.locked.close.closed.Given as goal
+use Rattle.vll_queue.proofs.locked.close.divided.Given as goal
 
 abbrev pub invariant-loop-r : goal.invariant-loop-r
 invariant-loop-r l =
