@@ -132,8 +132,8 @@ scripts_back scripts back h = same_lists (scripts_of back) scripts each
     own : (i : ℕ) (t : TokenShown) → slice_get back i ≡ Some t → slice_get scripts t.client ≡ Some t.script
     own i t is =
         let mine = all_at (IsOf (tokens_from 0 scripts)) back i t h.own is in
-        let old = tokens_at 0 scripts mine.place mine.old mine.at in
-        let place : mine.place ≡ t.client = sym (zero-add mine.place) ∙ sym old.0 ∙ sym mine.client in
+        let old = tokens_at 0 scripts mine.index mine.old mine.at in
+        let place : mine.index ≡ t.client = sym (zero-add mine.index) ∙ sym old.0 ∙ sym mine.client in
         subst (λ n. slice_get scripts n ≡ Some t.script) place (old.1 ∙ ap Some (sym mine.script))
 
     client_at : (i : ℕ) (t : TokenShown) → slice_get back i ≡ Some t → slice_index (clients_of back) i ≡ t.client

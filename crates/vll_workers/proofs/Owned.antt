@@ -21,7 +21,7 @@ at_index P xs i x is all = subst (λ o. IfSome o P) is (if_got P xs i all)
 -- the token that was handed in fits
 old_fits : (library : Catalog) (clients : ℕ) (handed : List TokenShown) (t : TokenShown) → AreFit library clients handed → (own : IsOf handed t)
     → (own.old.client < clients) × All (Fits library) own.old.script
-old_fits library clients handed t fit own = at_index (λ (u : TokenShown). (u.client < clients) × All (Fits library) u.script) handed own.place own.old own.at fit
+old_fits library clients handed t fit own = at_index (λ (u : TokenShown). (u.client < clients) × All (Fits library) u.script) handed own.index own.old own.at fit
 
 -- the token's client is one of the engine's
 pub client_fits : (library : Catalog) (clients : ℕ) (handed : List TokenShown) (t : TokenShown) → AreFit library clients handed → IsOf handed t → t.client < clients

@@ -1,3 +1,3 @@
 pub mod Shown
 pub mod Tokens
-pub mod Begin
+pub mod Private

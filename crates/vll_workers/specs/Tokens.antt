@@ -11,9 +11,9 @@ AreFit library clients tokens = All (λ (t : TokenShown). (t.client < clients) �
 
 -- a token of those that were handed in: its client's, with its script, and no fewer calls have entered
 pub record IsOf (handed : List TokenShown) (t : TokenShown) : Type 0 where
-  pub place : ℕ
+  pub index : ℕ
   pub old : TokenShown
-  pub at : slice_get handed place ≡ Some old
+  pub at : slice_get handed index ≡ Some old
   pub client : t.client ≡ old.client
   pub script : t.script ≡ old.script
   pub on : old.next ≤ t.next

@@ -1,19 +1,21 @@
+ghost use Rattle.std.specs.Prelude.{◌≡◌};
+
 use crate::token::Token;
 use thiserror::Error;
 
 /// Why a run did not end well.
 #[derive(Clone, Copy, PartialEq, Eq, Debug, Error)]
 pub enum RunFault {
-    /// Memory was refused. No call has entered.
+    /// For want of memory the run did not begin: the tokens are as they came.
     #[error("no memory")]
     NoMemory,
-    /// No worker could be started. No call has entered.
+    /// No worker could be started: the tokens are as they came.
     #[error("spawn")]
     Spawn,
-    /// The engine took no more calls, so that some have not entered.
+    /// The engine took no more calls, so that some have not entered. All tokens are back.
     #[error("spent")]
     Spent,
-    /// A pass was lost, or a client's token is missing or stands twice.
+    /// A pass was lost, or a client's token is missing at the end.
     #[error("lost")]
     Lost,
 }
@@ -23,4 +25,13 @@ pub enum RunFault {
 pub struct RunError {
     pub fault: RunFault,
     pub tokens: Vec<Token>,
+}
+
+impl RunError {
+    pub(crate) fn new(fault: RunFault, tokens: Vec<Token>) -> RunError
+        ensures fault { result.fault ≡ fault }
+        ensures tokens { result.tokens ≡ tokens }
+    {
+        RunError { fault, tokens }
+    }
 }

@@ -1,18 +1,18 @@
 //! Worker threads: they enter the calls of the clients' scripts in an engine, and bring them to their replies.
 #![tactic(auto)]
 
-mod crew;
 mod fault;
 mod gate;
-mod kept;
 mod pool;
+mod roster;
 mod running;
 #[cfg(test)]
 mod tests;
 mod token;
 mod work;
+mod worker;
 
 pub use fault::{RunError, RunFault};
 pub use gate::{Gate, OpenGate};
-pub use running::run;
+pub use running::{MOST_WORKERS, run};
 pub use token::Token;

@@ -3,7 +3,7 @@ ghost use Rattle.std.specs.List.{IsDistinct};
 ghost use Rattle.vll_workers.specs.Tokens.{AreFit, AreBack, IsThrough, clients_of};
 ghost use Rattle.vll_workers.specs.declared.fault.RunFault.TheVariants as RunFault;
 
-use crate::fault::{RunError, RunFault};
+use crate::fault::RunError;
 use crate::gate::Gate;
 use crate::token::Token;
 use std::alloc::Global;
@@ -13,9 +13,13 @@ use std::thread::Threads;
 use vll_queue::{Engine, Name};
 use vll_sca::Place;
 
-mod crewed;
-mod settle;
+mod ending;
+mod named;
+mod room;
 mod start;
+
+/// The most worker threads of a run.
+pub const MOST_WORKERS: u32 = 64;
 
 /// Enters every call of the tokens' scripts in the engine, each script in its order, and brings them to their
 /// replies, by so many worker threads, 1 to 64. The tokens are of distinct clients of this engine. It waits until the
@@ -23,13 +27,12 @@ mod start;
 /// elsewhere is left, with those that wait for it.
 ///
 /// The tokens come back in rising order of their clients, each with `next` the length of its script. The memory that
-/// is needed is taken before the first thread is started. Where some threads cannot be started the others do the
-/// work; where there are no tokens none is started.
+/// is needed is taken before the first thread is started. If some threads cannot be started the others do the work;
+/// if there are no tokens none is started.
 ///
-/// `NoMemory` and `Spawn`, where no thread could be started, hand the tokens back as they came: no call has entered.
-/// `Spent` is answered after all has ended where the engine took no more calls, and hands all tokens back in rising
-/// order. `Lost`, with the tokens that were found, is answered before it, if a pass was lost or a client's token is
-/// missing at the end.
+/// `NoMemory`, and `Spawn` if no thread could be started, hand the tokens back as they came. `Spent` is returned
+/// after all has ended if the engine took no more calls, and hands all tokens back in rising order. `Lost`, with the
+/// tokens that were found, is returned before it, if a pass was lost or a client's token is missing at the end.
 pub fn run<
     N: Name + Send + Sync,
     H: Place + Send + Sync + Drop,
@@ -45,7 +48,7 @@ pub fn run<
     workers: u32,
     gate: &G,
 ) -> Result<Vec<Token>, RunError>
-    requires workers { (1 ≤ workers) × (workers ≤ 64) }
+    requires workers { (1 ≤ workers) × (workers ≤ MOST_WORKERS) }
     requires fit { AreFit N.library N.clients tokens.items }
     requires distinct { IsDistinct nat_eq (clients_of tokens.items) }
     ensures ok { IfOk result (λ back. AreBack tokens.items back.items × All IsThrough back.items) }
@@ -57,5 +60,5 @@ pub fn run<
     if tokens.is_empty() {
         return Ok(tokens);
     }
-    crewed::run_crew::<N, H, Brand, R, W, G>(rt, wait, alloc, engine, tokens, workers, gate)
+    named::run_named::<N, H, Brand, R, W, G>(rt, wait, alloc, engine, tokens, workers, gate)
 }

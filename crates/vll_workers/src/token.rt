@@ -1,7 +1,7 @@
 ghost use Rattle.std.specs.Prelude.{◌≡◌, ◌<◌, ◌≤◌, ◌==◌, ◌^◌, All, IfSome, IfNone, Some, length, slice_get};
 ghost use Rattle.vll_check.specs.Calls.{Fits};
 ghost use Rattle.vll_workers.specs.Shown.{token};
-ghost use Rattle.vll_workers.specs.Begin.{begun_token};
+ghost use Rattle.vll_workers.specs.Private.Begin.{begun_token};
 ghost use Rattle.vll_workers.specs.Tokens.{IsThrough};
 
 use std::marker::Model;

@@ -1,70 +1,94 @@
 ghost use Rattle.std.specs.Prelude.{◌≡◌, false, IfErr, length};
 ghost use Rattle.vll_workers.specs.Tokens.{AreFit};
 
-use crate::crew::Crew;
 use crate::gate::Gate;
-use crate::kept::Kept;
 use crate::pool::Pool;
+use crate::roster::Roster;
 use crate::token::Token;
-use crate::work::work;
-use std::sync::{Mutex, MutexGuard, Wait};
+use crate::work::Work;
+use crate::worker::Worker;
+use std::sync::{MutexGuard, Wait};
 use std::thread::{Scope, Threads};
-use vll_queue::{Engine, Name};
+use vll_queue::Name;
 use vll_sca::Place;
 
-// Starts a worker for each place to keep tokens, opens the pool with the tokens once all starts were tried, and joins
-// the workers. Where none is started the tokens are handed back.
+// What stands ready before the workers start: the workers, the calling thread's own, and the tokens.
+#[derive(Drop)]
+pub(super) struct Ready<T: Roster> {
+    pub(super) workers: Vec<Worker<T>>,
+    pub(super) own: Worker<T>,
+    pub(super) tokens: Vec<Token>,
+}
+
+// Starts each worker, opens the pool with the tokens once all starts were tried, and joins the workers. If none is
+// started the tokens are handed back.
 pub(super) fn start<
     's,
     E,
     N: Name + Send + Sync,
     H: Place + Send + Sync + Drop,
-    C: Crew + Send,
+    T: Roster + Send,
     R: Threads,
     W: Wait + Sync,
     G: Gate + Sync,
 >(
     scope: &Scope<'s, E>,
     rt: &R,
-    wait: &'s W,
-    engine: &'s Engine<N, H>,
-    pool: &'s Mutex<Pool<C>>,
-    closed: MutexGuard<'_, Pool<C>>,
-    gate: &'s G,
-    workers: Vec<Kept<C>>,
+    work: Work<'s, N, H, T, W, G>,
+    closed: MutexGuard<'_, Pool<T>>,
+    ready: Ready<T>,
     is_started: bool,
-    kept: Kept<C>,
-    tokens: Vec<Token>,
-) -> Result<Kept<C>, Vec<Token>>
-    requires crew { C.tokens ≡ tokens.items }
-    requires fit { AreFit N.library N.clients C.tokens }
-    ensures tokens { IfErr result (λ t. t ≡ tokens) }
+) -> Result<Worker<T>, Vec<Token>>
+    requires roster { T.tokens ≡ ready.tokens.items }
+    requires fit { AreFit N.library N.clients T.tokens }
+    ensures tokens { IfErr result (λ t. t ≡ ready.tokens) }
     ensures none { IfErr result (λ _. is_started ≡ false) }
 {
-    let mut workers = workers;
+    let Ready {
+        mut workers,
+        own,
+        tokens,
+    } = ready;
     let mut closed = closed;
-    let Some(room) = workers.pop() else {
+    let Some(next) = workers.pop() else {
         if !is_started {
             return Err(tokens);
         }
         closed.fill(tokens);
-        return Ok(kept);
+        return Ok(own);
     };
-    let worker = scope.spawn(
+    let ready = Ready {
+        workers,
+        own,
+        tokens,
+    };
+    // The thread is handed the references one by one: a reference may go to another thread if what it refers to may
+    // be shared.
+    let Work {
+        wait,
+        engine,
+        pool,
+        gate,
+    } = work;
+    let thread = scope.spawn(
         move ||
-            requires { AreFit N.library N.clients C.tokens }
-        { work(wait, engine, pool, gate, room) },
+            requires { AreFit N.library N.clients T.tokens }
+        {
+            let work = Work {
+                wait,
+                engine,
+                pool,
+                gate,
+            };
+            work.run(next)
+        },
     );
-    match worker {
-        Ok(worker) => {
-            let mut kept = start(
-                scope, rt, wait, engine, pool, closed, gate, workers, true, kept, tokens,
-            )?;
-            kept.gather(worker.join(rt));
-            Ok(kept)
+    match thread {
+        Ok(thread) => {
+            let mut own = start(scope, rt, work, closed, ready, true)?;
+            own.gather(thread.join(rt));
+            Ok(own)
         }
-        Err(_) => start(
-            scope, rt, wait, engine, pool, closed, gate, workers, is_started, kept, tokens,
-        ),
+        Err(_) => start(scope, rt, work, closed, ready, is_started),
     }
 }

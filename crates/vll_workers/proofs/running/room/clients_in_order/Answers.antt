@@ -3,7 +3,7 @@ use Rattle.std.specs.List.{IsDistinct}
 use Rattle.std.proofs.lemmas.List.{take_all}
 use Rattle.vll_workers.specs.Tokens.{clients_of}
 use Rattle.vll_workers.proofs.Distinct.{rising}
-use Rattle.vll_workers.proofs.running.crewed.clients_in_order.Goals as goal
+use Rattle.vll_workers.proofs.running.room.clients_in_order.Goals as goal
 
 pub returns-clause-rising : goal.returns-clause-rising
 returns-clause-rising c =

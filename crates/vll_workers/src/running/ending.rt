@@ -1,35 +1,32 @@
-ghost use Rattle.std.specs.Prelude.{◌≡◌, All, IfOk, IfErr, IsTrue, IsFalse, IsPermutation, MatchBool};
+ghost use Rattle.std.specs.Prelude.{◌≡◌, All, IfOk, IfErr, IsTrue, IsPermutation, MatchBool};
 ghost use Rattle.std.specs.List.Sorted.{IsStrictlyIncreasing};
 ghost use Rattle.vll_workers.specs.Tokens.{AreBack, IsThrough, clients_of};
 ghost use Rattle.vll_workers.specs.declared.fault.RunFault.TheVariants as RunFault;
 
-use crate::crew::Crew;
 use crate::fault::{RunError, RunFault};
-use crate::kept::Kept;
+use crate::roster::Roster;
 use crate::token::Token;
+use crate::worker::Worker;
 
 // What came of a run whose tokens have these clients, in rising order.
-pub(super) fn settle<C: Crew>(kept: Kept<C>, clients: &[u32]) -> Result<Vec<Token>, RunError>
-    requires same { IsPermutation (clients_of C.tokens) clients.now }
+pub(super) fn outcome_of<T: Roster>(
+    worker: Worker<T>,
+    clients: &[u32],
+) -> Result<Vec<Token>, RunError>
+    requires same { IsPermutation (clients_of T.tokens) clients.now }
     requires rising { IsStrictlyIncreasing clients.now }
-    ensures ok { IfOk result (λ back. AreBack C.tokens back.items × All IsThrough back.items) }
-    ensures spent { IfErr result (λ e. e.fault ≡ RunFault.Spent → AreBack C.tokens e.tokens.items × (¬
+    ensures ok { IfOk result (λ back. AreBack T.tokens back.items × All IsThrough back.items) }
+    ensures spent { IfErr result (λ e. e.fault ≡ RunFault.Spent → AreBack T.tokens e.tokens.items × (¬
         All IsThrough e.tokens.items)) }
     ensures not_begun { IfErr result (λ e. (¬ (e.fault ≡ RunFault.NoMemory)) × (¬ (e.fault ≡ RunFault.Spawn))) }
 {
-    let (mut tokens, lost) = kept.into_parts();
+    let (mut tokens, has_lost) = worker.into_parts();
     tokens.sort_unstable_by_key(|token| token.client());
-    if lost || !are_of(tokens.as_slice(), clients) {
-        return Err(RunError {
-            fault: RunFault::Lost,
-            tokens,
-        });
+    if has_lost || !are_of(tokens.as_slice(), clients) {
+        return Err(RunError::new(RunFault::Lost, tokens));
     }
     if !are_through(tokens.as_slice()) {
-        return Err(RunError {
-            fault: RunFault::Spent,
-            tokens,
-        });
+        return Err(RunError::new(RunFault::Spent, tokens));
     }
     Ok(tokens)
 }

@@ -1,6 +1,6 @@
 use Rattle.std.proofs.Common.{◌≡◌, ◌≤◌, take, length, vec_capacity, vec_len}
 use Rattle.vll_workers.specs.Tokens.{clients_of}
-use Rattle.vll_workers.proofs.running.crewed.clients_in_order.Given as goal
+use Rattle.vll_workers.proofs.running.room.clients_in_order.Given as goal
 
 abbrev pub invariant-loop-token : goal.invariant-loop-token
 invariant-loop-token l = record {

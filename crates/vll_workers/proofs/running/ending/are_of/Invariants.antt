@@ -1,6 +1,6 @@
 use Rattle.std.proofs.Common.{◌≡◌, take, length}
 use Rattle.vll_workers.specs.Tokens.{clients_of}
-use Rattle.vll_workers.proofs.running.settle.are_of.Given as goal
+use Rattle.vll_workers.proofs.running.ending.are_of.Given as goal
 
 abbrev pub invariant-loop-i : goal.invariant-loop-i
 invariant-loop-i l = record {

@@ -1,0 +1,2 @@
+-- What private contracts cite: no contract of an exported item does.
+pub mod Begin

@@ -1,0 +1,104 @@
+ghost use Rattle.std.specs.Prelude.{◌≡◌, All, IfOk, IfErr, nat_eq};
+ghost use Rattle.std.specs.List.{IsDistinct};
+ghost use Rattle.vll_workers.specs.Tokens.{AreFit, AreBack, IsThrough, clients_of};
+ghost use Rattle.vll_workers.specs.declared.fault.RunFault.TheVariants as RunFault;
+
+use super::ending::outcome_of;
+use super::room::{Room, room_for};
+use super::start::{Ready, start};
+use crate::fault::{RunError, RunFault};
+use crate::gate::Gate;
+use crate::pool::Pool;
+use crate::roster::Roster;
+use crate::token::Token;
+use crate::work::Work;
+use crate::worker::Worker;
+use std::alloc::{AllocError, Global};
+use std::sync::{Mutex, Wait};
+use std::thread;
+use std::thread::Threads;
+use vll_queue::{Engine, Name};
+use vll_sca::Place;
+
+// The run of tokens that have a name.
+pub(super) fn run_named<
+    'a,
+    N: Name + Send + Sync,
+    H: Place + Send + Sync + Drop,
+    T: Roster + Send,
+    R: Threads + Wait + Sync,
+    W: Wait + Sync,
+    G: Gate + Sync,
+>(
+    rt: &R,
+    wait: &'a W,
+    alloc: Global,
+    engine: &'a Engine<N, H>,
+    tokens: Vec<Token>,
+    workers: u32,
+    gate: &'a G,
+) -> Result<Vec<Token>, RunError>
+    requires roster { T.tokens ≡ tokens.items }
+    requires fit { AreFit N.library N.clients tokens.items }
+    requires distinct { IsDistinct nat_eq (clients_of tokens.items) }
+    ensures ok { IfOk result (λ back. AreBack tokens.items back.items × All IsThrough back.items) }
+    ensures no_memory { IfErr result (λ e. e.fault ≡ RunFault.NoMemory → e.tokens ≡ tokens) }
+    ensures spawn { IfErr result (λ e. e.fault ≡ RunFault.Spawn → e.tokens ≡ tokens) }
+    ensures spent { IfErr result (λ e. e.fault ≡ RunFault.Spent → AreBack tokens.items e.tokens.items × (¬
+        All IsThrough e.tokens.items)) }
+{
+    let room = match room_for::<T>(alloc, tokens.as_slice(), workers) {
+        Ok(room) => room,
+        Err(AllocError) => return Err(RunError::new(RunFault::NoMemory, tokens)),
+    };
+    let Room {
+        workers,
+        own,
+        clients,
+    } = room;
+    let pool: Mutex<Pool<T>> = Mutex::new(Pool::new(alloc));
+    let ready = Ready {
+        workers,
+        own,
+        tokens,
+    };
+    let work = Work {
+        wait,
+        engine,
+        pool: &pool,
+        gate,
+    };
+    match work_through(rt, work, ready) {
+        Ok(worker) => outcome_of(worker, clients.as_slice()),
+        Err(tokens) => Err(RunError::new(RunFault::Spawn, tokens)),
+    }
+}
+
+// Has the tokens' calls made by the workers, and waits until they have ended. If none can be started the tokens are
+// handed back.
+fn work_through<
+    'a,
+    N: Name + Send + Sync,
+    H: Place + Send + Sync + Drop,
+    T: Roster + Send,
+    R: Threads + Wait + Sync,
+    W: Wait + Sync,
+    G: Gate + Sync,
+>(rt: &R, work: Work<'a, N, H, T, W, G>, ready: Ready<T>) -> Result<Worker<T>, Vec<Token>>
+    requires roster { T.tokens ≡ ready.tokens.items }
+    requires fit { AreFit N.library N.clients T.tokens }
+    ensures { IfErr result (λ t. t ≡ ready.tokens) }
+{
+    // The workers find the pool locked until all of them are started.
+    let closed = work.pool.lock(work.wait);
+    let worker = thread::scope(
+        thread::scope_env(),
+        rt,
+        move |scope| -> Result<Worker<T>, Vec<Token>>
+            requires roster { T.tokens ≡ ready.tokens.items }
+            requires fit { AreFit N.library N.clients T.tokens }
+            ensures { IfErr result (λ t. t ≡ ready.tokens) }
+        { start(scope, rt, work, closed, ready, false) },
+    )?;
+    Ok(work.run_until_empty(worker))
+}
