@@ -6,7 +6,7 @@ use std::alloc::Global;
 use std::sync::Wait;
 use std::thread::Threads;
 use vll_server::{Scenario, ServeFault, Sink, serve};
-use vll_workers::Gate;
+use vll_workers::{Gate, MOST_WORKERS};
 
 /// Has a scenario's scripts run as the options say, and writes the outcome. The gate is told of each call that is
 /// executed.
@@ -29,7 +29,7 @@ fn chosen(scenario: Scenario, options: RunOptions) -> (Scenario, u32)
     ensures scenario { result.0 ≡ record scenario { config = record scenario.config {
         cap = unwrap_or options.cap scenario.config.cap; bits = unwrap_or options.bits scenario.config.bits } } }
     ensures workers { result.1 ≡ options.workers }
-    ensures within { (1 ≤ result.1) × (result.1 ≤ 64) }
+    ensures within { (1 ≤ result.1) × (result.1 ≤ MOST_WORKERS) }
 {
     let scenario = match options.cap {
         Some(cap) => scenario.with_cap(cap.get()),

@@ -15,7 +15,7 @@ use vll_proc::Call;
 use vll_queue::{Name, Opening};
 use vll_sca::Placing;
 use vll_server::{MOST_CLIENTS, Plain, read_scenario};
-use vll_workers::{OpenGate, RunError, run};
+use vll_workers::{MOST_WORKERS, OpenGate, RunError, run};
 
 /// Runs the scenario on standard input by so many worker threads, as often as `rounds` says, and prints how many
 /// nanoseconds each run takes, without its reading and without what follows it.
@@ -24,7 +24,7 @@ pub(crate) fn measure_runs<R: Threads + Wait + Clock + Input + Print + AllocGlob
     workers: u32,
     rounds: u32,
 ) -> Result<(), Fault>
-    requires { (1 ≤ workers) × (workers ≤ 64) }
+    requires { (1 ≤ workers) × (workers ≤ MOST_WORKERS) }
 {
     let mut bytes = Vec::new(rt.alloc());
     rt.reader().read_to_end(&mut bytes)?;
@@ -45,7 +45,7 @@ fn time_of<N: Name + Send + Sync, R: Threads + Wait + Clock + Sync>(
     scripts: Vec<Vec<Call>>,
     workers: u32,
 ) -> Result<Duration, Fault>
-    requires workers { (1 ≤ workers) × (workers ≤ 64) }
+    requires workers { (1 ≤ workers) × (workers ≤ MOST_WORKERS) }
     requires opening { IsNamed placing N.library N.records N.config N.places N.clients opening }
     requires clients { N.clients ≡ length scripts.items }
     requires few { length scripts.items ≤ MOST_CLIENTS }

@@ -7,7 +7,7 @@ ghost use Rattle.vll_server.specs.Serve.{tokens_from};
 
 use crate::fault::Fault;
 use std::alloc::{AllocError, Global};
-use vll_core::Config;
+use vll_core::{Config, MOST_CALLS};
 use vll_proc::Call;
 use vll_queue::{Opening, Session};
 use vll_sca::Placing;
@@ -67,7 +67,7 @@ pub(crate) fn tokens(
 
 // How many calls all scripts have together.
 fn number_of_calls(scripts: &[Vec<Call>]) -> u32
-    requires { sum_by length (lists_of scripts.now) ≤ 65536 }
+    requires { sum_by length (lists_of scripts.now) ≤ MOST_CALLS }
 {
     let mut count = 0;
     for script in scripts {

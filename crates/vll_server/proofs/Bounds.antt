@@ -1,5 +1,5 @@
 -- The limits of a scenario, one by one, and that a machine can be opened within them.
-use Rattle.std.proofs.Common.{◌≡◌, ◌∙◌, ap, ap₂, ℕ, ◌≤◌, ◌<◌, ◌^◌, Bool, true, false, ◌&&◌, nat_le, List, [], ◌∷◌, length, Option, Some, None, is_none, refl, arith, if◌then◌else◌}
+use Rattle.std.proofs.Common.{◌≡◌, ◌∙◌, ap, ap₂, ℕ, ◌≤◌, ◌<◌, ◌^◌, Bool, true, false, ◌&&◌, nat_le, List, [], ◌∷◌, length, Option, Some, None, is_some, refl, sym, arith, if◌then◌else◌}
 use Rattle.std.specs.Prelude.{sum_by}
 use Rattle.std.specs.Global.{Vec}
 use Rattle.std.specs.List.{All}
@@ -74,10 +74,10 @@ opens_with_limit records config limit h some few =
     let old = allowed config (openable records config h).config_is in
     reopens records config (record config { limit = limit }) h (record { limit = record { some = some; few = few }; cap = old.cap; bits = old.bits })
 
--- no fault is there
-pub none_is : {A : Type 0} (o : Option A) → is_none o ≡ true → o ≡ None
-none_is None h = refl
-none_is (Some a) h = absurd (false≢true h)
+-- nothing is there
+pub none_there : {A : Type 0} (o : Option A) → is_some o ≡ false → o ≡ None
+none_there None h = refl
+none_there (Some a) h = absurd (false≢true (sym h))
 
 -- ---- scripts
 

@@ -146,7 +146,7 @@ pub enum ServeFault {
     /// After the run calls were left in the engine, so many running and so many waiting.
     #[error("unfinished {running} {waiting}")]
     Unfinished { running: u32, waiting: u32 },
-    /// Memory was refused outside the workers' run.
+    /// Memory was wanting outside the workers' run.
     #[error("no memory")]
     NoMemory,
     /// The outcome was not written whole.
@@ -174,7 +174,7 @@ pub enum ReplayFault {
     /// There is no scenario to replay. Nothing has been written.
     #[error("scenario: {0}")]
     Scenario(ScenarioFault),
-    /// Memory was refused after the scenario was read. Nothing has been written.
+    /// Memory was wanting after the scenario was read. Nothing has been written.
     #[error("replay: no memory")]
     NoMemory,
     /// The text was not written whole.

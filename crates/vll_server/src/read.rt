@@ -20,8 +20,8 @@ use std::alloc::Global;
 ///
 /// The reader is read until it gives no more bytes; once more than `MOST_BYTES` have come it is read no further.
 /// Of several faults the first is answered, in the order that `ScenarioFault` tells. `Read` comes exactly
-/// where the reader has failed, and `NoMemory` only where an allocation was refused; after each of the
-/// others, and after `Ok`, the answer is that of the bytes that came.
+/// if the reader has failed. `NoMemory` is for want of memory, and can come in the place of any answer but
+/// `Read`. Each other answer, `Ok` among them, is that of the bytes that came.
 pub fn read_scenario<S: Source>(alloc: Global, reader: &mut S) -> Result<Scenario, ScenarioFault>
     requires { S.failed reader.old ≡ false }
     ensures answer { Reads scenario_at (S.remaining reader.old) (S.remaining reader.new) result }

@@ -26,9 +26,8 @@ use vll_sca::Placing;
 /// each entered call, and one for each record. docs/SCENARIO.md describes the text.
 ///
 /// The text is made whole before its first byte is written. After `Scenario` and `NoMemory` nothing has been
-/// written, and after `Write` a beginning of the text. `Scenario` is what `read_scenario` answers, `NoMemory`
-/// comes only where an allocation was refused after a scenario was read, and `Write` exactly where the writer has
-/// failed.
+/// written, and after `Write` a beginning of the text. `Scenario` is what `read_scenario` answers, `NoMemory` is for
+/// want of memory once a scenario was read, and `Write` comes exactly if the writer has failed.
 pub fn replay<S: Source, W: Sink>(
     alloc: Global,
     reader: &mut S,

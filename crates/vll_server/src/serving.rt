@@ -27,9 +27,9 @@ use vll_core::{Config, MOST_CALLS, OpenFault};
 use vll_proc::Call;
 use vll_queue::{Closed, Name, NotClosed, Opening};
 use vll_sca::Placing;
-use vll_workers::{Gate, RunError, Token};
+use vll_workers::{Gate, MOST_WORKERS, RunError, Token};
 
-/// Has a scenario's scripts run by so many worker threads, 1 to 64, and writes the text of the outcome: a line for
+/// Has a scenario's scripts run by so many worker threads, 1 to `MOST_WORKERS` of `vll_workers`, and writes the text of the outcome: a line for
 /// each call in the order in which the calls entered, and then one for each record. The gate is told of each call that
 /// is executed. The scenario's cap, bits and hash are the engine's; its limit and its schedule are not read, since the
 /// engine takes as many calls as the scripts have.
@@ -50,7 +50,7 @@ pub fn serve<R: Threads + Wait + Sync, W: Wait + Sync, G: Gate + Sync, S: Sink>(
     gate: &G,
     writer: &mut S,
 ) -> Result<(), ServeFault>
-    requires workers { (1 ≤ workers) × (workers ≤ 64) }
+    requires workers { (1 ≤ workers) × (workers ≤ MOST_WORKERS) }
     requires writer { S.failed writer.old ≡ false }
     ensures ok { OnOk result (Serves scenario (Appends (S.contents writer.old) (S.contents writer.new))) }
     ensures write { result ≡ Err ServeFault.Write
@@ -75,7 +75,7 @@ fn run<R: Threads + Wait + Sync, W: Wait + Sync, G: Gate + Sync>(
     workers: u32,
     gate: &G,
 ) -> Result<Closed, ServeFault>
-    requires { (1 ≤ workers) × (workers ≤ 64) }
+    requires { (1 ≤ workers) × (workers ≤ MOST_WORKERS) }
     ensures closed { IfOk result (λ closed. Serves scenario (λ text. closed_text closed ≡ text)) }
     ensures before { ¬ (result ≡ Err ServeFault.Write) }
 {
@@ -146,7 +146,7 @@ fn run_named<N: Name + Send + Sync, R: Threads + Wait + Sync, W: Wait + Sync, G:
     workers: u32,
     gate: &G,
 ) -> Result<Closed, ServeFault>
-    requires workers { (1 ≤ workers) × (workers ≤ 64) }
+    requires workers { (1 ≤ workers) × (workers ≤ MOST_WORKERS) }
     requires opening { IsNamed placing N.library N.records N.config N.places N.clients opening }
     requires clients { N.clients ≡ length scripts.items }
     requires few { length scripts.items ≤ MOST_CLIENTS }

@@ -2,11 +2,12 @@ use Rattle.std.proofs.Common.{◌≡◌, ◌∙◌, ℕ, Ok, true, ap, ap₂, sy
 use Rattle.std.specs.List.{All}
 use Rattle.vll_check.specs.Calls.{Fits}
 use Rattle.vll_check.specs.Catalog.{Catalog}
+use Rattle.vll_core.specs.Faults.{open_fault}
 use Rattle.vll_server.specs.Kept.{lists_of}
 use Rattle.vll_server.specs.Scenario.{scripts_made}
 use Rattle.vll_server.specs.Setup.{has_sizes}
 use Rattle.vll_server.proofs.Fitting.{scripts_fit, scripts_sizes}
-use Rattle.vll_server.proofs.Bounds.{none_is, sizes_say}
+use Rattle.vll_server.proofs.Bounds.{none_there, sizes_say}
 use Rattle.vll_server.proofs.setup.setup_of.Goals as goal
 
 pub invariant_of-result : goal.invariant_of-result
@@ -25,7 +26,7 @@ invariant_of-result c =
       setup = record {
         sizes = sizes_say library.procs made parts.schedule
             (scripts_sizes library.procs parts.schedule library parts.scripts made scripts ∙ ap (λ ps. has_sizes ps parts.scripts parts.schedule) procs ∙ sizes);
-        openable = ?;
+        openable = ap (λ (n : ℕ). open_fault n c.config_of-config.result) (ap length kept ∙ sym c.len.ensures) ∙ sym c.open_fault.ensures ∙ none_there c.open_fault.result (sym c.is_some.ensures ∙ c.if-is_some.false);
         fits = subst (λ (n : ℕ). All (λ script. All (Fits (record { records = n; procs = library.procs })) script) made) as_many (scripts_fit library parts.scripts made scripts);
       };
     }
