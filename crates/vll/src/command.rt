@@ -3,6 +3,9 @@ use crate::options::{RunOptions, UpTo};
 use clap::error::ErrorKind;
 use clap::{Arg, ArgMatches, Command, Error, value_parser};
 use std::alloc::Global;
+use vll_core::MOST_WAITING;
+use vll_sca::MOST_BITS;
+use vll_workers::MOST_WORKERS;
 
 /// What the command line asks for.
 #[derive(Debug, Drop)]
@@ -62,9 +65,9 @@ fn matches_of<'a>(alloc: Global, words: &'a [String]) -> Result<ArgMatches<'a>, 
     let run = Command::new(alloc, "run")
         .about("Runs the scenario on standard input and prints its outcome")
         .after_help(RUN_EXAMPLES)
-        .arg(number::<64>(alloc, "workers", WORKERS).default_value("4"))?
-        .arg(number::<65_536>(alloc, "cap", CAP))?
-        .arg(number::<1_048_576>(alloc, "bits", BITS))?;
+        .arg(number::<MOST_WORKERS>(alloc, "workers", WORKERS).default_value("4"))?
+        .arg(number::<MOST_WAITING>(alloc, "cap", CAP))?
+        .arg(number::<MOST_BITS>(alloc, "bits", BITS))?;
     let replay = Command::new(alloc, "replay")
         .about(
             "Takes the steps of the schedule of the scenario on standard input, and prints what each answers",

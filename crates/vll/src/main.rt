@@ -5,16 +5,18 @@
 mod command;
 mod fault;
 mod options;
+mod serving;
 
 use crate::command::{Action, action_of};
 use crate::fault::Fault;
 use crate::options::RunOptions;
+use crate::serving::serve_as;
 use std::process::ExitCode;
 use std::rt::Env;
 use std::sync::Wait;
 use std::thread::Threads;
 use std::{env, io};
-use vll_server::{Plain, Scenario, read_scenario, replay, serve};
+use vll_server::{Plain, read_scenario, replay};
 use vll_workers::OpenGate;
 
 fn main(rt: HostRuntime) -> ExitCode {
@@ -51,31 +53,10 @@ fn run<R: Input + Print + AllocGlobal + Threads + Wait + Sync>(
     options: RunOptions,
 ) -> Result<(), Fault> {
     let mut reader = Plain::new(rt.reader());
-    let scenario = chosen(read_scenario(rt.alloc(), &mut reader)?, options);
+    let scenario = read_scenario(rt.alloc(), &mut reader)?;
     let mut writer = Plain::new(io::writer(rt));
-    let workers = options.workers.get();
-    serve(
-        rt,
-        rt,
-        rt.alloc(),
-        scenario,
-        workers,
-        &OpenGate,
-        &mut writer,
-    )?;
+    serve_as(rt, rt.alloc(), scenario, options, &OpenGate, &mut writer)?;
     Ok(())
-}
-
-// The scenario with the cap and the number of bits that the options give.
-fn chosen(scenario: Scenario, options: RunOptions) -> Scenario {
-    let scenario = match options.cap {
-        Some(cap) => scenario.with_cap(cap.get()),
-        None => scenario,
-    };
-    match options.bits {
-        Some(bits) => scenario.with_bits(bits.get()),
-        None => scenario,
-    }
 }
 
 fn replay_schedule(rt: &(impl Input + Print + AllocGlobal)) -> Result<(), Fault> {

@@ -1,6 +1,9 @@
 ghost use Rattle.std.specs.Prelude.{◌≡◌, ◌↔◌, ◌≤◌, ℕ, IfSome, IsSome};
 
 use std::marker::Model;
+use vll_core::MOST_WAITING;
+use vll_sca::MOST_BITS;
+use vll_workers::MOST_WORKERS;
 
 /// How `vll run` runs a scenario.
 #[derive(Clone, Copy, Debug)]
@@ -13,14 +16,14 @@ pub(crate) struct RunOptions {
     pub(crate) bits: Option<Bits>,
 }
 
-/// A number of worker threads, 1 to 64.
-pub(crate) type Workers = UpTo<64>;
+/// A number of worker threads.
+pub(crate) type Workers = UpTo<MOST_WORKERS>;
 
-/// A number of calls that may wait at a time, 1 to 65,536.
-pub(crate) type Cap = UpTo<65_536>;
+/// A number of calls that may wait at a time.
+pub(crate) type Cap = UpTo<MOST_WAITING>;
 
-/// A number of places for the contention analysis, 1 to 1,048,576.
-pub(crate) type Bits = UpTo<1_048_576>;
+/// A number of places for the contention analysis.
+pub(crate) type Bits = UpTo<MOST_BITS>;
 
 /// A whole number from 1 to `MOST`.
 #[derive(Clone, Copy, Debug)]

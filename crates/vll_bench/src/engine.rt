@@ -9,12 +9,13 @@ use std::marker::Brand;
 use std::sync::Wait;
 use std::time::{CpuClock, Duration};
 use vll_check::{CallFault, Library};
+use vll_core::MOST_CALLS;
 use vll_proc::Call;
 use vll_queue::{Begun, Engine, Name, Opening, Session};
 use vll_sca::Placing;
 
 // How many calls are made one after the other.
-const CALLS: u32 = 65_536;
+const CALLS: u32 = MOST_CALLS;
 
 // How often they are made. The fastest counts, since other work disturbs the others.
 const REPEATS: u32 = 5;

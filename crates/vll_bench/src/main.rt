@@ -5,6 +5,7 @@ mod engine;
 mod events;
 mod fault;
 mod runs;
+mod scripts;
 mod setup;
 mod task;
 mod workload;
@@ -15,6 +16,7 @@ use crate::fault::Fault;
 use crate::runs::measure_runs;
 use crate::task::{Task, task_of};
 use std::env;
+use vll_workers::MOST_WORKERS;
 
 const USAGE: &str = "usage: vll_bench events
        vll_bench engine
@@ -30,7 +32,7 @@ fn main(rt: HostRuntime) -> Result<(), Fault> {
     match task_of(words.as_slice()) {
         Task::Events => measure_events(&rt),
         Task::Engine => measure_engine(&rt),
-        Task::Runs { workers, rounds } if 1 <= workers && workers <= 64 => {
+        Task::Runs { workers, rounds } if 1 <= workers && workers <= MOST_WORKERS => {
             measure_runs(&rt, workers, rounds)
         }
         Task::Runs { .. } | Task::Usage => Ok(println!(&rt; "{USAGE}")?),

@@ -4,6 +4,7 @@ ghost use Rattle.vll_queue.specs.Shown.{IsNamed};
 ghost use Rattle.vll_sca.specs.Placing.{placing};
 
 use crate::fault::Fault;
+use crate::scripts::{opening, tokens};
 use std::alloc::Global;
 use std::io::Read;
 use std::marker::Brand;
@@ -13,8 +14,8 @@ use std::time::{Clock, Duration, Instant};
 use vll_proc::Call;
 use vll_queue::{Name, Opening};
 use vll_sca::Placing;
-use vll_server::{Plain, opening_of, read_scenario, tokens_of};
-use vll_workers::{OpenGate, RunError, run};
+use vll_server::{MOST_CLIENTS, Plain, read_scenario};
+use vll_workers::{MOST_WORKERS, OpenGate, RunError, run};
 
 /// Runs the scenario on standard input by so many worker threads, as often as `rounds` says, and prints how many
 /// nanoseconds each run takes, without its reading and without what follows it.
@@ -23,13 +24,13 @@ pub(crate) fn measure_runs<R: Threads + Wait + Clock + Input + Print + AllocGlob
     workers: u32,
     rounds: u32,
 ) -> Result<(), Fault>
-    requires { (1 ≤ workers) × (workers ≤ 64) }
+    requires { (1 ≤ workers) × (workers ≤ MOST_WORKERS) }
 {
     let mut bytes = Vec::new(rt.alloc());
     rt.reader().read_to_end(&mut bytes)?;
     for _ in 0..rounds {
         let scenario = read_scenario(rt.alloc(), &mut Plain::new(bytes.as_slice()))?;
-        let (opening, scripts) = opening_of(rt.alloc(), scenario)?;
+        let (opening, scripts) = opening(rt.alloc(), scenario)?;
         let time = time_of::<Brand, R>(rt, rt.alloc(), opening, scripts, workers)?;
         println!(rt; "{}", time.as_nanos())?;
     }
@@ -44,15 +45,15 @@ fn time_of<N: Name + Send + Sync, R: Threads + Wait + Clock + Sync>(
     scripts: Vec<Vec<Call>>,
     workers: u32,
 ) -> Result<Duration, Fault>
-    requires workers { (1 ≤ workers) × (workers ≤ 64) }
+    requires workers { (1 ≤ workers) × (workers ≤ MOST_WORKERS) }
     requires opening { IsNamed placing N.library N.records N.config N.places N.clients opening }
     requires clients { N.clients ≡ length scripts.items }
-    requires few { length scripts.items ≤ 1024 }
+    requires few { length scripts.items ≤ MOST_CLIENTS }
     requires short { All (λ script. length script.items < 2 ^ 32) scripts.items }
     requires fits { All (λ script. All (Fits N.library) script.items) scripts.items }
 {
     let (engine, sessions) = opening.start::<N>();
-    let tokens = tokens_of(alloc, sessions, scripts)?;
+    let tokens = tokens(alloc, sessions, scripts)?;
     let start = Instant::now(rt)?;
     let ran = run(rt, rt, alloc, &engine, tokens, workers, &OpenGate);
     let time = start.elapsed(rt)?;

@@ -5,7 +5,7 @@ use crate::fault::Fault;
 use sqlite_items::{Boxed, Items};
 use std::alloc::{AllocError, Global};
 use vll_check::{Library, check};
-use vll_core::{Config, Core};
+use vll_core::{Config, Core, MOST_WAITING};
 use vll_proc::{Call, Expr, KeyAt, KeyDecl, Proc, Stmt, Text};
 use vll_queue::Opening;
 use vll_record::Mode;
@@ -20,7 +20,7 @@ pub(crate) fn core(alloc: Global, records: u32, calls: u32) -> Result<Core<Placi
     let mut scripts = Vec::new(alloc);
     scripts.push(script)?;
     let config = Config {
-        cap: 65_536,
+        cap: MOST_WAITING,
         limit: calls,
         bits: 4_096,
     };
@@ -32,7 +32,7 @@ pub(crate) fn opening(alloc: Global, records: u32, calls: u32) -> Result<Opening
     let records = vec![in alloc; 0; records as usize]?;
     let library = library(alloc, records.len() as u32)?;
     let config = Config {
-        cap: 65_536,
+        cap: MOST_WAITING,
         limit: calls,
         bits: 4_096,
     };

@@ -1,5 +1,5 @@
 -- How what is answered for a tree becomes what is answered for its parts, and for its scenario.
-use Rattle.std.proofs.Common.{◌≡◌, ◌<◌, ◌⊎◌, inl, inr, ℕ, suc, Bool, true, false, List, [], ◌∷◌, ◌++◌, length, Option, Some, None, Result, Ok, Err, IfOk, IfErr, IfSome, refl, sym, ap, ◌∙◌, subst, arith, length-append, append-nil, option_map, if◌then◌else◌, ◌&&◌}
+use Rattle.std.proofs.Common.{◌≡◌, ◌<◌, ◌⊎◌, inl, inr, ℕ, suc, Bool, true, false, List, [], ◌∷◌, ◌++◌, length, Option, Some, None, Result, Ok, Err, IfOk, IfErr, IfSome, refl, sym, ap, ◌∙◌, subst, arith, length-append, append-nil, option_map, is_none, if◌then◌else◌, ◌&&◌}
 use Rattle.serde_json.specs.Data.{Data}
 use Rattle.serde_json.specs.View.{view}
 use Rattle.serde_json.specs.declared.value.Value.{Value}
@@ -11,14 +11,16 @@ use Rattle.vll_check.specs.Calls.{call_made}
 use Rattle.vll_check.specs.Catalog.{Catalog}
 use Rattle.vll_check.specs.Faults.{check_fault}
 use Rattle.vll_check.specs.Names.{has_name_twice}
+use Rattle.vll_core.specs.Faults.{open_fault}
+use Rattle.vll_core.specs.Machine.{refuse_if}
 use Rattle.vll_server.specs.declared.fault.ScenarioFault.{ScenarioFault}
 use Rattle.vll_server.specs.declared.fault.ScenarioFault.TheVariants as fault
 use Rattle.vll_server.specs.declared.shape.Parts.{Parts}
 use Rattle.vll_server.specs.Reading.{IsAnswerBy, ReadsEnough, Reads, Tells, data_of}
-use Rattle.vll_server.specs.Scenario.{IsTree, call_at, config_of, each_given, first_check, first_check_from, in_call, most_bytes, ok_unless, or_else, refuse_if, script_made, scripts_made, setup_of, tree_or_json}
-use Rattle.vll_server.specs.Setup.{Setup, has_sizes, is_allowed}
+use Rattle.vll_server.specs.Scenario.{IsTree, call_at, config_of, each_given, first_check, first_check_from, in_call, ok_unless, or_else, script_made, scripts_made, setup_of, tree_or_json}
+use Rattle.vll_server.specs.Setup.{Setup, has_sizes}
 use Rattle.vll_server.specs.Shape.{◌>>=◌, GivesUnlessMemory}
-use Rattle.vll_server.specs.Streams.{ReadsAll}
+use Rattle.vll_server.specs.Streams.{AreTooMany, ReadsAll}
 
 -- ---- the tree of the bytes
 
@@ -86,7 +88,7 @@ reads_fault of go old new fault.NameTwice known = known_fault of go old new faul
 
 -- ---- a reader that tells its bytes
 
-answer_whole : {A : Type 0} (of : Option Data → Result A ScenarioFault) (all bytes rest : List ℕ) (r : Result A ScenarioFault) → all ≡ bytes ++ rest → (most_bytes < length bytes) ⊎ (rest ≡ []) → IsAnswerBy of bytes r → IsAnswerBy of all r
+answer_whole : {A : Type 0} (of : Option Data → Result A ScenarioFault) (all bytes rest : List ℕ) (r : Result A ScenarioFault) → all ≡ bytes ++ rest → AreTooMany bytes ⊎ (rest ≡ []) → IsAnswerBy of bytes r → IsAnswerBy of all r
 answer_whole of all bytes rest r is (inl many) (inl size) = inl (omega (arith, ap length is, length-append bytes rest), size.1)
 answer_whole of all bytes rest r is (inl many) (inr fits) = absurd (omega (arith, fits.0))
 answer_whole of all bytes rest r is (inr end) answer = subst (λ xs. IsAnswerBy of xs r) (sym (is ∙ ap (λ xs. bytes ++ xs) end ∙ append-nil bytes)) answer
@@ -150,7 +152,7 @@ other_choice false r other = tt
 
 other_setup : (p : Parts) → IsOther (setup_of p)
 other_setup p =
-    other_choice (has_sizes p.records p.procs p.scripts p.schedule && is_allowed (config_of p)) _
+    other_choice (has_sizes p.procs p.scripts p.schedule && is_none (open_fault (length p.records) (config_of p))) _
     (other_then (ok_unless (first_check (length p.records) p.procs) p.procs) _ (other_checks (length p.records) 0 p.procs p.procs) (λ procs.
     other_refused (has_name_twice procs) _
     (let catalog : Catalog = record { records = length p.records; procs = procs } in

@@ -13,8 +13,10 @@ use Rattle.vll_check.specs.declared.fault.CallFault.{CallFault}
 use Rattle.vll_check.specs.Calls.{CallsProcedure, Fits, call_made}
 use Rattle.vll_check.specs.Catalog.{Catalog, IsCatalog}
 use Rattle.vll_check.proofs.Fitting.{fits_well}
+use Rattle.vll_core.specs.declared.config.TheConstants.{MOST_CALLS}
 use Rattle.vll_core.specs.declared.event.Event.{Event}
 use Rattle.vll_server.specs.declared.asked.Asked.{Asked}
+use Rattle.vll_server.specs.declared.limits.TheConstants.{MOST_CLIENTS, MOST_EVENTS, MOST_PROCS}
 use Rattle.vll_server.specs.Kept.{lists_of}
 use Rattle.vll_server.specs.Scenario.{call_at, each_given, in_call, script_made, scripts_made}
 use Rattle.vll_server.specs.Setup.{has_sizes}
@@ -87,9 +89,8 @@ pub in_lists : (P : List Call → Type 0) (scripts : List (Vec Call)) → All P 
 in_lists P scripts all i script within = subst P (get_or-map (λ (v : Vec Call). v.items) scripts i script script.items within) (all i script.items (omega (arith, within, length-map scripts (λ (v : Vec Call). v.items))))
 
 -- as many scripts are made as were asked for, and as many calls
-pub scripts_sizes : (records : List ℕ) (procs : List Proc) (schedule : List Event) (catalog : Catalog) (asked : List (List Asked)) (made : List (List Call)) → scripts_made catalog asked ≡ Ok made
-    → has_sizes records procs made schedule ≡ has_sizes records procs asked schedule
-scripts_sizes records procs schedule catalog asked made e =
+pub scripts_sizes : (procs : List Proc) (schedule : List Event) (catalog : Catalog) (asked : List (List Asked)) (made : List (List Call)) → scripts_made catalog asked ≡ Ok made → has_sizes procs made schedule ≡ has_sizes procs asked schedule
+scripts_sizes procs schedule catalog asked made e =
     let clients = given_length (script_made catalog) 0 asked made e in
     let calls = given_sum (script_made catalog) (λ client script cs h. given_length (call_at catalog client) 0 script cs h) 0 asked made e in
-    ap₂ (λ a b. nat_le 1 (length records) && nat_le (length records) 65536 && nat_le (length procs) 1048576 && nat_le a 1024 && nat_le b 65536 && nat_le (length schedule) 1048576) clients calls
+    ap₂ (λ a b. nat_le (length procs) MOST_PROCS && nat_le a MOST_CLIENTS && nat_le b MOST_CALLS && nat_le (length schedule) MOST_EVENTS) clients calls

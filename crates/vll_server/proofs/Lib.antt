@@ -6,7 +6,7 @@ pub mod Standing
 pub mod Written
 pub mod Given
 pub mod Fitting
-pub mod Limits
+pub mod Bounds
 pub mod Checking
 pub mod Sizes
 pub mod Answering

@@ -31,7 +31,7 @@ zeros (x ∷ xs) = ap (λ ys. 0 ∷ ys) (zeros xs)
 
 -- the text of what is left is that of the journal's calls, made one at a time
 pub closed_text-serial : (library : Catalog) (records : List ℕ) (c : Closed) → IsSerial library records c
-    → closed_text c.journal.items c.records.items c.pairs.items ≡ serial_text library.procs records (calls_in c.journal.items)
+    → closed_text c ≡ serial_text library.procs records (calls_in c.journal.items)
 closed_text-serial library records c serial =
     let calls = calls_in c.journal.items in
     let words = lines_tell library.procs calls records 0 c.journal.items (λ t l is. let same : t ≡ 0 + t = omega arith in serial.answered t l is ∙ ap (answer library.procs calls records) same) in
@@ -40,7 +40,7 @@ closed_text-serial library records c serial =
 
 -- what a run of the scripts left is a served outcome
 pub serves_closed : (s : Setup) (library : Catalog) (records : List ℕ) (scripts : List (List Call)) (r : Result Closed ServeFault) → library ≡ catalog_of s → records ≡ s.records → scripts ≡ s.scripts
-    → IfOk r (IsSerial library records) → IfOk r (λ (c : Closed). IsMerge (calls_in c.journal.items) scripts) → IfOk r (λ (c : Closed). Serves s (λ text. closed_text c.journal.items c.records.items c.pairs.items ≡ text))
+    → IfOk r (IsSerial library records) → IfOk r (λ (c : Closed). IsMerge (calls_in c.journal.items) scripts) → IfOk r (λ (c : Closed). Serves s (λ text. closed_text c ≡ text))
 serves_closed s library records scripts (Ok c) library_is records_is scripts_are serial merge = (
   calls_in c.journal.items,
   subst (IsMerge (calls_in c.journal.items)) scripts_are merge,

@@ -6,17 +6,19 @@ use Rattle.serde_json.specs.View.{view}
 use Rattle.serde_json.specs.declared.value.Value.{Value}
 use Rattle.vll_server.specs.declared.fault.ScenarioFault.{ScenarioFault}
 use Rattle.vll_server.specs.declared.fault.ScenarioFault.TheVariants as fault
-use Rattle.vll_server.specs.Scenario.{IsTree, most_bytes}
+use Rattle.vll_server.specs.declared.limits.TheConstants.{MOST_BYTES}
+use Rattle.vll_server.specs.Scenario.{IsTree}
+use Rattle.vll_server.specs.Streams.{AreTooMany}
 
 -- what is answered for bytes: that there are too many, or what their tree gives
 abbrev pub IsAnswerBy : {A : Type 0} → (Option Data → Result A ScenarioFault) → List ℕ → Result A ScenarioFault → Type 0
 IsAnswerBy of bytes result =
-    ((most_bytes < length bytes) × (result ≡ Err fault.Size))
-    ⊎ ((length bytes ≤ most_bytes) × ((tree : Option Data) × IsTree bytes tree × (of tree ≡ result)))
+    ((MOST_BYTES < length bytes) × (result ≡ Err fault.Size))
+    ⊎ ((length bytes ≤ MOST_BYTES) × ((tree : Option Data) × IsTree bytes tree × (of tree ≡ result)))
 
--- the bytes were read to their end, or there are too many
+-- the bytes were read to their end, or until there were too many and no further
 abbrev pub ReadsEnough : Option (List ℕ) → Option (List ℕ) → List ℕ → Type 0
-ReadsEnough old new bytes = Consumes old new bytes × ((most_bytes < length bytes) ⊎ IsAtEnd new)
+ReadsEnough old new bytes = Consumes old new bytes × (AreTooMany bytes ⊎ IsAtEnd new)
 
 -- what is answered is the answer for the bytes that were read, unless the reader failed or memory ran out
 abbrev pub Reads : {A : Type 0} → (Option Data → Result A ScenarioFault) → Option (List ℕ) → Option (List ℕ) → Result A ScenarioFault → Type 0

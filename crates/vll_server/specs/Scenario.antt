@@ -1,5 +1,5 @@
 -- The scenario that bytes are, or the fault that is answered for them.
-use Rattle.std.specs.Prelude.{◌≡◌, ℕ, suc, max, Bool, true, false, ◌&&◌, List, [], ◌∷◌, length, sum_by, unwrap_or, Option, Some, None, option_map, Result, Ok, Err, if◌then◌else◌}
+use Rattle.std.specs.Prelude.{◌≡◌, ℕ, suc, max, ◌&&◌, List, [], ◌∷◌, length, sum_by, unwrap_or, Option, Some, None, option_map, Result, Ok, Err, if◌then◌else◌, is_none}
 use Rattle.std.specs.Str.{IsUtf8}
 use Rattle.serde_json.specs.Data.{Data}
 use Rattle.serde_json.specs.Read.{read}
@@ -14,8 +14,11 @@ use Rattle.vll_server.specs.declared.asked.Asked.{Asked}
 use Rattle.vll_server.specs.declared.fault.ScenarioFault.{ScenarioFault}
 use Rattle.vll_server.specs.declared.fault.ScenarioFault.TheVariants as fault
 use Rattle.vll_core.specs.declared.config.Config.{Config}
+use Rattle.vll_core.specs.Faults.{open_fault}
+use Rattle.vll_core.specs.Machine.{refuse_if}
 use Rattle.vll_sca.specs.declared.place.Placing.TheVariants.{Modulo}
-use Rattle.vll_server.specs.Setup.{Setup, has_sizes, is_allowed}
+use Rattle.vll_server.specs.declared.setup.TheConstants.{BITS, CAP}
+use Rattle.vll_server.specs.Setup.{Setup, has_sizes}
 use Rattle.vll_server.specs.declared.shape.Parts.{Parts}
 use Rattle.vll_server.specs.Shape.{◌>>=◌, shape_of}
 
@@ -39,10 +42,6 @@ each_given f i (x ∷ xs) = do
 abbrev pub ok_unless : {A F : Type 0} → Option F → A → Result A F
 ok_unless None a = Ok a
 ok_unless (Some why) a = Err why
-
-abbrev pub refuse_if : {A : Type 0} → Bool → ScenarioFault → Result A ScenarioFault → Result A ScenarioFault
-refuse_if true why go = Err why
-refuse_if false why go = go
 
 -- the fault of the first procedure that is not well-formed, where numbers begin at i
 abbrev pub first_check_from : ℕ → ℕ → List Proc → Option ScenarioFault
@@ -69,12 +68,12 @@ scripts_made catalog scripts = each_given (script_made catalog) 0 scripts
 
 -- what is chosen for the machine. Where no limit is given it is the number of calls in all scripts, at least 1
 abbrev pub config_of : Parts → Config
-config_of p = record { cap = unwrap_or p.cap 1024; limit = unwrap_or p.limit (max 1 (sum_by length p.scripts)); bits = unwrap_or p.bits 4096 }
+config_of p = record { cap = unwrap_or p.cap CAP; limit = unwrap_or p.limit (max 1 (sum_by length p.scripts)); bits = unwrap_or p.bits BITS }
 
 -- the scenario of its parts: the sizes, then the procedures, then their names, then the calls
 abbrev pub setup_of : Parts → Result Setup ScenarioFault
 setup_of p =
-    if has_sizes p.records p.procs p.scripts p.schedule && is_allowed (config_of p) then
+    if has_sizes p.procs p.scripts p.schedule && is_none (open_fault (length p.records) (config_of p)) then
     (do
       procs ← ok_unless (first_check (length p.records) p.procs) p.procs
       refuse_if (has_name_twice procs) fault.NameTwice (do
@@ -86,10 +85,6 @@ setup_of p =
 abbrev pub IsTree : List ℕ → Option Data → Type 0
 IsTree bytes (Some d) = IsUtf8 bytes × (read bytes ≡ Some d)
 IsTree bytes None = IsUtf8 bytes → read bytes ≡ None
-
--- the most bytes that are read
-abbrev pub most_bytes : ℕ
-most_bytes = 16777216
 
 -- a tree, or that the bytes are none
 abbrev pub tree_or_json : Option Data → Result Data ScenarioFault

@@ -9,6 +9,7 @@ use Rattle.vll_proc.specs.declared.call.Reply.TheVariants.{Committed, Aborted}
 use Rattle.vll_proc.specs.declared.syntax.Proc.{Proc}
 use Rattle.vll_proc.specs.Serial.{Made, answer, end}
 use Rattle.vll_core.specs.declared.line.Line.{Line}
+use Rattle.vll_queue.specs.declared.closed.Closed.{Closed}
 
 abbrev pub Text : Type 0
 Text = List ℕ
@@ -45,9 +46,10 @@ outcome_text calls records = flat_map call_line (enumerate_from 0 calls) ++ flat
 abbrev pub line_words : Line → ℕ × Text
 line_words l = (l.client, answer_text l.reply)
 
--- the text of what a run leaves
-abbrev pub closed_text : List Line → List ℕ → List ℕ → Text
-closed_text journal records pairs = outcome_text (map line_words journal) (zip records pairs)
+-- the text of what a run leaves: a line for each call, and one for each record that has a pair word beside it.
+-- Of records and pair words that are not as many, those that one list has more than the other are told in no line
+abbrev pub closed_text : Closed → Text
+closed_text c = outcome_text (map line_words c.journal.items) (zip c.records.items c.pairs.items)
 
 -- the outcome of a list of calls that run one at a time: their replies, the last records, and every pair word 0
 abbrev pub serial_text : List Proc → List ℕ → List Made → Text

@@ -1,11 +1,12 @@
 ghost use Rattle.std.specs.Prelude.{◌≡◌, ◌↔◌, false, true, IfOk};
 ghost use Rattle.vll_server.specs.Streams.{ReadsAll, ReadsSome, ReadsTooMany};
 
+use crate::limits::MOST_BYTES;
 use crate::stream::Source;
 use std::alloc::{AllocError, Global};
 
-// The most bytes that a scenario may have.
-const MOST_BYTES: usize = 16_777_216;
+// How many bytes are asked for at a time.
+const PIECE: usize = 8_192;
 
 // Why the bytes of a source were not read to their end.
 #[derive(Debug, Drop)]
@@ -28,7 +29,7 @@ impl From<AllocError> for ReadFault {
     }
 }
 
-// The bytes of a source, up to its end.
+// The bytes of a source, up to its end. Once too many have come nothing more is read.
 pub(crate) fn read_bytes<S: Source>(alloc: Global, source: &mut S) -> Result<Vec<u8>, ReadFault>
     requires { S.failed source.old ≡ false }
     ensures ok { IfOk result
@@ -39,7 +40,7 @@ pub(crate) fn read_bytes<S: Source>(alloc: Global, source: &mut S) -> Result<Vec
     ensures failed { (result ≡ Err ReadFault.Read) ↔ (S.failed source.new ≡ true) }
 {
     let mut bytes = Vec::new(alloc);
-    let mut piece = [0; 8192];
+    let mut piece = [0; PIECE];
     'pieces: while bytes.len() <= MOST_BYTES {
         let Ok(count) = source.read(&mut piece) else {
             return Err(ReadFault::Read);

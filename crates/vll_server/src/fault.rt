@@ -65,9 +65,9 @@ pub enum ScenarioFault {
         index: u32,
         fault: CallFault,
     },
-    /// More than 16,777,216 bytes; no record or more than 65,536; more than 1,048,576 procedures, 1,024
-    /// clients, 65,536 calls in all scripts or 1,048,576 events; a limit or a cap that is not 1 to 65,536, or a
-    /// number of bits that is not 1 to 1,048,576.
+    /// More than `MOST_BYTES` bytes, `MOST_PROCS` procedures, `MOST_CLIENTS` clients, `MOST_EVENTS` events, or
+    /// `MOST_CALLS` calls in all scripts; or records, a limit, a cap or bits with which no machine can be opened, as
+    /// `open_fault` of `vll_core` says.
     #[error("size")]
     Size,
     #[error("no memory")]
@@ -146,7 +146,7 @@ pub enum ServeFault {
     /// After the run calls were left in the engine, so many running and so many waiting.
     #[error("unfinished {running} {waiting}")]
     Unfinished { running: u32, waiting: u32 },
-    /// Memory was refused outside the workers' run.
+    /// Memory was wanting outside the workers' run.
     #[error("no memory")]
     NoMemory,
     /// The outcome was not written whole.
@@ -174,7 +174,7 @@ pub enum ReplayFault {
     /// There is no scenario to replay. Nothing has been written.
     #[error("scenario: {0}")]
     Scenario(ScenarioFault),
-    /// Memory was refused after the scenario was read. Nothing has been written.
+    /// Memory was wanting after the scenario was read. Nothing has been written.
     #[error("replay: no memory")]
     NoMemory,
     /// The text was not written whole.

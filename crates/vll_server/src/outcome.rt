@@ -9,20 +9,19 @@ use crate::text::closed_text_of;
 use std::alloc::Global;
 use vll_queue::Closed;
 
-/// Writes the text of what a run leaves: a line for each call, and then one for each record. The text is
-/// made whole before its first byte is written, and flushed once at its end.
+/// Writes the text of what a run leaves: a line for each call, and then one for each record, with its value and its
+/// pair word. If there are more records than pair words, or fewer, there are as many such lines as the shorter list
+/// has items. The text is made whole before its first byte is written, and flushed once at its end.
 pub fn write_outcome<W: Sink>(
     alloc: Global,
     writer: &mut W,
     closed: &Closed,
 ) -> Result<(), WriteFault>
     requires { W.failed writer.old ≡ false }
-    ensures ok { OnOk result (Appends (W.contents writer.old) (W.contents writer.new) (closed_text
-        closed.now.journal.items closed.now.records.items closed.now.pairs.items)) }
+    ensures ok { OnOk result (Appends (W.contents writer.old) (W.contents writer.new) (closed_text closed.now)) }
     ensures no_memory { result ≡ Err WriteFault.NoMemory → writer.new ≡ writer.old }
     ensures write { result ≡ Err WriteFault.Write
-        → AppendsBeginning (W.contents writer.old) (W.contents writer.new) (closed_text
-        closed.now.journal.items closed.now.records.items closed.now.pairs.items) }
+        → AppendsBeginning (W.contents writer.old) (W.contents writer.new) (closed_text closed.now) }
     ensures failed { (result ≡ Err WriteFault.Write) ↔ (W.failed writer.new ≡ true) }
 {
     let text = closed_text_of(alloc, closed).map_err(|_| WriteFault::NoMemory)?;

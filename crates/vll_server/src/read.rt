@@ -8,6 +8,7 @@ ghost use Rattle.vll_server.specs.declared.fault.ScenarioFault.TheVariants as Sc
 
 use crate::bytes::read_bytes;
 use crate::fault::ScenarioFault;
+use crate::limits::MOST_BYTES;
 use crate::scenario::Scenario;
 use crate::setup::setup_of;
 use crate::shape::{Parts, shape_of};
@@ -17,10 +18,10 @@ use std::alloc::Global;
 
 /// Reads a scenario: one JSON text, whose form docs/SCENARIO.md describes.
 ///
-/// The reader is read until it gives no more bytes; after more than 16,777,216 it is read no further.
+/// The reader is read until it gives no more bytes; once more than `MOST_BYTES` have come it is read no further.
 /// Of several faults the first is answered, in the order that `ScenarioFault` tells. `Read` comes exactly
-/// where the reader has failed, and `NoMemory` only where an allocation was refused; after each of the
-/// others, and after `Ok`, the answer is that of the bytes that came.
+/// if the reader has failed. `NoMemory` is for want of memory, and can come in the place of any answer but
+/// `Read`. Each other answer, `Ok` among them, is that of the bytes that came.
 pub fn read_scenario<S: Source>(alloc: Global, reader: &mut S) -> Result<Scenario, ScenarioFault>
     requires { S.failed reader.old ≡ false }
     ensures answer { Reads scenario_at (S.remaining reader.old) (S.remaining reader.new) result }
@@ -46,7 +47,7 @@ fn read_tree<S: Source>(alloc: Global, reader: &mut S) -> Result<Value, Scenario
     requires { S.failed reader.old ≡ false }
     ensures tree { Reads tree_or_json (S.remaining reader.old) (S.remaining reader.new)
         (data_of result) }
-    ensures few { IfOk result (λ v. longest_list (view v) ≤ 16777216) }
+    ensures few { IfOk result (λ v. longest_list (view v) ≤ MOST_BYTES) }
     ensures failed { (result ≡ Err ScenarioFault.Read) ↔ (S.failed reader.new ≡ true) }
 {
     let bytes = read_bytes(alloc, reader)?;
@@ -55,11 +56,11 @@ fn read_tree<S: Source>(alloc: Global, reader: &mut S) -> Result<Value, Scenario
 
 // The JSON tree of bytes.
 fn tree_of(alloc: Global, bytes: &[u8]) -> Result<Value, ScenarioFault>
-    requires { length bytes.now ≤ 16777216 }
+    requires { length bytes.now ≤ MOST_BYTES }
     ensures ok { IfOk result (λ v. IsTree bytes.now (Some (view v))) }
     ensures err { IfErr result (λ e. ((e ≡ ScenarioFault.Json) × IsTree bytes.now None)
         ⊎ (e ≡ ScenarioFault.NoMemory)) }
-    ensures few { IfOk result (λ v. longest_list (view v) ≤ 16777216) }
+    ensures few { IfOk result (λ v. longest_list (view v) ≤ MOST_BYTES) }
 {
     match Value::from_slice(alloc, bytes) {
         Ok(tree) => Ok(tree),

@@ -14,7 +14,7 @@ use crate::fault::ReplayFault;
 use crate::outcome::write_text;
 use crate::read::read_scenario;
 use crate::replay_text::{push_event_lines, push_state};
-use crate::scenario::Scenario;
+use crate::scenario::{Scenario, ScenarioParts};
 use crate::stream::{Sink, Source};
 use sqlite_items::Items;
 use std::alloc::{AllocError, Global};
@@ -26,9 +26,8 @@ use vll_sca::Placing;
 /// each entered call, and one for each record. docs/SCENARIO.md describes the text.
 ///
 /// The text is made whole before its first byte is written. After `Scenario` and `NoMemory` nothing has been
-/// written, and after `Write` a beginning of the text. `Scenario` is what `read_scenario` answers, `NoMemory`
-/// comes only where an allocation was refused after a scenario was read, and `Write` exactly where the writer has
-/// failed.
+/// written, and after `Write` a beginning of the text. `Scenario` is what `read_scenario` answers, `NoMemory` is for
+/// want of memory once a scenario was read, and `Write` comes exactly if the writer has failed.
 pub fn replay<S: Source, W: Sink>(
     alloc: Global,
     reader: &mut S,
@@ -70,14 +69,14 @@ fn core_of(alloc: Global, scenario: Scenario) -> Result<(Core<Placing>, Items<Ev
     ensures state { IfOk result (λ made. made.0.state ≡ opened scenario.scripts) }
     ensures schedule { IfOk result (λ made. made.1 ≡ scenario.schedule) }
 {
-    let Scenario {
+    let ScenarioParts {
         records,
         library,
         scripts,
         config,
         placing,
         schedule,
-    } = scenario;
+    } = scenario.into_parts();
     match Core::open(alloc, records, library, scripts, config, placing) {
         Ok(core) => Ok((core, schedule)),
         Err(OpenFault::NoMemory) => Err(AllocError),

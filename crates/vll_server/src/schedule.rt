@@ -10,6 +10,7 @@ ghost use Rattle.vll_server.specs.Tree.{u32_at, Gives};
 ghost use Rattle.vll_server.specs.declared.fault.Part.TheVariants as Part;
 
 use crate::fault::{Part, ScenarioFault};
+use crate::limits::MOST_BYTES;
 use crate::shape::list_in;
 use crate::syntax::word_of;
 use crate::tree::{Misread, Reads, u32_of};
@@ -28,7 +29,7 @@ impl Reads for Event {
 
 // The events of a scenario, none where it has no schedule.
 pub fn schedule_of(alloc: Global, tree: &Value) -> Result<Items<Event>, ScenarioFault>
-    requires few { longest_list (view tree.now) ≤ 16777216 }
+    requires few { longest_list (view tree.now) ≤ MOST_BYTES }
     ensures { GivesUnlessMemory result (in_part Part.Schedule
         (list_if_there event_at (get (codes "schedule") (view tree.now)))) }
 {

@@ -13,22 +13,23 @@ ghost use Rattle.vll_server.specs.Streams.{AppendsBeginning};
 ghost use Rattle.vll_server.specs.Text.{closed_text};
 
 use crate::fault::{ServeFault, WriteFault};
+use crate::limits::MOST_CLIENTS;
 use crate::order::is_merge;
 use crate::outcome::write_outcome;
-use crate::scenario::Scenario;
+use crate::scenario::{Scenario, ScenarioParts};
 use crate::stream::Sink;
 use crate::tokens::tokens_of;
 use std::alloc::{AllocError, Global};
 use std::marker::Brand;
 use std::sync::Wait;
 use std::thread::Threads;
-use vll_core::{Config, OpenFault};
+use vll_core::{Config, MOST_CALLS, OpenFault};
 use vll_proc::Call;
 use vll_queue::{Closed, Name, NotClosed, Opening};
 use vll_sca::Placing;
-use vll_workers::{Gate, RunError, Token};
+use vll_workers::{Gate, MOST_WORKERS, RunError, Token};
 
-/// Has a scenario's scripts run by so many worker threads, 1 to 64, and writes the text of the outcome: a line for
+/// Has a scenario's scripts run by so many worker threads, 1 to `MOST_WORKERS` of `vll_workers`, and writes the text of the outcome: a line for
 /// each call in the order in which the calls entered, and then one for each record. The gate is told of each call that
 /// is executed. The scenario's cap, bits and hash are the engine's; its limit and its schedule are not read, since the
 /// engine takes as many calls as the scripts have.
@@ -49,7 +50,7 @@ pub fn serve<R: Threads + Wait + Sync, W: Wait + Sync, G: Gate + Sync, S: Sink>(
     gate: &G,
     writer: &mut S,
 ) -> Result<(), ServeFault>
-    requires workers { (1 ≤ workers) × (workers ≤ 64) }
+    requires workers { (1 ≤ workers) × (workers ≤ MOST_WORKERS) }
     requires writer { S.failed writer.old ≡ false }
     ensures ok { OnOk result (Serves scenario (Appends (S.contents writer.old) (S.contents writer.new))) }
     ensures write { result ≡ Err ServeFault.Write
@@ -74,19 +75,18 @@ fn run<R: Threads + Wait + Sync, W: Wait + Sync, G: Gate + Sync>(
     workers: u32,
     gate: &G,
 ) -> Result<Closed, ServeFault>
-    requires { (1 ≤ workers) × (workers ≤ 64) }
-    ensures closed { IfOk result (λ closed. Serves scenario (λ text. closed_text closed.journal.items
-        closed.records.items closed.pairs.items ≡ text)) }
+    requires { (1 ≤ workers) × (workers ≤ MOST_WORKERS) }
+    ensures closed { IfOk result (λ closed. Serves scenario (λ text. closed_text closed ≡ text)) }
     ensures before { ¬ (result ≡ Err ServeFault.Write) }
 {
     let (opening, scripts) = opening_of(alloc, scenario)?;
     run_named::<Brand, R, W, G>(rt, wait, alloc, opening, scripts, workers, gate)
 }
 
-/// An engine over a scenario's records and procedures, which has no name yet, and the scripts. The engine has the
-/// scenario's cap, bits and hash, a client for each script, and takes as many calls as the scripts have. All its
-/// memory is taken here.
-pub fn opening_of(
+// An engine over a scenario's records and procedures, which has no name yet, and the scripts. The engine has the
+// scenario's cap, bits and hash, a client for each script, and takes as many calls as the scripts have. All its
+// memory is taken here.
+fn opening_of(
     alloc: Global,
     scenario: Scenario,
 ) -> Result<(Opening<Placing>, Vec<Vec<Call>>), AllocError>
@@ -96,18 +96,18 @@ pub fn opening_of(
     ensures hash { IfOk result (λ made. made.0.hash ≡ scenario.placing) }
     ensures clients { IfOk result (λ made. made.0.clients ≡ length scenario.scripts) }
     ensures scripts { IfOk result (λ made. lists_of made.1.items ≡ scenario.scripts) }
-    ensures few { IfOk result (λ made. length made.1.items ≤ 1024) }
+    ensures few { IfOk result (λ made. length made.1.items ≤ MOST_CLIENTS) }
     ensures short { IfOk result (λ made. All (λ script. length script.items < 2 ^ 32) made.1.items) }
     ensures fits { IfOk result (λ made. All (λ script. All (Fits (catalog_of scenario)) script.items) made.1.items) }
 {
-    let Scenario {
+    let ScenarioParts {
         records,
         library,
         scripts,
         config,
         placing,
         ..
-    } = scenario;
+    } = scenario.into_parts();
     let config = Config {
         cap: config.cap,
         limit: number_of_calls(scripts.as_slice()).max(1),
@@ -126,7 +126,7 @@ pub fn opening_of(
 
 // How many calls all scripts have together.
 fn number_of_calls(scripts: &[Vec<Call>]) -> u32
-    requires { sum_by length (lists_of scripts.now) ≤ 65536 }
+    requires { sum_by length (lists_of scripts.now) ≤ MOST_CALLS }
     ensures { result ≡ sum_by length (lists_of scripts.now) }
 {
     let mut count = 0;
@@ -146,10 +146,10 @@ fn run_named<N: Name + Send + Sync, R: Threads + Wait + Sync, W: Wait + Sync, G:
     workers: u32,
     gate: &G,
 ) -> Result<Closed, ServeFault>
-    requires workers { (1 ≤ workers) × (workers ≤ 64) }
+    requires workers { (1 ≤ workers) × (workers ≤ MOST_WORKERS) }
     requires opening { IsNamed placing N.library N.records N.config N.places N.clients opening }
     requires clients { N.clients ≡ length scripts.items }
-    requires few { length scripts.items ≤ 1024 }
+    requires few { length scripts.items ≤ MOST_CLIENTS }
     requires short { All (λ script. length script.items < 2 ^ 32) scripts.items }
     requires fits { All (λ script. All (Fits N.library) script.items) scripts.items }
     ensures serial { IfOk result (IsSerial N.library N.records) }
@@ -160,17 +160,28 @@ fn run_named<N: Name + Send + Sync, R: Threads + Wait + Sync, W: Wait + Sync, G:
     let tokens = tokens_of(alloc, sessions, scripts)?;
     let tokens = match vll_workers::run(rt, wait, alloc, &engine, tokens, workers, gate) {
         Ok(tokens) => tokens,
-        Err(RunError { fault, .. }) => return Err(ServeFault::Run(fault)),
+        Err(error) => return Err(run_fault(error)),
     };
     match engine.close(Vec::new(alloc)) {
         Ok(closed) => in_order(alloc, closed, tokens),
-        Err(
-            NotClosed {
-                running,
-                waiting,
-                ..
-            },
-        ) => Err(ServeFault::Unfinished { running, waiting }),
+        Err(left) => Err(unfinished(left)),
+    }
+}
+
+// What is answered where the workers' run did not end well.
+fn run_fault(error: RunError) -> ServeFault
+    ensures { result ≡ ServeFault.Run error.fault }
+{
+    ServeFault::Run(error.fault)
+}
+
+// What is answered where calls were left in the engine.
+fn unfinished<N: Name>(left: NotClosed<N, Placing>) -> ServeFault
+    ensures { result ≡ ServeFault.Unfinished left.running left.waiting }
+{
+    ServeFault::Unfinished {
+        running: left.running,
+        waiting: left.waiting,
     }
 }
 

@@ -2,36 +2,21 @@
 ghost use Rattle.std.specs.Prelude.{◌≡◌, ◌≤◌, ◌⊎◌, ◌↔◌, ℕ, Some, None, length, map, sum_by, All, IfOk, IfErr, IsTrue};
 ghost use Rattle.vll_server.specs.Kept.{made_list, made_lists};
 ghost use Rattle.vll_server.specs.Scenario.{config_of, first_check, script_made, scripts_made, setup_of};
-ghost use Rattle.vll_server.specs.Setup.{has_sizes, is_allowed};
+ghost use Rattle.vll_server.specs.Setup.{has_sizes};
 ghost use Rattle.vll_server.specs.Shape.{GivesUnlessMemory};
 ghost use Rattle.vll_server.specs.declared.fault.ScenarioFault.TheVariants as ScenarioFault;
 
 use crate::asked::Asked;
 use crate::fault::ScenarioFault;
+use crate::limits::{MOST_CLIENTS, MOST_EVENTS, MOST_PROCS};
 use crate::scenario::Scenario;
 use crate::shape::Parts;
 use sqlite_items::Items;
 use std::alloc::Global;
 use vll_check::{Checked, Library, check};
-use vll_core::Config;
+use vll_core::{Config, MOST_CALLS, open_fault};
 use vll_proc::{Call, Proc};
 use vll_sca::Placing;
-
-const MOST_RECORDS: usize = 65_536;
-
-const MOST_PROCS: usize = 1_048_576;
-
-const MOST_CLIENTS: usize = 1_024;
-
-const MOST_CALLS: usize = 65_536;
-
-const MOST_EVENTS: usize = 1_048_576;
-
-const MOST_LIMIT: u32 = 65_536;
-
-const MOST_CAP: u32 = 65_536;
-
-const MOST_BITS: u32 = 1_048_576;
 
 // What holds where no cap and no number of bits is chosen.
 const CAP: u32 = 1_024;
@@ -46,7 +31,7 @@ pub(crate) fn setup_of(alloc: Global, parts: Parts) -> Result<Scenario, Scenario
         return Err(ScenarioFault::Size);
     }
     let config = config_of(&parts);
-    if !is_allowed(config) {
+    if open_fault(parts.records.len(), config).is_some() {
         return Err(ScenarioFault::Size);
     }
     let Parts {
@@ -72,14 +57,11 @@ pub(crate) fn setup_of(alloc: Global, parts: Parts) -> Result<Scenario, Scenario
     })
 }
 
-// Whether there are as many records, procedures, clients, calls and events as a scenario may have.
+// Whether there are no more procedures, clients, calls and events than a scenario may have.
 fn has_sizes(parts: &Parts) -> bool
-    ensures { result ≡ has_sizes parts.now.records parts.now.procs parts.now.scripts parts.now.schedule }
+    ensures { result ≡ has_sizes parts.now.procs parts.now.scripts parts.now.schedule }
 {
-    let records = parts.records.len();
-    1 <= records
-        && records <= MOST_RECORDS
-        && parts.procs.len() <= MOST_PROCS
+    parts.procs.len() <= MOST_PROCS
         && parts.scripts.len() <= MOST_CLIENTS
         && has_few_calls(parts.scripts.as_slice())
         && parts.schedule.len() <= MOST_EVENTS
@@ -87,7 +69,7 @@ fn has_sizes(parts: &Parts) -> bool
 
 // What is chosen for the machine, with what holds where nothing is chosen.
 fn config_of(parts: &Parts) -> Config
-    requires few { sum_by length parts.now.scripts ≤ 65536 }
+    requires few { sum_by length parts.now.scripts ≤ MOST_CALLS }
     ensures { result ≡ config_of parts.now }
 {
     let calls = calls_in(parts.scripts.as_slice());
@@ -98,22 +80,9 @@ fn config_of(parts: &Parts) -> Config
     }
 }
 
-// Whether a machine can be opened so.
-fn is_allowed(config: Config) -> bool
-    ensures { result ≡ is_allowed config }
-{
-    let Config { cap, limit, bits } = config;
-    1 <= limit
-        && limit <= MOST_LIMIT
-        && 1 <= cap
-        && cap <= MOST_CAP
-        && 1 <= bits
-        && bits <= MOST_BITS
-}
-
 // How many calls all scripts have together.
 fn calls_in(scripts: &[Items<Asked>]) -> u32
-    requires { sum_by length scripts.now ≤ 65536 }
+    requires { sum_by length scripts.now ≤ MOST_CALLS }
     ensures { result ≡ sum_by length scripts.now }
 {
     let mut count = 0;
@@ -125,9 +94,9 @@ fn calls_in(scripts: &[Items<Asked>]) -> u32
 
 // Whether all scripts together have no more calls than a scenario may have.
 fn has_few_calls(scripts: &[Items<Asked>]) -> bool
-    ensures { IsTrue result ↔ (sum_by length scripts.now ≤ 65536) }
+    ensures { IsTrue result ↔ (sum_by length scripts.now ≤ MOST_CALLS) }
 {
-    let mut left = MOST_CALLS;
+    let mut left = MOST_CALLS as usize;
     for script in scripts {
         if script.len() > left {
             return false;
@@ -144,7 +113,7 @@ fn checked_of(
     records: u32,
     procs: Items<Proc>,
 ) -> Result<Vec<Checked>, ScenarioFault>
-    requires { length procs ≤ 1048576 }
+    requires { length procs ≤ MOST_PROCS }
     ensures passed { IfOk result (λ cs. first_check records procs ≡ None) }
     ensures procs { IfOk result (λ cs. map (λ c. c.procedure) cs.items ≡ procs) }
     ensures records { IfOk result (λ cs. All (λ c. c.records ≡ records) cs.items) }
@@ -178,8 +147,8 @@ fn scripts_of(
     library: &Library,
     scripts: &[Items<Asked>],
 ) -> Result<Vec<Vec<Call>>, ScenarioFault>
-    requires clients { length scripts.now ≤ 1024 }
-    requires calls { sum_by length scripts.now ≤ 65536 }
+    requires clients { length scripts.now ≤ MOST_CLIENTS }
+    requires calls { sum_by length scripts.now ≤ MOST_CALLS }
     ensures { GivesUnlessMemory (made_lists result) (scripts_made library.now scripts.now) }
 {
     let mut made = Vec::new(alloc);
@@ -196,7 +165,7 @@ fn script_of(
     client: u32,
     script: &[Asked],
 ) -> Result<Vec<Call>, ScenarioFault>
-    requires { length script.now ≤ 65536 }
+    requires { length script.now ≤ MOST_CALLS }
     ensures { GivesUnlessMemory (made_list result) (script_made library.now client script.now) }
 {
     let mut calls = Vec::new(alloc);

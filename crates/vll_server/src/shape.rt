@@ -6,6 +6,7 @@ ghost use Rattle.vll_server.specs.Tree.{list_at, Gives};
 
 use crate::asked::Asked;
 use crate::fault::{Part, ScenarioFault, Spot};
+use crate::limits::MOST_BYTES;
 use crate::members::{has_exactly, has_members, member};
 use crate::options::option_of;
 use crate::schedule::schedule_of;
@@ -48,7 +49,7 @@ impl Reads for Asked {
 
 /// The parts of a tree, or the first fault of their shape.
 pub fn shape_of(alloc: Global, tree: &Value) -> Result<Parts, ScenarioFault>
-    requires few { longest_list (view tree.now) ≤ 16777216 }
+    requires few { longest_list (view tree.now) ≤ MOST_BYTES }
     ensures { GivesUnlessMemory result (shape_of (view tree.now)) }
 {
     if !has_members(tree, &MUST_NAMES, &MAY_NAMES) {
@@ -105,7 +106,7 @@ fn part_of<T: Reads>(
     part: Part,
     name: &str,
 ) -> Result<Items<T>, ScenarioFault>
-    requires few { longest_list (view tree.now) ≤ 16777216 }
+    requires few { longest_list (view tree.now) ≤ MOST_BYTES }
     ensures { GivesUnlessMemory result (part_at part name.now T.reads (view tree.now)) }
 {
     let Ok(value) = member(tree, name) else {
@@ -120,7 +121,7 @@ pub fn list_in<T: Reads>(
     part: Part,
     value: &Value,
 ) -> Result<Items<T>, ScenarioFault>
-    requires few { longest_list (view value.now) ≤ 16777216 }
+    requires few { longest_list (view value.now) ≤ MOST_BYTES }
     ensures { GivesUnlessMemory result (in_part part (list_at T.reads (view value.now))) }
 {
     match list_of(alloc, value) {

@@ -93,8 +93,7 @@ fn push_record_lines(text: &mut String, records: &[u64], pairs: &[u64]) -> Resul
 
 // The text of what a run leaves.
 pub(crate) fn closed_text_of(alloc: Global, closed: &Closed) -> Result<String, AllocError>
-    ensures { IfOk result (λ text. string_bytes text ≡ closed_text
-        closed.now.journal.items closed.now.records.items closed.now.pairs.items) }
+    ensures { IfOk result (λ text. string_bytes text ≡ closed_text closed.now) }
 {
     let mut text = String::new(alloc);
     push_call_lines(&mut text, &closed.journal)?;

@@ -4,20 +4,21 @@ ghost use Rattle.vll_queue.specs.Opened.{sessions_of};
 ghost use Rattle.vll_server.specs.Kept.{lists_of};
 ghost use Rattle.vll_server.specs.Serve.{tokens_from};
 
+use crate::limits::MOST_CLIENTS;
 use std::alloc::{AllocError, Global};
 use vll_proc::Call;
 use vll_queue::Session;
 use vll_workers::Token;
 
-/// A token for each client, in order, with its session and its script. The sessions are those of an engine with a
-/// client for each script, in order.
-pub fn tokens_of(
+// A token for each client, in order, with its session and its script. The sessions are those of an engine with a
+// client for each script, in order.
+pub(crate) fn tokens_of(
     alloc: Global,
     sessions: Vec<Session>,
     scripts: Vec<Vec<Call>>,
 ) -> Result<Vec<Token>, AllocError>
     requires sessions { sessions.items ≡ sessions_of (length scripts.items) }
-    requires few { length scripts.items ≤ 1024 }
+    requires few { length scripts.items ≤ MOST_CLIENTS }
     requires short { All (λ script. length script.items < 2 ^ 32) scripts.items }
     ensures { IfOk result (λ tokens. tokens.items ≡ tokens_from 0 (lists_of scripts.items)) }
 {

@@ -39,22 +39,22 @@ fn closed(alloc: Global) -> Result<Closed, AllocError> {
     })
 }
 
-// Takes a byte at a time while there is room, and then fails or takes nothing.
+// What happens once a writer has no room left.
+#[derive(Clone, Copy, PartialEq, Eq, Debug)]
+enum Full {
+    // A write fails.
+    Fails,
+    // A write takes nothing.
+    TakesNothing,
+}
+
+// Takes a byte at a time while there is room.
 #[derive(Drop)]
 struct Narrow {
     taken: Vec<u8>,
     room: usize,
-    is_silent: bool,
+    full: Full,
     flushes: bool,
-}
-
-fn with_room(alloc: Global, room: usize) -> Narrow {
-    Narrow {
-        taken: Vec::new(alloc),
-        room,
-        is_silent: false,
-        flushes: true,
-    }
 }
 
 impl Write for Narrow {
@@ -65,11 +65,11 @@ impl Write for Narrow {
         if self.room > 0 {
             self.taken.push(*byte)?;
             self.room -= 1;
-            Ok(1)
-        } else if self.is_silent {
-            Ok(0)
-        } else {
-            Err(io::Error::from(io::ErrorKind::BrokenPipe))
+            return Ok(1);
+        }
+        match self.full {
+            Full::Fails => Err(io::Error::from(io::ErrorKind::BrokenPipe)),
+            Full::TakesNothing => Ok(0),
         }
     }
 
@@ -92,43 +92,44 @@ fn text_has_a_line_for_each_call_and_each_record(rt: HostRuntime) -> Result<(), 
 }
 
 #[test]
-fn writer_may_take_a_byte_at_a_time(rt: HostRuntime) -> Result<(), Fail> {
-    let mut narrow = with_room(rt.alloc(), 1000);
-    let mut writer = Plain::new(&mut narrow);
-    let closed = closed(rt.alloc())?;
-    write_outcome(rt.alloc(), &mut writer, &closed)?;
-    assert!(rt; !writer.has_failed());
-    assert_eq!(rt; narrow.taken.as_slice(), TEXT.as_bytes());
-    Ok(())
-}
-
-#[test]
 fn failing_writer_has_taken_a_beginning(rt: HostRuntime) -> Result<(), Fail> {
     let closed = closed(rt.alloc())?;
-    for is_silent in [false, true] {
-        for room in [0, 1, 40, TEXT.len().saturating_sub(1)] {
-            let mut narrow = with_room(rt.alloc(), room);
-            narrow.is_silent = is_silent;
-            let mut writer = Plain::new(&mut narrow);
-            let written = write_outcome(rt.alloc(), &mut writer, &closed);
-            assert_eq!(rt; written, Err(WriteFault::Write), "at {room}");
-            assert!(rt; writer.has_failed());
-            assert_eq!(rt; narrow.taken.len(), room);
-            assert!(rt; TEXT.as_bytes().starts_with(&narrow.taken));
-        }
+    let whole = TEXT.len();
+    for (room, full, flushes, taken, answer) in [
+        (1000, Full::Fails, true, whole, Ok(())),
+        (1000, Full::Fails, false, whole, Err(WriteFault::Write)),
+        (0, Full::Fails, true, 0, Err(WriteFault::Write)),
+        (40, Full::Fails, true, 40, Err(WriteFault::Write)),
+        (0, Full::TakesNothing, true, 0, Err(WriteFault::Write)),
+        (40, Full::TakesNothing, true, 40, Err(WriteFault::Write)),
+    ] {
+        let mut narrow = Narrow {
+            taken: Vec::new(rt.alloc()),
+            room,
+            full,
+            flushes,
+        };
+        let mut writer = Plain::new(&mut narrow);
+        let written = write_outcome(rt.alloc(), &mut writer, &closed);
+        assert_eq!(rt; written, answer, "at {room}");
+        assert_eq!(rt; writer.has_failed(), answer.is_err(), "at {room}");
+        assert_eq!(rt; narrow.taken.len(), taken);
+        assert!(rt; TEXT.as_bytes().starts_with(&narrow.taken));
     }
     Ok(())
 }
 
 #[test]
-fn failing_flush_is_a_write_fault(rt: HostRuntime) -> Result<(), Fail> {
-    let mut narrow = with_room(rt.alloc(), 1000);
-    narrow.flushes = false;
-    let mut writer = Plain::new(&mut narrow);
-    let closed = closed(rt.alloc())?;
-    let written = write_outcome(rt.alloc(), &mut writer, &closed);
-    assert_eq!(rt; written, Err(WriteFault::Write));
-    assert!(rt; writer.has_failed());
-    assert_eq!(rt; narrow.taken.as_slice(), TEXT.as_bytes());
+fn records_and_pair_words_are_told_as_far_as_both_go(rt: HostRuntime) -> Result<(), Fail> {
+    for (records, pairs) in [(3, 1), (1, 3)] {
+        let closed = Closed {
+            records: vec![in rt.alloc(); 5; records]?,
+            pairs: vec![in rt.alloc(); 0; pairs]?,
+            journal: Vec::new(rt.alloc()),
+        };
+        let mut text = Vec::new(rt.alloc());
+        write_outcome(rt.alloc(), &mut Plain::new(&mut text), &closed)?;
+        assert_eq!(rt; text.as_slice(), "record 0 value 5 pair 0\n".as_bytes());
+    }
     Ok(())
 }

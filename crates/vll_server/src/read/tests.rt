@@ -1,23 +1,15 @@
 use super::read_scenario;
 use crate::fault::{Part, ScenarioFault, Spot};
 use crate::plain::Plain;
-use crate::scenario::Scenario;
 use crate::stream::Source;
-use std::alloc::Global;
+use std::alloc::{AllocError, Global};
 use std::io;
 use std::io::Read;
 use std::test::Fail;
-use vll_core::{Config, Event};
+use vll_core::Event;
 use vll_sca::Placing;
 
-const TRANSFER: &str = r#"{"version":1,"records":[100,50],
- "procs":[
-  {"name":"transfer","args":3,"keys":[["write","arg",0],["write","arg",1]],
-   "body":[["set",0,["sub",["key",0],["arg",2]]],
-           ["set",1,["add",["key",1],["arg",2]]],["reply",["key",0]]]},
-  {"name":"sum2","args":2,"keys":[["read","arg",0],["read","arg",1]],
-   "body":[["reply",["add",["key",0],["key",1]]]]}],
- "clients":[[{"proc":"transfer","args":[0,1,30]},{"proc":"sum2","args":[0,1]}]]}"#;
+const NO_CALLS: &str = r#"{"version":1,"records":[7],"procs":[],"clients":[]}"#;
 
 // Gives its text, and then fails.
 #[derive(Drop)]
@@ -41,106 +33,93 @@ impl<'a> Read for Broken<'a> {
 #[test]
 fn reader_that_fails_behind_the_whole_text_is_a_read_fault(rt: HostRuntime) {
     let mut reader = Plain::new(Broken {
-        text: TRANSFER.as_bytes(),
+        text: NO_CALLS.as_bytes(),
     });
     let read = read_scenario(rt.alloc(), &mut reader);
     assert!(rt; matches!(read, Err(ScenarioFault::Read)));
     assert!(rt; reader.has_failed());
 }
 
-#[test]
-fn half_a_scenario_is_no_json(rt: HostRuntime) {
-    let (half, _) = TRANSFER.as_bytes().split_at(200);
-    let mut reader = Plain::new(half);
-    let read = read_scenario(rt.alloc(), &mut reader);
-    assert!(rt; matches!(read, Err(ScenarioFault::Json)));
-    assert!(rt; !reader.has_failed());
+// What is chosen in the scenario that a text is: the cap, the limit and the number of bits.
+fn chosen_in(alloc: Global, text: &str) -> Result<(u32, u32, u32), ScenarioFault> {
+    let config = read_scenario(alloc, &mut Plain::new(text.as_bytes()))?.config;
+    Ok((config.cap, config.limit, config.bits))
 }
 
-// The scenario of two calls with these members beside the required ones.
-fn read_with(alloc: Global, more: &str) -> Result<Scenario, ScenarioFault> {
-    let text = format!(in alloc;
+// A scenario of two calls with these members beside the required ones.
+fn text_with(alloc: Global, more: &str) -> Result<String, AllocError> {
+    format!(in alloc;
         r#"{{"version":1,"records":[5],"procs":[{{"name":"seven","args":0,"keys":[],"body":[["reply",7]]}}],
             "clients":[[{{"proc":"seven","args":[]}}],[{{"proc":"seven","args":[]}}]]{more}}}"#
-    )?;
-    read_scenario(alloc, &mut Plain::new(text.as_bytes()))
+    )
 }
 
 #[test]
-fn absent_members_have_their_defaults(rt: HostRuntime) -> Result<(), Fail> {
-    let scenario = read_with(rt.alloc(), "")?;
-    let config = Config {
-        cap: 1_024,
-        limit: 2,
-        bits: 4_096,
-    };
-    assert_eq!(rt; scenario.config, config);
-    assert_eq!(rt; scenario.placing, Placing::Modulo);
-    assert!(rt; scenario.schedule.is_empty());
+fn members_choose_within_their_ranges(rt: HostRuntime) -> Result<(), Fail> {
+    for (more, chosen) in [
+        ("", Ok((1_024, 2, 4_096))),
+        (
+            r#","cap":65536,"limit":1,"bits":1048576"#,
+            Ok((65_536, 1, 1_048_576)),
+        ),
+        (r#","cap":1,"limit":65536,"bits":1"#, Ok((1, 65_536, 1))),
+        (r#","cap":0"#, Err(ScenarioFault::Size)),
+        (r#","cap":65537"#, Err(ScenarioFault::Size)),
+        (r#","limit":0"#, Err(ScenarioFault::Size)),
+        (r#","limit":65537"#, Err(ScenarioFault::Size)),
+        (r#","bits":0"#, Err(ScenarioFault::Size)),
+        (r#","bits":1048577"#, Err(ScenarioFault::Size)),
+        (r#","bits":4294967295"#, Err(ScenarioFault::Size)),
+        (
+            r#","cap":0,"schedule":[["claim"],0]"#,
+            Err(ScenarioFault::Shape(Spot {
+                part: Part::Schedule,
+                index: 1,
+            })),
+        ),
+    ] {
+        let text = text_with(rt.alloc(), more)?;
+        assert_eq!(rt; chosen_in(rt.alloc(), text.as_str()), chosen, "{more}");
+    }
     Ok(())
 }
 
 #[test]
-fn limit_without_calls_is_one(rt: HostRuntime) -> Result<(), Fail> {
-    let text = r#"{"version":1,"records":[7],"procs":[],"clients":[[],[]]}"#;
-    let scenario = read_scenario(rt.alloc(), &mut Plain::new(text.as_bytes()))?;
-    assert_eq!(rt; scenario.config.limit, 1);
-    Ok(())
+fn scenario_without_calls_has_the_limit_1_and_sizes_are_tested_first(rt: HostRuntime) {
+    for (text, chosen) in [
+        (
+            r#"{"version":1,"records":[7],"procs":[],"clients":[[],[]]}"#,
+            Ok((1_024, 1, 4_096)),
+        ),
+        (
+            r#"{"version":1,"records":[],"procs":[],"clients":[]}"#,
+            Err(ScenarioFault::Size),
+        ),
+        (
+            r#"{"version":1,"records":[7],"procs":[{"name":"p","args":9,"keys":[],"body":[]}],
+                "clients":[],"limit":0}"#,
+            Err(ScenarioFault::Size),
+        ),
+        (
+            r#"{"version":1,"records":[7],"procs":[{"name":"p","#,
+            Err(ScenarioFault::Json),
+        ),
+    ] {
+        assert_eq!(rt; chosen_in(rt.alloc(), text), chosen, "{text}");
+    }
 }
 
 #[test]
-fn members_that_are_there_are_kept(rt: HostRuntime) -> Result<(), Fail> {
-    let scenario = read_with(
+fn hash_and_schedule_are_kept(rt: HostRuntime) -> Result<(), Fail> {
+    let text = text_with(
         rt.alloc(),
-        r#","cap":65536,"limit":1,"bits":1048576,"hash":"spread","schedule":[["enter",1],["claim"]]"#,
+        r#","hash":"spread","schedule":[["enter",1],["claim"]]"#,
     )?;
-    let config = Config {
-        cap: 65_536,
-        limit: 1,
-        bits: 1_048_576,
-    };
-    assert_eq!(rt; scenario.config, config);
+    let scenario = read_scenario(rt.alloc(), &mut Plain::new(text.as_bytes()))?;
     assert_eq!(rt; scenario.placing, Placing::Spread);
     assert_eq!(rt;
         scenario.schedule.as_slice(),
         [Event::Enter(1), Event::Claim].as_slice()
     );
     Ok(())
-}
-
-#[test]
-fn number_out_of_its_range_is_a_size(rt: HostRuntime) {
-    for more in [
-        r#","cap":0"#,
-        r#","cap":65537"#,
-        r#","limit":0"#,
-        r#","limit":65537"#,
-        r#","bits":0"#,
-        r#","bits":1048577"#,
-        r#","bits":4294967295"#,
-    ] {
-        let read = read_with(rt.alloc(), more);
-        assert!(rt; matches!(read, Err(ScenarioFault::Size)), "{more}");
-    }
-    for more in [r#","cap":1"#, r#","limit":65536"#, r#","bits":1"#] {
-        assert!(rt; read_with(rt.alloc(), more).is_ok(), "{more}");
-    }
-}
-
-#[test]
-fn size_stands_behind_shapes_and_ahead_of_procedures(rt: HostRuntime) {
-    let read = read_with(rt.alloc(), r#","cap":0,"schedule":[["claim"],0]"#);
-    assert!(rt;
-        matches!(
-            read,
-            Err(ScenarioFault::Shape(Spot {
-                part: Part::Schedule,
-                index: 1
-            }))
-        )
-    );
-    let text = r#"{"version":1,"records":[7],"procs":[{"name":"p","args":9,"keys":[],"body":[]}],
-        "clients":[],"limit":0}"#;
-    let read = read_scenario(rt.alloc(), &mut Plain::new(text.as_bytes()));
-    assert!(rt; matches!(read, Err(ScenarioFault::Size)));
 }

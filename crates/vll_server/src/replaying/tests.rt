@@ -35,6 +35,13 @@ const STANDING: &str = r#"{"version":1,"records":[10,20],
 const STANDING_TEXT: &str =
     "0 opened\n1 claimed 0 granted\n2 claimed 0 granted\n3 free 0\n4 loaded 10\n5 loaded 20\n6 stored\n7 stored\n8 released 4294967296\n9 opened\n10 claimed 0 granted\n11 free 1\n12 opened\n13 claimed 4294967296 denied\n14 blocked 2\n15 refused idle\n16 refused idle\ncall 0 client 0 running\ncall 1 client 1 running\ncall 2 client 1 waiting\nrecord 0 value 5 pair 4294967296\nrecord 1 value 25 pair 8589934592\n";
 
+const NO_SCHEDULE: &str = r#"{"version":1,"records":[100,50],"procs":[],"clients":[]}"#;
+
+const EMPTY_SCHEDULE: &str =
+    r#"{"version":1,"records":[100,50],"procs":[],"clients":[],"schedule":[]}"#;
+
+const OPENING_TEXT: &str = "record 0 value 100 pair 0\nrecord 1 value 50 pair 0\n";
+
 // Fails at once.
 #[derive(Drop)]
 struct Broken;
@@ -54,30 +61,14 @@ fn printed(alloc: Global, scenario: &str) -> Result<Vec<u8>, ReplayFault> {
 }
 
 #[test]
-fn blocked_call_runs_at_the_front(rt: HostRuntime) -> Result<(), Fail> {
-    let text = printed(rt.alloc(), BLOCKED)?;
-    assert_eq!(rt; text.as_slice(), BLOCKED_TEXT.as_bytes());
-    Ok(())
-}
-
-#[test]
-fn calls_without_a_reply_run_or_wait(rt: HostRuntime) -> Result<(), Fail> {
-    let text = printed(rt.alloc(), STANDING)?;
-    assert_eq!(rt; text.as_slice(), STANDING_TEXT.as_bytes());
-    Ok(())
-}
-
-#[test]
-fn no_event_leaves_the_opening(rt: HostRuntime) -> Result<(), Fail> {
-    for scenario in [
-        r#"{"version":1,"records":[100,50],"procs":[],"clients":[],"schedule":[]}"#,
-        r#"{"version":1,"records":[100,50],"procs":[],"clients":[]}"#,
+fn events_and_what_stands_at_the_end_are_told(rt: HostRuntime) -> Result<(), Fail> {
+    for (scenario, text) in [
+        (BLOCKED, BLOCKED_TEXT),
+        (STANDING, STANDING_TEXT),
+        (NO_SCHEDULE, OPENING_TEXT),
+        (EMPTY_SCHEDULE, OPENING_TEXT),
     ] {
-        let text = printed(rt.alloc(), scenario)?;
-        assert_eq!(rt;
-            text.as_slice(),
-            "record 0 value 100 pair 0\nrecord 1 value 50 pair 0\n".as_bytes()
-        );
+        assert_eq!(rt; printed(rt.alloc(), scenario)?.as_slice(), text.as_bytes());
     }
     Ok(())
 }

@@ -4,7 +4,8 @@ use crate::plain::Plain;
 use crate::read::read_scenario;
 use crate::scenario::Scenario;
 use crate::stream::Sink;
-use std::alloc::Global;
+use std::alloc::{AllocError, Global};
+use std::hint;
 use std::io;
 use std::io::Write;
 use std::sync::atomic::{AtomicU64, Ordering};
@@ -45,6 +46,7 @@ const TWO_RECORDS: &str = r#"{"version":1,"records":[0,0],
    "body":[["set",0,["add",["key",0],1]],["reply",["key",0]]]}],
  "clients":[[{"proc":"bump","args":[0]}],[{"proc":"bump","args":[1]}]]}"#;
 
+// How long a call is held back at most.
 const MOST_TURNS: u64 = 100_000_000;
 
 fn scenario(alloc: Global, text: &str) -> Result<Scenario, ScenarioFault> {
@@ -66,31 +68,52 @@ impl Write for Broken {
     }
 }
 
-// Holds back the call of ticket 0 until that of ticket 1 has its reply, for so many turns at most.
+// Waits until a counter is as high, for so many turns at most. Answers whether it became so.
+fn comes_to(counter: &AtomicU64, number: u64, turns: u64) -> bool {
+    for _ in 0..turns {
+        if counter.load(Ordering::SeqCst) >= number {
+            return true;
+        }
+        hint::spin_loop();
+    }
+    false
+}
+
+// Holds ticket 0 back until so many others have their replies, and, if there are several, the first of those until
+// another one begins.
 #[derive(Drop)]
-struct FirstWaits {
-    is_second_done: AtomicU64,
-    called: AtomicU64,
+struct Behind {
+    others: u64,
+    begun: AtomicU64,
+    done: AtomicU64,
     met: AtomicU64,
 }
 
-impl Gate for FirstWaits {
-    fn before(&self, ticket: Ticket) {
-        if ticket.0 != 0 {
-            return;
+impl Behind {
+    fn new(others: u64) -> Behind {
+        Behind {
+            others,
+            begun: AtomicU64::new(0),
+            done: AtomicU64::new(0),
+            met: AtomicU64::new(0),
         }
-        self.called.fetch_add(1, Ordering::SeqCst);
-        for _ in 0..MOST_TURNS {
-            if self.is_second_done.load(Ordering::SeqCst) == 1 {
-                self.met.fetch_add(1, Ordering::SeqCst);
-                return;
+    }
+}
+
+impl Gate for Behind {
+    fn before(&self, ticket: Ticket) {
+        if ticket.0 == 0 {
+            if comes_to(&self.done, self.others, MOST_TURNS) {
+                self.met.store(1, Ordering::SeqCst);
             }
+        } else if self.begun.fetch_add(1, Ordering::SeqCst) == 0 && self.others > 1 {
+            comes_to(&self.begun, 2, MOST_TURNS / 10);
         }
     }
 
     fn after(&self, ticket: Ticket) {
-        if ticket.0 == 1 {
-            self.is_second_done.store(1, Ordering::SeqCst);
+        if ticket.0 != 0 {
+            self.done.fetch_add(1, Ordering::SeqCst);
         }
     }
 }
@@ -160,15 +183,47 @@ fn failing_writer_is_a_write_fault(rt: HostRuntime) -> Result<(), Fail> {
 #[test]
 fn later_call_is_done_while_the_first_is_held_back(rt: HostRuntime) -> Result<(), Fail> {
     let scenario = scenario(rt.alloc(), TWO_RECORDS)?;
-    let gate = FirstWaits {
-        is_second_done: AtomicU64::new(0),
-        called: AtomicU64::new(0),
-        met: AtomicU64::new(0),
-    };
+    let gate = Behind::new(1);
     let mut text = Vec::new(rt.alloc());
     let mut writer = Plain::new(&mut text);
     serve(&rt, &rt, rt.alloc(), scenario, 2, &gate, &mut writer)?;
-    assert_eq!(rt; gate.called.load(Ordering::SeqCst), 1);
+    assert_eq!(rt; gate.met.load(Ordering::SeqCst), 1);
+    Ok(())
+}
+
+// A scenario whose first call is on record 0, whichever client's it is. Two clients have nothing but such calls.
+// The other one then changes record 4 twice, and record 1. By 4 bits records 0 and 4 have one place under modulo,
+// the place 0, and two under spread, 0 and 1.
+fn on_records_0_and_4(alloc: Global) -> Result<String, AllocError> {
+    let mut text = String::from_str(
+        alloc,
+        r#"{"version":1,"records":[0,0,0,0,0],"hash":"spread","bits":4,
+         "procs":[{"name":"bump","args":1,"keys":[["write","arg",0]],
+           "body":[["set",0,["add",["key",0],1]],["reply",["key",0]]]}],
+         "clients":[[{"proc":"bump","args":[0]},{"proc":"bump","args":[4]},
+           {"proc":"bump","args":[4]},{"proc":"bump","args":[1]}]"#,
+    )?;
+    for _ in 0..2 {
+        text.push_str(r#",[{"proc":"bump","args":[0]}"#)?;
+        for _ in 0..100 {
+            text.push_str(r#",{"proc":"bump","args":[0]}"#)?;
+        }
+        text.push_str("]")?;
+    }
+    text.push_str("]}")?;
+    Ok(text)
+}
+
+// Ticket 0 holds record 0. The first call on record 4 is held back until the call on record 1 begins, so the second
+// one on record 4 is blocked. Once the first is gone it can run only if the scan finds it.
+#[test]
+fn scan_goes_by_the_hash_of_the_scenario(rt: HostRuntime) -> Result<(), Fail> {
+    let text = on_records_0_and_4(rt.alloc())?;
+    let scenario = scenario(rt.alloc(), text.as_str())?;
+    let gate = Behind::new(3);
+    let mut written = Vec::new(rt.alloc());
+    let mut writer = Plain::new(&mut written);
+    serve(&rt, &rt, rt.alloc(), scenario, 3, &gate, &mut writer)?;
     assert_eq!(rt; gate.met.load(Ordering::SeqCst), 1);
     Ok(())
 }

@@ -1,41 +1,70 @@
 use super::{parts_of, spot_of};
-use crate::fault::Part;
-use std::alloc::Global;
+use crate::fault::{Part, ScenarioFault};
+use std::alloc::{AllocError, Global};
+use std::process::Abort;
 use std::test::Fail;
 use vll_sca::Placing;
 
-// The spot of the fault that a scenario with these members beside the required ones has.
-fn spot_with(alloc: Global, more: &str) -> Result<Option<(Part, u32)>, Fail> {
-    let text = format!(in alloc;
-        r#"{{"version":1,"records":[0],"procs":[],"clients":[],{more}}}"#
-    )?;
-    spot_of(alloc, text.as_str())
+// A scenario with these members beside the required ones.
+fn text_with(alloc: Global, more: &str) -> Result<String, AllocError> {
+    format!(in alloc; r#"{{"version":1,"records":[0],"procs":[],"clients":[]{more}}}"#)
 }
 
-#[test]
-fn members_that_may_be_absent_are_none(rt: HostRuntime) -> Result<(), Fail> {
-    let parts = parts_of(
-        rt.alloc(),
-        r#"{"version":1,"records":[],"procs":[],"clients":[]}"#,
-    )?;
-    assert_eq!(rt; parts.cap, None);
-    assert_eq!(rt; parts.bits, None);
-    assert_eq!(rt; parts.limit, None);
-    assert_eq!(rt; parts.placing, None);
-    assert!(rt; parts.schedule.is_empty());
+// With each of these members beside the required ones a scenario has the fault of this spot, or none.
+fn check_members(
+    rt: &(impl AllocGlobal + Abort),
+    cases: &[(&str, Option<(Part, u32)>)],
+) -> Result<(), Fail> {
+    for (more, spot) in cases {
+        let text = text_with(rt.alloc(), more)?;
+        assert_eq!(rt; spot_of(rt.alloc(), text.as_str())?, *spot, "{more}");
+    }
     Ok(())
 }
 
-#[test]
-fn numbers_that_are_given_are_read(rt: HostRuntime) -> Result<(), Fail> {
-    let parts = parts_of(
-        rt.alloc(),
-        r#"{"limit":0,"bits":4294967295,"cap":7,"version":1,"records":[],"procs":[],"clients":[]}"#,
-    )?;
-    assert_eq!(rt; parts.cap, Some(7));
-    assert_eq!(rt; parts.bits, Some(4_294_967_295));
-    assert_eq!(rt; parts.limit, Some(0));
+// With each of these values the member of this name has a fault of this part, or none of them.
+fn check_values(
+    rt: &(impl AllocGlobal + Abort),
+    name: &str,
+    values: &[&str],
+    spot: Option<(Part, u32)>,
+) -> Result<(), Fail> {
+    for value in values {
+        let more = format!(in rt.alloc(); r#","{name}":{value}"#)?;
+        check_members(rt, &[(more.as_str(), spot)])?;
+    }
     Ok(())
+}
+
+// What a scenario with these members chooses: the cap, the bits, the limit and the hash.
+type Chosen = (Option<u32>, Option<u32>, Option<u32>, Option<Placing>);
+
+fn chosen_with(alloc: Global, more: &str) -> Result<Chosen, ScenarioFault> {
+    let text = text_with(alloc, more)?;
+    let parts = parts_of(alloc, text.as_str())?;
+    Ok((parts.cap, parts.bits, parts.limit, parts.placing))
+}
+
+#[test]
+fn members_that_may_be_absent_are_read(rt: HostRuntime) {
+    for (more, chosen) in [
+        ("", (None, None, None, None)),
+        (
+            r#","limit":0,"bits":4294967295,"cap":7,"hash":"modulo""#,
+            (
+                Some(7),
+                Some(4_294_967_295),
+                Some(0),
+                Some(Placing::Modulo),
+            ),
+        ),
+        (
+            r#","hash":"spread""#,
+            (None, None, None, Some(Placing::Spread)),
+        ),
+    ] {
+        assert_eq!(rt; chosen_with(rt.alloc(), more), Ok(chosen), "{more}");
+    }
 }
 
 #[test]
@@ -45,7 +74,7 @@ fn number_over_32_bits_is_a_fault_of_its_member(rt: HostRuntime) -> Result<(), F
         ("bits", Part::Bits),
         ("limit", Part::Limit),
     ] {
-        for value in [
+        let others = [
             "null",
             "-1",
             "-0",
@@ -57,25 +86,16 @@ fn number_over_32_bits_is_a_fault_of_its_member(rt: HostRuntime) -> Result<(), F
             "true",
             "4294967296",
             "18446744073709551616",
-        ] {
-            let more = format!(in rt.alloc(); r#""{name}":{value}"#)?;
-            assert_eq!(rt;
-                spot_with(rt.alloc(), more.as_str())?,
-                Some((part, 0)),
-                "{more}"
-            );
-        }
-        for value in ["0", "1", "4294967295"] {
-            let more = format!(in rt.alloc(); r#""{name}":{value}"#)?;
-            assert_eq!(rt; spot_with(rt.alloc(), more.as_str())?, None, "{more}");
-        }
+        ];
+        check_values(&rt, name, &others, Some((part, 0)))?;
+        check_values(&rt, name, &["0", "1", "4294967295"], None)?;
     }
     Ok(())
 }
 
 #[test]
 fn hash_is_one_of_two_words(rt: HostRuntime) -> Result<(), Fail> {
-    for hash in [
+    let others = [
         r#""other""#,
         r#""Modulo""#,
         r#""modulo ""#,
@@ -83,50 +103,41 @@ fn hash_is_one_of_two_words(rt: HostRuntime) -> Result<(), Fail> {
         "null",
         "0",
         r#"["modulo"]"#,
-    ] {
-        let more = format!(in rt.alloc(); r#""hash":{hash}"#)?;
-        assert_eq!(rt;
-            spot_with(rt.alloc(), more.as_str())?,
-            Some((Part::Hash, 0)),
-            "{more}"
-        );
-    }
-    for (hash, placing) in [("modulo", Placing::Modulo), ("spread", Placing::Spread)] {
-        let text = format!(in rt.alloc();
-            r#"{{"version":1,"records":[],"procs":[],"clients":[],"hash":"{hash}"}}"#
-        )?;
-        assert_eq!(rt; parts_of(rt.alloc(), text.as_str())?.placing, Some(placing));
-    }
-    Ok(())
+    ];
+    check_values(&rt, "hash", &others, Some((Part::Hash, 0)))?;
+    check_values(&rt, "hash", &[r#""modulo""#, r#""spread""#], None)
 }
 
 #[test]
 fn first_faulty_member_is_named(rt: HostRuntime) -> Result<(), Fail> {
-    for (more, spot) in [
-        (
-            r#""schedule":[["claim"],0],"hash":0,"limit":-1,"bits":null,"cap":null"#,
-            (Part::Cap, 0),
-        ),
-        (
-            r#""schedule":[["claim"],0],"hash":0,"limit":-1,"bits":null,"cap":0"#,
-            (Part::Bits, 0),
-        ),
-        (
-            r#""schedule":[["claim"],0],"hash":0,"limit":-1,"bits":0"#,
-            (Part::Limit, 0),
-        ),
-        (
-            r#""schedule":[["claim"],0],"hash":0,"limit":0"#,
-            (Part::Hash, 0),
-        ),
-        (
-            r#""schedule":[["claim"],0],"hash":"spread""#,
-            (Part::Schedule, 1),
-        ),
-    ] {
-        assert_eq!(rt; spot_with(rt.alloc(), more)?, Some(spot), "{more}");
-    }
-    let text = r#"{"version":1,"records":[0],"procs":[],"clients":[[],0],"cap":null}"#;
-    assert_eq!(rt; spot_of(rt.alloc(), text)?, Some((Part::Clients, 1)));
-    Ok(())
+    check_members(
+        &rt,
+        &[
+            (
+                r#","schedule":[["claim"],0],"hash":0,"limit":-1,"bits":null,"cap":null"#,
+                Some((Part::Cap, 0)),
+            ),
+            (
+                r#","schedule":[["claim"],0],"hash":0,"limit":-1,"bits":null,"cap":0"#,
+                Some((Part::Bits, 0)),
+            ),
+            (
+                r#","schedule":[["claim"],0],"hash":0,"limit":-1,"bits":0"#,
+                Some((Part::Limit, 0)),
+            ),
+            (
+                r#","schedule":[["claim"],0],"hash":0,"limit":0"#,
+                Some((Part::Hash, 0)),
+            ),
+            (
+                r#","schedule":[["claim"],0],"hash":"spread""#,
+                Some((Part::Schedule, 1)),
+            ),
+            // the last member of a name counts
+            (
+                r#","clients":[[],0],"cap":null"#,
+                Some((Part::Clients, 1)),
+            ),
+        ],
+    )
 }

@@ -1,6 +1,7 @@
 use super::{parts_of, spot_of};
 use crate::fault::Part;
 use std::alloc::Global;
+use std::process::Abort;
 use std::test::Fail;
 use vll_core::{Event, Ticket};
 
@@ -36,45 +37,49 @@ fn events_are_read_in_their_order(rt: HostRuntime) -> Result<(), Fail> {
     Ok(())
 }
 
-#[test]
-fn empty_schedule_has_no_event(rt: HostRuntime) -> Result<(), Fail> {
-    let text = text_with(rt.alloc(), "[]")?;
-    let parts = parts_of(rt.alloc(), text.as_str())?;
-    assert!(rt; parts.schedule.is_empty());
+// With each of these schedules a scenario has a fault at this event, or none.
+fn check_schedules(
+    rt: &(impl AllocGlobal + Abort),
+    cases: &[(&str, Option<u32>)],
+) -> Result<(), Fail> {
+    for (schedule, index) in cases {
+        let text = text_with(rt.alloc(), schedule)?;
+        assert_eq!(rt;
+            spot_of(rt.alloc(), text.as_str())?,
+            index.map(|index| (Part::Schedule, index)),
+            "{schedule}"
+        );
+    }
     Ok(())
 }
 
 #[test]
 fn first_faulty_event_is_named(rt: HostRuntime) -> Result<(), Fail> {
-    for (schedule, index) in [
-        ("null", 0),
-        ("7", 0),
-        (r#""claim""#, 0),
-        (r#"{"0":["claim"]}"#, 0),
-        (r#"["claim"]"#, 0),
-        ("[[]]", 0),
-        ("[[0]]", 0),
-        (r#"[["claim"],["load"]]"#, 1),
-        (r#"[["claim"],["front",0]]"#, 1),
-        (r#"[["claim"],["admit"],["store",0,0],["load"]]"#, 2),
-        (r#"[["enter"]]"#, 0),
-        (r#"[["enter",0],["enter",-1]]"#, 1),
-        (r#"[["enter",0],["enter",4294967296]]"#, 1),
-        (r#"[["finish",4294967296]]"#, 0),
-        (r#"[["load","0"]]"#, 0),
-        (r#"[["load",1.0]]"#, 0),
-        (r#"[["release",null]]"#, 0),
-        (r#"[["scan"],["Claim"]]"#, 1),
-        (r#"[["run",0]]"#, 0),
-        (r#"[["claim"],null]"#, 1),
-        (r#"[["claim"],{"claim":0}]"#, 1),
-    ] {
-        let text = text_with(rt.alloc(), schedule)?;
-        assert_eq!(rt;
-            spot_of(rt.alloc(), text.as_str())?,
-            Some((Part::Schedule, index)),
-            "{schedule}"
-        );
-    }
-    Ok(())
+    check_schedules(
+        &rt,
+        &[
+            ("[]", None),
+            ("null", Some(0)),
+            ("7", Some(0)),
+            (r#""claim""#, Some(0)),
+            (r#"{"0":["claim"]}"#, Some(0)),
+            (r#"["claim"]"#, Some(0)),
+            ("[[]]", Some(0)),
+            ("[[0]]", Some(0)),
+            (r#"[["claim"],["load"]]"#, Some(1)),
+            (r#"[["claim"],["front",0]]"#, Some(1)),
+            (r#"[["claim"],["admit"],["store",0,0],["load"]]"#, Some(2)),
+            (r#"[["enter"]]"#, Some(0)),
+            (r#"[["enter",0],["enter",-1]]"#, Some(1)),
+            (r#"[["enter",0],["enter",4294967296]]"#, Some(1)),
+            (r#"[["finish",4294967296]]"#, Some(0)),
+            (r#"[["load","0"]]"#, Some(0)),
+            (r#"[["load",1.0]]"#, Some(0)),
+            (r#"[["release",null]]"#, Some(0)),
+            (r#"[["scan"],["Claim"]]"#, Some(1)),
+            (r#"[["run",0]]"#, Some(0)),
+            (r#"[["claim"],null]"#, Some(1)),
+            (r#"[["claim"],{"claim":0}]"#, Some(1)),
+        ],
+    )
 }

@@ -1,0 +1,13 @@
+//! The limits of a scenario's sizes, beside those of the engine that runs it.
+
+/// The most bytes that a scenario may have.
+pub const MOST_BYTES: usize = 16_777_216;
+
+/// The most procedures that a scenario may have.
+pub const MOST_PROCS: usize = 1_048_576;
+
+/// The most clients that a scenario may have.
+pub const MOST_CLIENTS: usize = 1_024;
+
+/// The most events that a schedule may have.
+pub const MOST_EVENTS: usize = 1_048_576;
