@@ -2,31 +2,33 @@ ghost use Rattle.std.specs.Prelude.{◌≡◌, ◌≤◌, ◌↔◌, ◌⊎◌, 
 ghost use Rattle.vll_sca.specs.Scan.{scan};
 ghost use Rattle.vll_sca.specs.declared.bits.BitsFault.TheVariants as BitsFault;
 
+use crate::claim_marks::ClaimMarks;
 use crate::entry::Entry;
-use crate::pairs::is_held_back;
 use crate::place::Place;
-use crate::status::Status;
 use std::alloc::Global;
 use std::marker::Model;
 
 /// The most bits that records can share: 2^20.
 pub const MOST_BITS: u32 = 1_048_576;
 
-/// The room for a scan: how many bits records share. Contracts see their number.
+/// The room for a scan: two arrays of bits that records share. Contracts see the number of bits.
 #[derive(Drop)]
 pub struct Bits {
     count: u32,
+    // Clear between scans, so that no scan costs a walk over the bits.
+    marks: ClaimMarks,
 }
 
 impl Model for Bits {
-    ghost use Rattle.std.specs.Prelude.{ℕ, ◌≤◌};
-    ghost use Rattle.vll_sca.specs.declared.bits.TheConstants.{MOST_BITS};
+    ghost use Rattle.std.specs.Prelude.{ℕ};
 
     ghost Value = { ℕ };
 
+    ghost use Rattle.vll_sca.specs.Private.Bits.{IsReady};
+
     ghost view = { λ b. b.count };
 
-    ghost invariant = { λ b. (1 ≤ b.count) × (b.count ≤ MOST_BITS) };
+    ghost invariant = { IsReady };
 }
 
 /// Why there is no room for scans.
@@ -45,11 +47,11 @@ impl Bits {
         ensures size { result ≡ Err BitsFault.Size ↔ ¬ ((1 ≤ n) × (n ≤ MOST_BITS)) }
         ensures made { (result ≡ Ok n) ⊎ (result ≡ Err BitsFault.Size) ⊎ (result ≡ Err BitsFault.NoMemory) }
     {
-        let _ = alloc;
         if n < 1 || n > MOST_BITS {
             return Err(BitsFault::Size);
         }
-        Ok(Bits { count: n })
+        let marks = ClaimMarks::new(alloc, n as usize).map_err(|_| BitsFault::NoMemory)?;
+        Ok(Bits { count: n, marks })
     }
 
     /// The place of the first waiting entry that is in hash conflict with no earlier entry that is running or
@@ -60,14 +62,10 @@ impl Bits {
         ensures found { result ≡ scan (H.place_of hash.now) self.old entries.now }
         ensures same { self.new ≡ self.old }
     {
-        for (i, entry) in entries.iter().enumerate() {
-            if matches!(entry.status, Status::Waiting)
-                && !is_held_back(hash, self.count, entry, &entries[..i])
-            {
-                return Some(i);
-            }
-        }
-        None
+        let found = self.marks.first_clear(hash, self.count, entries);
+        let passed = found.unwrap_or(entries.len());
+        self.marks.take_back(hash, self.count, &entries[..passed]);
+        found
     }
 }
 

@@ -2,9 +2,10 @@
 #![tactic(auto)]
 
 mod bits;
+mod claim_marks;
 mod entry;
 mod laws;
-mod pairs;
+mod marks;
 mod place;
 mod status;
 
