@@ -14,10 +14,11 @@ use Rattle.vll_core.specs.Machine.{opened}
 use Rattle.vll_core.specs.Moves.{IsProper, AreProper, IsReached, begun}
 use Rattle.vll_core.specs.declared.machine.OpenTurn.{OpenTurn}
 use Rattle.vll_core.specs.Queue.{QueueEntry, Queued, IsQueued, empty}
-use Rattle.vll_core.specs.Shown.{Shown, AreWords, AreFirstWords, opening_of}
+use Rattle.vll_core.specs.Private.FirstWords.{AreFirstWords}
+use Rattle.vll_core.specs.Shown.{Shown, AreWords, opening_of}
 use Rattle.vll_core.specs.Shown as shown_of
-use Rattle.vll_core.specs.View.{shown, entries_of, turn_of, left_of}
-use Rattle.vll_core.specs.MachineKept.{IsMachine}
+use Rattle.vll_core.specs.Private.View.{shown, entries_of, turn_of, left_of}
+use Rattle.vll_core.specs.Private.MachineKept.{IsMachine}
 use Rattle.vll_core.proofs.Fitted.{proper_fits}
 
 -- each script is left whole where its next call is its first
@@ -45,7 +46,7 @@ pub none_entered : {H : Type 0} (config : Config) (hash : H) (c : Inside H) → 
 none_entered {H} config hash c fresh = ap (λ (q : Queued H). q.entries) fresh.queue
 
 pub shown_begun : {H : Type 0} (config : Config) (hash : H) (c : Inside H) → IsFresh config hash c
-    → shown c ≡ shown_of.begun c.library.value c.opening.items c.scripts.items config hash
+    → shown c ≡ shown_of.begun c.library.value c.opening.value.items c.scripts.items config hash
 shown_begun {H} config hash c fresh =
     let entries : entries_of c.queue.entries c.work.items ≡ [] = ap (λ es. entries_of es c.work.items) (none_entered config hash c fresh) in
     cc (
@@ -63,8 +64,8 @@ pub words_begun : (base : Base) (scripts : List (List Call)) (words : List ℕ) 
 words_begun base scripts words are = record { long = are.long; turn = are.turn; values = are.values; pairs = are.pairs }
 
 -- what the opening makes is a machine
-pub core_begun : {H : Type 0} {places : H → ℕ → ℕ} (config : Config) (hash : H) (c : Inside H) → IsFresh config hash c → AreFirstWords c.opening.items c.words.items → 1 ≤ length c.opening.items → length c.opening.items ≤ 65536
-    → c.library.value.records ≡ length c.opening.items → IsCatalog c.library.value → IsQueued c.queue → c.queue.limit ≤ vec_capacity c.work
+pub core_begun : {H : Type 0} {places : H → ℕ → ℕ} (config : Config) (hash : H) (c : Inside H) → IsFresh config hash c → AreFirstWords c.opening.value.items c.words.items → 1 ≤ length c.opening.value.items → length c.opening.value.items ≤ 65536
+    → c.library.value.records ≡ length c.opening.value.items → IsCatalog c.library.value → IsQueued c.queue → c.queue.limit ≤ vec_capacity c.work
     → All (λ (v : Vec Call). All (Fits c.library.value) v.items) c.scripts.items → IsMachine places c
 core_begun {H} {places} config hash c fresh words some few records catalog queue room fits = record {
   reached = subst (λ (s : Shown H). IsReached (opening_of places s) s.state) (sym (shown_begun config hash c fresh)) (begun _ proper);
@@ -84,5 +85,5 @@ core_begun {H} {places} config hash c fresh words some few records catalog queue
   replied = λ t e w at has gone. absurd (let none : slice_get [] t ≡ Some e = ap (λ (es : List QueueEntry). slice_get es t) (sym (none_entered config hash c fresh)) ∙ at in cc none);
 }
   where
-    proper : AreProper (record { procs = c.library.value.procs; records = c.opening.items }) (map (λ (v : Vec Call). v.items) c.scripts.items)
-    proper = All-map (All (IsProper (record { procs = c.library.value.procs; records = c.opening.items }))) (λ (v : Vec Call). v.items) c.scripts.items (λ k d lt j e low. proper_fits c.library.value c.opening.items _ catalog (fits k d lt j e low))
+    proper : AreProper (record { procs = c.library.value.procs; records = c.opening.value.items }) (map (λ (v : Vec Call). v.items) c.scripts.items)
+    proper = All-map (All (IsProper (record { procs = c.library.value.procs; records = c.opening.value.items }))) (λ (v : Vec Call). v.items) c.scripts.items (λ k d lt j e low. proper_fits c.library.value c.opening.value.items _ catalog (fits k d lt j e low))

@@ -17,8 +17,8 @@ use Rattle.vll_core.specs.Machine.{Outcome, refuse_if, or_refuse, waiting, first
 use Rattle.vll_core.specs.Moves.{hand, move, moved}
 use Rattle.vll_core.specs.Queue.{statuses}
 use Rattle.vll_core.specs.Shown.{Shown, opening_of}
-use Rattle.vll_core.specs.View.{turn_of, left_of, shown}
-use Rattle.vll_core.specs.MachineKept.{IsMachine}
+use Rattle.vll_core.specs.Private.View.{turn_of, left_of, shown}
+use Rattle.vll_core.specs.Private.MachineKept.{IsMachine}
 use Rattle.vll_core.proofs.Tests.{le_no}
 use Rattle.vll_core.proofs.Places.{all_at}
 use Rattle.vll_core.proofs.Fitted.{proper_fits}
@@ -256,7 +256,7 @@ core_handed {H} {places} a client call core closed fits room =
     let next : State = (shown (handed_turn a client call)).state in
     let is : move o (shown a).state (hand client call) ≡ Ok (Opened, next) = hand_is places a client call (Ok tt) closed room in
     record {
-      reached = moved (shown a).state (hand client call) Opened next core.reached (proper_fits a.library.value a.opening.items call core.catalog fits) is;
+      reached = moved (shown a).state (hand client call) Opened next core.reached (proper_fits a.library.value a.opening.value.items call core.catalog fits) is;
       words = words_stay o (shown a).state next (hand client call) Opened a.words.items core.reached is refl refl refl core.words;
       some_records = core.some_records;
       few_records = core.few_records;

@@ -20,8 +20,8 @@ use Rattle.vll_core.specs.State.{Entered, Opening, State, reply_at}
 use Rattle.vll_core.specs.Machine.{Outcome, step, refuse_if, or_refuse, running, has_stored, with_entry}
 use Rattle.vll_core.specs.Queue.{QueueEntry, Queued, statuses, finished}
 use Rattle.vll_core.specs.Shown.{opening_of}
-use Rattle.vll_core.specs.View.{entered_of, shown}
-use Rattle.vll_core.specs.MachineKept.{IsMachine}
+use Rattle.vll_core.specs.Private.View.{entered_of, shown}
+use Rattle.vll_core.specs.Private.MachineKept.{IsMachine}
 use Rattle.vll_core.proofs.MachineState.{entry_changed, made_changed, fits_same, at_work_same, replied_changed, queued_finished, length_changed}
 use Rattle.vll_core.proofs.MachineSteps.{Refuses, Takes, taken_reached, taken_words}
 use Rattle.vll_core.proofs.RunningCalls.{RunsAt, now_at, now_shown, stored_by_work, stored_shown, replies}
@@ -157,7 +157,7 @@ core_finish {H} {places} a t call w reply core e is =
       entries_fit = fits_same a.library.value a.queue.entries _ (sym made) core.entries_fit;
       turn_fits = core.turn_fits;
       scripts_fit = core.scripts_fit;
-      at_work = at_work_same a.library.value a.opening.items a.queue.entries _ a.work.items (sym made) core.at_work;
+      at_work = at_work_same a.library.value a.opening.value.items a.queue.entries _ a.work.items (sym made) core.at_work;
       replied =
           replied_changed a.queue.entries a.work.items t change
           (λ d v at has gone. sym is ∙ ap (λ (x : Work). x.reply) (e.work ∙ same_Some r.work v (sym r.has ∙ has))) core.replied;

@@ -18,9 +18,9 @@ use Rattle.vll_core.specs.State.{Entered, Opening, State, value}
 use Rattle.vll_core.specs.Machine.{Outcome, step, or_refuse, running, with_entry}
 use Rattle.vll_core.specs.Queue.{QueueEntry}
 use Rattle.vll_core.specs.Shown.{opening_of}
-use Rattle.vll_core.specs.View.{entered_of, shown}
-use Rattle.vll_core.specs.Work.{IsAtWork}
-use Rattle.vll_core.specs.MachineKept.{IsMachine}
+use Rattle.vll_core.specs.Private.View.{entered_of, shown}
+use Rattle.vll_core.specs.Private.Work.{IsAtWork}
+use Rattle.vll_core.specs.Private.MachineKept.{IsMachine}
 use Rattle.vll_core.proofs.Places.{all_at}
 use Rattle.vll_core.proofs.Reached.{load_reached}
 use Rattle.vll_core.proofs.MachineState.{entry_shown, work_put, at_work_put, replied_put}
@@ -153,7 +153,7 @@ core_load {H} {places} a t call w c new core l h at_work =
       turn_fits = core.turn_fits;
       scripts_fit = core.scripts_fit;
       at_work =
-          at_work_put a.library.value a.opening.items a.queue.entries a.work.items t new
+          at_work_put a.library.value a.opening.value.items a.queue.entries a.work.items t new
           (λ e at. subst (λ (x : Call). IsAtWork a.library.value.procs x (now_at a t) new) (sym r.own ∙ ap (λ (x : QueueEntry). x.line.call) (here e at)) at_work) core.at_work;
       replied =
           replied_put a.queue.entries a.work.items t new

@@ -16,9 +16,9 @@ use Rattle.vll_core.specs.declared.work.Work.{Work}
 use Rattle.vll_sca.specs.Status.{is_waiting, is_gone}
 use Rattle.vll_core.specs.State.{Entered, made}
 use Rattle.vll_core.specs.Queue.{QueueEntry, Queued, IsQueued, has_reply, lines, statuses, changed_at, started, finished, admitted}
-use Rattle.vll_core.specs.View.{entered_of, entries_of}
-use Rattle.vll_core.specs.Work.{IsAtWork}
-use Rattle.vll_core.specs.MachineKept.{made_of, AreAtWork, AreReplied}
+use Rattle.vll_core.specs.Private.View.{entered_of, entries_of}
+use Rattle.vll_core.specs.Private.Work.{IsAtWork}
+use Rattle.vll_core.specs.Private.MachineKept.{made_of, AreAtWork, AreReplied}
 use Rattle.vll_core.proofs.Places.{all_at, entry_at, at_set, at_push}
 use Rattle.vll_core.proofs.Entries.{starts, fewer_wait, one_more_waits}
 use Rattle.vll_core.proofs.QueueLaws.{changed_there, map_changed, map_unchanged, lines_started, statuses_started, statuses_finished, lines_admitted, statuses_admitted}

@@ -9,8 +9,8 @@ use Rattle.vll_core.specs.declared.seen.Seen.{Seen}
 use Rattle.vll_core.specs.Machine.{Outcome, step, told}
 use Rattle.vll_core.specs.Moves.{IsReached, by_event, moved, requested_by, released_by, stored_by}
 use Rattle.vll_core.specs.Shown.{Shown, AreWords, library_of, opening_of, after}
-use Rattle.vll_core.specs.View.{turn_of, shown}
-use Rattle.vll_core.specs.MachineKept.{IsMachine}
+use Rattle.vll_core.specs.Private.View.{turn_of, shown}
+use Rattle.vll_core.specs.Private.MachineKept.{IsMachine}
 use Rattle.vll_core.proofs.WordsKept.{words_stay}
 
 -- no turn is shown where none is kept

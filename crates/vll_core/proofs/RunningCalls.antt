@@ -23,9 +23,9 @@ use Rattle.vll_core.specs.State.{Entered, writes, is_aborted, records_before}
 use Rattle.vll_core.specs.Machine.{running, if_running, has_stored}
 use Rattle.vll_core.specs.Shown.{Shown, library_of}
 use Rattle.vll_core.specs.Queue.{QueueEntry, lines, statuses}
-use Rattle.vll_core.specs.View.{entered_of, shown}
-use Rattle.vll_core.specs.Work.{IsAtWork}
-use Rattle.vll_core.specs.MachineKept.{IsMachine, made_of}
+use Rattle.vll_core.specs.Private.View.{entered_of, shown}
+use Rattle.vll_core.specs.Private.Work.{IsAtWork}
+use Rattle.vll_core.specs.Private.MachineKept.{IsMachine, made_of}
 use Rattle.vll_core.proofs.Tests.{both_true}
 use Rattle.vll_core.proofs.Places.{all_at, entry_at}
 use Rattle.vll_core.proofs.MachineState.{entry_shown, none_shown, made_shown}
@@ -114,11 +114,11 @@ length_before procs calls records t = at_end (take t calls) records
 
 -- the records before a ticket
 abbrev pub now_at : {H : Type 0} → Inside H → ℕ → List ℕ
-now_at a t = before a.library.value.procs (made_of a.queue.entries) a.opening.items t
+now_at a t = before a.library.value.procs (made_of a.queue.entries) a.opening.value.items t
 
 pub now_shown : {H : Type 0} (a : Inside H) (t : ℕ) → length a.work.items ≡ length a.queue.entries → records_before (shown a).base (shown a).state t ≡ now_at a t
 now_shown a t same =
-    ap (λ (calls : List Made). before a.library.value.procs calls a.opening.items t) (made_shown a.queue.entries a.work.items same)
+    ap (λ (calls : List Made). before a.library.value.procs calls a.opening.value.items t) (made_shown a.queue.entries a.work.items same)
 
 -- the call runs at the ticket, with its entry in the queue and its work
 pub record RunsAt {H : Type 0} (a : Inside H) (t : ℕ) (call : Call) : Type 0 where
@@ -157,7 +157,7 @@ runs_at a t call kept told = by_entry (slice_get a.queue.entries t) refl
               calls = calls;
               within =
                   subst (λ (n : ℕ). All (λ (d : Claim). d.id < n) call.claims)
-                  (kept.records ∙ sym (length_before a.library.value.procs (made_of a.queue.entries) a.opening.items t)) calls.within;
+                  (kept.records ∙ sym (length_before a.library.value.procs (made_of a.queue.entries) a.opening.value.items t)) calls.within;
               at_work = subst (λ (x : Call). IsAtWork a.library.value.procs x (now_at a t) w) own (kept.at_work t e w at has);
             }
 

@@ -13,9 +13,9 @@ use Rattle.vll_core.specs.Queue.{QueueEntry}
 use Rattle.vll_core.specs.State.{Entered, records_before}
 use Rattle.vll_core.specs.Machine.{running, if_running}
 use Rattle.vll_core.specs.Shown.{Shown}
-use Rattle.vll_core.specs.View.{shown}
-use Rattle.vll_core.specs.Work.{IsAtWork}
-use Rattle.vll_core.specs.MachineKept.{IsMachine}
+use Rattle.vll_core.specs.Private.View.{shown}
+use Rattle.vll_core.specs.Private.Work.{IsAtWork}
+use Rattle.vll_core.specs.Private.MachineKept.{IsMachine}
 use Rattle.vll_core.proofs.RunningCalls.{RunsAt, runs_told, read_work, work_there, now_shown}
 use Rattle.vll_core.proofs.MachineState.{entry_shown}
 

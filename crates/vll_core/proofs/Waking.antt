@@ -18,8 +18,8 @@ use Rattle.vll_core.specs.Machine.{Outcome, refuse_if, or_refuse, front, with_en
 use Rattle.vll_core.specs.Moves.{by_event, requested_by, released_by, stored_by}
 use Rattle.vll_core.specs.Queue.{QueueEntry, Queued, statuses, front_among, started_if, started, analysed, found_by}
 use Rattle.vll_core.specs.Shown.{opening_of}
-use Rattle.vll_core.specs.View.{turn_of, shown}
-use Rattle.vll_core.specs.MachineKept.{IsMachine, made_of}
+use Rattle.vll_core.specs.Private.View.{turn_of, shown}
+use Rattle.vll_core.specs.Private.MachineKept.{IsMachine, made_of}
 use Rattle.vll_core.proofs.Events.{front_is}
 use Rattle.vll_core.proofs.Picked.{picked_is}
 use Rattle.vll_core.proofs.QueueLaws.{machine_front}
@@ -92,7 +92,7 @@ core_wake {H} {places} a e found t core wakes some =
       entries_fit = fits_same a.library.value a.queue.entries b.queue.entries (sym calls) core.entries_fit;
       turn_fits = core.turn_fits;
       scripts_fit = core.scripts_fit;
-      at_work = at_work_same a.library.value a.opening.items a.queue.entries b.queue.entries a.work.items (sym calls) core.at_work;
+      at_work = at_work_same a.library.value a.opening.value.items a.queue.entries b.queue.entries a.work.items (sym calls) core.at_work;
       replied = replied_changed a.queue.entries a.work.items t (λ e. record e { status = Running }) (λ e w at has gone. absurd (cc gone)) core.replied;
     }
 

@@ -46,9 +46,9 @@ impl<H: Place> Model for Core<H> {
 }
 
 impl<H: Place + Drop> Core<H> {
-    /// A machine over these records with nothing entered. The list handed in is kept as the records of the
-    /// opening. The lowest fault that stands is answered, as `open_fault` tells it: `Records`, `Limit`, `Cap` or
-    /// `Bits`; where none stands, `NoMemory` is the only one. All memory is taken here.
+    /// A machine over these records with nothing entered. The lowest fault that stands is answered, as `open_fault`
+    /// tells it: `Records`, `Limit`, `Cap` or `Bits`; where none stands, `NoMemory` is the only one. All memory is
+    /// taken here, and that of the list handed in is given back.
     pub fn open(
         alloc: Global,
         records: Vec<u64>,

@@ -5,7 +5,8 @@ ghost use Rattle.vll_core.specs.Faults.{Refuses, open_fault};
 ghost use Rattle.vll_core.specs.Journal.{journal_of};
 ghost use Rattle.vll_core.specs.Machine.{running_count, step, told, waiting};
 ghost use Rattle.vll_core.specs.Moves.{IsReached};
-ghost use Rattle.vll_core.specs.Shown.{AreFirstWords, AreWords, after, begun, library_of, opening_of};
+ghost use Rattle.vll_core.specs.Private.FirstWords.{AreFirstWords};
+ghost use Rattle.vll_core.specs.Shown.{AreWords, after, begun, library_of, opening_of};
 ghost use Rattle.vll_core.specs.State.{Entered};
 
 use crate::config::{Config, MOST_CALLS, MOST_RECORDS, OpenFault};
@@ -47,8 +48,8 @@ pub(crate) struct OpenTurn {
 pub struct Machine<H: Place> {
     // The library as it was at the opening, for contracts alone.
     library: Snapshot<Library>,
-    // The records as they were handed in.
-    opening: Vec<u64>,
+    // The records as they were handed in, for contracts alone.
+    opening: Snapshot<Vec<u64>>,
     words: Vec<u64>,
     queue: Queue<H>,
     // What each entered call has done, by ticket.
@@ -69,8 +70,8 @@ impl<H: Place> Model for Machine<H> {
 
     ghost coded = { Prim.hlevel (codes, expr.the_row.coded, stmt.the_row.coded, H.code) };
 
-    ghost use Rattle.vll_core.specs.View.{shown};
-    ghost use Rattle.vll_core.specs.MachineKept.{IsMachine};
+    ghost use Rattle.vll_core.specs.Private.View.{shown};
+    ghost use Rattle.vll_core.specs.Private.MachineKept.{IsMachine};
 
     ghost view = { shown };
 
@@ -78,7 +79,8 @@ impl<H: Place> Model for Machine<H> {
 }
 
 impl<H: Place + Drop> Machine<H> {
-    // A machine over these records with nothing entered, for this library. All memory is taken here.
+    // A machine over these records with nothing entered, for this library. All memory is taken here, and that of the
+    // list handed in is given back.
     pub(crate) fn open(
         alloc: Global,
         records: Vec<u64>,
@@ -94,14 +96,14 @@ impl<H: Place + Drop> Machine<H> {
     {
         match open_fault(library.records() as usize, config) {
             Some(fault) => Err(fault),
-            None => Ok(Machine::with_room(alloc, records, library, scripts, config, hash)?),
+            None => Ok(Machine::with_room(alloc, &records, library, scripts, config, hash)?),
         }
     }
 
     // A machine in which nothing is entered, where nothing but memory can be refused.
     fn with_room(
         alloc: Global,
-        records: Vec<u64>,
+        records: &Vec<u64>,
         library: &Library,
         scripts: Vec<Vec<Call>>,
         config: Config,
@@ -109,17 +111,17 @@ impl<H: Place + Drop> Machine<H> {
     ) -> Result<Machine<H>, AllocError>
         requires catalog { IsCatalog library.now }
         requires allowed { open_fault library.now.records config ≡ None }
-        requires records { library.now.records ≡ length records.items }
+        requires records { library.now.records ≡ length records.now.items }
         requires fits { All (λ script. All (Fits library.now) script.items) scripts.items }
-        ensures { IfOk result (λ c. c ≡ begun library.now records.items scripts.items config hash) }
+        ensures { IfOk result (λ c. c ≡ begun library.now records.now.items scripts.items config hash) }
     {
         let queue = Queue::with_room(alloc, config, hash)?;
-        let words = words_of(alloc, &records)?;
+        let words = words_of(alloc, records)?;
         let work = Vec::with_capacity(alloc, config.limit as usize)?;
         let next = vec![in alloc; 0; scripts.len()].map_err(|_| AllocError)?;
         Ok(Machine {
             library: Snapshot::of(library),
-            opening: records,
+            opening: Snapshot::of(records),
             words,
             queue,
             work,

@@ -5,7 +5,7 @@ ghost use Rattle.vll_sca.specs.Status.{is_waiting as waiting, is_running as runn
 ghost use Rattle.vll_sca.specs.declared.status.Status.TheVariants as Status;
 ghost use Rattle.vll_core.specs.Faults.{Refuses, config_fault};
 ghost use Rattle.vll_core.specs.Queue.{IsQueued, empty, entry, admitted, lines, statuses, is_left, started, finished, front_among, fronted, found_by, scanned};
-ghost use Rattle.vll_core.specs.QueueKept.{statuses_of};
+ghost use Rattle.vll_core.specs.Private.QueueKept.{statuses_of};
 
 use crate::config::{Config, MOST_CALLS, OpenFault};
 use crate::line::Line;
@@ -40,7 +40,7 @@ impl<H: Place> Model for Queue<H> {
 
     ghost coded = { Prim.hlevel (codes, H.code) };
 
-    ghost use Rattle.vll_core.specs.QueueKept.{kept, IsKept};
+    ghost use Rattle.vll_core.specs.Private.QueueKept.{kept, IsKept};
 
     ghost view = { kept };
 

@@ -4,7 +4,7 @@ use Rattle.std.specs.Vec.{with_item}
 use Rattle.vll_core.specs.declared.work.Work.{Work}
 use Rattle.vll_core.specs.declared.event.Event.TheVariants as event
 use Rattle.vll_core.specs.declared.seen.Seen.TheVariants.{Released}
-use Rattle.vll_core.specs.View.{shown}
+use Rattle.vll_core.specs.Private.View.{shown}
 use Rattle.vll_core.specs.Machine.{has_stored}
 use Rattle.vll_core.proofs.RunningWorks.{Runs, runs_of, work_within}
 use Rattle.vll_core.proofs.MachineSteps.{refused_told, refused_stays, taken_told, taken_shown}

@@ -30,7 +30,7 @@ left_of (v ∷ vs) (n ∷ ns) = drop n v.items ∷ left_of vs ns
 
 abbrev pub shown : {H : Type 0} → Inside H → Shown H
 shown c = record {
-  base = record { procs = c.library.value.procs; records = c.opening.items };
+  base = record { procs = c.library.value.procs; records = c.opening.value.items };
   cap = c.queue.cap;
   limit = c.queue.limit;
   bits = c.queue.bits;

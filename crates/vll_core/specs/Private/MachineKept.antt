@@ -13,8 +13,8 @@ use Rattle.vll_sca.specs.Status.{is_gone}
 use Rattle.vll_core.specs.Queue.{QueueEntry, IsQueued}
 use Rattle.vll_core.specs.Moves.{IsReached}
 use Rattle.vll_core.specs.Shown.{AreWords, opening_of}
-use Rattle.vll_core.specs.View.{shown}
-use Rattle.vll_core.specs.Work.{IsAtWork}
+use Rattle.vll_core.specs.Private.View.{shown}
+use Rattle.vll_core.specs.Private.Work.{IsAtWork}
 
 -- the calls in order of entry
 abbrev pub made_of : List QueueEntry → List Made
@@ -35,9 +35,9 @@ AreReplied es ws =
 pub record IsMachine {H : Type 0} (place : H → ℕ → ℕ) (c : Inside H) : Type 0 where
   pub reached : IsReached (opening_of place (shown c)) (shown c).state
   pub words : AreWords (shown c).base (shown c).state c.words.items
-  pub some_records : 1 ≤ length c.opening.items
-  pub few_records : length c.opening.items ≤ MOST_RECORDS
-  pub records : c.library.value.records ≡ length c.opening.items
+  pub some_records : 1 ≤ length c.opening.value.items
+  pub few_records : length c.opening.value.items ≤ MOST_RECORDS
+  pub records : c.library.value.records ≡ length c.opening.value.items
   pub catalog : IsCatalog c.library.value
   pub queue : IsQueued c.queue
   pub works : length c.work.items ≡ length c.queue.entries
@@ -46,5 +46,5 @@ pub record IsMachine {H : Type 0} (place : H → ℕ → ℕ) (c : Inside H) : T
   pub entries_fit : All (λ (e : QueueEntry). Fits c.library.value e.line.call) c.queue.entries
   pub turn_fits : IfSome c.turn (λ (t : OpenTurn). Fits c.library.value t.call)
   pub scripts_fit : All (λ (v : Vec Call). All (Fits c.library.value) v.items) c.scripts.items
-  pub at_work : AreAtWork c.library.value c.opening.items c.queue.entries c.work.items
+  pub at_work : AreAtWork c.library.value c.opening.value.items c.queue.entries c.work.items
   pub replied : AreReplied c.queue.entries c.work.items

@@ -1,6 +1,7 @@
 -- A call's work: its loads, stores and releases so far, the frame on which it runs, and its reply.
 use Rattle.std.specs.Prelude.{◌≡◌, ℕ, ◌<◌, ◌≤◌, List, length, Some, None, slice_get, slice_index}
 use Rattle.vll_record.specs.declared.claim.Claim.{Claim}
+use Rattle.vll_record.specs.declared.claims.TheConstants.{MOST_CLAIMS}
 use Rattle.vll_proc.specs.declared.call.Call.{Call}
 use Rattle.vll_proc.specs.declared.syntax.Proc.{Proc}
 use Rattle.vll_proc.specs.Cells.{Holds}
@@ -15,7 +16,7 @@ HoldsFirst n cells claims records =
 -- the work of a call whose body has not run: the frame has the values that are loaded so far
 pub record IsLoading (claims : List Claim) (records : List ℕ) (w : Work) : Type 0 where
   pub within : w.loads ≤ length claims
-  pub whole : length w.frame ≡ 16
+  pub whole : length w.frame ≡ MOST_CLAIMS
   pub loaded : HoldsFirst w.loads w.frame claims records
   pub pending : w.reply ≡ None
 
@@ -23,7 +24,7 @@ pub record IsLoading (claims : List Claim) (records : List ℕ) (w : Work) : Typ
 -- from then on there is the reply, and the frame has the records' values after the call
 pub record IsAtWork (procs : List Proc) (call : Call) (records : List ℕ) (w : Work) : Type 0 where
   pub within : w.loads ≤ length call.claims
-  pub whole : length w.frame ≡ 16
+  pub whole : length w.frame ≡ MOST_CLAIMS
   pub loaded : w.loads < length call.claims → HoldsFirst w.loads w.frame call.claims records
   pub pending : w.loads < length call.claims → w.reply ≡ None
   pub ran : w.loads ≡ length call.claims → w.reply ≡ Some (apply procs call records).reply
