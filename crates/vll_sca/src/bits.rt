@@ -58,6 +58,7 @@ impl Bits {
     /// waiting, and `None` where there is none. Two entries are in hash conflict where a claim of one and a
     /// claim of the other have the same place, modulo the number of bits, and at least one of the two is Write.
     /// So a collision can only hold an entry back. What an earlier scan left has no effect; no memory is taken.
+    /// What it costs grows with the entries that it passes, and not with the number of bits.
     pub fn scan<H: Place>(&mut self, hash: &H, entries: &[Entry]) -> Option<usize>
         ensures found { result ≡ scan (H.place_of hash.now) self.old entries.now }
         ensures same { self.new ≡ self.old }

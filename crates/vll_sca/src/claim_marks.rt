@@ -14,9 +14,9 @@ use vll_record::{Claims, Mode};
 /// The two bit arrays of the analysis: the places of the claims that were marked, by mode.
 #[derive(Drop)]
 pub(crate) struct ClaimMarks {
-    // Places of Write claims, DX in the paper.
+    // DX: the places of Write claims.
     writes: Marks,
-    // Places of Read claims, DS in the paper.
+    // DS: the places of Read claims.
     reads: Marks,
 }
 
