@@ -14,10 +14,10 @@ use Rattle.vll_core.specs.Moves.{IsProper}
 -- a call changes no record that it does not claim for writing
 abbrev pub ChangesClaimedRecordsAlone : Type 0
 ChangesClaimedRecordsAlone =
-    (p : Proc) (c : Call) (records : List ℕ) → IsWellFormed p → IsCallOf p c → (r : ℕ) → mode_on c.claims r ≢ Some Write → slice_index (applied p c.args records).records r ≡ slice_index records r
+    (p : Proc) (c : Call) (records : List ℕ) → IsWellFormed p → IsCallOf p c → (r : ℕ) → mode_on c.claims r ≢ Some Write → slice_index (applied p c records).records r ≡ slice_index records r
 
 pub proper_call : ChangesClaimedRecordsAlone → (o : Base) (p : Proc) (call : Call) → slice_get o.procs call.number ≡ Some p → IsWellFormed p → IsCallOf p call → IsProper o call
 proper_call alone o p call found formed made = record {
   rising = claims_rise p call made;
-  changes_its_own = λ records r free. ap (λ (x : Option Proc). slice_index (applied_at x call.args records).records r) found ∙ alone p call records formed made r free;
+  changes_its_own = λ records r free. ap (λ (x : Option Proc). slice_index (applied_at x call records).records r) found ∙ alone p call records formed made r free;
 }

@@ -104,13 +104,13 @@ line_there a t s same is none =
 pub length_before : (procs : List Proc) (calls : List Made) (records : List ℕ) (t : ℕ) → length (before procs calls records t) ≡ length records
 length_before procs calls records t = at_end (take t calls) records
   where
-    applied_length : (o : Option Proc) (args now : List ℕ) → length (applied_at o args now).records ≡ length now
-    applied_length None args now = refl
-    applied_length (Some p) args now = length-applied p args now
+    applied_length : (o : Option Proc) (call : Call) (now : List ℕ) → length (applied_at o call now).records ≡ length now
+    applied_length None call now = refl
+    applied_length (Some p) call now = length-applied p call now
 
     at_end : (made : List Made) (now : List ℕ) → length (end procs made now) ≡ length now
     at_end [] now = refl
-    at_end (m ∷ more) now = at_end more (apply procs m.1 now).records ∙ applied_length (slice_get procs m.1.number) m.1.args now
+    at_end (m ∷ more) now = at_end more (apply procs m.1 now).records ∙ applied_length (slice_get procs m.1.number) m.1 now
 
 -- the records before a ticket
 abbrev pub now_at : {H : Type 0} → Inside H → ℕ → List ℕ

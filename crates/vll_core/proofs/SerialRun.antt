@@ -17,13 +17,13 @@ use Rattle.vll_proc.proofs.Kept.{length-applied}
 use Rattle.vll_core.proofs.Places.{take_next}
 use Rattle.vll_core.proofs.OwnClaims.{mode_hit}
 
-applied_length : (p : Option Proc) (args records : List ℕ) → length (applied_at p args records).records ≡ length records
-applied_length None args records = refl
-applied_length (Some p) args records = length-applied p args records
+applied_length : (p : Option Proc) (call : Call) (records : List ℕ) → length (applied_at p call records).records ≡ length records
+applied_length None call records = refl
+applied_length (Some p) call records = length-applied p call records
 
 end_length : (procs : List Proc) (calls : List Made) (records : List ℕ) → length (end procs calls records) ≡ length records
 end_length procs [] records = refl
-end_length procs (m ∷ more) records = end_length procs more (apply procs m.1 records).records ∙ applied_length (slice_get procs m.1.number) m.1.args records
+end_length procs (m ∷ more) records = end_length procs more (apply procs m.1 records).records ∙ applied_length (slice_get procs m.1.number) m.1 records
 
 -- calls leave the number of records
 pub length_before : (procs : List Proc) (calls : List Made) (records : List ℕ) (t : ℕ) → length (before procs calls records t) ≡ length records
@@ -54,13 +54,13 @@ after_same : (records : List ℕ) (x : Result Scene Reason) → is_aborted (afte
 after_same records (Ok s) h = absurd (cc h)
 after_same records (Err why) h = refl
 
-proc_same : (p : Option Proc) (args records : List ℕ) → is_aborted (applied_at p args records).reply ≡ true → (applied_at p args records).records ≡ records
-proc_same None args records h = refl
-proc_same (Some p) args records h = after_same records (body p args records) h
+proc_same : (p : Option Proc) (call : Call) (records : List ℕ) → is_aborted (applied_at p call records).reply ≡ true → (applied_at p call records).records ≡ records
+proc_same None call records h = refl
+proc_same (Some p) call records h = after_same records (body p call records) h
 
 -- an aborted call changes nothing
 pub apply_same : (procs : List Proc) (c : Call) (records : List ℕ) → is_aborted (apply procs c records).reply ≡ true → (apply procs c records).records ≡ records
-apply_same procs c records h = proc_same (slice_get procs c.number) c.args records h
+apply_same procs c records h = proc_same (slice_get procs c.number) c records h
 
 -- a proper call keeps a record that it has no Write claim on
 pub proper_keeps : (o : Base) (call : Call) (records : List ℕ) (r : ℕ) → IsProper o call → list_any (λ (c : Claim). c.id == r) (writes call) ≡ false

@@ -6,6 +6,7 @@ use Rattle.std.proofs.lemmas.List.{get_or-map, length-map}
 use Rattle.std.proofs.lemmas.Option.{same_Some, slice_get-map}
 use Rattle.vll_proc.proofs.Kept.{length-applied}
 use Rattle.vll_proc.specs.declared.syntax.Proc.{Proc}
+use Rattle.vll_proc.specs.declared.call.Call.{Call}
 use Rattle.vll_proc.specs.Serial.{Made, apply, applied_at, end, before, answer}
 use Rattle.vll_sca.specs.Status.{is_gone}
 use Rattle.vll_check.specs.Catalog.{Catalog}
@@ -34,11 +35,11 @@ journal_calls o s = from_number 0 s.entries
 -- running calls one at a time keeps the number of records
 pub end_length : (procs : List Proc) (calls : List Made) (records : List ℕ) → length (end procs calls records) ≡ length records
 end_length procs [] records = refl
-end_length procs (m ∷ more) records = end_length procs more (apply procs m.1 records).records ∙ applied_length (slice_get procs m.1.number) m.1.args records
+end_length procs (m ∷ more) records = end_length procs more (apply procs m.1 records).records ∙ applied_length (slice_get procs m.1.number) m.1 records
   where
-    applied_length : (p : Option Proc) (args now : List ℕ) → length (applied_at p args now).records ≡ length now
-    applied_length None args now = refl
-    applied_length (Some p) args now = length-applied p args now
+    applied_length : (p : Option Proc) (call : Call) (now : List ℕ) → length (applied_at p call now).records ≡ length now
+    applied_length None call now = refl
+    applied_length (Some p) call now = length-applied p call now
 
 -- the reply of the call at an index of a list
 answer_there : (procs : List Proc) (calls : List Made) (records : List ℕ) (t : ℕ) (m : Made) → slice_get calls t ≡ Some m → answer procs calls records t ≡ Some (apply procs m.1 (before procs calls records t)).reply

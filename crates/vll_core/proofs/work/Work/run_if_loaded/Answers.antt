@@ -11,7 +11,7 @@ returns-then-has_loaded-clause-at_work c = λ procs records is known loading.
     let call = c.args.call.now in
     let all : work.loads ≡ length call.claims = exact_unsigned_eq work.loads (length call.claims) (sym c.has_loaded.ensures ∙ c.if-has_loaded.true) in
     let held : Holds work.frame call.claims records = holds_all work.loads work.frame call.claims records all known loading.loaded in
-    let found = ap (λ p. applied_at p call.args records) is in
+    let found = ap (λ p. applied_at p call records) is in
     record {
       within = loading.within;
       whole = c.run-reply.ensures.whole;
