@@ -26,8 +26,12 @@ pub(crate) fn serve_as<R: Threads + Wait + Sync, G: Gate + Sync, S: Sink>(
 
 // The scenario with the cap and the number of bits that the options give, and how many workers run it.
 fn chosen(scenario: Scenario, options: RunOptions) -> (Scenario, u32)
-    ensures scenario { result.0 ≡ record scenario { config = record scenario.config {
-        cap = unwrap_or options.cap scenario.config.cap; bits = unwrap_or options.bits scenario.config.bits } } }
+    ensures scenario { result.0 ≡ record scenario {
+      config = record scenario.config {
+        cap = unwrap_or options.cap scenario.config.cap;
+        bits = unwrap_or options.bits scenario.config.bits;
+      };
+    } }
     ensures workers { result.1 ≡ options.workers }
     ensures within { (1 ≤ result.1) × (result.1 ≤ MOST_WORKERS) }
 {

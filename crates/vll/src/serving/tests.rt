@@ -59,7 +59,14 @@ fn as_many_workers_run_as_the_options_say(rt: HostRuntime) -> Result<(), Fail> {
             met: AtomicU64::new(0),
         };
         let mut text = Vec::new(rt.alloc());
-        serve_as(&rt, rt.alloc(), scenario, options, &gate, &mut Plain::new(&mut text))?;
+        serve_as(
+            &rt,
+            rt.alloc(),
+            scenario,
+            options,
+            &gate,
+            &mut Plain::new(&mut text),
+        )?;
         assert_eq!(rt; gate.met.load(Ordering::SeqCst), meets, "{workers} workers");
     }
     Ok(())

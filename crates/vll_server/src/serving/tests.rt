@@ -5,11 +5,10 @@ use crate::read::read_scenario;
 use crate::scenario::Scenario;
 use crate::stream::Sink;
 use std::alloc::{AllocError, Global};
-use std::hint;
-use std::io;
 use std::io::Write;
 use std::sync::atomic::{AtomicU64, Ordering};
 use std::test::Fail;
+use std::{hint, io};
 use vll_core::Ticket;
 use vll_workers::{Gate, OpenGate};
 

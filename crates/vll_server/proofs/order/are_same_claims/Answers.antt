@@ -1,6 +1,6 @@
 use Rattle.std.proofs.Common.{◌≡◌, ◌∙◌, sym, rules, Option}
 use Rattle.vll_record.specs.declared.claim.Claim.{Claim}
-use Rattle.vll_check.proofs.ShortLists.{take_same_next}
+use Rattle.vll_server.proofs.Lists.{take_same_next}
 use Rattle.vll_server.proofs.order.are_same_claims.Goals as goal
 
 pub loop-i-preserved : goal.loop-i-preserved

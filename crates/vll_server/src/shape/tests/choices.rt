@@ -51,12 +51,7 @@ fn members_that_may_be_absent_are_read(rt: HostRuntime) {
         ("", (None, None, None, None)),
         (
             r#","limit":0,"bits":4294967295,"cap":7,"hash":"modulo""#,
-            (
-                Some(7),
-                Some(4_294_967_295),
-                Some(0),
-                Some(Placing::Modulo),
-            ),
+            (Some(7), Some(4_294_967_295), Some(0), Some(Placing::Modulo)),
         ),
         (
             r#","hash":"spread""#,
@@ -134,10 +129,7 @@ fn first_faulty_member_is_named(rt: HostRuntime) -> Result<(), Fail> {
                 Some((Part::Schedule, 1)),
             ),
             // the last member of a name counts
-            (
-                r#","clients":[[],0],"cap":null"#,
-                Some((Part::Clients, 1)),
-            ),
+            (r#","clients":[[],0],"cap":null"#, Some((Part::Clients, 1))),
         ],
     )
 }
