@@ -1,0 +1,6 @@
+pub mod Views
+pub mod Rule
+pub mod Steps
+pub mod Told
+pub mod Shown
+pub mod Kept

@@ -1,0 +1,14 @@
+//! Record words that many threads change in single atomic steps, under one rule: between any two steps the words and
+//! what the seats of the queue, of the running calls and of the sessions know show one state of the plain machine.
+#![tactic(auto)]
+
+mod key;
+mod pass_seat;
+mod rule;
+mod steps;
+mod views;
+mod words;
+
+pub use pass_seat::PassSeat;
+pub use views::{PassView, QueueView, SessionView, TurnView, View};
+pub use words::Words;
