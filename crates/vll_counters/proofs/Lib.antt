@@ -1,0 +1,5 @@
+pub mod Places
+pub mod Passes
+pub mod Sessions
+pub mod Moves
+pub mod States
