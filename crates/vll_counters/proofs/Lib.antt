@@ -3,5 +3,8 @@ pub mod Passes
 pub mod Sessions
 pub mod Moves
 pub mod States
+pub mod Fresh
 pub mod Holding
+pub mod Turns
 pub mod PassSteps
+pub mod QueueSteps
