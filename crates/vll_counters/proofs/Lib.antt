@@ -8,3 +8,6 @@ pub mod Holding
 pub mod Turns
 pub mod PassSteps
 pub mod QueueSteps
+pub mod Entry
+pub mod Giving
+pub mod Coming

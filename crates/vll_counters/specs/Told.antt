@@ -1,13 +1,17 @@
 -- What each step tells its caller, beside its new view.
-use Rattle.std.specs.Prelude.{◌≡◌, ℕ, suc, ◌<◌, ◌&&◌, ◌||◌, ◌==◌, Bool, List, length, take, Option, Some, slice_get, slice_index}
+use Rattle.std.specs.Prelude.{◌≡◌, ℕ, suc, ◌<◌, ◌≤◌, ◌&&◌, ◌||◌, ◌==◌, Bool, true, false, List, length, take, Option, Some, None, slice_get, slice_index}
 use Rattle.atomic_table.specs.Table.{Me, Step}
 use Rattle.vll_record.specs.declared.claim.Claim.{Claim}
+use Rattle.vll_record.specs.Claim.{conflict}
 use Rattle.vll_proc.specs.declared.call.Call.{Call}
-use Rattle.vll_sca.specs.declared.status.Status.TheVariants.{Running, Gone}
+use Rattle.vll_sca.specs.declared.status.Status.{Status}
+use Rattle.vll_sca.specs.declared.status.Status.TheVariants.{Running, Waiting, Gone}
+use Rattle.vll_sca.specs.Status.{is_gone}
 use Rattle.vll_core.specs.State.{Base, State, counter, value, writes, is_aborted}
 use Rattle.vll_core.specs.Moves.{IsReached}
 use Rattle.vll_core.specs.declared.line.Line.{Line}
 use Rattle.vll_proc.specs.Serial.{answer}
+use Rattle.vll_counters.specs.declared.views.TurnView.{TurnView}
 use Rattle.vll_counters.specs.declared.views.PassView.{PassView}
 use Rattle.vll_counters.specs.declared.views.SessionView.{SessionView}
 use Rattle.vll_counters.specs.declared.views.QueueView.{QueueView}
@@ -73,6 +77,43 @@ pub record KnowsPass (q : QueueView) (p : PassView) : Type 0 where
 -- all loads and stores of the pass's call are made; an aborted call has no stores
 abbrev pub has_stored_pass : Base → PassView → Bool
 has_stored_pass base p = (p.loads == length p.call.claims) && (is_aborted (reply_of_pass base p) || (p.stores == length (writes p.call)))
+
+-- no lower ticket that is not gone has a claim that conflicts with one of these
+abbrev pub IsFirst : List Line → List Status → ℕ → List Claim → Type 0
+IsFirst lines statuses t claims =
+    (u : ℕ) (l : Line) (status : Status) → u < t → slice_get lines u ≡ Some l → slice_get statuses u ≡ Some status → is_gone status ≡ false → conflict l.call.claims claims ≡ false
+
+-- a ticket waits, and nothing before it holds it back
+pub record MayStart (lines : List Line) (statuses : List Status) (t : ℕ) : Type 0 where
+  pub line : Line
+  pub at : slice_get lines t ≡ Some line
+  pub waits : slice_get statuses t ≡ Some Waiting
+  pub first : IsFirst lines statuses t line.call.claims
+
+-- the turn's call enters next and is free: all its claims are requested, and all were granted
+pub record EntersFree (turn : TurnView) (lines : List Line) (t : ℕ) : Type 0 where
+  pub next : t ≡ length lines
+  pub asked : length turn.call.claims ≤ turn.requested
+  pub granted : turn.granted ≡ true
+
+-- a ticket may begin to run: it is that of the open turn, or where no turn is open one that waits
+abbrev pub MayRun : List Line → List Status → Option TurnView → ℕ → Type 0
+MayRun lines statuses None t = MayStart lines statuses t
+MayRun lines statuses (Some turn) t = EntersFree turn lines t
+
+-- the turn's call enters and is blocked: all its claims are requested, and not all were granted
+pub record EntersBlocked (turn : TurnView) : Type 0 where
+  pub asked : length turn.call.claims ≤ turn.requested
+  pub denied : turn.granted ≡ false
+
+-- a session may leave: if its turn is open, the turn's call is blocked
+abbrev pub MayLeave : Option TurnView → Type 0
+MayLeave None = Unit {0}
+MayLeave (Some turn) = EntersBlocked turn
+
+-- the ticket whose reply is handed out, if there is one, is gone
+abbrev pub IsGivenOut : List Status → Option ℕ → Type 0
+IsGivenOut statuses given = (t : ℕ) → given ≡ Some t → slice_get statuses t ≡ Some Gone
 
 module _ {S : Type 0} where
   abbrev pub RequestTells : Base → Claim → Step S → Me S View → ℕ → Me S View → Type 0
