@@ -11,3 +11,4 @@ pub mod QueueSteps
 pub mod Entry
 pub mod Giving
 pub mod Coming
+pub mod Bounds

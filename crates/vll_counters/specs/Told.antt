@@ -1,8 +1,9 @@
 -- What each step tells its caller, beside its new view.
-use Rattle.std.specs.Prelude.{◌≡◌, ℕ, suc, ◌<◌, ◌≤◌, ◌&&◌, ◌||◌, ◌==◌, Bool, true, false, List, length, take, Option, Some, None, slice_get, slice_index}
+use Rattle.std.specs.Prelude.{◌≡◌, ℕ, suc, ◌+◌, ◌*◌, ◌<◌, ◌≤◌, ◌&&◌, ◌||◌, ◌==◌, Bool, true, false, List, length, take, Option, Some, None, slice_get, slice_index}
 use Rattle.atomic_table.specs.Table.{Me, Step}
 use Rattle.vll_record.specs.declared.claim.Claim.{Claim}
 use Rattle.vll_record.specs.Claim.{conflict}
+use Rattle.vll_record.specs.Word.{value_word_of, pair_word_of_record}
 use Rattle.vll_proc.specs.declared.call.Call.{Call}
 use Rattle.vll_sca.specs.declared.status.Status.{Status}
 use Rattle.vll_sca.specs.declared.status.Status.TheVariants.{Running, Waiting, Gone}
@@ -10,7 +11,7 @@ use Rattle.vll_sca.specs.Status.{is_gone}
 use Rattle.vll_core.specs.State.{Base, State, counter, value, writes, is_aborted}
 use Rattle.vll_core.specs.Moves.{IsReached}
 use Rattle.vll_core.specs.declared.line.Line.{Line}
-use Rattle.vll_proc.specs.Serial.{answer}
+use Rattle.vll_proc.specs.Serial.{answer, end}
 use Rattle.vll_counters.specs.declared.views.TurnView.{TurnView}
 use Rattle.vll_counters.specs.declared.views.PassView.{PassView}
 use Rattle.vll_counters.specs.declared.views.SessionView.{SessionView}
@@ -114,6 +115,14 @@ MayLeave (Some turn) = EntersBlocked turn
 -- the ticket whose reply is handed out, if there is one, is gone
 abbrev pub IsGivenOut : List Status → Option ℕ → Type 0
 IsGivenOut statuses given = (t : ℕ) → given ≡ Some t → slice_get statuses t ≡ Some Gone
+
+-- the words once every call is gone: each record is what the entered calls make of it one at a time, no claim is open, and each line has its serial reply
+pub record IsAtEnd (base : Base) (lines : List Line) (words : List ℕ) : Type 0 where
+  pub long : length words ≡ 1 + 2 * length base.records
+  pub turn : slice_index words 0 ≡ 0
+  pub values : (r : ℕ) → r < length base.records → slice_index words (value_word_of r) ≡ slice_index (end base.procs (calls_in lines) base.records) r
+  pub pairs : (r : ℕ) → r < length base.records → slice_index words (pair_word_of_record r) ≡ 0
+  pub replied : (t : ℕ) (l : Line) → slice_get lines t ≡ Some l → l.reply ≡ answer base.procs (calls_in lines) base.records t
 
 module _ {S : Type 0} where
   abbrev pub RequestTells : Base → Claim → Step S → Me S View → ℕ → Me S View → Type 0
