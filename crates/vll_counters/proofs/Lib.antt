@@ -12,3 +12,4 @@ pub mod Entry
 pub mod Giving
 pub mod Coming
 pub mod Bounds
+pub mod Seats

@@ -1,6 +1,7 @@
 -- What contracts see of the words and of the seats.
-use Rattle.std.specs.Prelude.{◌≡◌, ℕ, length, List, [], Option, None}
+use Rattle.std.specs.Prelude.{◌≡◌, ℕ, ◌<◌, length, List, [], Option, Some, None, slice_get, option_map}
 use Rattle.atomic_table.specs.Seated.{TableId}
+use Rattle.vll_record.specs.declared.claim.Claim.{Claim}
 use Rattle.vll_proc.specs.declared.call.Call.{Call}
 use Rattle.vll_check.specs.Catalog.{Catalog}
 use Rattle.vll_sca.specs.declared.status.Status.{Status}
@@ -13,7 +14,7 @@ use Rattle.vll_counters.specs.declared.views.SessionView.{SessionView}
 use Rattle.vll_counters.specs.declared.views.QueueView.{QueueView}
 use Rattle.vll_counters.specs.declared.views.View.{View}
 use Rattle.vll_counters.specs.declared.views.View.TheVariants.{Queue, Pass, Session}
-use Rattle.vll_counters.specs.Steps.{first_queue, new_session, new_pass}
+use Rattle.vll_counters.specs.Steps.{first_queue, new_session, new_pass, turn_ended, leaving, pass_given}
 
 -- the base of the plain machine that a key names
 abbrev pub base_of : Key → Base
@@ -67,3 +68,40 @@ pass_of_view v = new_pass 0 no_call []
 -- what is shown of a queue's seat of a table that has a view
 abbrev pub shown_queue : TableId → QueueView → QueueShown
 shown_queue id q = record { table = id; lines = q.lines; statuses = q.statuses; turn = q.turn; session = q.session; clients = q.clients }
+
+-- a queue's view with no pass on its way into it
+abbrev pub settled : QueueView → QueueView
+settled q = record q { pass = None }
+
+-- the same seat with another view
+abbrev pub after : QueueShown → QueueView → QueueShown
+after s q = shown_queue s.table q
+
+-- the same pass's seat with another view
+abbrev pub passed : PassShown → PassView → PassShown
+passed s p = record { table = s.table; pass = p }
+
+-- the claim that the open turn requests next
+abbrev pub next_claim : Option TurnView → Option Claim
+next_claim None = None
+next_claim (Some turn) = slice_get turn.call.claims turn.requested
+
+-- the record of a claim, if there is one
+abbrev pub record_of : Option Claim → Option ℕ
+record_of claim = option_map (λ (c : Claim). c.id) claim
+
+-- the queue once the session at it has left
+abbrev pub without_session : QueueShown → QueueView
+without_session s = record (turn_ended s.turn (queue_view s)) { session = None }
+
+-- the session that leaves
+abbrev pub left_session : QueueShown → Option ℕ → SessionView → SessionShown
+left_session s given g = record { table = s.table; session = leaving given (turn_ended s.turn (queue_view s)) g }
+
+-- the queue once a pass is given
+abbrev pub with_pass_given : QueueShown → ℕ → QueueView
+with_pass_given s t = pass_given t s.turn (queue_view s)
+
+-- one session a client, in order, which have seen nothing
+abbrev pub AreNewSessions : TableId → ℕ → List SessionShown → Type 0
+AreNewSessions table clients sessions = (length sessions ≡ clients) × ((c : ℕ) → c < clients → slice_get sessions c ≡ Some (record { table = table; session = new_session c }))

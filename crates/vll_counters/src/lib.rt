@@ -3,12 +3,18 @@
 #![tactic(auto)]
 
 mod key;
+mod no_memory;
 mod pass_seat;
+mod queue_seat;
 mod rule;
+mod session_seat;
 mod steps;
 mod views;
 mod words;
 
+pub use no_memory::NoMemory;
 pub use pass_seat::PassSeat;
+pub use queue_seat::QueueSeat;
+pub use session_seat::SessionSeat;
 pub use views::{PassView, QueueView, SessionView, TurnView, View};
 pub use words::Words;
