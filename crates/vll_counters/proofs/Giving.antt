@@ -68,7 +68,7 @@ fresh_pass base calls seen t call e fresh is same = λ i. record {
 }
 
 -- the pass of a ticket that has a line
-pass_there : (n : ℕ) (lines : List Line) (l : Line) → slice_get lines n ≡ Some l → pass_at n lines ≡ Pass (new_pass n l.call lines)
+pub pass_there : (n : ℕ) (lines : List Line) (l : Line) → slice_get lines n ≡ Some l → pass_at n lines ≡ Pass (new_pass n l.call lines)
 pass_there n lines l at = ap (λ (x : Option Line). elim x as (λ _. View) [ None ↦ Spent | Some m ↦ Pass (new_pass n m.call lines) ]) at
 
 module _ {S : Type 0} (base : Base) where

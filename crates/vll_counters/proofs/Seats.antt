@@ -1,8 +1,8 @@
 -- The steps where the seat and its view, the words and what a step is told are known by equations.
-use Rattle.std.proofs.Common.{◌≡◌, ℕ, suc, ◌+◌, ◌-◌, ◌*◌, ◌%◌, ◌<◌, ◌≤◌, true, false, List, [], ◌∷◌, length, refl, sym, ap, ◌∙◌, subst, arith, Option, Some, None, slice_get, slice_index, IfSome, IsSome}
+use Rattle.std.proofs.Common.{◌≡◌, ◌≢◌, ℕ, suc, ◌+◌, ◌-◌, ◌*◌, ◌%◌, ◌<◌, ◌≤◌, true, false, List, [], ◌∷◌, ◌++◌, length, length-append, ⊎_elim, refl, sym, ap, ◌∙◌, subst, arith, Option, Some, None, slice_get, slice_index, IfSome, IsSome, count_by}
 use Rattle.std.specs.Option.{option_map}
 use Rattle.atomic_table.specs.Seated.{TableId}
-use Rattle.atomic_table.specs.Table.{Me, step, Allows, Splits, Joins}
+use Rattle.atomic_table.specs.Table.{Me, step, Allows, Splits, Joins, opening, Final, Seen as SeenBy}
 use Rattle.vll_record.specs.declared.claim.Claim.{Claim}
 use Rattle.vll_record.specs.Counter.{delta_of}
 use Rattle.vll_record.specs.Word.{value_word_of, pair_word_of_record}
@@ -11,9 +11,12 @@ use Rattle.vll_proc.specs.Serial.{apply}
 use Rattle.vll_check.specs.Calls.{Fits}
 use Rattle.vll_check.specs.Catalog.{Catalog, IsCatalog}
 use Rattle.vll_core.specs.declared.line.Line.{Line}
+use Rattle.vll_sca.specs.Status.{is_waiting, is_running}
+use Rattle.vll_core.specs.Shown.{AreFirstWords}
 use Rattle.vll_core.specs.State.{Base, writes, is_aborted}
 use Rattle.vll_core.specs.Moves.{IsProper}
 use Rattle.vll_core.proofs.Fitted.{proper_fits}
+use Rattle.vll_counters.specs.declared.key.Key.{Key}
 use Rattle.vll_counters.specs.declared.views.TurnView.{TurnView}
 use Rattle.vll_counters.specs.declared.views.PassView.{PassView}
 use Rattle.vll_counters.specs.declared.views.SessionView.{SessionView}
@@ -21,14 +24,16 @@ use Rattle.vll_counters.specs.declared.views.QueueView.{QueueView}
 use Rattle.vll_counters.specs.declared.views.View.{View}
 use Rattle.vll_counters.specs.declared.views.View.TheVariants.{Queue, Pass, Session, Spent}
 use Rattle.vll_counters.specs.Rule.{Rule}
-use Rattle.vll_counters.specs.Steps.{joined, spent, reply_of_pass, records_before_pass, pass_given, pass_at, pass_kept, pass_made, turn_ended, session_left, session_kept, session_given, more_clients, session_made, new_pass}
-use Rattle.vll_counters.specs.Told.{RequestTells, OpenTells, LoadTells, StoreTells, ReleaseTells, EndTells, MayRun, MayLeave, IsGivenOut, has_stored_pass}
-use Rattle.vll_counters.specs.Shown.{QueueShown, SessionShown, PassShown, shown_queue, settled, queue_in, queue_view, session_of, pass_of_view, next_claim, record_of}
+use Rattle.vll_counters.specs.Steps.{new_session, first_view, new_line, admitted, joined, spent, reply_of_pass, records_before_pass, pass_given, pass_at, pass_kept, pass_made, turn_ended, session_left, session_kept, session_given, more_clients, session_made, new_pass}
+use Rattle.vll_counters.specs.Told.{IsAtEnd, AtQueue, KnowsPass, KnowsSession, RequestTells, OpenTells, LoadTells, StoreTells, ReleaseTells, EndTells, MayRun, MayLeave, IsGivenOut, has_stored_pass}
+use Rattle.vll_counters.specs.Shown.{AreNewSessions, base_of, QueueShown, SessionShown, PassShown, shown_queue, settled, queue_in, queue_view, session_of, pass_of_view, next_claim, record_of}
 use Rattle.vll_counters.proofs.PassSteps.{loads, stores, releases}
 use Rattle.vll_counters.proofs.QueueSteps.{MayOpen, requests, opens}
-use Rattle.vll_counters.proofs.Giving.{gives}
+use Rattle.vll_counters.proofs.Giving.{gives, pass_there}
+use Rattle.vll_counters.proofs.Places.{get_last, get_longer}
+use Rattle.std.proofs.lemmas.Bool.{cases_eq}
 use Rattle.vll_counters.proofs.Coming.{comes_pass, comes_session, ends, leaves}
-use Rattle.vll_counters.proofs.Bounds.{makes_session}
+use Rattle.vll_counters.proofs.Bounds.{starts, makes_session, closes}
 
 -- ---- what a seat shows is its view
 
@@ -124,3 +129,68 @@ module _ {S : Type 0} where
 
   pub makes_at : (base b : Base) (id : ℕ) (v : View) (q : QueueView) → base ≡ b → id ≡ 0 → v ≡ Queue q → q.lines ≡ [] → Splits (Rule {S = S} base) id v (more_clients v) (session_made v)
   makes_at base b id v q same i is empty = rw (same, i, is) (makes_session b q empty)
+
+-- ---- what comes of a split and of a join
+
+-- a given pass's seat has the view of a pass
+pub given_pass : {S : Type 0} (me seat : Me S View) (n m : ℕ) (q : QueueView) → n ≡ m → me ≡ (Queue q, []) → MayRun q.lines q.statuses q.turn m → seat ≡ (pass_made n me.0, []) → seat ≡ (Pass (pass_of_view seat.0), [])
+given_pass {S} me seat n m q number is may given =
+    let p = run_pass q m q.turn may in
+    let whole : seat ≡ (Pass p.0, []) = given ∙ (λ i. (pass_made (number i) (is i).0, [])) ∙ ap (λ (v : View). (v, [])) p.1 in
+    whole ∙ sym (ap (λ (x : Me S View). (Pass (pass_of_view x.0), [])) whole)
+  where
+    run_pass : (q : QueueView) (n : ℕ) (x : Option TurnView) → MayRun q.lines q.statuses x n → (p : PassView) × (pass_at n (pass_given n x q).lines ≡ Pass p)
+    run_pass q n None may = (new_pass n may.line.call q.lines, pass_there n q.lines may.line may.at)
+    run_pass q n (Some turn) may =
+        (new_pass n turn.call (admitted turn q).lines, pass_there n (admitted turn q).lines (new_line turn) (ap (slice_get (admitted turn q).lines) may.next ∙ get_last q.lines (new_line turn)))
+
+pub joined_pass : {S : Type 0} (me other : Me S View) (q : QueueView) (p : PassView) → me ≡ (Queue q, []) → other ≡ (Pass p, []) → ◌≡◌ {A = Me S View} (joined me.0 other.0, me.1) (Queue (record q { pass = Some p }), [])
+joined_pass me other q p is has = λ i. (joined (is i).0 (has i).0, (is i).1)
+
+pub joined_session : {S : Type 0} (me other : Me S View) (q : QueueView) (g : SessionView) → me ≡ (Queue q, []) → other ≡ (Session g, []) → ◌≡◌ {A = Me S View} (joined me.0 other.0, me.1) (Queue (record q { session = Some g }), [])
+joined_session me other q g is has = λ i. (joined (is i).0 (has i).0, (is i).1)
+
+-- what is told of a pass that has come
+pub told_pass : {S : Type 0} (me : Me S View) (q : QueueView) (p : PassView) → me ≡ (Queue (record q { pass = Some p }), []) → AtQueue (λ x. (y : PassView) → x.pass ≡ Some y → KnowsPass x y) me.0 → KnowsPass q p
+told_pass me q p is knows = let k = (subst (λ (m : Me _ View). AtQueue (λ x. (y : PassView) → x.pass ≡ Some y → KnowsPass x y) m.0) is knows) p refl in
+    record { line = k.line; at = k.at; call = k.call; runs = k.runs; seen = k.seen }
+
+-- and of a session
+pub told_session : {S : Type 0} (b d : Base) (me : Me S View) (q : QueueView) (g : SessionView) → d ≡ b → me ≡ (Queue (record q { session = Some g }), [])
+    → AtQueue (λ x. (y : SessionView) → x.session ≡ Some y → KnowsSession d x y) me.0 → KnowsSession b q g
+told_session b d me q g told is knows =
+    let k = (subst (λ (m : Me _ View). AtQueue (λ x. (y : SessionView) → x.session ≡ Some y → KnowsSession d x y) m.0) is knows) g refl in
+    subst (λ (x : Base). KnowsSession x q g) told (record { client = k.client; has_seen = k.has_seen; replied = k.replied })
+
+-- the library of the words is that of their base
+pub library_is : (library : Catalog) (records : List ℕ) (b : Base) → record { procs = library.procs; records = records } ≡ b → library.records ≡ length records → library ≡ record { records = length b.records; procs = b.procs }
+library_is library records b same many =
+    (λ i. let c : Catalog = record { records = many i; procs = library.procs } in c) ∙ ap (λ (x : Base). let c : Catalog = record { records = length x.records; procs = x.procs } in c) same
+
+-- ---- the opening and the end
+
+pub starts_at : {S : Type 0} (key : Key) (records words ws : List ℕ) → AreFirstWords records words → ws ≡ words → key.records.value.items ≡ records → Rule {S = S} (base_of key) (opening ws [] first_view)
+starts_at key records words ws first laid is = starts (base_of key) ws (subst (λ (p : List ℕ × List ℕ). AreFirstWords p.0 p.1) (λ i. (sym is i, sym laid i)) first)
+
+pub closes_at : (base b : Base) (id : ℕ) (me : Me (Unit {0}) View) (q : QueueView) (words ws : List ℕ) (slots : List (Unit {0})) → base ≡ b → id ≡ 0 → me ≡ (Queue q, []) → q.turn ≡ None
+    → count_by is_waiting q.statuses ≡ 0 → count_by is_running q.statuses ≡ 0 → Final (SeenBy (Rule {S = Unit {0}} base) id me.0) words slots → ws ≡ words → IsAtEnd b q.lines ws
+closes_at base b id me q words ws slots same i is closed none_wait none_run last copied =
+    subst (λ (p : Base × List ℕ). IsAtEnd p.0 q.lines p.1) (λ j. (same j, sym copied j))
+    (closes base q words last.0 (subst (λ (p : ℕ × View). SeenBy (Rule {S = Unit {0}} base) p.0 p.1 last.0) (λ j. (i j, (is j).0)) last.1) last.2 closed none_wait none_run)
+
+-- one more client's session
+pub sessions_more : (table : TableId) (n : ℕ) (xs ys : List SessionShown) (x : SessionShown) → AreNewSessions table n xs → x ≡ record { table = table; session = new_session n } → ys ≡ xs ++ x ∷ [] → AreNewSessions table (n + 1) ys
+sessions_more table n xs ys x are is longer = (
+  ap length longer ∙ length-append xs (x ∷ []) ∙ ap (λ m. m + 1) are.0,
+  λ c low. ap (λ (l : List SessionShown). slice_get l c) longer ∙ ⊎_elim
+      (λ (e : c ≡ n). ap (slice_get (xs ++ x ∷ [])) (e ∙ sym are.0) ∙ get_last xs x ∙ ap Some is ∙ ap (λ m. Some (record { table = table; session = new_session m })) (sym e))
+      (λ (e : c ≢ n). let below : c < n = omega (arith, low, e) in get_longer xs (x ∷ []) c _ (are.1 c below))
+      (cases_eq c n),
+)
+
+pub sessions_none : (table : TableId) (xs : List SessionShown) → xs ≡ [] → AreNewSessions table 0 xs
+sessions_none table xs none = (ap length none, λ c low. absurd (omega (arith, low)))
+
+-- all clients have theirs
+pub sessions_all : (table : TableId) (n m : ℕ) (xs : List SessionShown) → n ≡ m → AreNewSessions table n xs → AreNewSessions table m xs
+sessions_all table n m xs e are = subst (λ k. AreNewSessions table k xs) e are

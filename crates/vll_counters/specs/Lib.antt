@@ -4,3 +4,4 @@ pub mod Steps
 pub mod Told
 pub mod Shown
 pub mod Kept
+pub mod Laws

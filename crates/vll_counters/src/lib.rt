@@ -3,6 +3,7 @@
 #![tactic(auto)]
 
 mod key;
+mod laws;
 mod no_memory;
 mod pass_seat;
 mod queue_seat;
@@ -12,6 +13,7 @@ mod steps;
 mod views;
 mod words;
 
+pub use laws::{clients_have_one_session, tickets_are_clear, tickets_have_one_pass};
 pub use no_memory::NoMemory;
 pub use pass_seat::PassSeat;
 pub use queue_seat::QueueSeat;
