@@ -1,5 +1,5 @@
 -- The rule at the opening, while sessions are made, and at the end.
-use Rattle.std.proofs.Common.{◌≡◌, ◌≢◌, ℕ, zero, suc, ◌+◌, ◌<◌, Bool, true, false, List, [], ◌∷◌, ◌++◌, length, map, set, refl, sym, ap, ◌∙◌, subst, arith, Option, Some, None, slice_get, slice_index, slice_set, count_by, cond}
+use Rattle.std.proofs.Common.{◌≡◌, ℕ, zero, suc, ◌+◌, Bool, true, List, [], ◌∷◌, length, map, set, refl, sym, ap, ◌∙◌, subst, arith, Some, None, slice_get, slice_index, count_by, cond}
 use Rattle.std.specs.Option.{option_map}
 use Rattle.std.specs.List.{fold}
 use Rattle.std.proofs.lemmas.Option.{slice_get-map, slice_get_within}
@@ -8,34 +8,31 @@ use lib.ListN.{get_elem?}
 use Rattle.atomic_table.specs.Table as table
 use Rattle.atomic_table.specs.Table.{Splits, opening, Seen as SeenBy}
 use Rattle.atomic_table.proofs.Lists.{set_here, at_longer}
-use Rattle.vll_proc.specs.Serial.{Made, end, answer}
+use Rattle.vll_proc.specs.Serial.{Made, end}
 use Rattle.vll_sca.specs.declared.status.Status.{Status}
 use Rattle.vll_sca.specs.declared.status.Status.TheVariants.{Running, Waiting, Gone}
 use Rattle.vll_sca.specs.Status.{is_waiting, is_running, is_gone}
-use Rattle.vll_record.specs.Word.{value_word_of, pair_word_of_record}
 use Rattle.vll_core.specs.declared.line.Line.{Line}
-use Rattle.vll_core.specs.State.{Base, Entered, State, entered}
-use Rattle.vll_core.specs.Machine.{opened, running, waiting}
-use Rattle.vll_core.specs.Moves.{IsReached, begun}
+use Rattle.vll_core.specs.State.{Base, Entered}
+use Rattle.vll_core.specs.Machine.{opened}
+use Rattle.vll_core.specs.Moves.{begun}
 use Rattle.vll_core.specs.Shown.{AreFirstWords, AreWords}
 use Rattle.vll_core.proofs.Opening.{words_begun}
 use Rattle.vll_core.proofs.Places.{entry_at}
 use Rattle.vll_core.proofs.Finished.{finished_reached}
-use Rattle.vll_counters.specs.declared.views.PassView.{PassView}
-use Rattle.vll_counters.specs.declared.views.SessionView.{SessionView}
 use Rattle.vll_counters.specs.declared.views.QueueView.{QueueView}
 use Rattle.vll_counters.specs.declared.views.View.{View}
 use Rattle.vll_counters.specs.declared.views.View.TheVariants.{Queue, Session}
 use Rattle.vll_counters.specs.Views.{calls_in, pass_in, session_in}
-use Rattle.vll_counters.specs.Rule.{widest, pass_of, Shows, ArePasses, AreSessions, Rule}
+use Rattle.vll_counters.specs.Rule.{widest, pass_of, Rule}
 use Rattle.vll_counters.specs.Steps.{first_queue, first_view, new_session}
 use Rattle.vll_counters.specs.Told.{IsAtEnd}
 use Rattle.vll_counters.proofs.Places.{no_some, at_below, seat_with}
 use Rattle.vll_counters.proofs.Passes.{passes_reviewed, passes_pushed}
 use Rattle.vll_counters.proofs.Sessions.{sessions_reviewed, sessions_made, seen_all}
 use Rattle.vll_counters.proofs.States.{status_of}
-use Rattle.vll_counters.proofs.Holding.{Holds, held, kept}
-use Rattle.vll_counters.proofs.Turns.{as_many, turn_closed, entry_of_status, line_is, calls_shown, replied}
+use Rattle.vll_counters.proofs.Holding.{held, kept}
+use Rattle.vll_counters.proofs.Turns.{as_many, turn_closed, calls_shown, replied}
 
 only_first : {P : Type 0} (seat : ℕ) (v : View) → get_elem? (first_view ∷ []) seat ≡ some v → (first_view ≡ v → P) → P
 only_first zero v e go = go (some-injective first_view v e)

@@ -1,23 +1,22 @@
 -- A pass or a session comes to the queue's seat, a pass that has come ends, and a session that has come leaves.
-use Rattle.std.proofs.Common.{◌≡◌, ◌≢◌, ℕ, suc, ◌<◌, ◌≤◌, ◌||◌, Bool, true, false, not, List, [], ◌∷◌, ◌++◌, length, take, set, refl, sym, ap, ◌∙◌, subst, arith, Option, Some, None, Ok, slice_get, slice_index, slice_set, nat_lt, ⊎_elim, if◌then◌else◌}
+use Rattle.std.proofs.Common.{◌≡◌, ◌≢◌, ℕ, suc, true, false, List, [], ◌∷◌, ◌++◌, length, take, set, refl, sym, ap, ◌∙◌, subst, arith, Option, Some, None, slice_get, slice_index, slice_set, nat_lt, ⊎_elim}
 use Rattle.std.specs.Option.{option_map}
 use Rattle.std.proofs.lemmas.Bool.{cases_eq}
 use Rattle.std.proofs.lemmas.List.{set-set}
 use Rattle.std.proofs.lemmas.Option.{same_Some}
 use mathlib.Core.Option.{some}
 use lib.ListN.{get_elem?}
-use Rattle.atomic_table.specs.Table as table
-use Rattle.atomic_table.specs.Table.{Me, Step, step, keeps, stepped, Allows, Splits, Joins}
+use Rattle.atomic_table.specs.Table.{step, keeps, Allows, Splits, Joins}
 use Rattle.atomic_table.proofs.Lists.{set_here, set_else, at_longer}
-use Rattle.vll_proc.specs.Serial.{Made, apply, before}
+use Rattle.vll_proc.specs.Serial.{Made, apply}
 use Rattle.vll_sca.specs.declared.status.Status.{Status}
 use Rattle.vll_sca.specs.declared.status.Status.TheVariants.{Running, Waiting, Gone}
-use Rattle.vll_sca.specs.Status.{is_running, is_gone}
+use Rattle.vll_sca.specs.Status.{is_running}
 use Rattle.vll_core.specs.declared.event.Event.TheVariants as event
 use Rattle.vll_core.specs.declared.line.Line.{Line}
-use Rattle.vll_core.specs.State.{Base, Entered, Turn, State, entered}
+use Rattle.vll_core.specs.State.{Base, Entered, entered}
 use Rattle.vll_core.specs.Machine.{with_entry}
-use Rattle.vll_core.specs.Moves.{IsReached, by_event, moved}
+use Rattle.vll_core.specs.Moves.{by_event, moved}
 use Rattle.vll_core.specs.Shown.{AreWords}
 use Rattle.vll_core.proofs.CoreWords.{words_stay}
 use Rattle.vll_core.proofs.Places.{get_set, at_push}
@@ -28,18 +27,18 @@ use Rattle.vll_counters.specs.declared.views.QueueView.{QueueView}
 use Rattle.vll_counters.specs.declared.views.View.{View}
 use Rattle.vll_counters.specs.declared.views.View.TheVariants.{Queue, Pass, Session, Spent}
 use Rattle.vll_counters.specs.Views.{calls_in}
-use Rattle.vll_counters.specs.Rule.{widest, pass_for, pass_of, Shows, IsHosted, HasSeen, AreSessions, Rule}
-use Rattle.vll_counters.specs.Steps.{new_status, told, admitted, turn_ended, leaving, session_left, records_before_pass, reply_of_pass, answered, finished, finished_by, ended}
-use Rattle.vll_counters.specs.Told.{KnowsPass, has_stored_pass, EndTells, EntersBlocked, MayLeave, IsGivenOut}
+use Rattle.vll_counters.specs.Rule.{widest, pass_of, IsHosted, AreSessions, Rule}
+use Rattle.vll_counters.specs.Steps.{new_status, told, admitted, turn_ended, leaving, session_left, answered, finished, finished_by, ended}
+use Rattle.vll_counters.specs.Told.{KnowsPass, has_stored_pass, EndTells, MayLeave, IsGivenOut}
 use Rattle.vll_counters.proofs.Places.{at_below, get_longer, get_set_else, seat_with}
 use Rattle.vll_counters.proofs.Passes.{passes_reviewed, passes_come, passes_ended, passes_pushed}
 use Rattle.vll_counters.proofs.Sessions.{sessions_reviewed, sessions_kept, sessions_come, sessions_left, seen_all}
 use Rattle.vll_counters.proofs.Moves.{finish_made}
-use Rattle.vll_counters.proofs.States.{calls_entered, entered_kept, IsPassOf, pass_is, passes_named, line_by, line_at, lines_changed, statuses_set, status_at, pass_else, pass_gone}
+use Rattle.vll_counters.proofs.States.{calls_entered, entered_kept, pass_is, passes_named, line_by, line_at, lines_changed, statuses_set, status_at, pass_else, pass_gone}
 use Rattle.vll_counters.proofs.Holding.{Holds, held, kept, same_words}
 use Rattle.vll_counters.proofs.PassSteps.{records_own, stored_same}
 use Rattle.vll_counters.proofs.Turns.{turn_closed, calls_shown}
-use Rattle.vll_counters.proofs.Entry.{host_of, enters_blocked}
+use Rattle.vll_counters.proofs.Entry.{enters_blocked}
 
 runs_only : (x : Status) → is_running x ≡ true → x ≡ Running
 runs_only Running h = refl
@@ -212,11 +211,14 @@ module _ {S : Type 0} (base : Base) where
                   (sessions_reviewed (calls_in q.lines) q.statuses q.clients h.session_seat t.views 0 (Queue q) w at refl h.sessions));
             })
             (set_here t.views 0 w (at_below t.views 0 (Queue q) at))),
-        (refl, λ x is. subst (KnowsPass q) (same_Some p x (sym has ∙ is)) (record {
-          line = line;
-          at = line_there;
-          call = ap (λ (y : PassView). y.call) (sym o.is);
-          runs = status_there;
-          seen = ap (λ (y : PassView). y.seen) o.is ∙ ap (take (suc n)) (sym (calls_shown base q s h.shows));
-        })),
+        (
+          refl,
+          λ x is. subst (KnowsPass q) (same_Some p x (sym has ∙ is)) (record {
+            line = line;
+            at = line_there;
+            call = ap (λ (y : PassView). y.call) (sym o.is);
+            runs = status_there;
+            seen = ap (λ (y : PassView). y.seen) o.is ∙ ap (take (suc n)) (sym (calls_shown base q s h.shows));
+          }),
+        ),
       )

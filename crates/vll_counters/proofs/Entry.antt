@@ -1,17 +1,16 @@
 -- The call of the open turn enters: what the queue's seat, the words and the sessions are then.
-use Rattle.std.proofs.Common.{◌≡◌, ◌≢◌, ℕ, suc, ◌<◌, ◌≤◌, Bool, true, false, List, [], ◌∷◌, ◌++◌, length, take, set, refl, sym, ap, ◌∙◌, subst, arith, Option, Some, None, slice_get, ⊎_elim, if◌then◌else◌}
+use Rattle.std.proofs.Common.{◌≡◌, ◌≢◌, ℕ, ◌≤◌, Bool, true, false, List, [], ◌∷◌, ◌++◌, length, set, refl, sym, ap, ◌∙◌, subst, Option, Some, None, ⊎_elim, if◌then◌else◌}
 use Rattle.std.specs.Option.{option_map}
 use Rattle.std.proofs.lemmas.Bool.{cases_eq}
 use Rattle.std.proofs.lemmas.List.{map-append}
 use mathlib.Core.Option.{some}
 use lib.ListN.{get_elem?}
 use Rattle.vll_proc.specs.Serial.{Made}
-use Rattle.vll_sca.specs.declared.status.Status.{Status}
-use Rattle.vll_sca.specs.declared.status.Status.TheVariants.{Running, Waiting, Gone}
+use Rattle.vll_sca.specs.declared.status.Status.TheVariants.{Running, Waiting}
 use Rattle.vll_sca.specs.Status.{is_running, is_gone}
 use Rattle.vll_core.specs.declared.event.Event.TheVariants as event
 use Rattle.vll_core.specs.declared.line.Line.{Line}
-use Rattle.vll_core.specs.State.{Base, Entered, Turn, State, made, entered}
+use Rattle.vll_core.specs.State.{Base, Turn, State}
 use Rattle.vll_core.specs.Moves.{IsReached, by_event, moved}
 use Rattle.vll_core.specs.Shown.{AreWords}
 use Rattle.vll_core.proofs.CoreWords.{words_stay}
@@ -21,14 +20,14 @@ use Rattle.vll_counters.specs.declared.views.QueueView.{QueueView}
 use Rattle.vll_counters.specs.declared.views.View.{View}
 use Rattle.vll_counters.specs.declared.views.View.TheVariants.{Queue}
 use Rattle.vll_counters.specs.Views.{calls_in}
-use Rattle.vll_counters.specs.Rule.{widest, Shows, IsHosted, AreSessions, pass_of, ArePasses}
+use Rattle.vll_counters.specs.Rule.{widest, Shows, IsHosted, AreSessions, pass_of}
 use Rattle.vll_counters.specs.Steps.{new_line, new_status, told, admitted}
 use Rattle.vll_counters.proofs.Passes.{passes_same, passes_reviewed}
 use Rattle.vll_counters.proofs.Sessions.{sessions_entered}
 use Rattle.vll_counters.proofs.Moves.{entry_of_turn, after_admit, admit_made}
-use Rattle.vll_counters.proofs.States.{status_of, lines_more, statuses_more, pass_more, pass_waits, pass_past}
+use Rattle.vll_counters.proofs.States.{lines_more, statuses_more, pass_more, pass_waits, pass_past}
 use Rattle.vll_counters.proofs.Holding.{Holds}
-use Rattle.vll_counters.proofs.Turns.{seen_turn, turn_is, as_many}
+use Rattle.vll_counters.proofs.Turns.{seen_turn, turn_is}
 
 -- the state of the machine once the turn's call has entered
 pub record Enters (base : Base) (q : QueueView) (turn : TurnView) (ws : List ℕ) (s : State) : Type 0 where

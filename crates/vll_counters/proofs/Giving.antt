@@ -1,10 +1,7 @@
 -- The queue's seat gives a pass: to a call that waits, or to the call of the open turn.
-use Rattle.std.proofs.Common.{◌≡◌, ◌≢◌, ℕ, suc, ◌<◌, ◌≤◌, Bool, true, false, List, [], ◌∷◌, ◌++◌, length, take, set, refl, sym, ap, ◌∙◌, subst, arith, Option, Some, None, slice_get, slice_set, if◌then◌else◌}
+use Rattle.std.proofs.Common.{◌≡◌, ℕ, suc, ◌≤◌, Bool, true, List, [], ◌∷◌, length, take, set, refl, sym, ap, ◌∙◌, subst, Option, Some, None, slice_get, slice_set, if◌then◌else◌}
 use Rattle.std.specs.Option.{option_map}
 use Rattle.std.proofs.lemmas.Option.{slice_get-map}
-use mathlib.Core.Option.{some}
-use lib.ListN.{get_elem?}
-use Rattle.atomic_table.specs.Table as table
 use Rattle.atomic_table.specs.Table.{Splits}
 use Rattle.atomic_table.proofs.Lists.{set_here, at_longer}
 use Rattle.vll_record.specs.Claim.{conflict}
@@ -14,30 +11,29 @@ use Rattle.vll_sca.specs.declared.status.Status.{Status}
 use Rattle.vll_sca.specs.declared.status.Status.TheVariants.{Running, Waiting, Gone}
 use Rattle.vll_sca.specs.Status.{is_waiting, is_running, is_gone}
 use Rattle.vll_core.specs.declared.line.Line.{Line}
-use Rattle.vll_core.specs.State.{Base, Entered, Turn, State, entered, is_clear}
+use Rattle.vll_core.specs.State.{Base, Entered, State, entered, is_clear}
 use Rattle.vll_core.specs.Machine.{with_entry}
 use Rattle.vll_core.specs.Moves.{wake, moved}
 use Rattle.vll_core.proofs.CoreWords.{words_stay}
 use Rattle.vll_core.proofs.Picked.{clear_picked}
 use Rattle.vll_core.proofs.Reached.{kept_reached}
 use Rattle.vll_counters.specs.declared.views.TurnView.{TurnView}
-use Rattle.vll_counters.specs.declared.views.PassView.{PassView}
 use Rattle.vll_counters.specs.declared.views.QueueView.{QueueView}
 use Rattle.vll_counters.specs.declared.views.View.{View}
 use Rattle.vll_counters.specs.declared.views.View.TheVariants.{Queue, Pass, Spent}
 use Rattle.vll_counters.specs.Views.{calls_in}
 use Rattle.vll_counters.specs.Rule.{widest, values_before, pass_for, pass_of, Shows, Rule}
-use Rattle.vll_counters.specs.Steps.{new_line, admitted, new_pass, pass_given, pass_at, pass_kept, pass_made}
-use Rattle.vll_counters.specs.Told.{MayStart, EntersFree, MayRun}
+use Rattle.vll_counters.specs.Steps.{new_line, admitted, new_pass, pass_given, pass_at}
+use Rattle.vll_counters.specs.Told.{MayStart, MayRun}
 use Rattle.vll_counters.proofs.Places.{at_below, get_last, get_set_else, seat_with}
 use Rattle.vll_counters.proofs.Passes.{passes_reviewed, passes_given}
 use Rattle.vll_counters.proofs.Sessions.{sessions_reviewed, sessions_pushed, sessions_kept}
 use Rattle.vll_counters.proofs.Moves.{entry_of_turn, after_admit, wake_made}
 use Rattle.vll_counters.proofs.States.{status_of, line_by, line_at, lines_kept, statuses_set, pass_else, pass_here, pass_none, pass_more, pass_last, pass_past}
 use Rattle.vll_counters.proofs.Fresh.{IsFresh, fresh_reached}
-use Rattle.vll_counters.proofs.Holding.{Holds, held, kept}
-use Rattle.vll_counters.proofs.Turns.{seen_turn, as_many, entry_of_status, line_is, calls_shown}
-use Rattle.vll_counters.proofs.Entry.{Enters, enters, entered_sessions}
+use Rattle.vll_counters.proofs.Holding.{held, kept}
+use Rattle.vll_counters.proofs.Turns.{as_many, entry_of_status, line_is, calls_shown}
+use Rattle.vll_counters.proofs.Entry.{enters, entered_sessions}
 
 -- a ticket that may start is clear
 starts_clear : (base : Base) (q : QueueView) (s : State) (t : ℕ) (w : MayStart q.lines q.statuses t) (e : Entered) → Shows base q s → slice_get s.entries t ≡ Some e → e.status ≡ Waiting → is_clear s t e.call.claims ≡ true

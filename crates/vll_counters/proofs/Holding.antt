@@ -24,7 +24,6 @@ pub record Holds (base : Base) (q : QueueView) (ws : List ℕ) (views : List Vie
   pub passes : ArePasses (pass_of base state) pass_seat views
   pub sessions : AreSessions (calls_in q.lines) q.statuses q.clients session_seat views
 
-
 pub same_queue : (p q : QueueView) → some (Queue p) ≡ some (Queue q) → p ≡ q
 same_queue p q e = let h : Queue p ≡ Queue q = some-injective _ _ e in cc h
 

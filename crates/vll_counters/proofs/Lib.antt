@@ -13,4 +13,4 @@ pub mod Giving
 pub mod Coming
 pub mod Bounds
 pub mod Seats
-pub mod Laws
+pub mod Between

@@ -1,14 +1,13 @@
 -- The moves of the plain machine, each with the state that it comes to.
-use Rattle.std.proofs.Common.{◌≡◌, ℕ, ◌+◌, ◌<◌, ◌≤◌, ◌&&◌, ◌||◌, Bool, true, false, not, nat_lt, nat_le, refl, sym, ap, ◌∙◌, arith, List, [], ◌∷◌, ◌++◌, length, slice_get, Option, Some, None, is_some, Result, Ok, Err, if◌then◌else◌}
+use Rattle.std.proofs.Common.{◌≡◌, ℕ, ◌+◌, ◌<◌, ◌≤◌, ◌||◌, Bool, true, false, not, nat_lt, nat_le, refl, ap, ◌∙◌, arith, [], ◌∷◌, ◌++◌, length, slice_get, Option, Some, None, is_some, Ok, if◌then◌else◌}
 use Rattle.vll_record.specs.declared.claim.Claim.{Claim}
 use Rattle.vll_proc.specs.declared.call.Call.{Call}
 use Rattle.vll_sca.specs.declared.status.Status.{Status}
 use Rattle.vll_sca.specs.declared.status.Status.TheVariants.{Running, Waiting, Gone}
-use Rattle.vll_sca.specs.Status.{is_waiting, is_running}
+use Rattle.vll_sca.specs.Status.{is_waiting}
 use Rattle.vll_core.specs.declared.event.Event.TheVariants as event
 use Rattle.vll_core.specs.declared.seen.Seen.{Seen}
 use Rattle.vll_core.specs.declared.seen.Seen.TheVariants.{Opened, Free, Blocked, Run, Loaded, Stored, Released, Replied}
-use Rattle.vll_core.specs.declared.refusal.Refusal.{Refusal}
 use Rattle.vll_core.specs.declared.refusal.Refusal.TheVariants.{TurnOpen, NoTurn, Spent, Busy, NotRunning, OutOfStep, Idle}
 use Rattle.vll_core.specs.State.{Opening, Entered, Turn, State, counter, value, is_clear, reply_at}
 use Rattle.vll_core.specs.Machine.{Outcome, step, refuse_if, or_refuse, running, with_entry, with_status, has_stored, admit, enter, waiting}

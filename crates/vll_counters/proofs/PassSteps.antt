@@ -1,5 +1,5 @@
 -- The steps of a pass's seat keep the rule: loads, stores and releases.
-use Rattle.std.proofs.Common.{◌≡◌, ◌≢◌, ℕ, zero, suc, ◌+◌, ◌-◌, ◌<◌, ◌≤◌, ◌^◌, ◌%◌, ◌*◌, ◌&&◌, ◌||◌, ◌==◌, Bool, true, false, List, [], ◌∷◌, ◌++◌, length, take, refl, sym, ap, ◌∙◌, subst, arith, Option, Some, None, Ok, slice_get, slice_index, slice_set, map, nat_lt, add-one}
+use Rattle.std.proofs.Common.{◌≡◌, ◌≢◌, ℕ, zero, suc, ◌+◌, ◌-◌, ◌<◌, ◌%◌, ◌&&◌, ◌||◌, ◌==◌, Bool, true, false, List, [], ◌∷◌, ◌++◌, length, take, refl, sym, ap, ◌∙◌, subst, arith, Option, Some, Ok, slice_get, slice_index, slice_set, nat_lt, add-one}
 use Rattle.std.proofs.lemmas.List.{map-append}
 use Rattle.std.proofs.lemmas.Option.{slice_get_within}
 use Rattle.std.proofs.lemmas.Bool.Decides.{nat_tests}
@@ -15,14 +15,13 @@ use Rattle.vll_proc.specs.Serial.{Made, apply, before, end}
 use Rattle.vll_sca.specs.Status.{is_running, is_gone}
 use Rattle.vll_core.specs.declared.event.Event.TheVariants as event
 use Rattle.vll_core.specs.declared.seen.Seen.{Seen}
-use Rattle.vll_core.specs.declared.seen.Seen.TheVariants.{Loaded, Stored, Released}
-use Rattle.vll_core.specs.State.{Base, Entered, State, made, entered, records_before, writes, is_aborted, counter, value, has_aborted}
+use Rattle.vll_core.specs.State.{Base, Entered, State, made, entered, records_before, writes, is_aborted, counter, value}
 use Rattle.vll_core.specs.Machine.{with_entry, has_stored}
-use Rattle.vll_core.specs.Moves.{Move, move, by_event, IsLawful, IsReached, moved, is_on, entry_store}
+use Rattle.vll_core.specs.Moves.{Move, move, by_event, IsLawful, moved, is_on, entry_store}
 use Rattle.vll_core.specs.Shown.{AreWords}
 use Rattle.vll_core.proofs.CoreWords.{words_stay, counters_stay}
-use Rattle.vll_core.proofs.CorePairs.{words_set_value, words_set_pair, value_word_within, pair_word_within}
-use Rattle.vll_core.proofs.Claiming.{delta_here, delta_elsewhere, counter_fits}
+use Rattle.vll_core.proofs.CorePairs.{words_set_value, words_set_pair}
+use Rattle.vll_core.proofs.Claiming.{delta_here, delta_elsewhere}
 use Rattle.vll_core.proofs.Deltas.{counter_release}
 use Rattle.vll_core.proofs.Places.{take_next}
 use Rattle.vll_core.proofs.Reached.{load_reached}
@@ -31,10 +30,10 @@ use Rattle.std.proofs.lemmas.Bool.{ne_eqb}
 use Rattle.vll_core.proofs.Values.{store_reached, others_stay}
 use Rattle.vll_counters.specs.declared.views.PassView.{PassView}
 use Rattle.vll_counters.specs.declared.views.View.{View}
-use Rattle.vll_counters.specs.declared.views.View.TheVariants.{Queue, Pass}
-use Rattle.vll_counters.specs.Rule.{widest, values_before, pass_for, pass_of, Shows, Rule}
+use Rattle.vll_counters.specs.declared.views.View.TheVariants.{Pass}
+use Rattle.vll_counters.specs.Rule.{widest, values_before, pass_for, pass_of, Rule}
 use Rattle.vll_counters.specs.Steps.{loaded, stored, released, records_before_pass, reply_of_pass}
-use Rattle.vll_counters.specs.Told.{IsPassNow, IsValueNow, IsCountedNow, has_stored_pass, LoadTells, StoreTells, ReleaseTells}
+use Rattle.vll_counters.specs.Told.{IsPassNow, has_stored_pass, LoadTells, StoreTells, ReleaseTells}
 use Rattle.vll_counters.proofs.Moves.{load_made, store_made, release_made}
 use Rattle.vll_counters.proofs.Passes.{passes_moved}
 use Rattle.vll_counters.proofs.Sessions.{sessions_reviewed}

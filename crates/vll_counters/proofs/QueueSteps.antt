@@ -1,5 +1,5 @@
 -- The steps of the queue's seat that leave passes and sessions where they are: a turn opens, and requests its claims.
-use Rattle.std.proofs.Common.{◌≡◌, ◌≢◌, ℕ, suc, ◌+◌, ◌<◌, ◌≤◌, ◌%◌, ◌&&◌, Bool, true, false, not, List, [], ◌∷◌, ◌++◌, length, map, refl, sym, ap, ◌∙◌, subst, arith, Option, Some, None, Ok, slice_get, slice_index, slice_set, count_by}
+use Rattle.std.proofs.Common.{◌≡◌, ℕ, ◌+◌, ◌<◌, ◌≤◌, ◌%◌, ◌&&◌, Bool, List, [], length, refl, sym, ap, ◌∙◌, subst, arith, Option, Some, None, slice_get, slice_index, slice_set}
 use Rattle.std.specs.Option.{option_map}
 use Rattle.std.proofs.lemmas.List.Sums.{count_by-le-length}
 use mathlib.Core.Option.{some}
@@ -8,12 +8,11 @@ use Rattle.atomic_table.specs.Table as table
 use Rattle.atomic_table.specs.Table.{Me, Step, step, keeps, stepped, Allows}
 use Rattle.atomic_table.proofs.Lists.{set_here}
 use Rattle.vll_record.specs.declared.claim.Claim.{Claim}
-use Rattle.vll_record.specs.Claim.{conflict}
-use Rattle.vll_record.specs.Counter.{delta_of, is_granted}
+use Rattle.vll_record.specs.Counter.{delta_of}
 use Rattle.vll_record.specs.Word.{pair_word_of_record}
 use Rattle.vll_proc.specs.declared.call.Call.{Call}
 use Rattle.vll_core.specs.declared.line.Line.{Line}
-use Rattle.vll_core.specs.State.{Base, Entered, Turn, State, entered, open_claims, counter}
+use Rattle.vll_core.specs.State.{Base, State, counter}
 use Rattle.vll_core.specs.Machine.{waiting}
 use Rattle.vll_core.specs.Moves.{IsProper, IsReached, hand, moved}
 use Rattle.vll_core.specs.Shown.{AreWords}
@@ -25,7 +24,7 @@ use Rattle.vll_counters.specs.declared.views.QueueView.{QueueView}
 use Rattle.vll_counters.specs.declared.views.View.{View}
 use Rattle.vll_counters.specs.declared.views.View.TheVariants.{Queue}
 use Rattle.vll_counters.specs.Views.{calls_in}
-use Rattle.vll_counters.specs.Rule.{widest, turn_view, Shows, IsHosted, Rule, pass_of}
+use Rattle.vll_counters.specs.Rule.{widest, turn_view, Rule, pass_of}
 use Rattle.vll_counters.specs.Steps.{asked, requested, turn_of, opened}
 use Rattle.vll_counters.specs.Told.{KnowsSession, RequestTells, OpenTells}
 use Rattle.vll_counters.proofs.Places.{at_below}

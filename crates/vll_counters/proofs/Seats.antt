@@ -1,6 +1,5 @@
 -- The steps where the seat and its view, the words and what a step is told are known by equations.
-use Rattle.std.proofs.Common.{◌≡◌, ◌≢◌, ℕ, suc, ◌+◌, ◌-◌, ◌*◌, ◌%◌, ◌<◌, ◌≤◌, true, false, List, [], ◌∷◌, ◌++◌, length, length-append, ⊎_elim, refl, sym, ap, ◌∙◌, subst, arith, Option, Some, None, slice_get, slice_index, IfSome, IsSome, count_by}
-use Rattle.std.specs.Option.{option_map}
+use Rattle.std.proofs.Common.{◌≡◌, ◌≢◌, ℕ, ◌+◌, ◌-◌, ◌*◌, ◌%◌, ◌<◌, true, false, List, [], ◌∷◌, ◌++◌, length, length-append, ⊎_elim, refl, sym, ap, ◌∙◌, subst, arith, Option, Some, None, slice_get, slice_index, IfSome, IsSome, count_by}
 use Rattle.atomic_table.specs.Seated.{TableId}
 use Rattle.atomic_table.specs.Table.{Me, step, Allows, Splits, Joins, opening, Final, Seen as SeenBy}
 use Rattle.vll_record.specs.declared.claim.Claim.{Claim}
@@ -22,9 +21,9 @@ use Rattle.vll_counters.specs.declared.views.PassView.{PassView}
 use Rattle.vll_counters.specs.declared.views.SessionView.{SessionView}
 use Rattle.vll_counters.specs.declared.views.QueueView.{QueueView}
 use Rattle.vll_counters.specs.declared.views.View.{View}
-use Rattle.vll_counters.specs.declared.views.View.TheVariants.{Queue, Pass, Session, Spent}
+use Rattle.vll_counters.specs.declared.views.View.TheVariants.{Queue, Pass, Session}
 use Rattle.vll_counters.specs.Rule.{Rule}
-use Rattle.vll_counters.specs.Steps.{new_session, first_view, new_line, admitted, joined, spent, reply_of_pass, records_before_pass, pass_given, pass_at, pass_kept, pass_made, turn_ended, session_left, session_kept, session_given, more_clients, session_made, new_pass}
+use Rattle.vll_counters.specs.Steps.{new_session, first_view, new_line, admitted, joined, spent, reply_of_pass, records_before_pass, pass_given, pass_at, pass_kept, pass_made, session_kept, session_given, more_clients, session_made, new_pass}
 use Rattle.vll_counters.specs.Told.{IsAtEnd, AtQueue, KnowsPass, KnowsSession, RequestTells, OpenTells, LoadTells, StoreTells, ReleaseTells, EndTells, MayRun, MayLeave, IsGivenOut, has_stored_pass}
 use Rattle.vll_counters.specs.Shown.{AreNewSessions, base_of, QueueShown, SessionShown, PassShown, shown_queue, settled, queue_in, queue_view, session_of, pass_of_view, next_claim, record_of}
 use Rattle.vll_counters.proofs.PassSteps.{loads, stores, releases}

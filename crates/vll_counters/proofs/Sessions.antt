@@ -1,12 +1,12 @@
 -- Which seat has which client's session, and what it has seen, after each kind of change.
-use Rattle.std.proofs.Common.{◌≡◌, ◌≢◌, ◌⊎◌, ℕ, suc, ◌<◌, ◌==◌, List, [], ◌∷◌, ◌++◌, length, set, sym, ap, ◌∙◌, subst, arith, refl, Option, Some, None, ⊎_elim, append_assoc, cond}
-use Rattle.std.proofs.lemmas.Bool.{cases_eq, ne_eqb, cond-false}
+use Rattle.std.proofs.Common.{◌≡◌, ◌≢◌, ℕ, suc, ◌<◌, ◌==◌, List, [], ◌∷◌, ◌++◌, length, set, sym, ap, ◌∙◌, subst, arith, Some, None, ⊎_elim, append_assoc, cond}
+use Rattle.std.proofs.lemmas.Bool.{ne_eqb, cond-false}
 use Rattle.std.proofs.lemmas.List.{append-nil}
 use Rattle.std.proofs.lemmas.Option.{same_Some}
 use Rattle.std.specs.Prelude.{filter, map, slice_get, Bool, true, false}
-use mathlib.Core.Option.{some, some-injective}
+use mathlib.Core.Option.{some}
 use lib.ListN.{get_elem?}
-use Rattle.atomic_table.proofs.Lists.{at_set, at_longer, set_here, set_else}
+use Rattle.atomic_table.proofs.Lists.{at_set}
 use Rattle.vll_proc.specs.declared.call.Call.{Call}
 use Rattle.vll_proc.specs.Serial.{Made}
 use Rattle.vll_sca.specs.declared.status.Status.{Status}
@@ -15,7 +15,7 @@ use Rattle.vll_counters.specs.declared.views.SessionView.{SessionView}
 use Rattle.vll_counters.specs.declared.views.View.{View}
 use Rattle.vll_counters.specs.Views.{calls_by, Begins, session_in}
 use Rattle.vll_counters.specs.Rule.{HasSeen, IsSession, AreSessions}
-use Rattle.vll_counters.proofs.Places.{no_some, at_below, at_end, get_longer, seat_with, seat_here, seat_else}
+use Rattle.vll_counters.proofs.Places.{no_some, at_end, get_longer, seat_with, seat_here, seat_else}
 
 -- ---- a fact of each session at each seat
 

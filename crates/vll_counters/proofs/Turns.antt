@@ -1,22 +1,21 @@
 -- What the queue's seat knows of a state, and of its open turn.
-use Rattle.std.proofs.Common.{◌≡◌, ◌≢◌, ℕ, suc, ◌+◌, ◌<◌, ◌≤◌, ◌&&◌, Bool, true, false, not, List, [], ◌∷◌, ◌++◌, length, map, refl, sym, ap, ◌∙◌, subst, arith, Option, Some, None, slice_get, count_by, if◌then◌else◌}
+use Rattle.std.proofs.Common.{◌≡◌, ℕ, not, List, [], ◌∷◌, length, map, refl, sym, ap, ◌∙◌, arith, Option, Some, None, slice_get, if◌then◌else◌}
 use Rattle.std.specs.Option.{option_map}
 use Rattle.std.specs.List.{enumerate_from}
-use Rattle.std.proofs.lemmas.List.{length-map, map-append}
+use Rattle.std.proofs.lemmas.List.{length-map}
 use Rattle.std.proofs.lemmas.List.FromFn.{length-enumerate_from}
 use Rattle.std.proofs.lemmas.Option.{same_Some, slice_get-map}
 use Rattle.vll_record.specs.declared.claim.Claim.{Claim}
 use Rattle.vll_record.specs.Claim.{conflict}
-use Rattle.vll_record.specs.Counter.{claims_on, is_granted}
+use Rattle.vll_record.specs.Counter.{is_granted}
 use Rattle.vll_record.proofs.Counted.{is_granted-no_conflict}
 use Rattle.vll_proc.specs.declared.syntax.Proc.{Proc}
 use Rattle.vll_proc.specs.Serial.{Made, apply, before, answer}
 use Rattle.vll_sca.specs.declared.status.Status.{Status}
-use Rattle.vll_sca.specs.declared.status.Status.TheVariants.{Running, Waiting, Gone}
+use Rattle.vll_sca.specs.declared.status.Status.TheVariants.{Gone}
 use Rattle.vll_sca.specs.Status.{is_gone}
 use Rattle.vll_core.specs.declared.line.Line.{Line}
 use Rattle.vll_core.specs.State.{Base, Entered, Turn, State, made, entered, open_claims, counter}
-use Rattle.vll_core.specs.Journal.{journal_of}
 use Rattle.vll_core.specs.Moves.{IsReached}
 use Rattle.vll_core.proofs.Counters.{counters_within}
 use Rattle.vll_core.proofs.SerialRun.{made_at}

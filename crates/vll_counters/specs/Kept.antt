@@ -1,7 +1,6 @@
 -- What the types of the words and of their seats keep.
-use Rattle.std.specs.Prelude.{◌≡◌, ℕ, ◌+◌, ◌*◌, ◌≤◌, length, vec_capacity, vec_len}
+use Rattle.std.specs.Prelude.{◌≡◌, ◌+◌, ◌*◌, ◌≤◌, length, vec_capacity, vec_len}
 use Rattle.vll_check.specs.Catalog.{IsCatalog}
-use Rattle.vll_counters.specs.declared.key.Key.{Key}
 use Rattle.vll_counters.specs.declared.words.Words.TheInside.{Inside}
 use Rattle.vll_counters.specs.Shown.{WordsShown, base_of}
 

@@ -1,5 +1,5 @@
 -- What each step does to the view of the seat that makes it.
-use Rattle.std.specs.Prelude.{ℕ, suc, ◌+◌, ◌&&◌, Bool, true, List, [], ◌∷◌, ◌++◌, take, count_by, Option, Some, None, slice_get, slice_set, option_map, if◌then◌else◌}
+use Rattle.std.specs.Prelude.{ℕ, suc, ◌+◌, ◌&&◌, true, List, [], ◌∷◌, ◌++◌, take, count_by, Option, Some, None, slice_get, slice_set, option_map, if◌then◌else◌}
 use Rattle.vll_record.specs.declared.claim.Claim.{Claim}
 use Rattle.vll_record.specs.Counter.{is_granted}
 use Rattle.vll_proc.specs.declared.call.Call.{Call}

@@ -17,7 +17,7 @@ use Rattle.vll_counters.specs.declared.views.PassView.{PassView}
 use Rattle.vll_counters.specs.declared.views.SessionView.{SessionView}
 use Rattle.vll_counters.specs.declared.views.QueueView.{QueueView}
 use Rattle.vll_counters.specs.declared.views.View.{View}
-use Rattle.vll_counters.specs.declared.views.View.TheVariants.{Queue, Pass, Session, Spent}
+use Rattle.vll_counters.specs.declared.views.View.TheVariants.{Queue, Pass}
 use Rattle.vll_counters.specs.Views.{calls_in}
 use Rattle.vll_counters.specs.Rule.{widest, pass_of, Shows, HasSeen}
 use Rattle.vll_counters.specs.Steps.{on_queue, on_pass, opened, requested, loaded, stored, released, ended, records_before_pass, reply_of_pass}

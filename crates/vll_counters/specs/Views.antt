@@ -6,7 +6,7 @@ use Rattle.vll_core.specs.declared.line.Line.{Line}
 use Rattle.vll_counters.specs.declared.views.PassView.{PassView}
 use Rattle.vll_counters.specs.declared.views.SessionView.{SessionView}
 use Rattle.vll_counters.specs.declared.views.View.{View}
-use Rattle.vll_counters.specs.declared.views.View.TheVariants.{Queue, Pass, Session, Spent}
+use Rattle.vll_counters.specs.declared.views.View.TheVariants.{Queue, Pass, Session}
 
 -- the calls of a journal, each with its client
 abbrev pub calls_in : List Line → List Made

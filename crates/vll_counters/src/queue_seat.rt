@@ -109,9 +109,7 @@ impl Words {
         ensures pass { KnowsPass (queue_view queue.old) pass.pass }
     {
         let PassSeat { seat } = pass;
-        self.table
-            .shared
-            .join_seat::<Comes>(&mut queue.seat, seat);
+        self.table.shared.join_seat::<Comes>(&mut queue.seat, seat);
         self.table.shared.load::<Ends<T>>(&mut queue.seat, 0);
     }
 }

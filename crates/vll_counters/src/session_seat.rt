@@ -80,9 +80,7 @@ impl Words {
     {
         let _ = call;
         let SessionSeat { seat } = session;
-        self.table
-            .shared
-            .join_seat::<Comes>(&mut queue.seat, seat);
+        self.table.shared.join_seat::<Comes>(&mut queue.seat, seat);
         self.table.shared.load::<Opens<T>>(&mut queue.seat, 0);
     }
 

@@ -108,7 +108,11 @@ impl Words {
     }
 
     // The words and the queue's seat.
-    fn laid(alloc: Global, records: &[u64], library: &Library) -> Result<(Words, QueueSeat), AllocError>
+    fn laid(
+        alloc: Global,
+        records: &[u64],
+        library: &Library,
+    ) -> Result<(Words, QueueSeat), AllocError>
         requires records { library.now.records ≡ length records.now }
         ensures words { IfOk result (λ o. o.0.base ≡ record { procs = library.now.procs; records = records.now }) }
         ensures queue { IfOk result (λ o. o.1 ≡ shown_queue o.0.table (first_queue 0)) }

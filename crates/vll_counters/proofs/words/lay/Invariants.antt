@@ -1,4 +1,4 @@
-use Rattle.std.proofs.Common.{◌≡◌, ◌≤◌, ◌+◌, ◌*◌, ◌∷◌, length, take, vec_capacity, vec_len}
+use Rattle.std.proofs.Common.{◌≡◌, ◌+◌, ◌*◌, ◌∷◌, take, vec_capacity, vec_len}
 use Rattle.vll_core.proofs.FirstWords.{laid}
 use Rattle.vll_counters.proofs.words.lay.Given as goal
 

@@ -1,4 +1,4 @@
-use Rattle.std.proofs.Common.{ap, sym, ◌∙◌, arith, refl}
+use Rattle.std.proofs.Common.{ap, sym, ◌∙◌, arith}
 use Rattle.vll_counters.specs.Shown.{WordsShown, QueueShown, SessionShown, queue_view}
 use Rattle.vll_counters.proofs.Seats.{queue_me, session_me, joined_session, comes_session_at, opens_at, may_open, library_is, told_session}
 use Rattle.vll_counters.proofs.words.Words.join_session_told.Goals as goal

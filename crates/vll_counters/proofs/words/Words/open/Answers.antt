@@ -1,4 +1,4 @@
-use Rattle.std.proofs.Common.{◌≡◌, ℕ, suc, ◌+◌, ◌≤◌, ap, sym, ◌∙◌, arith, subst, add-one, vec_len, vec_capacity}
+use Rattle.std.proofs.Common.{◌≡◌, ℕ, suc, ◌+◌, ◌≤◌, ap, sym, ◌∙◌, arith, subst, add-one}
 use Rattle.vll_counters.specs.Shown.{QueueShown, shown_queue}
 use Rattle.vll_counters.specs.Steps.{first_queue, new_session}
 use Rattle.vll_counters.proofs.Seats.{sessions_more, sessions_none, sessions_all}

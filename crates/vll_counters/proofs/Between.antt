@@ -1,5 +1,5 @@
 -- The laws of the rule.
-use Rattle.std.proofs.Common.{◌≡◌, ℕ, sym, ap, ◌∙◌, refl, Some}
+use Rattle.std.proofs.Common.{sym, ap, ◌∙◌, refl, Some}
 use Rattle.std.specs.Option.{option_map}
 use Rattle.vll_core.specs.State.{Entered, entered}
 use Rattle.vll_core.proofs.Reached.{clear_reached}
