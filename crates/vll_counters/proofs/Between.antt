@@ -1,0 +1,30 @@
+-- The laws of the rule.
+use Rattle.std.proofs.Common.{sym, ap, ◌∙◌, refl, Some}
+use Rattle.std.specs.Option.{option_map}
+use Rattle.vll_core.specs.State.{Entered, entered}
+use Rattle.vll_core.proofs.Reached.{clear_reached}
+use Rattle.vll_core.specs.Machine.{if_running}
+use Rattle.std.proofs.Common.{Option, Bool, None, if◌then◌else◌}
+use Rattle.vll_counters.specs.Rule.{widest, pass_for}
+use Rattle.vll_counters.specs.Laws.{TicketsAreClear, RunningTicketsHaveAPass, PassesAreOfRunningTickets, TicketsHaveOnePass, ClientsHaveOneSession}
+use Rattle.vll_counters.proofs.States.{pass_is}
+
+pub clear : TicketsAreClear
+clear base m rule t e at busy = clear_reached (widest base) rule.state t e rule.shows.reached at busy
+
+pub has_pass : RunningTicketsHaveAPass
+has_pass base m rule t e at runs =
+    let s = rule.state in
+    let p = pass_for base (entered s) t e in
+    let there = rule.passes.all t p
+    (ap (λ (x : Option Entered). option_map (pass_for base (entered s) t) (if_running x)) at ∙ ap (λ (b : Bool). option_map (pass_for base (entered s) t) (if b then Some e else None)) runs) in
+    (rule.pass_seat t, there.0, p, there.1, there.2, refl)
+
+pub of_running : PassesAreOfRunningTickets
+of_running base m rule seat v p at has = let o = pass_is base rule.state p.ticket p (rule.passes.each seat v p at has).1 in (o.entry, o.at, o.runs)
+
+pub one_pass : TicketsHaveOnePass
+one_pass base m rule i j v w p q at has there own same = sym (rule.passes.each i v p at has).0 ∙ ap rule.pass_seat same ∙ (rule.passes.each j w q there own).0
+
+pub one_session : ClientsHaveOneSession
+one_session base m rule i j v w g h at has there own same = sym (rule.sessions i v g at has).there ∙ ap rule.session_seat same ∙ (rule.sessions j w h there own).there

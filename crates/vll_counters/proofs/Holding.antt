@@ -1,0 +1,54 @@
+-- The rule at a known view of the queue's seat, and how words stay as they were.
+use Rattle.std.proofs.Common.{◌≡◌, ℕ, List, sym, ◌∙◌, subst, slice_index, slice_set}
+use Rattle.std.proofs.lemmas.List.{set-get_or}
+use mathlib.Core.Option.{some, some-injective}
+use lib.ListN.{get_elem?}
+use Rattle.atomic_table.specs.Table as table
+use Rattle.vll_core.specs.State.{Base, State}
+use Rattle.vll_core.specs.Shown.{AreWords}
+use Rattle.vll_counters.specs.declared.views.PassView.{PassView}
+use Rattle.vll_counters.specs.declared.views.QueueView.{QueueView}
+use Rattle.vll_counters.specs.declared.views.View.{View}
+use Rattle.vll_counters.specs.declared.views.View.TheVariants.{Queue, Pass}
+use Rattle.vll_counters.specs.Views.{calls_in}
+use Rattle.vll_counters.specs.Rule.{Shows, IsHosted, ArePasses, AreSessions, pass_of, Rule}
+
+-- what the rule says where the queue's seat has this view
+pub record Holds (base : Base) (q : QueueView) (ws : List ℕ) (views : List View) : Type 0 where
+  pub state : State
+  pub pass_seat : ℕ → ℕ
+  pub session_seat : ℕ → ℕ
+  pub shows : Shows base q state
+  pub words : AreWords base state ws
+  pub hosted : IsHosted q.turn q.session
+  pub passes : ArePasses (pass_of base state) pass_seat views
+  pub sessions : AreSessions (calls_in q.lines) q.statuses q.clients session_seat views
+
+pub same_queue : (p q : QueueView) → some (Queue p) ≡ some (Queue q) → p ≡ q
+same_queue p q e = let h : Queue p ≡ Queue q = some-injective _ _ e in cc h
+
+pub not_pass : {P : Type 0} (q : QueueView) (p : PassView) → some (Queue q) ≡ some (Pass p) → P
+not_pass q p e = let h : Queue q ≡ Pass p = some-injective _ _ e in absurd (cc h)
+
+module _ {S : Type 0} where
+  pub held : (base : Base) (t : table.State S View) (q : QueueView) → Rule base t → get_elem? t.views 0 ≡ some (Queue q) → Holds base q t.words t.views
+  held base t q k at = subst (λ (x : QueueView). Holds base x t.words t.views) (same_queue k.queue q (sym k.at_queue ∙ at))
+      (record { state = k.state; pass_seat = k.pass_seat; session_seat = k.session_seat; shows = k.shows; words = k.words; hosted = k.hosted; passes = k.passes; sessions = k.sessions })
+
+  pub kept : (base : Base) (t : table.State S View) (q : QueueView) → Holds base q t.words t.views → get_elem? t.views 0 ≡ some (Queue q) → Rule base t
+  kept base t q h at = record {
+    state = h.state;
+    queue = q;
+    pass_seat = h.pass_seat;
+    session_seat = h.session_seat;
+    at_queue = at;
+    shows = h.shows;
+    words = h.words;
+    hosted = h.hosted;
+    passes = h.passes;
+    sessions = h.sessions;
+  }
+
+-- a word that is written back
+pub same_words : (words : List ℕ) (i : ℕ) → slice_set words i (slice_index words i) ≡ words
+same_words words i = set-get_or words i 0

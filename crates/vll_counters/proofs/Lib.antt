@@ -1,0 +1,16 @@
+pub mod Places
+pub mod Passes
+pub mod Sessions
+pub mod Moves
+pub mod States
+pub mod Fresh
+pub mod Holding
+pub mod Turns
+pub mod PassSteps
+pub mod QueueSteps
+pub mod Entry
+pub mod Giving
+pub mod Coming
+pub mod Bounds
+pub mod Seats
+pub mod Between

@@ -1,0 +1,142 @@
+-- The steps of the queue's seat that leave passes and sessions where they are: a turn opens, and requests its claims.
+use Rattle.std.proofs.Common.{◌≡◌, ℕ, ◌+◌, ◌<◌, ◌≤◌, ◌%◌, ◌&&◌, Bool, List, [], length, refl, sym, ap, ◌∙◌, subst, arith, Option, Some, None, slice_get, slice_index, slice_set}
+use Rattle.std.specs.Option.{option_map}
+use Rattle.std.proofs.lemmas.List.Sums.{count_by-le-length}
+use mathlib.Core.Option.{some}
+use lib.ListN.{get_elem?}
+use Rattle.atomic_table.specs.Table as table
+use Rattle.atomic_table.specs.Table.{Me, Step, step, keeps, stepped, Allows}
+use Rattle.atomic_table.proofs.Lists.{set_here}
+use Rattle.vll_record.specs.declared.claim.Claim.{Claim}
+use Rattle.vll_record.specs.Counter.{delta_of}
+use Rattle.vll_record.specs.Word.{pair_word_of_record}
+use Rattle.vll_proc.specs.declared.call.Call.{Call}
+use Rattle.vll_core.specs.declared.line.Line.{Line}
+use Rattle.vll_core.specs.State.{Base, State, counter}
+use Rattle.vll_core.specs.Machine.{waiting}
+use Rattle.vll_core.specs.Moves.{IsProper, IsReached, hand, moved}
+use Rattle.vll_core.specs.Shown.{AreWords}
+use Rattle.vll_core.proofs.Claiming.{after_request, request_reached, words_asked, counter_asked, counter_fits}
+use Rattle.vll_core.proofs.CoreWords.{words_stay}
+use Rattle.vll_counters.specs.declared.views.TurnView.{TurnView}
+use Rattle.vll_counters.specs.declared.views.SessionView.{SessionView}
+use Rattle.vll_counters.specs.declared.views.QueueView.{QueueView}
+use Rattle.vll_counters.specs.declared.views.View.{View}
+use Rattle.vll_counters.specs.declared.views.View.TheVariants.{Queue}
+use Rattle.vll_counters.specs.Views.{calls_in}
+use Rattle.vll_counters.specs.Rule.{widest, turn_view, Rule, pass_of}
+use Rattle.vll_counters.specs.Steps.{asked, requested, turn_of, opened}
+use Rattle.vll_counters.specs.Told.{KnowsSession, RequestTells, OpenTells}
+use Rattle.vll_counters.proofs.Places.{at_below}
+use Rattle.vll_counters.proofs.Passes.{passes_reviewed}
+use Rattle.vll_counters.proofs.Sessions.{sessions_reviewed}
+use Rattle.vll_counters.proofs.Moves.{opened_turn, hand_made}
+use Rattle.vll_counters.proofs.Holding.{Holds, held, kept, same_words}
+use Rattle.vll_counters.proofs.Turns.{seen_turn, turn_is, turn_closed, hosted_asked, granted_by, as_many, replied}
+
+-- a sum that fits is not cut
+uncut : (x d y : ℕ) → y ≡ x + d → y < 18446744073709551616 → (x + d) % 18446744073709551616 ≡ y
+uncut x d y e small = omega arith
+
+-- a turn may open: its call is proper, and there is room for one more
+abbrev pub MayOpen : Base → List Line → Option Call → Type 0
+MayOpen base lines call = (c : Call) → call ≡ Some c → IsProper base c × (length lines < 65536)
+
+module _ {S : Type 0} (base : Base) where
+  pub requests : (slots : ℕ) (q : QueueView) (turn : TurnView) (c : Claim) → q.turn ≡ Some turn → slice_get turn.call.claims turn.requested ≡ Some c → c.id < length base.records
+      → Allows (Rule {S = S} base) slots 0 (Queue q, []) (pair_word_of_record c.id) (λ n. (n + delta_of c.mode) % 18446744073709551616) (RequestTells base c (step 0 0 0 0 mathlib.Core.Option.none) (Queue q, []))
+  requests slots q turn c turn_open next room t k _ at small =
+      let h = held base t q k at in
+      let s = h.state in
+      let i : ℕ = pair_word_of_record c.id in
+      let x : ℕ = slice_index t.words i in
+      let found = turn_is s.turn turn (sym h.shows.turn ∙ turn_open) in
+      let u = found.0 in
+      let left : slice_get u.call.claims u.requested ≡ Some c = ap (λ (z : TurnView). slice_get z.call.claims z.requested) found.2 ∙ next in
+      let after = after_request s u c in
+      let reached = request_reached (widest base) s u c h.shows.reached found.1 left in
+      let counted : x ≡ counter s c.id = h.words.pairs c.id room in
+      let more : counter after c.id ≡ x + delta_of c.mode = counter_asked s u c found.1 left ∙ ap (λ (n : ℕ). n + delta_of c.mode) (sym counted) in
+      let fits = counter_fits (widest base) after c.id reached (omega arith) in
+      let word : (x + delta_of c.mode) % 18446744073709551616 ≡ counter s c.id + delta_of c.mode = uncut x (delta_of c.mode) (counter after c.id) more fits ∙ counter_asked s u c found.1 left in
+      let new = requested c x q in
+      let turn_now : new.turn ≡ turn_view after.turn =
+      ap (λ (z : Option TurnView). option_map (asked c x) z) turn_open ∙ ap (λ (z : TurnView). Some (asked c x z)) (sym found.2)
+      ∙ ap (λ (b : Bool). let z : TurnView = record (seen_turn u) { requested = u.requested + 1; granted = u.granted && b } in Some z) (granted_by base s c x h.shows.reached counted) in
+      let here = set_here t.views 0 (Queue new) (at_below t.views 0 (Queue q) at) in (
+        Queue new,
+        keeps,
+        tt,
+        kept base _ new
+            (record {
+              state = after;
+              pass_seat = h.pass_seat;
+              session_seat = h.session_seat;
+              shows = record { reached = reached; lines = h.shows.lines; statuses = h.shows.statuses; turn = turn_now };
+              words = subst (λ (v : ℕ). AreWords base after (slice_set t.words i v)) (sym word) (words_asked (widest base) s u c t.words h.shows.reached found.1 left room h.words);
+              hosted = hosted_asked q.turn q.session c x h.hosted;
+              passes = passes_reviewed (pass_of base s) (pass_of base s) h.pass_seat t.views 0 (Queue q) (Queue new) at refl h.passes;
+              sessions = sessions_reviewed (calls_in q.lines) q.statuses q.clients h.session_seat t.views 0 (Queue q) (Queue new) at refl h.sessions;
+            })
+            here,
+        (refl, record { state = s; shows = h.shows; counts = counted }),
+      )
+
+  -- what the queue's seat is told of a session that has come
+  knows : (t : table.State S View) (q : QueueView) → Holds base q t.words t.views → get_elem? t.views 0 ≡ some (Queue q) → (g : SessionView) → q.session ≡ Some g → KnowsSession base q g
+  knows t q h at g has = let o = h.sessions 0 (Queue q) g at has in record { client = o.client; has_seen = o.has_seen; replied = replied base q h.state h.shows }
+
+  pub opens : (slots : ℕ) (q : QueueView) (call : Option Call) → q.turn ≡ None → MayOpen base q.lines call
+      → Allows (Rule {S = S} base) slots 0 (Queue q, []) 0 (λ n. n) (OpenTells base call (step 0 0 0 0 mathlib.Core.Option.none) (Queue q, []))
+  opens slots q call closed may t k _ at small =
+      let h = held base t q k at in (
+        Queue (opened call q),
+        keeps,
+        tt,
+        kept base _ (opened call q) (by_call call q.session refl h may) (set_here t.views 0 (Queue (opened call q)) (at_below t.views 0 (Queue q) at)),
+        (refl, knows t q h at),
+      )
+    where
+      -- the queue with this turn
+      with_turn : Option TurnView → QueueView
+      with_turn x = record q { turn = x }
+
+      written : List ℕ
+      written = slice_set t.words 0 (slice_index t.words 0)
+
+      stays : Holds base q t.words t.views → Holds base (with_turn None) written (slice_set t.views 0 (Queue (with_turn None)))
+      stays h = record {
+        state = h.state;
+        pass_seat = h.pass_seat;
+        session_seat = h.session_seat;
+        shows = record { reached = h.shows.reached; lines = h.shows.lines; statuses = h.shows.statuses; turn = sym closed ∙ h.shows.turn };
+        words = subst (AreWords base h.state) (sym (same_words t.words 0)) h.words;
+        hosted = tt;
+        passes = passes_reviewed (pass_of base h.state) (pass_of base h.state) h.pass_seat t.views 0 (Queue q) (Queue (with_turn None)) at refl h.passes;
+        sessions = sessions_reviewed (calls_in q.lines) q.statuses q.clients h.session_seat t.views 0 (Queue q) (Queue (with_turn None)) at refl h.sessions;
+      }
+
+      enters : (c : Call) (g : SessionView) → q.session ≡ Some g → IsProper base c → length q.lines < 65536 → Holds base q t.words t.views
+          → Holds base (with_turn (Some (seen_turn (opened_turn g.client c)))) written (slice_set t.views 0 (Queue (with_turn (Some (seen_turn (opened_turn g.client c))))))
+      enters c g has proper room h =
+          let s = h.state in
+          let many = as_many base q s h.shows in
+          let few : waiting s ≤ length s.entries = count_by-le-length _ s.entries in
+          let is_made = hand_made (widest base) s g.client c (turn_closed s.turn (sym h.shows.turn ∙ closed)) (omega (arith, many, room)) (omega (arith, few, many, room)) in
+          let next : State = record s { turn = Some (opened_turn g.client c) } in
+          let reached : IsReached (widest base) next = moved s (hand g.client c) _ next h.shows.reached proper is_made in
+          record {
+            state = next;
+            pass_seat = h.pass_seat;
+            session_seat = h.session_seat;
+            shows = record { reached = reached; lines = h.shows.lines; statuses = h.shows.statuses; turn = refl };
+            words = subst (AreWords base next) (sym (same_words t.words 0)) (words_stay (widest base) s next (hand g.client c) _ t.words h.shows.reached is_made refl refl refl h.words);
+            hosted = (g, has, refl);
+            passes = passes_reviewed (pass_of base s) (pass_of base s) h.pass_seat t.views 0 (Queue q) (Queue (with_turn (Some (seen_turn (opened_turn g.client c))))) at refl h.passes;
+            sessions = sessions_reviewed (calls_in q.lines) q.statuses q.clients h.session_seat t.views 0 (Queue q) (Queue (with_turn (Some (seen_turn (opened_turn g.client c))))) at refl h.sessions;
+          }
+
+      by_call : (x : Option Call) (y : Option SessionView) → q.session ≡ y → Holds base q t.words t.views → MayOpen base q.lines x → Holds base (with_turn (turn_of x y)) written (slice_set t.views 0 (Queue (with_turn (turn_of x y))))
+      by_call None y is h may = stays h
+      by_call (Some c) None is h may = stays h
+      by_call (Some c) (Some g) is h may = let m = may c refl in enters c g is m.0 m.1 h

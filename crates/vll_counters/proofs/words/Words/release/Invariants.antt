@@ -1,0 +1,6 @@
+use Rattle.std.proofs.Common.{None}
+use Rattle.vll_record.specs.Canon.{no_claim}
+use Rattle.vll_counters.proofs.words.Words.release.Given as goal
+
+abbrev pub ghosts-release_told : goal.ghosts-release_told
+ghosts-release_told a = record { base = a.self.now.base; call = None; claim = no_claim; number = a.claim.id; given = None }

@@ -1,0 +1,48 @@
+-- What the rule says of tickets, passes and sessions, wherever it holds.
+use Rattle.std.specs.Prelude.{◌≡◌, ℕ, true, false, Some, slice_get}
+use mathlib.Core.Option as opt
+use lib.ListN.{get_elem?}
+use Rattle.atomic_table.specs.Table as table
+use Rattle.vll_sca.specs.Status.{is_waiting, is_running}
+use Rattle.vll_core.specs.State.{Base, Entered, is_clear}
+use Rattle.vll_counters.specs.declared.views.PassView.{PassView}
+use Rattle.vll_counters.specs.declared.views.SessionView.{SessionView}
+use Rattle.vll_counters.specs.declared.views.View.{View}
+use Rattle.vll_counters.specs.Views.{pass_in, session_in}
+use Rattle.vll_counters.specs.Rule.{Rule}
+
+-- the words and the views at some moment
+abbrev pub Moment : Type 0
+Moment = table.State (Unit {0}) View
+
+-- each ticket that is running or gone is clear
+abbrev pub TicketsAreClear : Type 0
+TicketsAreClear =
+    (base : Base) (m : Moment) (rule : Rule base m) (t : ℕ) (e : Entered)
+    → slice_get rule.state.entries t ≡ Some e → is_waiting e.status ≡ false → is_clear rule.state t e.call.claims ≡ true
+
+-- each running ticket has a pass, at some seat
+abbrev pub RunningTicketsHaveAPass : Type 0
+RunningTicketsHaveAPass =
+    (base : Base) (m : Moment) (rule : Rule base m) (t : ℕ) (e : Entered)
+    → slice_get rule.state.entries t ≡ Some e → is_running e.status ≡ true
+    → (seat : ℕ) × (v : View) × (p : PassView) × (get_elem? m.views seat ≡ opt.some v) × (pass_in v ≡ Some p) × (p.ticket ≡ t)
+
+-- each pass is that of a running ticket
+abbrev pub PassesAreOfRunningTickets : Type 0
+PassesAreOfRunningTickets =
+    (base : Base) (m : Moment) (rule : Rule base m) (seat : ℕ) (v : View) (p : PassView)
+    → get_elem? m.views seat ≡ opt.some v → pass_in v ≡ Some p
+    → (e : Entered) × (slice_get rule.state.entries p.ticket ≡ Some e) × (is_running e.status ≡ true)
+
+-- no two seats have passes of one ticket
+abbrev pub TicketsHaveOnePass : Type 0
+TicketsHaveOnePass =
+    (base : Base) (m : Moment) (rule : Rule base m) (i j : ℕ) (v w : View) (p q : PassView)
+    → get_elem? m.views i ≡ opt.some v → pass_in v ≡ Some p → get_elem? m.views j ≡ opt.some w → pass_in w ≡ Some q → p.ticket ≡ q.ticket → i ≡ j
+
+-- no two seats have sessions of one client
+abbrev pub ClientsHaveOneSession : Type 0
+ClientsHaveOneSession =
+    (base : Base) (m : Moment) (rule : Rule base m) (i j : ℕ) (v w : View) (g h : SessionView)
+    → get_elem? m.views i ≡ opt.some v → session_in v ≡ Some g → get_elem? m.views j ≡ opt.some w → session_in w ≡ Some h → g.client ≡ h.client → i ≡ j

@@ -1,0 +1,7 @@
+pub mod Views
+pub mod Rule
+pub mod Steps
+pub mod Told
+pub mod Shown
+pub mod Kept
+pub mod Laws

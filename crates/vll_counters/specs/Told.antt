@@ -1,0 +1,144 @@
+-- What each step tells its caller, beside its new view.
+use Rattle.std.specs.Prelude.{◌≡◌, ℕ, suc, ◌+◌, ◌*◌, ◌<◌, ◌≤◌, ◌&&◌, ◌||◌, ◌==◌, Bool, true, false, List, length, take, Option, Some, None, slice_get, slice_index}
+use Rattle.atomic_table.specs.Table.{Me, Step}
+use Rattle.vll_record.specs.declared.claim.Claim.{Claim}
+use Rattle.vll_record.specs.Claim.{conflict}
+use Rattle.vll_record.specs.Word.{value_word_of, pair_word_of_record}
+use Rattle.vll_proc.specs.declared.call.Call.{Call}
+use Rattle.vll_sca.specs.declared.status.Status.{Status}
+use Rattle.vll_sca.specs.declared.status.Status.TheVariants.{Running, Waiting, Gone}
+use Rattle.vll_sca.specs.Status.{is_gone}
+use Rattle.vll_core.specs.State.{Base, State, counter, value, writes, is_aborted}
+use Rattle.vll_core.specs.Moves.{IsReached}
+use Rattle.vll_core.specs.declared.line.Line.{Line}
+use Rattle.vll_proc.specs.Serial.{answer, end}
+use Rattle.vll_counters.specs.declared.views.TurnView.{TurnView}
+use Rattle.vll_counters.specs.declared.views.PassView.{PassView}
+use Rattle.vll_counters.specs.declared.views.SessionView.{SessionView}
+use Rattle.vll_counters.specs.declared.views.QueueView.{QueueView}
+use Rattle.vll_counters.specs.declared.views.View.{View}
+use Rattle.vll_counters.specs.declared.views.View.TheVariants.{Queue, Pass}
+use Rattle.vll_counters.specs.Views.{calls_in}
+use Rattle.vll_counters.specs.Rule.{widest, pass_of, Shows, HasSeen}
+use Rattle.vll_counters.specs.Steps.{on_queue, on_pass, opened, requested, loaded, stored, released, ended, records_before_pass, reply_of_pass}
+
+-- a fact about the view of the queue's seat
+abbrev pub AtQueue : (QueueView → Type 0) → View → Type 0
+AtQueue P (Queue q) = P q
+AtQueue P v = Unit {0}
+
+-- a fact about the view of a pass
+abbrev pub AtPass : (PassView → Type 0) → View → Type 0
+AtPass P (Pass p) = P p
+AtPass P v = Unit {0}
+
+-- there is a state that the queue's seat knows, and in it this is the record's counter
+pub record IsCounterNow (base : Base) (q : QueueView) (r n : ℕ) : Type 0 where
+  pub state : State
+  pub shows : Shows base q state
+  pub counts : n ≡ counter state r
+
+-- there is a reached state in which this is the pass of its ticket
+pub record IsPassNow (base : Base) (p : PassView) (state : State) : Type 0 where
+  pub reached : IsReached (widest base) state
+  pub running : pass_of base state p.ticket ≡ Some p
+
+-- this is the record's present value, and the value before the pass's ticket, where the entered calls run one at a time
+pub record IsValueNow (base : Base) (p : PassView) (r n : ℕ) : Type 0 where
+  pub state : State
+  pub now : IsPassNow base p state
+  pub present : n ≡ value base state r
+  pub serial : n ≡ slice_index (records_before_pass base p) r
+
+-- this is the record's counter while the pass is that of its ticket
+pub record IsCountedNow (base : Base) (p : PassView) (r n : ℕ) : Type 0 where
+  pub state : State
+  pub now : IsPassNow base p state
+  pub counts : n ≡ counter state r
+
+-- each line of a call that is gone has its serial reply
+abbrev pub AreReplied : Base → QueueView → Type 0
+AreReplied base q =
+    (t : ℕ) (l : Line) → slice_get q.lines t ≡ Some l → slice_get q.statuses t ≡ Some Gone → l.reply ≡ answer base.procs (calls_in q.lines) base.records t
+
+-- what the queue's seat is told of the session that has come, and of its own lines
+pub record KnowsSession (base : Base) (q : QueueView) (g : SessionView) : Type 0 where
+  pub client : g.client < q.clients
+  pub has_seen : HasSeen (calls_in q.lines) q.statuses g
+  pub replied : AreReplied base q
+
+-- what the queue's seat is told of the pass that has come: its ticket runs, and it has seen the calls up to its own
+pub record KnowsPass (q : QueueView) (p : PassView) : Type 0 where
+  pub line : Line
+  pub at : slice_get q.lines p.ticket ≡ Some line
+  pub call : line.call ≡ p.call
+  pub runs : slice_get q.statuses p.ticket ≡ Some Running
+  pub seen : p.seen ≡ take (suc p.ticket) (calls_in q.lines)
+
+-- all loads and stores of the pass's call are made; an aborted call has no stores
+abbrev pub has_stored_pass : Base → PassView → Bool
+has_stored_pass base p = (p.loads == length p.call.claims) && (is_aborted (reply_of_pass base p) || (p.stores == length (writes p.call)))
+
+-- no lower ticket that is not gone has a claim that conflicts with one of these
+abbrev pub IsFirst : List Line → List Status → ℕ → List Claim → Type 0
+IsFirst lines statuses t claims =
+    (u : ℕ) (l : Line) (status : Status) → u < t → slice_get lines u ≡ Some l → slice_get statuses u ≡ Some status → is_gone status ≡ false → conflict l.call.claims claims ≡ false
+
+-- a ticket waits, and nothing before it holds it back
+pub record MayStart (lines : List Line) (statuses : List Status) (t : ℕ) : Type 0 where
+  pub line : Line
+  pub at : slice_get lines t ≡ Some line
+  pub waits : slice_get statuses t ≡ Some Waiting
+  pub first : IsFirst lines statuses t line.call.claims
+
+-- the turn's call enters next and is free: all its claims are requested, and all were granted
+pub record EntersFree (turn : TurnView) (lines : List Line) (t : ℕ) : Type 0 where
+  pub next : t ≡ length lines
+  pub asked : length turn.call.claims ≤ turn.requested
+  pub granted : turn.granted ≡ true
+
+-- a ticket may begin to run: it is that of the open turn, or where no turn is open one that waits
+abbrev pub MayRun : List Line → List Status → Option TurnView → ℕ → Type 0
+MayRun lines statuses None t = MayStart lines statuses t
+MayRun lines statuses (Some turn) t = EntersFree turn lines t
+
+-- the turn's call enters and is blocked: all its claims are requested, and not all were granted
+pub record EntersBlocked (turn : TurnView) : Type 0 where
+  pub asked : length turn.call.claims ≤ turn.requested
+  pub denied : turn.granted ≡ false
+
+-- a session may leave: if its turn is open, the turn's call is blocked
+abbrev pub MayLeave : Option TurnView → Type 0
+MayLeave None = Unit {0}
+MayLeave (Some turn) = EntersBlocked turn
+
+-- the ticket whose reply is handed out, if there is one, is gone
+abbrev pub IsGivenOut : List Status → Option ℕ → Type 0
+IsGivenOut statuses given = (t : ℕ) → given ≡ Some t → slice_get statuses t ≡ Some Gone
+
+-- the words once every call is gone: each record is what the entered calls make of it one at a time, no claim is open, and each line has its serial reply
+pub record IsAtEnd (base : Base) (lines : List Line) (words : List ℕ) : Type 0 where
+  pub long : length words ≡ 1 + 2 * length base.records
+  pub turn : slice_index words 0 ≡ 0
+  pub values : (r : ℕ) → r < length base.records → slice_index words (value_word_of r) ≡ slice_index (end base.procs (calls_in lines) base.records) r
+  pub pairs : (r : ℕ) → r < length base.records → slice_index words (pair_word_of_record r) ≡ 0
+  pub replied : (t : ℕ) (l : Line) → slice_get lines t ≡ Some l → l.reply ≡ answer base.procs (calls_in lines) base.records t
+
+module _ {S : Type 0} where
+  abbrev pub RequestTells : Base → Claim → Step S → Me S View → ℕ → Me S View → Type 0
+  RequestTells base c st v n w = (w ≡ (on_queue (requested c n) v.0, v.1)) × AtQueue (λ q. IsCounterNow base q c.id n) v.0
+
+  abbrev pub OpenTells : Base → Option Call → Step S → Me S View → ℕ → Me S View → Type 0
+  OpenTells base call st v n w = (w ≡ (on_queue (opened call) v.0, v.1)) × AtQueue (λ q. (g : SessionView) → q.session ≡ Some g → KnowsSession base q g) v.0
+
+  abbrev pub LoadTells : Base → ℕ → Step S → Me S View → ℕ → Me S View → Type 0
+  LoadTells base r st v n w = (w ≡ (on_pass (loaded n) v.0, v.1)) × AtPass (λ p. IsValueNow base p r n) v.0
+
+  abbrev pub StoreTells : Step S → Me S View → ℕ → Me S View → Type 0
+  StoreTells st v n w = w ≡ (on_pass stored v.0, v.1)
+
+  abbrev pub ReleaseTells : Base → ℕ → Step S → Me S View → ℕ → Me S View → Type 0
+  ReleaseTells base r st v n w = (w ≡ (on_pass released v.0, v.1)) × AtPass (λ p. IsCountedNow base p r n) v.0
+
+  abbrev pub EndTells : Base → Step S → Me S View → ℕ → Me S View → Type 0
+  EndTells base st v n w = (w ≡ (on_queue (ended base) v.0, v.1)) × AtQueue (λ q. (p : PassView) → q.pass ≡ Some p → KnowsPass q p) v.0

@@ -1,0 +1,21 @@
+// Laws of the rule, each the contract of a function that does nothing. They hold between any two atomic steps, since
+// the rule does.
+ghost use Rattle.vll_counters.specs.Laws.{TicketsAreClear, RunningTicketsHaveAPass, PassesAreOfRunningTickets, TicketsHaveOnePass, ClientsHaveOneSession};
+
+/// A ticket that is running or gone is clear: no claim that a lower ticket has requested and not released conflicts
+/// with a claim of its own.
+pub fn tickets_are_clear()
+    ensures { TicketsAreClear }
+{}
+
+/// Each running ticket has exactly one pass, and every other ticket has none.
+pub fn tickets_have_one_pass()
+    ensures running { RunningTicketsHaveAPass }
+    ensures other { PassesAreOfRunningTickets }
+    ensures one { TicketsHaveOnePass }
+{}
+
+/// Each client has at most one session, at its own seat or at the queue's.
+pub fn clients_have_one_session()
+    ensures { ClientsHaveOneSession }
+{}

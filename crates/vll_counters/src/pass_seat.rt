@@ -1,0 +1,102 @@
+// The steps of a pass's seat, under no lock: loads, stores and releases.
+ghost use Rattle.std.specs.Prelude.{◌≡◌, ◌<◌, true, false, length, Some, slice_get, slice_index};
+ghost use Rattle.vll_proc.specs.Serial.{apply};
+ghost use Rattle.vll_core.specs.State.{writes, is_aborted};
+ghost use Rattle.vll_counters.specs.Shown.{passed, record_of};
+ghost use Rattle.vll_counters.specs.Steps.{loaded, stored, released, records_before_pass, reply_of_pass};
+ghost use Rattle.vll_counters.specs.Told.{IsValueNow, IsCountedNow, has_stored_pass};
+
+use crate::steps::{Loads, Releases, Stores, Told};
+use crate::views::View;
+use crate::words::Words;
+use atomic_table::Seat;
+use std::marker::{Brand, Model};
+use vll_record::{Claim, RecordId, delta, pair_word, value_word};
+
+/// The seat of one running call, which makes its steps under no lock. It must be spent by `Words::join_pass`. Contracts
+/// see its ticket and call, the entered calls up to its own, the numbers of its steps, and the values that it loaded.
+pub struct PassSeat {
+    pub(crate) seat: Seat<(), View>,
+}
+
+impl Model for PassSeat {
+    ghost use Rattle.std.specs.Prelude.{◌≡◌, []};
+    ghost use Rattle.vll_counters.specs.Shown.{PassShown, pass_of_view};
+    ghost use Rattle.vll_counters.specs.declared.views.View.TheVariants.{Pass};
+
+    ghost Value = { PassShown };
+
+    ghost view = { λ s. record { table = s.seat.table_id; pass = pass_of_view s.seat.me.0 } };
+
+    ghost invariant = { λ s. s.seat.me ≡ (Pass (pass_of_view s.seat.me.0), []) };
+}
+
+impl Words {
+    /// The pass loads the record of its next claim, by one load of its value word. The value is the record's present
+    /// one, and what the record is before the pass's ticket if the entered calls run one at a time.
+    pub fn load(&self, pass: &mut PassSeat, id: RecordId) -> u64
+        requires same { pass.old.table ≡ self.now.table }
+        requires next { record_of (slice_get pass.old.pass.call.claims pass.old.pass.loads) ≡ Some id }
+        requires there { id < length self.now.base.records }
+        ensures pass { pass.new ≡ passed pass.old (loaded result pass.old.pass) }
+        ensures value { IsValueNow self.now.base pass.old.pass id result }
+    {
+        self.load_told::<Brand>(pass, id)
+    }
+
+    fn load_told<T: Told>(&self, pass: &mut PassSeat, id: RecordId) -> u64
+        requires told { (T.base ≡ self.now.base) × (T.number ≡ id) }
+        requires same { pass.old.table ≡ self.now.table }
+        requires next { record_of (slice_get pass.old.pass.call.claims pass.old.pass.loads) ≡ Some id }
+        requires there { id < length self.now.base.records }
+        ensures pass { pass.new ≡ passed pass.old (loaded result pass.old.pass) }
+        ensures value { IsValueNow self.now.base pass.old.pass id result }
+    {
+        self.table
+            .shared
+            .load::<Loads<T>>(&mut pass.seat, value_word(id))
+    }
+
+    /// The pass stores the record of its next Write claim, by one store to its value word, once all its loads are made.
+    /// Its call does not abort, and the value is what the call makes of the record as it is before the pass's ticket.
+    pub fn store(&self, pass: &mut PassSeat, id: RecordId, value: u64)
+        requires same { pass.old.table ≡ self.now.table }
+        requires next { record_of (slice_get (writes pass.old.pass.call) pass.old.pass.stores) ≡ Some id }
+        requires there { id < length self.now.base.records }
+        requires loaded { pass.old.pass.loads ≡ length pass.old.pass.call.claims }
+        requires commits { is_aborted (reply_of_pass self.now.base pass.old.pass) ≡ false }
+        requires value { value ≡ slice_index (apply self.now.base.procs pass.old.pass.call (records_before_pass self.now.base pass.old.pass)).records id }
+        ensures pass { pass.new ≡ passed pass.old (stored pass.old.pass) }
+    {
+        self.table
+            .shared
+            .store::<Stores>(&mut pass.seat, value_word(id), value);
+    }
+
+    /// The pass releases its next claim, by one fetch_sub on the record's pair word, once all its stores are made. It
+    /// returns the word before that, which is the record's counter at the moment of the step.
+    pub fn release(&self, pass: &mut PassSeat, claim: Claim) -> u64
+        requires same { pass.old.table ≡ self.now.table }
+        requires next { slice_get pass.old.pass.call.claims pass.old.pass.releases ≡ Some claim }
+        requires there { claim.id < length self.now.base.records }
+        requires stored { has_stored_pass self.now.base pass.old.pass ≡ true }
+        ensures pass { pass.new ≡ passed pass.old (released pass.old.pass) }
+        ensures counter { IsCountedNow self.now.base pass.old.pass claim.id result }
+    {
+        self.release_told::<Brand>(pass, claim)
+    }
+
+    fn release_told<T: Told>(&self, pass: &mut PassSeat, claim: Claim) -> u64
+        requires told { (T.base ≡ self.now.base) × (T.number ≡ claim.id) }
+        requires same { pass.old.table ≡ self.now.table }
+        requires next { slice_get pass.old.pass.call.claims pass.old.pass.releases ≡ Some claim }
+        requires there { claim.id < length self.now.base.records }
+        requires stored { has_stored_pass self.now.base pass.old.pass ≡ true }
+        ensures pass { pass.new ≡ passed pass.old (released pass.old.pass) }
+        ensures counter { IsCountedNow self.now.base pass.old.pass claim.id result }
+    {
+        self.table
+            .shared
+            .fetch_sub::<Releases<T>>(&mut pass.seat, pair_word(claim.id), delta(claim.mode))
+    }
+}

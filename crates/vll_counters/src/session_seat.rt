@@ -1,0 +1,122 @@
+// The steps that bring a session to the queue's seat and let it leave.
+ghost use Rattle.std.specs.Prelude.{◌≡◌, ◌<◌, suc, [], length, Some, None, IfSome, IsSome};
+ghost use Rattle.vll_check.specs.Calls.{Fits};
+ghost use Rattle.vll_counters.specs.Shown.{queue_view, after, library_of, without_session, left_session};
+ghost use Rattle.vll_counters.specs.Steps.{new_session, turn_of};
+ghost use Rattle.vll_counters.specs.Told.{KnowsSession, MayLeave, IsGivenOut};
+
+use crate::queue_seat::QueueSeat;
+use crate::steps::{Comes, GivesSession, MakesSession, Opens, Told};
+use crate::views::View;
+use crate::words::Words;
+use atomic_table::Seat;
+use std::marker::{Brand, Model};
+use vll_core::Ticket;
+use vll_proc::Call;
+
+/// A client's seat. Contracts see what its session knows: the entered calls that it has seen, the tickets whose reply
+/// it was given, and how many calls waited when it last left the lock.
+#[derive(Drop)]
+pub struct SessionSeat {
+    pub(crate) seat: Seat<(), View>,
+}
+
+impl Model for SessionSeat {
+    ghost use Rattle.std.specs.Prelude.{◌≡◌, []};
+    ghost use Rattle.vll_counters.specs.Shown.{SessionShown, session_of};
+    ghost use Rattle.vll_counters.specs.declared.views.View.TheVariants.{Session};
+
+    ghost Value = { SessionShown };
+
+    ghost view = { λ s. record { table = s.seat.table_id; session = session_of s.seat.me.0 } };
+
+    ghost invariant = { λ s. s.seat.me ≡ (Session (session_of s.seat.me.0), []) };
+}
+
+impl Words {
+    // One more client's session, before any call.
+    pub(crate) fn make_session(&self, queue: &mut QueueSeat) -> SessionSeat
+        requires same { queue.old.table ≡ self.now.table }
+        requires empty { queue.old.lines ≡ [] }
+        ensures queue { queue.new ≡ record queue.old { clients = suc queue.old.clients } }
+        ensures session { result ≡ record { table = self.now.table; session = new_session queue.old.clients } }
+    {
+        SessionSeat {
+            seat: self
+                .table
+                .shared
+                .split_seat::<MakesSession>(&mut queue.seat),
+        }
+    }
+
+    /// A session comes to the queue. If it brings a call, a turn opens for it. What the session has seen is a beginning
+    /// of the entered calls, with all calls of its client, and the tickets whose reply it was given are gone.
+    pub fn join_session(&self, queue: &mut QueueSeat, session: SessionSeat, call: Option<Call>)
+        requires same { (queue.old.table ≡ self.now.table) × (session.table ≡ self.now.table) }
+        requires alone { queue.old.session ≡ None }
+        requires closed { queue.old.turn ≡ None }
+        requires fits { IfSome call (Fits (library_of self.now)) }
+        requires room { IfSome call (λ _. length queue.old.lines < 65536) }
+        ensures queue { queue.new ≡ record queue.old { session = Some session.session; turn = turn_of call (Some session.session) } }
+        ensures session { KnowsSession self.now.base (queue_view queue.old) session.session }
+    {
+        self.join_session_told::<Brand>(queue, session, call);
+    }
+
+    fn join_session_told<T: Told>(
+        &self,
+        queue: &mut QueueSeat,
+        session: SessionSeat,
+        call: Option<Call>,
+    )
+        requires told { (T.base ≡ self.now.base) × (T.call ≡ call) }
+        requires same { (queue.old.table ≡ self.now.table) × (session.table ≡ self.now.table) }
+        requires alone { queue.old.session ≡ None }
+        requires closed { queue.old.turn ≡ None }
+        requires fits { IfSome call (Fits (library_of self.now)) }
+        requires room { IfSome call (λ _. length queue.old.lines < 65536) }
+        ensures queue { queue.new ≡ record queue.old { session = Some session.session; turn = turn_of call (Some session.session) } }
+        ensures session { KnowsSession self.now.base (queue_view queue.old) session.session }
+    {
+        let _ = call;
+        let SessionSeat { seat } = session;
+        self.table.shared.join_seat::<Comes>(&mut queue.seat, seat);
+        self.table.shared.load::<Opens<T>>(&mut queue.seat, 0);
+    }
+
+    /// The session that has come leaves the queue, and has seen all entered calls. If its turn is open, the turn's call
+    /// enters and waits: not all of its claims were granted. The session is given the reply of a ticket that is gone,
+    /// or none.
+    pub fn give_session(&self, queue: &mut QueueSeat, given: Option<Ticket>) -> SessionSeat
+        requires same { queue.old.table ≡ self.now.table }
+        requires there { IsSome queue.old.session }
+        requires may_leave { MayLeave queue.old.turn }
+        requires gone { IsGivenOut queue.old.statuses given }
+        ensures queue { queue.new ≡ after queue.old (without_session queue.old) }
+        ensures session { IfSome queue.old.session (λ g. result ≡ left_session queue.old given g) }
+    {
+        self.give_session_told::<Brand>(queue, given)
+    }
+
+    fn give_session_told<T: Told>(
+        &self,
+        queue: &mut QueueSeat,
+        given: Option<Ticket>,
+    ) -> SessionSeat
+        requires told { T.given ≡ given }
+        requires same { queue.old.table ≡ self.now.table }
+        requires there { IsSome queue.old.session }
+        requires may_leave { MayLeave queue.old.turn }
+        requires gone { IsGivenOut queue.old.statuses given }
+        ensures queue { queue.new ≡ after queue.old (without_session queue.old) }
+        ensures session { IfSome queue.old.session (λ g. result ≡ left_session queue.old given g) }
+    {
+        let _ = given;
+        SessionSeat {
+            seat: self
+                .table
+                .shared
+                .split_seat::<GivesSession<T>>(&mut queue.seat),
+        }
+    }
+}

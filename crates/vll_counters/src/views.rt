@@ -1,0 +1,53 @@
+use std::collections::LinkedList;
+use vll_core::Line;
+use vll_proc::Call;
+use vll_sca::Status;
+
+/// The open turn: whose it is and its call, how many of its claims have been requested, and whether all of these
+/// were granted. Like all views it stands in contracts and proofs alone; no value of it is made.
+pub struct TurnView {
+    pub client: u32,
+    pub call: Call,
+    pub requested: u8,
+    pub granted: bool,
+}
+
+/// What a pass knows: its ticket and call, the entered calls up to its own, the numbers of its loads, stores and
+/// releases, and the values that it loaded.
+pub struct PassView {
+    pub ticket: u32,
+    pub call: Call,
+    pub seen: LinkedList<(u32, Call)>,
+    pub loads: u8,
+    pub stores: u8,
+    pub releases: u8,
+    pub loaded: LinkedList<u64>,
+}
+
+/// What a session knows: its client, the entered calls that it has seen, the tickets whose reply it was given, and
+/// how many calls waited when it last left the lock.
+pub struct SessionView {
+    pub client: u32,
+    pub seen: LinkedList<(u32, Call)>,
+    pub given: LinkedList<u32>,
+    pub waited: u32,
+}
+
+/// What the queue's seat knows: the line and the status of each ticket, the open turn, the pass and the session that
+/// have come to the queue, and how many clients there are.
+pub struct QueueView {
+    pub lines: LinkedList<Line>,
+    pub statuses: LinkedList<Status>,
+    pub turn: Option<TurnView>,
+    pub pass: Option<PassView>,
+    pub session: Option<SessionView>,
+    pub clients: u32,
+}
+
+/// What a seat knows. A seat that has joined another knows nothing any more.
+pub enum View {
+    Queue(QueueView),
+    Pass(PassView),
+    Session(SessionView),
+    Spent,
+}

@@ -1,0 +1,149 @@
+ghost use Rattle.std.specs.Prelude.{◌≡◌, ◌+◌, ◌*◌, ◌≤◌, ◌∷◌, length, take, slice_index, count_by, vec_capacity, vec_len, IfOk, None, []};
+ghost use Rattle.std.specs.Mem.Slots.{slots_items, slots_len, IsFull};
+ghost use Rattle.vll_sca.specs.Status.{is_waiting, is_running};
+ghost use Rattle.vll_core.specs.Shown.{AreFirstWords};
+ghost use Rattle.vll_counters.specs.Shown.{shown_queue, AreNewSessions};
+ghost use Rattle.vll_counters.specs.Steps.{first_queue};
+ghost use Rattle.vll_counters.specs.Told.{IsAtEnd};
+
+use crate::key::Key;
+use crate::no_memory::NoMemory;
+use crate::queue_seat::QueueSeat;
+use crate::rule::Law;
+use crate::session_seat::SessionSeat;
+use crate::views::View;
+use atomic_table::{Closed, Table};
+use std::alloc::{AllocError, Global};
+use std::marker::Model;
+use std::snapshot::Snapshot;
+use vll_check::Library;
+
+/// The words: the turn word 0, and each record's value word and pair word. Threads change them in single atomic steps,
+/// each by a seat, and the rule holds between any two steps. Contracts see which words they are, and the procedures
+/// and records of the opening.
+#[derive(Drop)]
+pub struct Words {
+    pub(crate) table: Table<(), View, Key, Law, Global>,
+    // Room for the words at the end.
+    room: Vec<u64>,
+}
+
+impl Model for Words {
+    ghost use Rattle.vll_proc.specs.contracts.syntax.Expr as expr;
+    ghost use Rattle.vll_proc.specs.contracts.syntax.Stmt as stmt;
+    ghost use Rattle.std.specs.Coded.{codes};
+    ghost use Rattle.vll_counters.specs.Shown.{WordsShown};
+
+    ghost Value = { WordsShown };
+
+    ghost coded = { Prim.hlevel (codes, expr.the_row.coded, stmt.the_row.coded) };
+
+    ghost use Rattle.vll_counters.specs.Kept.{words_shown, AreWordsKept};
+
+    ghost view = { words_shown };
+
+    ghost invariant = { AreWordsKept };
+}
+
+// The records, in a list with room for the words.
+fn copied(alloc: Global, records: &[u64]) -> Result<Vec<u64>, AllocError>
+    ensures items { IfOk result (λ v. v.items ≡ records.now) }
+    ensures room { IfOk result (λ v. 1 + 2 * length records.now ≤ vec_capacity v) }
+{
+    let mut list = Vec::with_capacity(alloc, 1 + 2 * records.len())?;
+    for value in records {
+        list.push_reserved(*value);
+    }
+    Ok(list)
+}
+
+// The words of these records, with no claim open.
+fn lay(words: &mut Vec<u64>, records: &[u64])
+    requires empty { words.old.items ≡ [] }
+    requires room { 1 + 2 * length records.now ≤ vec_capacity words.old }
+    ensures words { AreFirstWords records.now words.new.items }
+    ensures room { vec_capacity words.new ≡ vec_capacity words.old }
+{
+    words.push_reserved(0);
+    for value in records {
+        words.push_reserved(*value);
+        words.push_reserved(0);
+    }
+}
+
+// The words of a closed table.
+fn gathered(mut words: Vec<u64>, closed: &Closed<(), Global>) -> Vec<u64>
+    requires full { IsFull closed.now.words }
+    requires empty { vec_len words ≡ 0 }
+    requires room { slots_len closed.now.words ≤ vec_capacity words }
+    ensures { result.items ≡ slots_items closed.now.words }
+{
+    for i in 0..closed.words.len() {
+        words.push_reserved(closed.word(i));
+    }
+    words
+}
+
+impl Words {
+    /// The words of these records, with no claim open, the queue's seat, and one session's seat for each client, in
+    /// order. The library is named for contracts and not kept. All memory is taken here; `NoMemory` comes only if it
+    /// was refused.
+    pub fn open(
+        alloc: Global,
+        records: &[u64],
+        library: &Library,
+        clients: u32,
+    ) -> Result<(Words, QueueSeat, Vec<SessionSeat>), NoMemory>
+        requires records { library.now.records ≡ length records.now }
+        ensures words { IfOk result (λ o. o.0.base ≡ record { procs = library.now.procs; records = records.now }) }
+        ensures queue { IfOk result (λ o. o.1 ≡ shown_queue o.0.table (first_queue clients)) }
+        ensures sessions { IfOk result (λ o. AreNewSessions o.0.table clients o.2.items) }
+    {
+        let (words, mut queue) = Words::laid(alloc, records, library)?;
+        let mut sessions = Vec::with_capacity(alloc, clients as usize)?;
+        for _client in 0..clients {
+            sessions.push_reserved(words.make_session(&mut queue));
+        }
+        Ok((words, queue, sessions))
+    }
+
+    // The words and the queue's seat.
+    fn laid(
+        alloc: Global,
+        records: &[u64],
+        library: &Library,
+    ) -> Result<(Words, QueueSeat), AllocError>
+        requires records { library.now.records ≡ length records.now }
+        ensures words { IfOk result (λ o. o.0.base ≡ record { procs = library.now.procs; records = records.now }) }
+        ensures queue { IfOk result (λ o. o.1 ≡ shown_queue o.0.table (first_queue 0)) }
+    {
+        let _ = library.records();
+        let mut room = copied(alloc, records)?;
+        let key = Key {
+            library: Snapshot::of(library),
+            records: Snapshot::of(&room),
+        };
+        room.clear();
+        lay(&mut room, records);
+        let (table, seat) = Table::of_words(alloc, room.as_slice(), &key)?;
+        room.clear();
+        Ok((Words { table, room }, QueueSeat { seat }))
+    }
+
+    /// The words once no turn is open and no call waits or runs: each value is what the entered calls make of the
+    /// record, one at a time in the order of entry, and each pair word is 0. It takes no memory.
+    pub fn close(self, queue: QueueSeat) -> Vec<u64>
+        requires same { queue.table ≡ self.table }
+        requires closed { queue.turn ≡ None }
+        requires waiting { count_by is_waiting queue.statuses ≡ 0 }
+        requires running { count_by is_running queue.statuses ≡ 0 }
+        ensures { IsAtEnd self.base queue.lines result.items }
+    {
+        let Words { table, room } = self;
+        let QueueSeat { seat } = queue;
+        let closed = table.close_with(seat);
+        let words = gathered(room, &closed);
+        closed.free();
+        words
+    }
+}
