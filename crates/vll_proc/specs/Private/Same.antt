@@ -1,5 +1,4 @@
 -- The test of two calls is an equality, as the test of each part is.
-use Rattle.std.specs.Bool.{beq}
 use Rattle.std.specs.Cmp.{IsPartialEquivalence, partial_equiv_from_equiv, nat_eq_equiv, bool_eq_equiv, and_per, on_per}
 use Rattle.std.specs.Cmp.Lexicographic.{pointwise, lists_per}
 use Rattle.std.specs.Prelude.{nat_eq}

@@ -1,4 +1,4 @@
-use Rattle.std.proofs.Common.{◌≡◌, ℕ, true, ◌<◌, ◌^◌, ◌∙◌, sym, arith, rules}
+use Rattle.std.proofs.Common.{◌≡◌, ℕ, true, ◌<◌, ◌^◌, rules}
 use Rattle.std.specs.List.{list_all}
 use Rattle.vll_check.specs.Calls.{place_is_there}
 use Rattle.vll_check.proofs.Passed.{all_placed}

@@ -1,4 +1,4 @@
-use Rattle.std.proofs.Common.{arith, inl, length, ap, map, take, drop, ◌-◌, length-take, length-drop}
+use Rattle.std.proofs.Common.{arith, inl, length, ap, take, drop, ◌-◌, length-take, length-drop}
 use Rattle.vll_record.proofs.ClaimsOf.{length-claims_of-le}
 use Rattle.vll_proc.specs.Made.{asked_by}
 use Rattle.vll_check.proofs.Fitting.{length-asked_by-le}
