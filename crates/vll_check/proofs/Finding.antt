@@ -16,7 +16,7 @@ use Rattle.std.proofs.lemmas.Option.{slice_get-get_or}
 use Rattle.vll_proc.specs.declared.syntax.Proc.{Proc}
 use Rattle.vll_check.specs.Entry.{Entry}
 use Rattle.vll_check.specs.Names.{has_name_twice, number_named}
-use Rattle.vll_check.specs.Order.{by_name, numbered, IsIndexed}
+use Rattle.vll_check.specs.Private.Order.{by_name, numbered, IsIndexed}
 use Rattle.vll_check.proofs.Distinct.{number_from-at, number_from-none}
 use Rattle.vll_check.proofs.Indexed.{entry_at}
 

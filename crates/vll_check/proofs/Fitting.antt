@@ -4,6 +4,7 @@ use Rattle.std.specs.List.{All, AllByRecursion, list_all}
 use Rattle.std.proofs.lemmas.Bool.{eqb-true, false≢true}
 use Rattle.std.proofs.lemmas.Option.{slice_get_within, get_or_from_slice_get}
 use Rattle.std.proofs.lemmas.List.Elements.{All-from_recursion}
+use Rattle.vll_proc.specs.declared.limits.TheConstants.{MOST_ARGS}
 use Rattle.vll_record.specs.Claim.{claims_of, with_claim, stronger}
 use Rattle.vll_record.specs.declared.claim.Claim.{Claim}
 use Rattle.vll_proc.specs.declared.call.Call.{Call}
@@ -16,7 +17,7 @@ use Rattle.vll_check.specs.declared.fault.CallFault.TheVariants.{ArgCount, Recor
 use Rattle.vll_check.specs.Calls.{call_to, call_numbered, place_is_there, Fits, CallsProcedure}
 use Rattle.vll_check.specs.Catalog.{Catalog, IsCatalog}
 use Rattle.vll_check.specs.Faults.{check_fault}
-use Rattle.vll_check.specs.Making.{asked_for}
+use Rattle.vll_check.specs.Private.Making.{asked_for}
 use Rattle.vll_check.specs.Names.{number_named, has_name_twice}
 use Rattle.vll_check.proofs.Distinct.{number_named-distinct, number_named-stands}
 use Rattle.vll_check.proofs.Passed.{passed_all, named_there}
@@ -75,7 +76,7 @@ made_of records n p args call e = made_by records n p args call (length args == 
 -- a made call has the arguments that it was made of
 pub made_args : (records n : ℕ) (p : Proc) (args : List ℕ) (call : Call) → call_to records n (Some p) args ≡ Ok call → take call.arg_count call.args ≡ args
 made_args records n p args call e =
-    ap (λ (c : Call). take c.arg_count c.args) (made_of records n p args call e).made ∙ take_at args (replicate (8 - length args) 0) (length args) refl
+    ap (λ (c : Call). take c.arg_count c.args) (made_of records n p args call e).made ∙ take_at args (replicate (MOST_ARGS - length args) 0) (length args) refl
 
 pub made_count : (records n : ℕ) (p : Proc) (args : List ℕ) (call : Call) → call_to records n (Some p) args ≡ Ok call → call.arg_count ≡ p.args
 made_count records n p args call e = let m = made_of records n p args call e in ap (λ (c : Call). c.arg_count) m.made ∙ m.count

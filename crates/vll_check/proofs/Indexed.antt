@@ -11,10 +11,10 @@ use Rattle.std.proofs.lemmas.List.Sorted.{All-permutation, Contains-permutation,
 use Rattle.std.proofs.lemmas.Map.Keys.{IsDistinct-from_apart, IsDistinct-IsPermutation, apart_from_distinct, Less-from_sorted}
 use Rattle.vll_proc.specs.declared.syntax.Proc.{Proc}
 use Rattle.vll_check.specs.Catalog.{IsCatalog}
-use Rattle.vll_check.specs.Entry.{Entry}
+use Rattle.vll_check.specs.Entry.{Entry, procedure_of}
 use Rattle.vll_check.specs.Faults.{check_fault}
 use Rattle.vll_check.specs.Names.{has_name_twice}
-use Rattle.vll_check.specs.Order.{procedure_of, by_name, AllPassed, AreNumbered, HaveNumbers, ArePlaced, AreArranged, IsInOrder, numbered, IsIndexed}
+use Rattle.vll_check.specs.Private.Order.{by_name, AllPassed, AreNumbered, HaveNumbers, ArePlaced, AreArranged, IsInOrder, numbered, IsIndexed}
 use Rattle.vll_check.proofs.Numbering.{with_number}
 use Rattle.vll_check.proofs.Twice.{rising_from_less, rising_from_once, twice-permutation}
 

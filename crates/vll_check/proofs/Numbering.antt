@@ -4,7 +4,7 @@ use Rattle.std.proofs.lemmas.Bool.{cases_eq}
 use Rattle.std.proofs.lemmas.List.{get_or_default, get_or-set_same, get_or-set_other}
 use Rattle.vll_check.specs.Entry.{Entry}
 use Rattle.vll_check.specs.Faults.{check_fault}
-use Rattle.vll_check.specs.Order.{HaveNumbers}
+use Rattle.vll_check.specs.Private.Order.{HaveNumbers}
 
 abbrev pub with_number : Entry → ℕ → Entry
 with_number e n = record e { number = n }

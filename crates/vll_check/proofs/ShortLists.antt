@@ -4,6 +4,8 @@ use Rattle.std.proofs.Math.Seq.{take-suc, drop-cons}
 use Rattle.std.proofs.lemmas.Bool.{cond-true, cond-false, eq-eqb, ne_eqb}
 use Rattle.std.proofs.lemmas.List.{length-map, map-append, length-take-le}
 use Rattle.std.proofs.lemmas.Option.{slice_get_within, get_or_from_slice_get}
+use Rattle.std.specs.List.{position_or_len}
+use Rattle.std.proofs.lemmas.List.Recursion.{is_position_or_len}
 use Rattle.vll_record.specs.Canon.{laid}
 use Rattle.vll_record.specs.declared.claim.Claim.{Claim}
 use Rattle.vll_proc.specs.Made.{place_of}
@@ -25,20 +27,9 @@ laid-push n b y xs room =
     ∙ sym (append_assoc xs (y ∷ []) (replicate (n - length xs - 1) b))
     ∙ ap (λ m. (xs ++ y ∷ []) ++ replicate m b) fewer
 
-from_place : (cs : List Claim) (i r : ℕ) (c : Claim) → slice_get cs i ≡ Some c → place_of (drop i cs) r ≡ (if c.id == r then 0 else suc (place_of (drop (i + 1) cs) r))
-from_place cs i r c at =
-    let within : i < length cs = slice_get_within cs i c at in
-    let first : get_or cs i c ≡ c = get_or_from_slice_get cs i c c at in
-    ap (λ ds. place_of ds r) (drop-cons cs i c within) ∙ ap (λ (d : Claim). if d.id == r then 0 else suc (place_of (drop (suc i) cs) r)) first
-    ∙ ap (λ n. if c.id == r then 0 else suc (place_of (drop n cs) r)) (sym (add-one i))
-
--- the claim at a place is of the record
-pub place_of-here : (cs : List Claim) (i r : ℕ) (c : Claim) → slice_get cs i ≡ Some c → c.id ≡ r → place_of (drop i cs) r ≡ 0
-place_of-here cs i r c at same = from_place cs i r c at ∙ cond-true (c.id == r) 0 (suc (place_of (drop (i + 1) cs) r)) (eq-eqb c.id r same)
-
--- it is of another record
-pub place_of-later : (cs : List Claim) (i r : ℕ) (c : Claim) → slice_get cs i ≡ Some c → (c.id ≡ r → ⊥) → place_of (drop i cs) r ≡ suc (place_of (drop (i + 1) cs) r)
-place_of-later cs i r c at other = from_place cs i r c at ∙ cond-false (c.id == r) 0 (suc (place_of (drop (i + 1) cs) r)) (ne_eqb c.id r other)
+-- the place of a record's claim is that of the first claim for it
+pub place_of-first : (cs : List Claim) (r : ℕ) → place_of cs r ≡ position_or_len (λ (c : Claim). c.id == r) cs
+place_of-first cs r = is_position_or_len (λ (ds : List Claim). place_of ds r) (λ (c : Claim). c.id == r) refl (λ c ds. ap (λ (n : ℕ). if c.id == r then 0 else n) (omega arith)) cs
 
 -- the next of the items that are laid
 pub laid-next : (n : ℕ) (xs : List ℕ) (i y : ℕ) → i < length xs → i < n → y ≡ get_or xs i 0 → set (laid n 0 (take i xs)) i y ≡ laid n 0 (take (i + 1) xs)
@@ -54,19 +45,3 @@ laid-mapped f n xs i d y within room is =
     let more : map f (take (i + 1) xs) ≡ map f (take i xs) ++ y ∷ [] =
     ap (map f) (ap (λ m. take m xs) (add-one i) ∙ take-suc xs i d within) ∙ map-append f (take i xs) (get_or xs i d ∷ []) ∙ ap (λ z. map f (take i xs) ++ z ∷ []) (sym is) in
     ap (λ m. set (laid n 0 (map f (take i xs))) m y) (sym whole) ∙ laid-push n 0 y (map f (take i xs)) (omega arith) ∙ ap (laid n 0) (sym more)
-
-same_front : {A : Type 0} (xs ys : List A) (i : ℕ) → take i xs ≡ take i ys → slice_get xs i ≡ slice_get ys i → take (suc i) xs ≡ take (suc i) ys
-same_front [] [] i front next = refl
-same_front [] (y ∷ ys) zero front next = cc
-same_front [] (y ∷ ys) (suc i) front next = cc
-same_front (x ∷ xs) [] zero front next = cc
-same_front (x ∷ xs) [] (suc i) front next = cc
-same_front (x ∷ xs) (y ∷ ys) zero front next = let same : x ≡ y = cc in ap (λ z. z ∷ []) same
-same_front (x ∷ xs) (y ∷ ys) (suc i) front next =
-    let same : x ≡ y = cc in
-    let rest : take i xs ≡ take i ys = cc in
-    ap (λ z. z ∷ take (suc i) xs) same ∙ ap (λ zs. y ∷ zs) (same_front xs ys i rest next)
-
--- two lists that are the same so far, and in the next item
-pub take_same_next : {A : Type 0} (xs ys : List A) (i : ℕ) → take i xs ≡ take i ys → slice_get xs i ≡ slice_get ys i → take (i + 1) xs ≡ take (i + 1) ys
-take_same_next xs ys i front next = ap (λ n. take n xs) (add-one i) ∙ same_front xs ys i front next ∙ ap (λ n. take n ys) (sym (add-one i))

@@ -13,9 +13,9 @@ use Rattle.std.proofs.lemmas.List.{get_or_default}
 use Rattle.std.proofs.lemmas.Map.Keys.{IsDistinct-head, IsDistinct-tail, IsDistinct-cons, IsDistinct-from_apart, IsDistinct-IsPermutation, apart_from_distinct, Less-from_sorted, sorted_from_all_adjacent}
 use Rattle.std.proofs.lemmas.Map.Text.{is_eq-slice_cmp}
 use Rattle.vll_proc.specs.declared.syntax.Proc.{Proc}
-use Rattle.vll_check.specs.Entry.{Entry}
+use Rattle.vll_check.specs.Entry.{Entry, procedure_of}
 use Rattle.vll_check.specs.Names.{has_name_twice}
-use Rattle.vll_check.specs.Order.{procedure_of, by_name, IsInOrder}
+use Rattle.vll_check.specs.Private.Order.{by_name, IsInOrder}
 
 -- two entries have one name
 abbrev pub has_name_of : Entry → Entry → Bool

@@ -7,3 +7,7 @@ pub record Entry : Type 0 where
   pub records : ℕ
   pub number : ℕ
   pub place : ℕ
+
+-- the procedure of an entry
+abbrev pub procedure_of : Entry → Proc
+procedure_of e = e.procedure

@@ -1,9 +1,6 @@
 pub mod Faults
 pub mod Entry
-pub mod Kept
 pub mod Names
-pub mod Making
 pub mod Catalog
-pub mod Order
-pub mod Library
 pub mod Calls
+pub mod Private

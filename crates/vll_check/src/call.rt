@@ -7,7 +7,6 @@ ghost use Rattle.vll_check.specs.Faults.{check_fault};
 use crate::fault::CallFault;
 use crate::making::call_of;
 use vll_proc::{Call, KeyAt, KeyDecl, Proc};
-use vll_record::Claims;
 
 // The call of a procedure, or the lowest fault that stands.
 pub(crate) fn call_to(
@@ -55,31 +54,7 @@ pub(crate) fn is_made_for(records: u32, procedure: &Proc, call: &Call) -> bool
         return false;
     };
     match call_to(records, call.number, procedure, args) {
-        Ok(made) => is_same_call(&made, call),
+        Ok(made) => made == *call,
         Err(_) => false,
     }
-}
-
-fn is_same_call(a: &Call, b: &Call) -> bool
-    ensures { IsTrue result ↔ (a.now ≡ b.now) }
-{
-    a.number == b.number
-        && a.arg_count == b.arg_count
-        && a.args == b.args
-        && a.cells == b.cells
-        && are_same_claims(&a.claims, &b.claims)
-}
-
-fn are_same_claims(a: &Claims, b: &Claims) -> bool
-    ensures { IsTrue result ↔ (a.now ≡ b.now) }
-{
-    if a.len() != b.len() {
-        return false;
-    }
-    for i in 0..a.len() {
-        if a.get(i) != b.get(i) {
-            return false;
-        }
-    }
-    true
 }

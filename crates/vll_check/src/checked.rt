@@ -25,7 +25,7 @@ impl Model for Checked {
 
     ghost coded = { Prim.hlevel (codes, expr.the_row.coded, stmt.the_row.coded) };
 
-    ghost use Rattle.vll_check.specs.Kept.{entry_of, HasPassed};
+    ghost use Rattle.vll_check.specs.Private.Kept.{entry_of, HasPassed};
 
     ghost view = { entry_of };
 

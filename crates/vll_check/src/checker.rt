@@ -9,7 +9,8 @@ use crate::locals::{Locals, list_set_behind};
 use crate::measure::{is_within, nodes_left, replies_left};
 use crate::places::{KnownArgs, KnownKeys, KnownLocals, WritableKeys};
 use crate::walk::list_throughout;
-use vll_proc::{KeyAt, KeyDecl, Proc};
+use vll_proc::{KeyAt, KeyDecl, MOST_ARGS, MOST_DEPTH, MOST_NODES, MOST_OUTPUTS, Proc};
+use vll_record::MOST_CLAIMS;
 
 /// Tests whether a procedure is well-formed for a number of records.
 ///
@@ -34,10 +35,10 @@ pub fn check(procedure: Proc, records: u32) -> Result<Checked, CheckFault>
 fn fault_of(procedure: &Proc, records: u32) -> Option<CheckFault>
     ensures { result ≡ check_fault records procedure.now }
 {
-    if procedure.args > 8 {
+    if procedure.args as usize > MOST_ARGS {
         return Some(CheckFault::TooManyArgs);
     }
-    if procedure.keys.len() > 16 {
+    if procedure.keys.len() > MOST_CLAIMS {
         return Some(CheckFault::TooManyKeys);
     }
     if !has_declared_key_args(procedure) {
@@ -142,19 +143,19 @@ fn reads_set_locals(procedure: &Proc) -> bool
 fn has_few_replies(procedure: &Proc) -> bool
     ensures { result ≡ formed.has_few_replies procedure.now }
 {
-    replies_left(procedure.body.as_slice(), 8).is_some()
+    replies_left(procedure.body.as_slice(), MOST_OUTPUTS as u32).is_some()
 }
 
 fn is_shallow(procedure: &Proc) -> bool
     ensures { result ≡ formed.is_shallow procedure.now }
 {
-    is_within(procedure.body.as_slice(), 32)
+    is_within(procedure.body.as_slice(), MOST_DEPTH)
 }
 
 fn is_short(procedure: &Proc) -> bool
     ensures { result ≡ formed.is_short procedure.now }
 {
-    nodes_left(procedure.body.as_slice(), 1024).is_some()
+    nodes_left(procedure.body.as_slice(), MOST_NODES).is_some()
 }
 
 #[cfg(test)]

@@ -3,10 +3,10 @@ use thiserror::Error;
 /// Why a procedure is not well-formed: the lowest number whose test fails.
 #[derive(Clone, Copy, PartialEq, Eq, Debug, Error)]
 pub enum CheckFault {
-    /// More than 8 arguments.
+    /// More than `MOST_ARGS` arguments.
     #[error("1")]
     TooManyArgs,
-    /// More than 16 key positions.
+    /// More than `MOST_CLAIMS` key positions.
     #[error("2")]
     TooManyKeys,
     /// A key is placed by an argument that is not declared.
@@ -24,19 +24,19 @@ pub enum CheckFault {
     /// An argument is read that is not declared.
     #[error("7")]
     UnknownArg,
-    /// A local is read or given a value whose place is 8 or more.
+    /// A local is read or given a value whose place is `MOST_LOCALS` or more.
     #[error("8")]
     UnknownLocal,
     /// A local is read that is not surely set before.
     #[error("9")]
     UnsetLocal,
-    /// More than 8 replies.
+    /// More than `MOST_OUTPUTS` replies.
     #[error("10")]
     TooManyReplies,
-    /// A body deeper than 32.
+    /// A body deeper than `MOST_DEPTH`.
     #[error("11")]
     TooDeep,
-    /// More than 1,024 nodes in the body.
+    /// More than `MOST_NODES` nodes in the body.
     #[error("12")]
     TooLong,
 }

@@ -2,7 +2,7 @@ ghost use Rattle.std.specs.Prelude.{◌≡◌, ◌<◌, ◌^◌, All, length, ma
 ghost use Rattle.vll_check.specs.Calls.{call_made, Fits};
 ghost use Rattle.vll_check.specs.Catalog.{IsCatalog};
 ghost use Rattle.vll_check.specs.Names.{has_name_twice, number_named};
-ghost use Rattle.vll_check.specs.Order.{procedure_of};
+ghost use Rattle.vll_check.specs.Entry.{procedure_of};
 
 use crate::call::{call_to, is_made_for};
 use crate::checked::Checked;
@@ -29,7 +29,7 @@ impl Model for Library {
 
     ghost coded = { Prim.hlevel (codes, expr.the_row.coded, stmt.the_row.coded) };
 
-    ghost use Rattle.vll_check.specs.Library.{catalog_of, IsLibrary};
+    ghost use Rattle.vll_check.specs.Private.Library.{catalog_of, IsLibrary};
 
     ghost view = { catalog_of };
 

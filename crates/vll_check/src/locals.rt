@@ -4,12 +4,12 @@ ghost use Rattle.vll_proc.specs.WellFormed.{nothing_set, both_set, local_is_set,
 
 use crate::walk::{LeafTest, all_leaves};
 use std::marker::Model;
-use vll_proc::{Expr, Stmt};
+use vll_proc::{Expr, MOST_LOCALS, Stmt};
 
-// For each of the 8 locals, whether it is surely set. Contracts see them as their list.
+// For each local, whether it is surely set. Contracts see them as their list.
 #[derive(Clone, Copy)]
 pub(crate) struct Locals {
-    set: [bool; 8],
+    set: [bool; MOST_LOCALS],
 }
 
 impl Model for Locals {
@@ -26,22 +26,24 @@ impl Locals {
     pub(crate) fn new() -> Locals
         ensures { result ≡ nothing_set }
     {
-        Locals { set: [false; 8] }
+        Locals {
+            set: [false; MOST_LOCALS],
+        }
     }
 
     fn has(&self, i: u8) -> bool
         ensures { result ≡ get_or self.now i false }
     {
         let i = i as usize;
-        i < 8 && self.set[i]
+        i < MOST_LOCALS && self.set[i]
     }
 
-    // A place from 8 on is not a local's.
+    // A place from `MOST_LOCALS` on is not a local's.
     fn with(mut self, i: u8) -> Locals
         ensures { result ≡ slice_set self i true }
     {
         let i = i as usize;
-        if i < 8 {
+        if i < MOST_LOCALS {
             self.set[i] = true;
         }
         self
@@ -52,7 +54,7 @@ impl Locals {
         ensures { result ≡ both_set self.now other.now }
     {
         let mut set = self.set;
-        for i in 0..8 {
+        for i in 0..MOST_LOCALS {
             set[i] &= other.set[i];
         }
         Locals { set }

@@ -5,15 +5,15 @@ ghost use Rattle.vll_record.specs.Claim.{claims_of};
 ghost use Rattle.vll_proc.specs.Made.{call_of, place_of};
 ghost use Rattle.vll_proc.specs.Meaning.{record_named};
 ghost use Rattle.vll_proc.specs.WellFormed.{argument_is_declared};
-ghost use Rattle.vll_check.specs.Making.{asked_for, cell_of, IsPlaced};
+ghost use Rattle.vll_check.specs.Private.Making.{asked_for, cell_of, IsPlaced};
 
-use vll_proc::{Call, KeyAt, KeyDecl, Proc};
-use vll_record::{Claim, Claims, RecordId};
+use vll_proc::{Call, KeyAt, KeyDecl, MOST_ARGS, Proc};
+use vll_record::{Claim, Claims, MOST_CLAIMS, RecordId};
 
 // The call of a procedure with its number and arguments.
 pub(crate) fn call_of(number: u32, procedure: &Proc, args: &[u64]) -> Call
-    requires few { length args.now ≤ 8 }
-    requires keys { length procedure.now.keys ≤ 16 }
+    requires few { length args.now ≤ MOST_ARGS }
+    requires keys { length procedure.now.keys ≤ MOST_CLAIMS }
     requires placed { All (IsPlaced args.now (length args.now)) procedure.now.keys }
     ensures { result ≡ call_of number procedure.now args.now }
 {
@@ -41,7 +41,7 @@ fn record_of(key: &KeyDecl, args: &[u64]) -> u32
 
 // The claims that key positions ask for.
 fn claims_of(keys: &[KeyDecl], args: &[u64]) -> Claims
-    requires keys { length keys.now ≤ 16 }
+    requires keys { length keys.now ≤ MOST_CLAIMS }
     requires placed { All (IsPlaced args.now (length args.now)) keys.now }
     ensures { result ≡ claims_of (map (asked_for args.now) keys.now) }
 {
@@ -59,11 +59,11 @@ fn claims_of(keys: &[KeyDecl], args: &[u64]) -> Claims
 }
 
 // The arguments, and then zeros.
-fn args_of(args: &[u64]) -> [u64; 8]
-    requires { length args.now ≤ 8 }
-    ensures { result ≡ laid 8 0 args.now }
+fn args_of(args: &[u64]) -> [u64; MOST_ARGS]
+    requires { length args.now ≤ MOST_ARGS }
+    ensures { result ≡ laid MOST_ARGS 0 args.now }
 {
-    let mut places = [0; 8];
+    let mut places = [0; MOST_ARGS];
     for (i, arg) in args.iter().enumerate() {
         places[i] = *arg;
     }
@@ -71,12 +71,12 @@ fn args_of(args: &[u64]) -> [u64; 8]
 }
 
 // For each key position the place of its claim, and then zeros.
-fn cells_of(keys: &[KeyDecl], args: &[u64], claims: &Claims) -> [u8; 16]
-    requires keys { length keys.now ≤ 16 }
+fn cells_of(keys: &[KeyDecl], args: &[u64], claims: &Claims) -> [u8; MOST_CLAIMS]
+    requires keys { length keys.now ≤ MOST_CLAIMS }
     requires placed { All (IsPlaced args.now (length args.now)) keys.now }
-    ensures { result ≡ laid 16 0 (map (cell_of claims.now args.now) keys.now) }
+    ensures { result ≡ laid MOST_CLAIMS 0 (map (cell_of claims.now args.now) keys.now) }
 {
-    let mut cells = [0; 16];
+    let mut cells = [0; MOST_CLAIMS];
     for (i, key) in keys.iter().enumerate() {
         cells[i] = place_of(claims, record_of(key, args));
     }
@@ -87,11 +87,9 @@ fn cells_of(keys: &[KeyDecl], args: &[u64], claims: &Claims) -> [u8; 16]
 fn place_of(claims: &Claims, id: u32) -> u8
     ensures { result ≡ place_of claims.now id }
 {
-    for i in 0..claims.len() {
-        let claim = claims.get(i).unwrap();
-        if claim.id.0 == id {
-            return i as u8;
-        }
-    }
-    claims.len() as u8
+    let none = claims.len();
+    claims
+        .iter()
+        .position(|claim| claim.id.0 == id)
+        .unwrap_or(none) as u8
 }

@@ -2,7 +2,8 @@
 ghost use Rattle.std.specs.Prelude.{◌≡◌, ◌<◌, ◌^◌, length, map, IfOk, is_err};
 ghost use Rattle.std.specs.List.Sorted.{IsPermutation};
 ghost use Rattle.vll_check.specs.Names.{has_name_twice};
-ghost use Rattle.vll_check.specs.Order.{procedure_of, IsInOrder, AllPassed, AreNumbered, HaveNumbers, ArePlaced, AreArranged};
+ghost use Rattle.vll_check.specs.Entry.{procedure_of};
+ghost use Rattle.vll_check.specs.Private.Order.{IsInOrder, AllPassed, AreNumbered, HaveNumbers, ArePlaced, AreArranged};
 
 use crate::checked::Checked;
 use crate::fault::NameTwice;

@@ -3,7 +3,7 @@ ghost use Rattle.std.specs.Prelude.{true};
 ghost use Rattle.vll_proc.specs.WellFormed as formed;
 
 use crate::walk::{LeafTest, Test};
-use vll_proc::{Expr, KeyDecl, Stmt};
+use vll_proc::{Expr, KeyDecl, MOST_LOCALS, Stmt};
 use vll_record::Mode;
 
 // Each key position that is read or set is below a number.
@@ -87,7 +87,7 @@ impl Test for KnownArgs {
     }
 }
 
-// Each local that is read or given a value is one of the 8.
+// Each local that is read or given a value is one of those there are.
 #[derive(Clone, Copy)]
 pub(crate) struct KnownLocals;
 
@@ -96,7 +96,7 @@ impl LeafTest for KnownLocals {
 
     fn passes_leaf(&self, leaf: &Expr) -> bool {
         match leaf {
-            Expr::Local(i) => *i < 8,
+            Expr::Local(i) => (*i as usize) < MOST_LOCALS,
             _ => true,
         }
     }
@@ -107,7 +107,7 @@ impl Test for KnownLocals {
 
     fn passes_statement(&self, statement: &Stmt) -> bool {
         match statement {
-            Stmt::Let(i, _) => *i < 8,
+            Stmt::Let(i, _) => (*i as usize) < MOST_LOCALS,
             _ => true,
         }
     }

@@ -25,15 +25,15 @@ use Rattle.vll_core.specs.State.{Opening, Entered, Turn, State}
 use Rattle.vll_core.specs.Machine.{Outcome, refuse_if, or_refuse, admit, step}
 use Rattle.vll_core.specs.Queue.{QueueEntry, admitted, entry, statuses}
 use Rattle.vll_core.specs.Shown.{Shown, library_of, opening_of}
-use Rattle.vll_core.specs.View.{entered_of, entries_of, turn_of, shown}
-use Rattle.vll_core.specs.Work.{IsAtWork}
-use Rattle.vll_core.specs.MachineKept.{IsMachine, made_of, AreAtWork, AreReplied}
+use Rattle.vll_core.specs.Private.View.{entered_of, entries_of, turn_of, shown}
+use Rattle.vll_core.specs.Private.Work.{IsAtWork}
+use Rattle.vll_core.specs.Private.MachineKept.{IsMachine, made_of, AreAtWork, AreReplied}
 use Rattle.vll_core.proofs.Places.{all_at, at_push}
 use Rattle.vll_core.proofs.AtWork.{procedure_fits}
 use Rattle.vll_core.proofs.Reached.{turn_has_room}
 use Rattle.vll_core.proofs.SerialRun.{length_before}
-use Rattle.vll_core.proofs.CoreState.{length_shown, waiting_shown, entry_pushed, all_from, at_work_pushed, replied_pushed, queued_admitted}
-use Rattle.vll_core.proofs.CoreSteps.{library_same, Takes, taken_reached, taken_words}
+use Rattle.vll_core.proofs.MachineState.{length_shown, waiting_shown, entry_pushed, all_from, at_work_pushed, replied_pushed, queued_admitted}
+use Rattle.vll_core.proofs.MachineSteps.{library_same, Takes, taken_reached, taken_words}
 
 -- ---- the plain machine
 
@@ -151,10 +151,10 @@ core_admit {H} {places} a turn works w core has =
     let takes : Takes places a b event.Admit seen = taken_admit a turn works w core has in
     let last : QueueEntry = turn_entry turn in
     let calls : CallsProcedure a.library.value turn.call = fits_well a.library.value turn.call core.catalog (turn_fits a turn core has.opened) in
-    let now : List ℕ = before a.library.value.procs (made_of a.queue.entries) a.opening.items (length a.queue.entries) in
+    let now : List ℕ = before a.library.value.procs (made_of a.queue.entries) a.opening.value.items (length a.queue.entries) in
     let within : All (λ (d : Claim). d.id < length now) turn.call.claims =
     subst (λ (n : ℕ). All (λ (d : Claim). d.id < n) turn.call.claims)
-    (core.records ∙ sym (length_before a.library.value.procs (made_of a.queue.entries) a.opening.items (length a.queue.entries))) calls.within in
+    (core.records ∙ sym (length_before a.library.value.procs (made_of a.queue.entries) a.opening.value.items (length a.queue.entries))) calls.within in
     record {
       reached = taken_reached a b event.Admit seen takes core.reached;
       words = taken_words a b event.Admit seen takes core.reached refl refl refl core.words;
@@ -172,8 +172,8 @@ core_admit {H} {places} a turn works w core has =
       turn_fits = tt;
       scripts_fit = core.scripts_fit;
       at_work =
-          subst (AreAtWork a.library.value a.opening.items b.queue.entries) (sym has.pushed)
-          (at_work_pushed a.library.value a.opening.items a.queue.entries a.work.items last w core.works (has.at_work now within) core.at_work);
+          subst (AreAtWork a.library.value a.opening.value.items b.queue.entries) (sym has.pushed)
+          (at_work_pushed a.library.value a.opening.value.items a.queue.entries a.work.items last w core.works (has.at_work now within) core.at_work);
       replied =
           subst (AreReplied b.queue.entries) (sym has.pushed)
           (replied_pushed a.queue.entries a.work.items last w core.works (here_still turn.granted) core.replied);

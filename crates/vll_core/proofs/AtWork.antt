@@ -19,7 +19,7 @@ use Rattle.vll_check.specs.Catalog.{Catalog, IsCatalog}
 use Rattle.vll_check.proofs.Fitting.{fits_well}
 use Rattle.vll_core.specs.declared.work.Work.{Work}
 use Rattle.vll_core.specs.State.{is_aborted}
-use Rattle.vll_core.specs.Work.{HoldsFirst, IsLoading, IsAtWork}
+use Rattle.vll_core.specs.Private.Work.{HoldsFirst, IsLoading, IsAtWork}
 use Rattle.vll_core.proofs.Tests.{eq_no}
 use Rattle.vll_core.proofs.Places.{all_at, drop_next, drop_none, entry_at}
 

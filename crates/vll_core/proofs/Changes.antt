@@ -160,7 +160,7 @@ change_of o s (by_event event.Front) out h =
 change_of o s (by_event event.Scan) out h =
     let a = refused_not (is_some s.turn) _ _ out h in
     let b = found (scan o.place o.bits (map scanned s.entries)) _ _ out a.1 in
-    let p = picked_is o s b.0 b.1 in
+    let p = picked_is o.place o.bits s b.0 b.1 in
     run_change o s (by_event event.Scan) b.0 p.entry _ out p.at (picked b.0 p) b.2
 change_of o s (by_event (event.Load t)) out h =
     let l = load_is o s t out h in

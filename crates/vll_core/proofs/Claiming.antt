@@ -22,13 +22,13 @@ use Rattle.vll_core.specs.State.{Opening, State, Turn, open_claims, counter, val
 use Rattle.vll_core.specs.Machine.{step, told, request, or_refuse}
 use Rattle.vll_core.specs.Moves.{by_event, moved, IsReached}
 use Rattle.vll_core.specs.Shown.{AreWords, after, opening_of}
-use Rattle.vll_core.specs.View.{shown, turn_of}
-use Rattle.vll_core.specs.MachineKept.{IsMachine}
+use Rattle.vll_core.specs.Private.View.{shown, turn_of}
+use Rattle.vll_core.specs.Private.MachineKept.{IsMachine}
 use Rattle.vll_core.proofs.Counters.{counters_within}
 use Rattle.vll_core.proofs.Deltas.{counter_request}
 use Rattle.vll_core.proofs.Places.{all_at}
 use Rattle.vll_core.proofs.Values.{others_stay}
-use Rattle.vll_core.proofs.CorePairs.{pair_word_within, word_read, words_set_pair}
+use Rattle.vll_core.proofs.WordChanges.{pair_word_within, word_read, words_set_pair}
 
 -- ---- the plain machine
 
@@ -88,7 +88,7 @@ counter_fits o s r reached few =
 
 -- what a request by the open turn finds
 pub record Finds {H : Type 0} (places : H → ℕ → ℕ) (a : Inside H) (turn : OpenTurn) (c : Claim) : Type 0 where
-  pub record_there : c.id < length a.opening.items
+  pub record_there : c.id < length a.opening.value.items
   pub word_there : pair_word_of_record c.id < length a.words.items
   pub is_counter : slice_index a.words.items (pair_word_of_record c.id) ≡ counter (shown a).state c.id
   pub few : turn.requested < 16
@@ -102,7 +102,7 @@ finds a turn c kept is at =
     let fits : Fits a.library.value turn.call = subst (λ (x : Option OpenTurn). IfSome x (λ (t : OpenTurn). Fits a.library.value t.call)) is kept.turn_fits in
     let well : CallsProcedure a.library.value turn.call = fits_well a.library.value turn.call kept.catalog fits in
     let within : c.id < a.library.value.records = all_at (λ (d : Claim). d.id < a.library.value.records) turn.call.claims turn.requested c well.within at in
-    let there : c.id < length a.opening.items = omega (arith, within, kept.records) in
+    let there : c.id < length a.opening.value.items = omega (arith, within, kept.records) in
     let claims = claims_few well.procedure turn.call well.formed well.made in
     let before = slice_get_within turn.call.claims turn.requested c at in
     record {

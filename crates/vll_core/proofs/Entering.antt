@@ -10,20 +10,21 @@ use Rattle.vll_core.specs.declared.machine.Machine.TheInside.{Inside}
 use Rattle.vll_core.specs.declared.refusal.Refusal.{Refusal}
 use Rattle.vll_core.specs.declared.refusal.Refusal.TheVariants.{TurnOpen, NoCall, Spent, Busy}
 use Rattle.vll_core.specs.declared.seen.Seen.TheVariants.{Opened}
+use Rattle.vll_sca.specs.declared.status.Status.{Status}
 use Rattle.vll_sca.specs.Status.{is_waiting}
-use Rattle.vll_core.specs.State.{Opening, State, Turn}
+use Rattle.vll_core.specs.State.{Entered, Opening, State, Turn}
 use Rattle.vll_core.specs.Machine.{Outcome, refuse_if, or_refuse, waiting, first_call, next_call, rest_of, used, enter, step}
 use Rattle.vll_core.specs.Moves.{hand, move, moved}
 use Rattle.vll_core.specs.Queue.{statuses}
 use Rattle.vll_core.specs.Shown.{Shown, opening_of}
-use Rattle.vll_core.specs.View.{turn_of, left_of, shown}
-use Rattle.vll_core.specs.MachineKept.{IsMachine}
+use Rattle.vll_core.specs.Private.View.{turn_of, left_of, shown}
+use Rattle.vll_core.specs.Private.MachineKept.{IsMachine}
 use Rattle.vll_core.proofs.Tests.{le_no}
 use Rattle.vll_core.proofs.Places.{all_at}
 use Rattle.vll_core.proofs.Fitted.{proper_fits}
-use Rattle.vll_core.proofs.CoreWords.{words_stay}
-use Rattle.vll_core.proofs.CoreState.{length_shown, waiting_shown}
-use Rattle.vll_core.proofs.CoreSteps.{Refuses, Takes, taken_reached, taken_words}
+use Rattle.vll_core.proofs.WordsKept.{words_stay}
+use Rattle.vll_core.proofs.MachineState.{length_shown, counted_shown, waiting_shown}
+use Rattle.vll_core.proofs.MachineSteps.{Refuses, Takes, taken_reached, taken_words}
 
 -- ---- the plain machine
 
@@ -143,6 +144,12 @@ pub is_spent : (n limit : ℕ) (b : Bool) → b ≡ true → (IsTrue b → n ≡
 is_spent n limit true spent full = full refl
 is_spent n limit false spent full = absurd (cc spent)
 
+-- a count of the queue is that of the state that the machine shows
+pub count_told : {H : Type 0} (p : Status → Bool) (a : Inside H) (s : Shown H) (n : ℕ) → length a.work.items ≡ length a.queue.entries → shown a ≡ s
+    → n ≡ count_by p (statuses a.queue) → n ≡ count_by (λ (e : Entered). p e.status) s.state.entries
+count_told {H} p a s n works view is =
+    is ∙ (sym (counted_shown p a.queue.entries a.work.items works) ∙ ap (λ (x : Shown H). count_by (λ (e : Entered). p e.status) x.state.entries) view)
+
 -- what a machine shows of the room in its queue
 pub full_shown : {H : Type 0} {places : H → ℕ → ℕ} (a : Inside H) (s : Shown H) → IsMachine places a → shown a ≡ s → length a.queue.entries ≡ a.queue.limit → s.limit ≤ length s.state.entries
 full_shown {H} a s core view full =
@@ -249,7 +256,7 @@ core_handed {H} {places} a client call core closed fits room =
     let next : State = (shown (handed_turn a client call)).state in
     let is : move o (shown a).state (hand client call) ≡ Ok (Opened, next) = hand_is places a client call (Ok tt) closed room in
     record {
-      reached = moved (shown a).state (hand client call) Opened next core.reached (proper_fits a.library.value a.opening.items call core.catalog fits) is;
+      reached = moved (shown a).state (hand client call) Opened next core.reached (proper_fits a.library.value a.opening.value.items call core.catalog fits) is;
       words = words_stay o (shown a).state next (hand client call) Opened a.words.items core.reached is refl refl refl core.words;
       some_records = core.some_records;
       few_records = core.few_records;

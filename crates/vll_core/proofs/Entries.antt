@@ -17,7 +17,7 @@ use Rattle.vll_sca.specs.declared.status.Status.{Status}
 use Rattle.vll_sca.specs.declared.status.Status.TheVariants.{Running, Waiting, Gone}
 use Rattle.vll_sca.specs.Status.{is_waiting, is_running, is_gone}
 use Rattle.vll_core.specs.Queue.{QueueEntry, Queued, IsQueued, is_left, changed_at, lines, statuses, waiting_ticket, front_among, analysed}
-use Rattle.vll_core.specs.QueueKept.{paired, statuses_of, kept, IsKept}
+use Rattle.vll_core.specs.Private.QueueKept.{paired, statuses_of, kept, IsKept}
 use Rattle.vll_core.specs.declared.queue.Queue.TheInside.{Inside}
 
 pub lines_paired : (ls : List Line) (es : List Entry) → length ls ≡ length es → map (λ (e : QueueEntry). e.line) (paired ls es) ≡ ls

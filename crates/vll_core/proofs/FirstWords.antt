@@ -2,7 +2,7 @@
 use Rattle.std.proofs.Common.{◌≡◌, ℕ, zero, suc, ◌+◌, ◌*◌, ◌<◌, List, [], ◌∷◌, ◌++◌, length, take, refl, sym, ap, ◌∙◌, arith, get_or, slice_index, append_assoc}
 use Rattle.std.proofs.lemmas.List.{take_more}
 use Rattle.vll_record.specs.Word.{value_word_of, pair_word_of_record}
-use Rattle.vll_core.specs.Shown.{AreFirstWords}
+use Rattle.vll_core.specs.Private.FirstWords.{AreFirstWords}
 
 -- each value with pair word 0 behind it
 abbrev pub laid : List ℕ → List ℕ

@@ -15,12 +15,12 @@ use Rattle.vll_core.specs.State.{Base, Entered, reply_at}
 use Rattle.vll_core.specs.Queue.{QueueEntry, lines, statuses, has_reply}
 use Rattle.vll_core.specs.Journal.{reply_of, line_of, journal_of}
 use Rattle.vll_core.specs.Shown.{Shown, opening_of}
-use Rattle.vll_core.specs.View.{shown, entered_of, entries_of}
-use Rattle.vll_core.specs.MachineKept.{IsMachine}
+use Rattle.vll_core.specs.Private.View.{shown, entered_of, entries_of}
+use Rattle.vll_core.specs.Private.MachineKept.{IsMachine}
 use Rattle.vll_core.proofs.Tests.{both_true}
 use Rattle.vll_core.proofs.Kept.{IsEntryKept}
 use Rattle.vll_core.proofs.Reached.{kept_reached}
-use Rattle.vll_core.proofs.CoreState.{statuses_shown, entry_shown, made_shown}
+use Rattle.vll_core.proofs.MachineState.{statuses_shown, entry_shown, made_shown}
 
 -- where a ticket's call stands
 pub status_shown : {H : Type 0} {places : H → ℕ → ℕ} (c : Inside H) (s : Shown H) (t : ℕ) → IsMachine places c → shown c ≡ s → slice_get (statuses c.queue) t ≡ option_map (λ (e : Entered). e.status) (slice_get s.state.entries t)
@@ -60,14 +60,14 @@ reply_shown : {H : Type 0} {places : H → ℕ → ℕ} (c : Inside H) (t : ℕ)
 reply_shown {H} {places} c t e w core at has = by_status (is_gone e.status) refl
   where
     base : Base
-    base = record { procs = c.library.value.procs; records = c.opening.items }
+    base = record { procs = c.library.value.procs; records = c.opening.value.items }
 
     by_status : (gone : Bool) → is_gone e.status ≡ gone → e.line.reply ≡ (if gone then Some (reply_at (shown c).base (shown c).state t (entered_of e w)) else None)
     by_status true gone =
         let kept = (kept_reached (opening_of places (shown c)) (shown c).state core.reached).entries t (entered_of e w) (entry_shown c.queue.entries c.work.items t e w at has) in
         let loads = gone_loads (shown c).base _ (entered_of e w) kept gone in
         core.replied t e w at has gone ∙ (core.at_work t e w at has).ran loads
-        ∙ ap (λ (made : List Made). Some (apply c.library.value.procs e.line.call (before c.library.value.procs made c.opening.items t)).reply) (sym (made_shown c.queue.entries c.work.items core.works))
+        ∙ ap (λ (made : List Made). Some (apply c.library.value.procs e.line.call (before c.library.value.procs made c.opening.value.items t)).reply) (sym (made_shown c.queue.entries c.work.items core.works))
     by_status false left = no_reply e.line.reply (has_reply_at c.queue.entries t e core.queue.answered at ∙ left)
 
 -- lines, each told of its ticket and entry

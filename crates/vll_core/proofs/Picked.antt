@@ -23,14 +23,14 @@ pub record IsPicked (s : State) (t : ℕ) : Type 0 where
   pub waits : is_waiting entry.status ≡ true
   pub apart : (v : ℕ) (e : Entered) → v < t → slice_get s.entries v ≡ Some e → is_gone e.status ≡ false → conflict e.call.claims entry.call.claims ≡ false
 
-pub picked_is : (o : Opening) (s : State) (t : ℕ) → scan o.place o.bits (map scanned s.entries) ≡ Some t → IsPicked s t
-picked_is o s t h =
-    let e = entry_at s.entries t (rw (← length-map s.entries scanned) (scanned_within o.place o.bits (map scanned s.entries) t h)) in
+pub picked_is : (place : ℕ → ℕ) (bits : ℕ) (s : State) (t : ℕ) → scan place bits (map scanned s.entries) ≡ Some t → IsPicked s t
+picked_is place bits s t h =
+    let e = entry_at s.entries t (rw (← length-map s.entries scanned) (scanned_within place bits (map scanned s.entries) t h)) in
     record {
       entry = e.0;
       at = e.1;
-      waits = scanned_waits o.place o.bits (map scanned s.entries) t (scanned e.0) h (seen t e.0 e.1);
-      apart = λ v d low at left. scanned_is_clear o.place o.bits (map scanned s.entries) t (scanned e.0) h (seen t e.0 e.1) v (scanned d) low (seen v d at) left;
+      waits = scanned_waits place bits (map scanned s.entries) t (scanned e.0) h (seen t e.0 e.1);
+      apart = λ v d low at left. scanned_is_clear place bits (map scanned s.entries) t (scanned e.0) h (seen t e.0 e.1) v (scanned d) low (seen v d at) left;
     }
   where
     seen : (v : ℕ) (d : Entered) → slice_get s.entries v ≡ Some d → slice_get (map scanned s.entries) v ≡ Some (scanned d)

@@ -15,7 +15,7 @@ use Rattle.vll_sca.specs.declared.status.Status.{Status}
 use Rattle.vll_sca.specs.declared.status.Status.TheVariants.{Running, Waiting, Gone}
 use Rattle.vll_sca.specs.Status.{is_waiting, is_running, is_gone}
 use Rattle.vll_core.specs.Queue.{QueueEntry, Queued, has_reply, is_left, admitted, started, finished}
-use Rattle.vll_core.specs.QueueKept.{paired, statuses_of, kept, IsKept}
+use Rattle.vll_core.specs.Private.QueueKept.{paired, statuses_of, kept, IsKept}
 use Rattle.vll_core.specs.declared.queue.Queue.TheInside.{Inside}
 use Rattle.vll_core.proofs.Entries.{Starts, starts, Ends, ends, one_more_waits, paired_push, paired_started, paired_finished}
 

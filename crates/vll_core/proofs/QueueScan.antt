@@ -14,7 +14,7 @@ use Rattle.vll_sca.specs.Status.{is_waiting, is_gone}
 use Rattle.vll_sca.specs.Scan.{scan}
 use Rattle.vll_sca.proofs.Scanning.{scanned_within, scanned_waits, gone_beginnings_do_not_matter}
 use Rattle.vll_core.specs.Queue.{Queued, statuses, is_left, found_by}
-use Rattle.vll_core.specs.QueueKept.{statuses_of, kept, IsKept}
+use Rattle.vll_core.specs.Private.QueueKept.{statuses_of, kept, IsKept}
 use Rattle.vll_core.specs.declared.queue.Queue.TheInside.{Inside}
 use Rattle.vll_core.proofs.Entries.{analysed_paired, first_within, shown_statuses}
 

@@ -70,8 +70,8 @@ front_reached o s t e reached is at =
 
 -- the ticket that the scan picks waits and is clear
 pub scan_reached : ScanTicketIsClear
-scan_reached o s t e reached is at =
-    let p = picked_is o s t is in
+scan_reached o place bits s t e reached is at =
+    let p = picked_is place bits s t is in
     let same : p.entry ≡ e = same_Some p.entry e (sym p.at ∙ at) in (
       ap (λ (x : Entered). is_waiting x.status) (sym same) ∙ p.waits,
       ap (λ (x : Entered). is_clear s t x.call.claims) (sym same) ∙ clear_picked o s t (kept_reached o s reached) p,

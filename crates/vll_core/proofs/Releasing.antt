@@ -17,13 +17,13 @@ use Rattle.vll_core.specs.State.{Opening, Entered, State, counter}
 use Rattle.vll_core.specs.Machine.{Outcome, refuse_if, or_refuse, running, with_entry, has_stored, step}
 use Rattle.vll_core.specs.Moves.{by_event}
 use Rattle.vll_core.specs.Shown.{AreWords, opening_of}
-use Rattle.vll_core.specs.View.{entries_of, shown}
-use Rattle.vll_core.specs.MachineKept.{IsMachine, AreAtWork, AreReplied}
+use Rattle.vll_core.specs.Private.View.{entries_of, shown}
+use Rattle.vll_core.specs.Private.MachineKept.{IsMachine, AreAtWork, AreReplied}
 use Rattle.vll_core.proofs.Claiming.{delta_here, delta_elsewhere}
-use Rattle.vll_core.proofs.CorePairs.{pair_word_within, word_read, words_set_pair}
-use Rattle.vll_core.proofs.CoreRuns.{Runs, entered_as, same_work}
-use Rattle.vll_core.proofs.CoreState.{work_put, at_work_put, replied_put}
-use Rattle.vll_core.proofs.CoreSteps.{Refuses, Takes, taken_reached}
+use Rattle.vll_core.proofs.WordChanges.{pair_word_within, word_read, words_set_pair}
+use Rattle.vll_core.proofs.RunningWorks.{Runs, entered_as, same_work}
+use Rattle.vll_core.proofs.MachineState.{work_put, at_work_put, replied_put}
+use Rattle.vll_core.proofs.MachineSteps.{Refuses, Takes, taken_reached}
 use Rattle.vll_core.proofs.Deltas.{counter_release}
 use Rattle.vll_core.proofs.Places.{all_at}
 use Rattle.vll_core.proofs.Values.{others_stay}
@@ -113,7 +113,7 @@ counter_less a t call w c r at =
 
 -- what a release finds
 pub record Finds {H : Type 0} (a : Inside H) (call : Call) (w : Work) (c : Claim) : Type 0 where
-  pub record_there : c.id < length a.opening.items
+  pub record_there : c.id < length a.opening.value.items
   pub word_there : pair_word_of_record c.id < length a.words.items
   pub is_counter : slice_index a.words.items (pair_word_of_record c.id) ≡ counter (shown a).state c.id
   pub enough : delta_of c.mode ≤ counter (shown a).state c.id
@@ -122,7 +122,7 @@ pub record Finds {H : Type 0} (a : Inside H) (call : Call) (w : Work) (c : Claim
 pub finds : {H : Type 0} {places : H → ℕ → ℕ} (a : Inside H) (t : ℕ) (call : Call) (w : Work) (c : Claim) → IsMachine places a → Runs a t call w → slice_get call.claims w.releases ≡ Some c → Finds a call w c
 finds a t call w c kept r at =
     let within : c.id < a.library.value.records = all_at (λ (d : Claim). d.id < a.library.value.records) call.claims w.releases c r.well.within at in
-    let there : c.id < length a.opening.items = omega (arith, within, kept.records) in
+    let there : c.id < length a.opening.value.items = omega (arith, within, kept.records) in
     let claims = claims_few r.well.procedure call r.well.formed r.well.made in
     let before = slice_get_within call.claims w.releases c at in
     record {
@@ -195,8 +195,8 @@ core_release {H} {places} a t call w c words works r kept all at written put roo
       turn_fits = kept.turn_fits;
       scripts_fit = kept.scripts_fit;
       at_work =
-          subst (AreAtWork a.library.value a.opening.items a.queue.entries) (sym put)
-          (at_work_put a.library.value a.opening.items a.queue.entries a.work.items t (one_more w)
+          subst (AreAtWork a.library.value a.opening.value.items a.queue.entries) (sym put)
+          (at_work_put a.library.value a.opening.value.items a.queue.entries a.work.items t (one_more w)
           (λ e here. let was = kept.at_work t e w here r.worked in record {
             within = was.within;
             whole = was.whole;

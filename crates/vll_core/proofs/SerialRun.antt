@@ -8,6 +8,7 @@ use Rattle.vll_proc.specs.Serial.{before, Made, apply, applied_at, after, end}
 use Rattle.vll_record.specs.declared.claim.Claim.{Claim}
 use Rattle.std.proofs.lemmas.List.{take-append-le}
 use Rattle.vll_core.specs.Moves.{IsProper}
+use Rattle.vll_core.specs.Laws.{LaterCallsLeaveSerialStates, LaterCallsLeaveSerialAnswers}
 use Rattle.vll_proc.specs.Meaning.{Scene, body}
 use Rattle.vll_proc.specs.declared.call.Call.{Call}
 use Rattle.vll_proc.specs.declared.call.Reason.{Reason}
@@ -94,3 +95,17 @@ pub records_pushed : (o : Base) (s : State) (x : Entered) (turn : Option Turn) (
 records_pushed o s x turn t within =
     ap (λ (ms : List Made). before o.procs ms o.records t) (map_push s.entries x)
     ∙ ap (λ (ms : List Made). end o.procs ms o.records) (take-append-le t (map made s.entries) (made x ∷ []) (let z = length-made s.entries in omega (arith, within, z)))
+
+-- calls behind a list change no record before a call of the list
+pub later_leave_states : LaterCallsLeaveSerialStates
+later_leave_states procs calls more records i within = ap (λ (ms : List Made). end procs ms records) (take-append-le i calls more within)
+
+item_before : (xs ys : List Made) (i : ℕ) → i < length xs → slice_get (xs ++ ys) i ≡ slice_get xs i
+item_before [] ys i within = absurd (omega (arith, within))
+item_before (x ∷ xs) ys zero within = refl
+item_before (x ∷ xs) ys (suc i) within = item_before xs ys i (omega (arith, within))
+
+-- nor what a call of the list answers
+pub later_leave_answers : LaterCallsLeaveSerialAnswers
+later_leave_answers procs calls more records i within =
+    rw (item_before calls more i within, take-append-le i calls more (omega (arith, within))) refl

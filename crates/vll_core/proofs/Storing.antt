@@ -20,15 +20,15 @@ use Rattle.vll_core.specs.State.{Opening, Entered, State, made, writes, records_
 use Rattle.vll_core.specs.Machine.{Outcome, step, refuse_if, or_refuse, running, with_entry, has_stored}
 use Rattle.vll_core.specs.Moves.{by_event, is_on, entry_store}
 use Rattle.vll_core.specs.Shown.{AreWords, opening_of}
-use Rattle.vll_core.specs.View.{shown}
-use Rattle.vll_core.specs.Work.{IsAtWork}
-use Rattle.vll_core.specs.MachineKept.{IsMachine}
+use Rattle.vll_core.specs.Private.View.{shown}
+use Rattle.vll_core.specs.Private.Work.{IsAtWork}
+use Rattle.vll_core.specs.Private.MachineKept.{IsMachine}
 use Rattle.vll_core.proofs.AtWork.{aborted_at_work, few_writes}
-use Rattle.vll_core.proofs.CorePairs.{words_set_value, value_word_within}
-use Rattle.vll_core.proofs.CoreRuns.{Runs, entered_as}
-use Rattle.vll_core.proofs.CoreState.{work_put, at_work_put, replied_put}
-use Rattle.vll_core.proofs.CoreSteps.{Refuses, Takes, taken_reached}
-use Rattle.vll_core.proofs.CoreWords.{counters_stay}
+use Rattle.vll_core.proofs.WordChanges.{words_set_value, value_word_within}
+use Rattle.vll_core.proofs.RunningWorks.{Runs, entered_as}
+use Rattle.vll_core.proofs.MachineState.{work_put, at_work_put, replied_put}
+use Rattle.vll_core.proofs.MachineSteps.{Refuses, Takes, taken_reached}
+use Rattle.vll_core.proofs.WordsKept.{counters_stay}
 use Rattle.vll_core.proofs.Kept.{IsEntryKept}
 use Rattle.vll_core.proofs.OwnClaims.{at_filter}
 use Rattle.vll_core.proofs.Places.{all_at, entry_at}
@@ -158,11 +158,11 @@ value_stored {H} {places} a t place word v call w next c core f =
     ∙ (ap (λ (n : State). slice_index (records_before (shown a).base n (suc t)) c.id) (entries_stored a t place word v call w next c f)
     ∙ (ap (λ (xs : List ℕ). slice_index xs c.id) (records_same (shown a).base s t e (record e { stores = e.stores + 1 }) (suc t) f.runs.at refl)
     ∙ (ap (λ (n : ℕ). slice_index (records_before (shown a).base s n) c.id) (sym (add-one t))
-    ∙ (ap (λ (xs : List ℕ). slice_index xs c.id) (before_more a.library.value.procs (entered s) a.opening.items t (made e) (made_at s.entries t e f.runs.at))
+    ∙ (ap (λ (xs : List ℕ). slice_index xs c.id) (before_more a.library.value.procs (entered s) a.opening.value.items t (made e) (made_at s.entries t e f.runs.at))
     ∙ sym f.value))))
 
 -- its record is one of the machine's
-claim_there : {H : Type 0} {places : H → ℕ → ℕ} (a : Inside H) (t : ℕ) (call : Call) (w : Work) (c : Claim) → IsMachine places a → Runs a t call w → slice_get (writes call) w.stores ≡ Some c → c.id < length a.opening.items
+claim_there : {H : Type 0} {places : H → ℕ → ℕ} (a : Inside H) (t : ℕ) (call : Call) (w : Work) (c : Claim) → IsMachine places a → Runs a t call w → slice_get (writes call) w.stores ≡ Some c → c.id < length a.opening.value.items
 claim_there a t call w c core r left =
     let claim = at_filter call.claims w.stores c left in
     let within : c.id < a.library.value.records = all_at (λ (d : Claim). d.id < a.library.value.records) call.claims claim.0 c r.well.within claim.1 in
@@ -223,7 +223,7 @@ core_store {H} {places} a t place word v call w next c core f =
       entries_fit = core.entries_fit;
       turn_fits = core.turn_fits;
       scripts_fit = core.scripts_fit;
-      at_work = at_work_put a.library.value a.opening.items a.queue.entries a.work.items place next
+      at_work = at_work_put a.library.value a.opening.value.items a.queue.entries a.work.items place next
           (λ e at. still_at_work a.library.value.procs e.line.call _ w next (w.stores + 1) f.more
           (core.at_work place e w at (ap (λ (n : ℕ). slice_get a.work.items n) f.there ∙ f.runs.worked))) core.at_work;
       replied = replied_put a.queue.entries a.work.items place next

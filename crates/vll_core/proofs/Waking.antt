@@ -18,13 +18,13 @@ use Rattle.vll_core.specs.Machine.{Outcome, refuse_if, or_refuse, front, with_en
 use Rattle.vll_core.specs.Moves.{by_event, requested_by, released_by, stored_by}
 use Rattle.vll_core.specs.Queue.{QueueEntry, Queued, statuses, front_among, started_if, started, analysed, found_by}
 use Rattle.vll_core.specs.Shown.{opening_of}
-use Rattle.vll_core.specs.View.{turn_of, shown}
-use Rattle.vll_core.specs.MachineKept.{IsMachine, made_of}
+use Rattle.vll_core.specs.Private.View.{turn_of, shown}
+use Rattle.vll_core.specs.Private.MachineKept.{IsMachine, made_of}
 use Rattle.vll_core.proofs.Events.{front_is}
 use Rattle.vll_core.proofs.Picked.{picked_is}
 use Rattle.vll_core.proofs.QueueLaws.{machine_front}
-use Rattle.vll_core.proofs.CoreState.{shown_at, entry_shown, map_shown, statuses_shown, entry_changed, length_changed, made_changed, fits_same, at_work_same, replied_changed, queued_started}
-use Rattle.vll_core.proofs.CoreSteps.{Refuses, Takes, taken_reached, taken_words}
+use Rattle.vll_core.proofs.MachineState.{shown_at, entry_shown, map_shown, statuses_shown, entry_changed, length_changed, made_changed, fits_same, at_work_same, replied_changed, queued_started}
+use Rattle.vll_core.proofs.MachineSteps.{Refuses, Takes, taken_reached, taken_words}
 
 -- ---- an event that finds a waiting ticket, or none
 
@@ -92,7 +92,7 @@ core_wake {H} {places} a e found t core wakes some =
       entries_fit = fits_same a.library.value a.queue.entries b.queue.entries (sym calls) core.entries_fit;
       turn_fits = core.turn_fits;
       scripts_fit = core.scripts_fit;
-      at_work = at_work_same a.library.value a.opening.items a.queue.entries b.queue.entries a.work.items (sym calls) core.at_work;
+      at_work = at_work_same a.library.value a.opening.value.items a.queue.entries b.queue.entries a.work.items (sym calls) core.at_work;
       replied = replied_changed a.queue.entries a.work.items t (λ e. record e { status = Running }) (λ e w at has gone. absurd (cc gone)) core.replied;
     }
 
@@ -128,12 +128,16 @@ waits_at a t e at waits =
       waits = ap (λ (x : Entered). x.status) (sym there.is) ∙ only_waiting e.status waits;
     }
 
+-- the call of a ticket runs
+abbrev run_by : State → ℕ → Outcome
+run_by s t = Ok (Run t, with_status s t Running)
+
 -- where no turn is open, the machine goes by the ticket that it finds
 by_ticket : (s : State) (found same : Option ℕ) → is_some s.turn ≡ false → found ≡ same
-    → refuse_if (is_some s.turn) TurnOpen (or_refuse found Idle (λ (t : ℕ). Ok (Run t, with_status s t Running))) ≡ or_refuse same Idle (λ (t : ℕ). Ok (Run t, with_status s t Running))
+    → refuse_if (is_some s.turn) TurnOpen (or_refuse found Idle (run_by s)) ≡ or_refuse same Idle (run_by s)
 by_ticket s found same closed is =
-    ap (λ (b : Bool). refuse_if b TurnOpen (or_refuse found Idle (λ (t : ℕ). Ok (Run t, with_status s t Running)))) closed
-    ∙ ap (λ (x : Option ℕ). or_refuse x Idle (λ (t : ℕ). Ok (Run t, with_status s t Running))) is
+    ap (λ (b : Bool). refuse_if b TurnOpen (or_refuse found Idle (run_by s))) closed
+    ∙ ap (λ (x : Option ℕ). or_refuse x Idle (run_by s)) is
 
 -- ---- the front
 
@@ -162,7 +166,7 @@ scan_of {H} {places} a core =
 pub wakes_scan : {H : Type 0} {places : H → ℕ → ℕ} (a : Inside H) → IsMachine places a → is_some (turn_of a.turn) ≡ false → Wakes places a event.Scan (found_by places a.queue)
 wakes_scan {H} {places} a core closed = record {
   is = by_ticket (shown a).state (scan (places a.queue.hash) a.queue.bits (map scanned_entry (shown a).state.entries)) (found_by places a.queue) closed (scan_of a core);
-  waits = λ t found. let p = picked_is (opening_of places (shown a)) (shown a).state t (scan_of a core ∙ found) in waits_at a t p.entry p.at p.waits;
+  waits = λ t found. let p = picked_is (places a.queue.hash) a.queue.bits (shown a).state t (scan_of a core ∙ found) in waits_at a t p.entry p.at p.waits;
   asks = refl;
   frees = refl;
   stores = refl;

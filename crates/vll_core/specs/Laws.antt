@@ -1,19 +1,22 @@
--- What holds in every state that lawful moves reach.
-use Rattle.std.specs.Prelude.{◌≡◌, ℕ, suc, ◌+◌, ◌≤◌, ◌<◌, true, false, not, List, length, map, count_by, Some, None, Ok, slice_get, slice_index}
+-- What holds in every state that lawful moves reach, of which calls it holds, and of calls that run one at a time.
+use Rattle.std.specs.Prelude.{◌≡◌, ℕ, suc, ◌+◌, ◌≤◌, ◌<◌, true, false, not, List, ◌++◌, length, map, count_by, Some, None, Ok, All, slice_get, slice_index}
 use Rattle.vll_record.specs.declared.claim.Claim.{Claim}
 use Rattle.vll_record.specs.Claim.{is_write}
 use Rattle.vll_record.specs.Counter.{claims_on}
 use Rattle.vll_proc.specs.declared.call.Call.{Call}
-use Rattle.vll_proc.specs.Serial.{end}
+use Rattle.vll_proc.specs.declared.syntax.Proc.{Proc}
+use Rattle.vll_proc.specs.Serial.{Made, answer, before, end}
+use Rattle.vll_check.specs.Calls.{Fits}
+use Rattle.vll_check.specs.Catalog.{Catalog, IsCatalog}
 use Rattle.vll_core.specs.declared.event.Event.{Event}
 use Rattle.vll_core.specs.declared.event.Event.TheVariants as event
 use Rattle.vll_core.specs.declared.seen.Seen.{Seen}
 use Rattle.vll_core.specs.declared.seen.Seen.TheVariants.{Loaded}
-use Rattle.vll_sca.specs.Status.{is_waiting, is_running, is_gone}
+use Rattle.vll_sca.specs.Status.{is_waiting, is_gone}
 use Rattle.vll_sca.specs.Scan.{scan}
 use Rattle.vll_core.specs.State.{Opening, Entered, State, Turn, entered, open_claims, counter, writes, records_before, value, is_clear}
-use Rattle.vll_core.specs.Machine.{waiting, front, scanned, step, opened, run}
-use Rattle.vll_core.specs.Moves.{Move, move, AreProper, IsReached, requested_by, stored_by, released_by, delta_if, is_on}
+use Rattle.vll_core.specs.Machine.{waiting, running_count, front, scanned, step, opened, run}
+use Rattle.vll_core.specs.Moves.{Move, move, IsProper, AreProper, IsReached, requested_by, stored_by, released_by, delta_if, is_on}
 
 -- every list of events, refused ones among them, reaches such a state
 abbrev pub EventListsReach : Type 0
@@ -31,11 +34,11 @@ FrontTicketIsClear =
     (o : Opening) (s : State) (t : ℕ) (e : Entered)
     → IsReached o s → front s ≡ Some t → slice_get s.entries t ≡ Some e → (is_waiting e.status ≡ true) × (is_clear s t e.call.claims ≡ true)
 
--- the ticket that Scan picks waits, and is clear, whatever the hash and the number of bits
+-- the ticket that a scan finds waits, and is clear, whatever the places and the number of bits it scans by
 abbrev pub ScanTicketIsClear : Type 0
 ScanTicketIsClear =
-    (o : Opening) (s : State) (t : ℕ) (e : Entered)
-    → IsReached o s → scan o.place o.bits (map scanned s.entries) ≡ Some t → slice_get s.entries t ≡ Some e
+    (o : Opening) (place : ℕ → ℕ) (bits : ℕ) (s : State) (t : ℕ) (e : Entered)
+    → IsReached o s → scan place bits (map scanned s.entries) ≡ Some t → slice_get s.entries t ≡ Some e
     → (is_waiting e.status ≡ true) × (is_clear s t e.call.claims ≡ true)
 
 -- while a turn is open, fewer calls are entered than the limit, and fewer wait than the cap
@@ -92,6 +95,28 @@ CountersStayWithinTheLimit =
 abbrev pub FinishedMachinesHaveTheSerialEnd : Type 0
 FinishedMachinesHaveTheSerialEnd =
     (o : Opening) (s : State)
-    → IsReached o s → s.turn ≡ None → waiting s ≡ 0 → count_by (λ (e : Entered). is_running e.status) s.entries ≡ 0
+    → IsReached o s → s.turn ≡ None → waiting s ≡ 0 → running_count s ≡ 0
     → ((t : ℕ) (e : Entered) → slice_get s.entries t ≡ Some e → is_gone e.status ≡ true)
     × ((r : ℕ) → (value o.base s r ≡ slice_index (end o.base.procs (entered s) o.base.records) r) × (counter s r ≡ 0))
+
+-- a call that the library makes is proper on its procedures, whatever the records
+abbrev pub FittingCallIsProper : Type 0
+FittingCallIsProper = (c : Catalog) (records : List ℕ) (call : Call) → IsCatalog c → Fits c call → IsProper (record { procs = c.procs; records = records }) call
+
+-- scripts of calls that the library makes are proper
+abbrev pub FittingScriptsAreProper : Type 0
+FittingScriptsAreProper =
+    (c : Catalog) (records : List ℕ) (scripts : List (List Call))
+    → IsCatalog c → All (All (Fits c)) scripts → AreProper (record { procs = c.procs; records = records }) scripts
+
+-- what the records are before a call of a list, or after its last one, is the same whatever calls come behind the list
+abbrev pub LaterCallsLeaveSerialStates : Type 0
+LaterCallsLeaveSerialStates =
+    (procs : List Proc) (calls more : List Made) (records : List ℕ) (i : ℕ)
+    → i ≤ length calls → before procs (calls ++ more) records i ≡ before procs calls records i
+
+-- what a call of a list answers is the same whatever calls come behind the list
+abbrev pub LaterCallsLeaveSerialAnswers : Type 0
+LaterCallsLeaveSerialAnswers =
+    (procs : List Proc) (calls more : List Made) (records : List ℕ) (i : ℕ)
+    → i < length calls → answer procs (calls ++ more) records i ≡ answer procs calls records i

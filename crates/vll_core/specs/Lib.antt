@@ -2,10 +2,8 @@ pub mod State
 pub mod Machine
 pub mod Moves
 pub mod Laws
+pub mod Faults
 pub mod Queue
-pub mod QueueKept
 pub mod Journal
 pub mod Shown
-pub mod Work
-pub mod View
-pub mod MachineKept
+pub mod Private

@@ -21,18 +21,22 @@ abbrev pub Outcome : Type 0
 Outcome = Result (Seen × State) Refusal
 
 -- refused where a test holds
-abbrev pub refuse_if : Bool → Refusal → Outcome → Outcome
+abbrev pub refuse_if : {A E : Type 0} → Bool → E → Result A E → Result A E
 refuse_if true why go = Err why
 refuse_if false why go = go
 
 -- refused where there is nothing to go on with
-abbrev pub or_refuse : {A : Type 0} → Option A → Refusal → (A → Outcome) → Outcome
+abbrev pub or_refuse : {A B E : Type 0} → Option A → E → (A → Result B E) → Result B E
 or_refuse None why go = Err why
 or_refuse (Some a) why go = go a
 
 -- how many entered calls wait
 abbrev pub waiting : State → ℕ
 waiting s = count_by (λ (e : Entered). is_waiting e.status) s.entries
+
+-- how many entered calls run
+abbrev pub running_count : State → ℕ
+running_count s = count_by (λ (e : Entered). is_running e.status) s.entries
 
 -- the first call of a script, if there is a script and a call left of it
 abbrev pub first_call : Option (List Call) → Option Call

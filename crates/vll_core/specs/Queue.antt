@@ -2,6 +2,8 @@
 use Rattle.std.specs.Prelude.{◌≡◌, ℕ, ◌≤◌, Bool, not, List, [], ◌∷◌, ◌++◌, map, length, count_by, position, Option, Some, None, is_some, slice_get, slice_set, if◌then◌else◌}
 use Rattle.vll_proc.specs.declared.call.Call.{Call}
 use Rattle.vll_proc.specs.declared.call.Reply.{Reply}
+use Rattle.vll_sca.specs.declared.bits.TheConstants.{MOST_BITS}
+use Rattle.vll_core.specs.declared.config.TheConstants.{MOST_CALLS, MOST_WAITING}
 use Rattle.vll_core.specs.declared.config.Config.{Config}
 use Rattle.vll_core.specs.declared.line.Line.{Line}
 use Rattle.vll_sca.specs.declared.entry.Entry.{Entry}
@@ -38,15 +40,15 @@ has_reply l = is_some l.reply
 abbrev pub is_left : Status → Bool
 is_left s = not (is_gone s)
 
--- what is true of every queue: the limit and the cap are 1 to 65,536 and are kept, there are 1 to 1,048,576 bits, and a line has
--- a reply exactly where its call is gone
+-- what is true of every queue: the limit, the cap and the number of bits are within their bounds, the limit and the cap are kept,
+-- and a line has a reply exactly where its call is gone
 pub record IsQueued {H : Type 0} (q : Queued H) : Type 0 where
   pub some_calls : 1 ≤ q.limit
-  pub few_calls : q.limit ≤ 65536
+  pub few_calls : q.limit ≤ MOST_CALLS
   pub some_wait : 1 ≤ q.cap
-  pub few_wait : q.cap ≤ 65536
+  pub few_wait : q.cap ≤ MOST_WAITING
   pub some_bits : 1 ≤ q.bits
-  pub few_bits : q.bits ≤ 1048576
+  pub few_bits : q.bits ≤ MOST_BITS
   pub capped : count_by is_waiting (statuses q) ≤ q.cap
   pub within : length q.entries ≤ q.limit
   pub answered : map has_reply (lines q) ≡ map is_gone (statuses q)

@@ -46,10 +46,3 @@ pub record AreWords (base : Base) (s : State) (words : List ℕ) : Type 0 where
   pub turn : slice_index words 0 ≡ 0
   pub values : (r : ℕ) → r < length base.records → slice_index words (value_word_of r) ≡ value base s r
   pub pairs : (r : ℕ) → r < length base.records → slice_index words (pair_word_of_record r) ≡ counter s r
-
--- the words where nothing is entered: each record's value, with no open claim
-pub record AreFirstWords (records words : List ℕ) : Type 0 where
-  pub long : length words ≡ 1 + 2 * length records
-  pub turn : slice_index words 0 ≡ 0
-  pub values : (r : ℕ) → r < length records → slice_index words (value_word_of r) ≡ slice_index records r
-  pub pairs : (r : ℕ) → r < length records → slice_index words (pair_word_of_record r) ≡ 0

@@ -1,25 +1,47 @@
+use std::alloc::AllocError;
+
+/// The most records that a machine can have.
+pub const MOST_RECORDS: usize = 65_536;
+
+/// The most calls that can be entered in a machine, finished ones among them.
+pub const MOST_CALLS: u32 = 65_536;
+
+/// The most entered calls that can be let wait at a time.
+pub const MOST_WAITING: u32 = 65_536;
+
 /// What is chosen at the opening.
 #[derive(Clone, Copy, PartialEq, Eq, Debug)]
 pub struct Config {
-    /// How many entered calls may wait before no more are taken, from 1 to 65,536.
+    /// How many entered calls may wait before no more are taken, from 1 to `MOST_WAITING`.
     pub cap: u32,
-    /// How many calls may be entered, from 1 to 65,536.
+    /// How many calls may be entered, from 1 to `MOST_CALLS`.
     pub limit: u32,
-    /// How many bits records share in the contention analysis, from 1 to 1,048,576.
+    /// How many bits records share in the contention analysis, from 1 to `MOST_BITS` of `vll_sca`.
     pub bits: u32,
 }
 
 /// Why nothing can be opened: the lowest that stands, in this order.
 #[derive(Clone, Copy, PartialEq, Eq, Debug)]
 pub enum OpenFault {
-    /// There are not 1 to 65,536 records.
+    /// There are not 1 to `MOST_RECORDS` records.
     Records,
-    /// The limit of calls is not 1 to 65,536.
+    /// The limit of calls is not 1 to `MOST_CALLS`.
     Limit,
-    /// The cap of waiting calls is not 1 to 65,536.
+    /// The cap of waiting calls is not 1 to `MOST_WAITING`.
     Cap,
-    /// The number of bits is not 1 to 1,048,576.
+    /// The number of bits is not 1 to `MOST_BITS` of `vll_sca`.
     Bits,
     /// Memory was refused.
     NoMemory,
+}
+
+impl From<AllocError> for OpenFault {
+    ghost use Rattle.std.specs.Prelude.{◌≡◌};
+    ghost use Rattle.vll_core.specs.declared.config.OpenFault.TheVariants.{NoMemory};
+
+    ghost from_gives = { λ _ e. e ≡ NoMemory };
+
+    fn from(_: AllocError) -> OpenFault {
+        OpenFault::NoMemory
+    }
 }

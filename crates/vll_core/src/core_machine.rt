@@ -1,13 +1,13 @@
-ghost use Rattle.std.specs.Prelude.{◌≡◌, ◌≤◌, ◌<◌, ℕ, All, Err, length, IfOk, option_map, slice_get, ◌↔◌};
+ghost use Rattle.std.specs.Prelude.{◌≡◌, ◌≤◌, ◌<◌, ℕ, All, length, IfOk, option_map, slice_get};
 ghost use Rattle.vll_check.specs.Calls.{Fits};
+ghost use Rattle.vll_core.specs.Faults.{Refuses, open_fault};
 ghost use Rattle.vll_core.specs.Journal.{journal_of};
-ghost use Rattle.vll_core.specs.Machine.{entered, step, told};
+ghost use Rattle.vll_core.specs.Machine.{entered, running_count, step, told, waiting};
 ghost use Rattle.vll_core.specs.Moves.{IsReached, hand, move};
 ghost use Rattle.vll_core.specs.Shown.{AreWords, after, begun, library_of, opening_of};
-ghost use Rattle.vll_core.specs.declared.config.OpenFault.TheVariants as OpenFault;
 ghost use Rattle.vll_core.specs.State.{Entered};
 
-use crate::config::{Config, OpenFault};
+use crate::config::{Config, MOST_CALLS, OpenFault};
 use crate::event::Event;
 use crate::line::Line;
 use crate::machine::Machine;
@@ -46,11 +46,9 @@ impl<H: Place> Model for Core<H> {
 }
 
 impl<H: Place + Drop> Core<H> {
-    /// A machine over these records with nothing entered. The list handed in is kept as the records of the
-    /// opening. The lowest fault that stands is answered: `Records` where there are not 1 to 65,536 records,
-    /// `Limit` where the limit is not 1 to 65,536, `Cap` where the cap is not 1 to 65,536, and `Bits` where the
-    /// number of bits is not 1 to 1,048,576; `NoMemory` comes only where memory was refused. All memory is taken
-    /// here.
+    /// A machine over these records with nothing entered. The lowest fault that stands is answered, as `open_fault`
+    /// tells it: `Records`, `Limit`, `Cap` or `Bits`; where none stands, `NoMemory` is the only one. All memory is
+    /// taken here, and that of the list handed in is given back.
     pub fn open(
         alloc: Global,
         records: Vec<u64>,
@@ -61,20 +59,7 @@ impl<H: Place + Drop> Core<H> {
     ) -> Result<Core<H>, OpenFault>
         requires records { library.records ≡ length records.items }
         requires fits { All (λ script. All (Fits library) script.items) scripts.items }
-        ensures records { result ≡ Err OpenFault.Records
-            ↔ ¬ ((1 ≤ length records.items) × (length records.items ≤ 65536)) }
-        ensures limit { result ≡ Err OpenFault.Limit
-            ↔ ((1 ≤ length records.items) × (length records.items ≤ 65536)
-            × (¬ ((1 ≤ config.limit) × (config.limit ≤ 65536)))) }
-        ensures cap { result ≡ Err OpenFault.Cap
-            ↔ ((1 ≤ length records.items) × (length records.items ≤ 65536)
-            × (1 ≤ config.limit) × (config.limit ≤ 65536)
-            × (¬ ((1 ≤ config.cap) × (config.cap ≤ 65536)))) }
-        ensures bits { result ≡ Err OpenFault.Bits
-            ↔ ((1 ≤ length records.items) × (length records.items ≤ 65536)
-            × (1 ≤ config.limit) × (config.limit ≤ 65536)
-            × (1 ≤ config.cap) × (config.cap ≤ 65536)
-            × (¬ ((1 ≤ config.bits) × (config.bits ≤ 1048576)))) }
+        ensures refused { Refuses (open_fault (length records.items) config) result }
         ensures opened { IfOk result (λ c. c ≡ begun library records.items scripts.items config hash) }
     {
         let machine = Machine::open(alloc, records, &library, scripts, config, hash)?;
@@ -93,7 +78,7 @@ impl<H: Place> Core<H> {
     }
 
     /// Opens a turn for a call that is handed in, for a client that has a script, an empty one too; the script
-    /// stays at its place. Refused, in this order, by `TurnOpen`, `Spent` and `Busy`, as Enter is. A refusal
+    /// stays as it is. Refused, in this order, by `TurnOpen`, `Spent` and `Busy`, as Enter is. A refusal
     /// changes nothing. It takes no memory.
     pub fn enter(&mut self, client: u32, call: Call) -> Result<(), Refusal>
         requires client { client < length self.old.state.scripts }
@@ -120,11 +105,25 @@ impl<H: Place> Core<H> {
         self.machine.state(ticket)
     }
 
+    /// How many entered calls wait. It looks at no entry.
+    pub fn waiting(&self) -> u32
+        ensures { result ≡ waiting self.now.state }
+    {
+        self.machine.waiting()
+    }
+
+    /// How many entered calls run. It looks at no entry.
+    pub fn running(&self) -> u32
+        ensures { result ≡ running_count self.now.state }
+    {
+        self.machine.running()
+    }
+
     /// The journal: each entered call with its client, in order of entry. Where a call is finished its line has
     /// the reply that it answers where the calls run one at a time in this order, and else no reply.
     pub fn journal(&self) -> &[Line]
         ensures lines { result.now ≡ journal_of self.now.base self.now.state }
-        ensures few { length result.now ≤ 65536 }
+        ensures few { length result.now ≤ MOST_CALLS }
     {
         self.machine.journal()
     }

@@ -1,7 +1,7 @@
 // Laws of the machine of atomic steps, each the contract of a function that does nothing. A lawful
 // move is an event of the machine, the start of any waiting ticket that is clear, or the opening of
 // a turn for a call that is handed in.
-ghost use Rattle.vll_core.specs.Laws.{EventListsReach, RunningTicketsAreClear, FrontTicketIsClear, ScanTicketIsClear, OpenTurnsHaveRoom, WaitingStaysWithinTheCap, LoadsSeeTheSerialState, CountersChangeByDeltas, StoresMakeTheSerialState, OtherValuesStay, SerialStatesStay, CountersStayWithinTheLimit, FinishedMachinesHaveTheSerialEnd};
+ghost use Rattle.vll_core.specs.Laws.{EventListsReach, RunningTicketsAreClear, FrontTicketIsClear, ScanTicketIsClear, OpenTurnsHaveRoom, WaitingStaysWithinTheCap, LoadsSeeTheSerialState, CountersChangeByDeltas, StoresMakeTheSerialState, OtherValuesStay, SerialStatesStay, CountersStayWithinTheLimit, FinishedMachinesHaveTheSerialEnd, FittingCallIsProper, FittingScriptsAreProper, LaterCallsLeaveSerialStates, LaterCallsLeaveSerialAnswers};
 
 /// Every list of events, refused ones among them, reaches a state of which the other laws hold.
 #[tactic(auto, using(crate::proofs::Reached::lists_reach))]
@@ -21,8 +21,9 @@ pub fn front_ticket_is_clear()
     ensures { FrontTicketIsClear }
 {}
 
-/// The ticket that the contention analysis picks, in a state that lawful moves reach, waits and is
-/// clear, whatever the hash and the number of bits: a collision only holds a call back.
+/// The ticket that a contention analysis finds, in a state that lawful moves reach, waits and is
+/// clear, whatever places and whatever number of bits it goes by, also others than the machine's: a
+/// collision only holds a call back.
 pub fn scan_ticket_is_clear()
     ensures { ScanTicketIsClear }
 {}
@@ -82,4 +83,18 @@ pub fn counters_stay_within_the_limit()
 /// entered calls make of it one at a time in order of entry, and each counter is 0.
 pub fn finished_machines_have_the_serial_end()
     ensures { FinishedMachinesHaveTheSerialEnd }
+{}
+
+/// Calls that a library makes are proper, so a machine over its procedures meets what the laws ask
+/// for: in its scripts, and where a call is handed in.
+pub fn fitting_calls_are_proper()
+    ensures call { FittingCallIsProper }
+    ensures scripts { FittingScriptsAreProper }
+{}
+
+/// Where calls run one at a time, what the records are before a call of a list and what the call
+/// answers is the same whatever calls come behind the list.
+pub fn later_calls_leave_serial_runs()
+    ensures states { LaterCallsLeaveSerialStates }
+    ensures answers { LaterCallsLeaveSerialAnswers }
 {}

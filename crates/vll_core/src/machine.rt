@@ -1,15 +1,18 @@
-ghost use Rattle.std.specs.Prelude.{◌≡◌, ◌≤◌, ◌<◌, ℕ, All, Err, length, map, IfOk, option_map, slice_get, ◌↔◌};
+ghost use Rattle.std.specs.Prelude.{◌≡◌, ◌≤◌, ◌<◌, ℕ, All, length, map, IfOk, option_map, slice_get};
 ghost use Rattle.vll_check.specs.Calls.{Fits};
+ghost use Rattle.vll_check.specs.Catalog.{IsCatalog};
+ghost use Rattle.vll_core.specs.Faults.{Refuses, open_fault};
 ghost use Rattle.vll_core.specs.Journal.{journal_of};
-ghost use Rattle.vll_core.specs.Machine.{step, told};
+ghost use Rattle.vll_core.specs.Machine.{running_count, step, told, waiting};
 ghost use Rattle.vll_core.specs.Moves.{IsReached};
-ghost use Rattle.vll_core.specs.Shown.{AreFirstWords, AreWords, after, begun, library_of, opening_of};
-ghost use Rattle.vll_core.specs.declared.config.OpenFault.TheVariants as OpenFault;
+ghost use Rattle.vll_core.specs.Private.FirstWords.{AreFirstWords};
+ghost use Rattle.vll_core.specs.Shown.{AreWords, after, begun, library_of, opening_of};
 ghost use Rattle.vll_core.specs.State.{Entered};
 
-use crate::config::{Config, OpenFault};
+use crate::config::{Config, MOST_CALLS, MOST_RECORDS, OpenFault};
 use crate::event::Event;
 use crate::line::Line;
+use crate::opening::open_fault;
 use crate::queue::Queue;
 use crate::refusal::Refusal;
 use crate::seen::Seen;
@@ -23,11 +26,7 @@ use vll_proc::Call;
 use vll_sca::{Place, Status};
 
 mod enter;
-mod finish;
-mod load;
-mod release;
-mod run;
-mod store;
+mod running;
 mod turn;
 mod wake;
 
@@ -49,15 +48,15 @@ pub(crate) struct OpenTurn {
 pub struct Machine<H: Place> {
     // The library as it was at the opening, for contracts alone.
     library: Snapshot<Library>,
-    // The records as they were handed in.
-    opening: Vec<u64>,
+    // The records as they were handed in, for contracts alone.
+    opening: Snapshot<Vec<u64>>,
     words: Vec<u64>,
     queue: Queue<H>,
     // What each entered call has done, by ticket.
     work: Vec<Work>,
     turn: Option<OpenTurn>,
     scripts: Vec<Vec<Call>>,
-    // The place of each script's next call.
+    // The index of each script's next call.
     next: Vec<usize>,
 }
 
@@ -71,8 +70,8 @@ impl<H: Place> Model for Machine<H> {
 
     ghost coded = { Prim.hlevel (codes, expr.the_row.coded, stmt.the_row.coded, H.code) };
 
-    ghost use Rattle.vll_core.specs.View.{shown};
-    ghost use Rattle.vll_core.specs.MachineKept.{IsMachine};
+    ghost use Rattle.vll_core.specs.Private.View.{shown};
+    ghost use Rattle.vll_core.specs.Private.MachineKept.{IsMachine};
 
     ghost view = { shown };
 
@@ -80,7 +79,8 @@ impl<H: Place> Model for Machine<H> {
 }
 
 impl<H: Place + Drop> Machine<H> {
-    // A machine over these records with nothing entered, for this library. All memory is taken here.
+    // A machine over these records with nothing entered, for this library. All memory is taken here, and that of the
+    // list handed in is given back.
     pub(crate) fn open(
         alloc: Global,
         records: Vec<u64>,
@@ -91,35 +91,37 @@ impl<H: Place + Drop> Machine<H> {
     ) -> Result<Machine<H>, OpenFault>
         requires records { library.now.records ≡ length records.items }
         requires fits { All (λ script. All (Fits library.now) script.items) scripts.items }
-        ensures records { result ≡ Err OpenFault.Records
-            ↔ ¬ ((1 ≤ length records.items) × (length records.items ≤ 65536)) }
-        ensures limit { result ≡ Err OpenFault.Limit
-            ↔ ((1 ≤ length records.items) × (length records.items ≤ 65536)
-            × (¬ ((1 ≤ config.limit) × (config.limit ≤ 65536)))) }
-        ensures cap { result ≡ Err OpenFault.Cap
-            ↔ ((1 ≤ length records.items) × (length records.items ≤ 65536)
-            × (1 ≤ config.limit) × (config.limit ≤ 65536)
-            × (¬ ((1 ≤ config.cap) × (config.cap ≤ 65536)))) }
-        ensures bits { result ≡ Err OpenFault.Bits
-            ↔ ((1 ≤ length records.items) × (length records.items ≤ 65536)
-            × (1 ≤ config.limit) × (config.limit ≤ 65536)
-            × (1 ≤ config.cap) × (config.cap ≤ 65536)
-            × (¬ ((1 ≤ config.bits) × (config.bits ≤ 1048576)))) }
+        ensures refused { Refuses (open_fault (length records.items) config) result }
         ensures opened { IfOk result (λ c. c ≡ begun library.now records.items scripts.items config hash) }
     {
-        let count = library.records();
-        if count < 1 || count > 65_536 {
-            return Err(OpenFault::Records);
+        match open_fault(library.records() as usize, config) {
+            Some(fault) => Err(fault),
+            None => Ok(Machine::with_room(alloc, &records, library, scripts, config, hash)?),
         }
-        let queue = Queue::open(alloc, config, hash)?;
-        let words = words_of(alloc, &records).map_err(|_| OpenFault::NoMemory)?;
-        let work = Vec::with_capacity(alloc, config.limit as usize).map_err(
-            |_| OpenFault::NoMemory,
-        )?;
-        let next = vec![in alloc; 0; scripts.len()].map_err(|_| OpenFault::NoMemory)?;
+    }
+
+    // A machine in which nothing is entered, where nothing but memory can be refused.
+    fn with_room(
+        alloc: Global,
+        records: &Vec<u64>,
+        library: &Library,
+        scripts: Vec<Vec<Call>>,
+        config: Config,
+        hash: H,
+    ) -> Result<Machine<H>, AllocError>
+        requires catalog { IsCatalog library.now }
+        requires allowed { open_fault library.now.records config ≡ None }
+        requires records { library.now.records ≡ length records.now.items }
+        requires fits { All (λ script. All (Fits library.now) script.items) scripts.items }
+        ensures { IfOk result (λ c. c ≡ begun library.now records.now.items scripts.items config hash) }
+    {
+        let queue = Queue::with_room(alloc, config, hash)?;
+        let words = words_of(alloc, records)?;
+        let work = Vec::with_capacity(alloc, config.limit as usize)?;
+        let next = vec![in alloc; 0; scripts.len()].map_err(|_| AllocError)?;
         Ok(Machine {
             library: Snapshot::of(library),
-            opening: records,
+            opening: Snapshot::of(records),
             words,
             queue,
             work,
@@ -168,11 +170,25 @@ impl<H: Place> Machine<H> {
         self.queue.status(ticket)
     }
 
+    /// How many entered calls wait. It looks at no entry.
+    pub fn waiting(&self) -> u32
+        ensures { result ≡ waiting self.now.state }
+    {
+        self.queue.waiting()
+    }
+
+    /// How many entered calls run. It looks at no entry.
+    pub fn running(&self) -> u32
+        ensures { result ≡ running_count self.now.state }
+    {
+        self.queue.running()
+    }
+
     /// The journal: each entered call with its client, in order of entry. Where a call is finished its line has
     /// the reply that it answers where the calls run one at a time in this order, and else no reply.
     pub fn journal(&self) -> &[Line]
         ensures lines { result.now ≡ journal_of self.now.base self.now.state }
-        ensures few { length result.now ≤ 65536 }
+        ensures few { length result.now ≤ MOST_CALLS }
     {
         self.queue.journal()
     }
@@ -189,7 +205,7 @@ impl<H: Place> Machine<H> {
 
 // The words at the opening: word 0, and each record's value with pair word 0.
 fn words_of(alloc: Global, records: &[u64]) -> Result<Vec<u64>, AllocError>
-    requires { length records.now ≤ 65536 }
+    requires { length records.now ≤ MOST_RECORDS }
     ensures { IfOk result (λ words. AreFirstWords records.now words.items) }
 {
     let mut words = Vec::with_capacity(alloc, 1 + 2 * records.len())?;

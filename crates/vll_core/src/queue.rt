@@ -1,20 +1,20 @@
-ghost use Rattle.std.specs.Prelude.{◌≡◌, ◌<◌, ◌≤◌, ◌⊎◌, ◌↔◌, ◌≢◌, Some, Ok, Err, length, count_by, slice_get, slice_set, IfOk, IsTrue, IsOk};
+ghost use Rattle.std.specs.Prelude.{◌≡◌, ◌<◌, ◌≤◌, ◌↔◌, Some, length, count_by, slice_get, slice_set, IfOk, IsTrue};
 ghost use Rattle.std.specs.List.{position_or_len};
 ghost use Rattle.std.specs.Option.{option_copied};
 ghost use Rattle.vll_sca.specs.Status.{is_waiting as waiting, is_running as running, is_gone as gone};
 ghost use Rattle.vll_sca.specs.declared.status.Status.TheVariants as Status;
-ghost use Rattle.vll_sca.specs.declared.bits.BitsFault.TheVariants as BitsFault;
-ghost use Rattle.vll_core.specs.declared.config.OpenFault.TheVariants as OpenFault;
+ghost use Rattle.vll_core.specs.Faults.{Refuses, config_fault};
 ghost use Rattle.vll_core.specs.Queue.{IsQueued, empty, entry, admitted, lines, statuses, is_left, started, finished, front_among, fronted, found_by, scanned};
-ghost use Rattle.vll_core.specs.QueueKept.{statuses_of};
+ghost use Rattle.vll_core.specs.Private.QueueKept.{statuses_of};
 
-use crate::config::{Config, OpenFault};
+use crate::config::{Config, MOST_CALLS, OpenFault};
 use crate::line::Line;
+use crate::opening::config_fault;
 use crate::ticket::Ticket;
-use std::alloc::Global;
+use std::alloc::{AllocError, Global};
 use std::marker::Model;
 use vll_proc::{Call, Reply};
-use vll_sca::{Bits, BitsFault, Entry, Place, Status};
+use vll_sca::{Bits, Entry, Place, Status};
 
 /// The entered calls in order of entry, each with its line and its status, and the contention analysis of them.
 /// All room is taken in `open`. Contracts see what was chosen at the opening, and the list of entries.
@@ -40,7 +40,7 @@ impl<H: Place> Model for Queue<H> {
 
     ghost coded = { Prim.hlevel (codes, H.code) };
 
-    ghost use Rattle.vll_core.specs.QueueKept.{kept, IsKept};
+    ghost use Rattle.vll_core.specs.Private.QueueKept.{kept, IsKept};
 
     ghost view = { kept };
 
@@ -49,29 +49,26 @@ impl<H: Place> Model for Queue<H> {
 
 impl<H: Place + Drop> Queue<H> {
     /// A queue in which nothing is entered, with room for `limit` calls. The lowest fault that stands is answered:
-    /// `Limit` where the limit is not 1 to 65,536, `Cap` where the cap is not 1 to 65,536, and `Bits` where the
-    /// number of bits is not 1 to 1,048,576, all before any memory is asked for; `NoMemory` comes only where memory
-    /// was refused.
+    /// `Limit`, `Cap` or `Bits`, before any memory is asked for; where none stands, `NoMemory` is the only one.
     pub fn open(alloc: Global, config: Config, hash: H) -> Result<Queue<H>, OpenFault>
-        ensures limit { result ≡ Err OpenFault.Limit ↔ ¬ ((1 ≤ config.limit) × (config.limit ≤ 65536)) }
-        ensures cap { result ≡ Err OpenFault.Cap
-            ↔ ((1 ≤ config.limit) × (config.limit ≤ 65536) × (¬ ((1 ≤ config.cap) × (config.cap ≤ 65536)))) }
-        ensures bits { result ≡ Err OpenFault.Bits
-            ↔ ((1 ≤ config.limit) × (config.limit ≤ 65536) × (1 ≤ config.cap) × (config.cap ≤ 65536)
-            × (¬ ((1 ≤ config.bits) × (config.bits ≤ 1048576)))) }
-        ensures records { result ≢ Err OpenFault.Records }
+        ensures refused { Refuses (config_fault config) result }
         ensures opened { IfOk result (λ q. q ≡ empty config hash) }
     {
-        if config.limit < 1 || config.limit > 65_536 {
-            return Err(OpenFault::Limit);
+        match config_fault(config) {
+            Some(fault) => Err(fault),
+            None => Ok(Queue::with_room(alloc, config, hash)?),
         }
-        if config.cap < 1 || config.cap > 65_536 {
-            return Err(OpenFault::Cap);
-        }
-        let bits = Bits::new(alloc, config.bits).map_err(fault_of)?;
+    }
+
+    // A queue in which nothing is entered, where the configuration has no fault.
+    pub(crate) fn with_room(alloc: Global, config: Config, hash: H) -> Result<Queue<H>, AllocError>
+        requires { config_fault config ≡ None }
+        ensures { IfOk result (λ q. q ≡ empty config hash) }
+    {
+        let bits = Bits::new(alloc, config.bits).map_err(|_| AllocError)?;
         let room = config.limit as usize;
-        let entries = Vec::with_capacity(alloc, room).map_err(|_| OpenFault::NoMemory)?;
-        let journal = Vec::with_capacity(alloc, room).map_err(|_| OpenFault::NoMemory)?;
+        let entries = Vec::with_capacity(alloc, room)?;
+        let journal = Vec::with_capacity(alloc, room)?;
         Ok(Queue {
             cap: config.cap,
             limit: config.limit,
@@ -196,8 +193,8 @@ impl<H: Place> Queue<H> {
         ensures scanned { self.new ≡ scanned H.place_of self.old }
     {
         let first = self.first as usize;
-        let place = self.bits.scan(&self.hash, &self.entries[first..])?;
-        let ticket = Ticket((first + place) as u32);
+        let index = self.bits.scan(&self.hash, &self.entries[first..])?;
+        let ticket = Ticket((first + index) as u32);
         self.start(ticket);
         Some(ticket)
     }
@@ -217,9 +214,9 @@ impl<H: Place> Queue<H> {
         requires { slice_get (statuses self.old) ticket ≡ Some Status.Running }
         ensures { self.new ≡ finished self.old ticket reply }
     {
-        let place = ticket.0 as usize;
-        self.entries[place].status = Status::Gone;
-        let line = &mut self.journal[place];
+        let index = ticket.0 as usize;
+        self.entries[index].status = Status::Gone;
+        let line = &mut self.journal[index];
         line.reply = Some(reply);
         self.running -= 1;
         self.first = first_left(&self.entries, self.first);
@@ -229,7 +226,7 @@ impl<H: Place> Queue<H> {
 // The lowest ticket from one on that is not gone, or the number of tickets. All before that one are gone.
 #[tactic(auto, using(crate::proofs::Entries::first_of))]
 fn first_left(entries: &[Entry], from: u32) -> u32
-    requires few { length entries.now ≤ 65536 }
+    requires few { length entries.now ≤ MOST_CALLS }
     requires gone { from ≤ position_or_len is_left (statuses_of entries.now) }
     ensures { result ≡ position_or_len is_left (statuses_of entries.now) }
 {
@@ -240,17 +237,6 @@ fn first_left(entries: &[Entry], from: u32) -> u32
         }
     }
     tickets
-}
-
-// Why a queue cannot be opened, where there is no room for its scans.
-fn fault_of(fault: BitsFault) -> OpenFault
-    ensures size { fault ≡ BitsFault.Size → result ≡ OpenFault.Bits }
-    ensures memory { fault ≡ BitsFault.NoMemory → result ≡ OpenFault.NoMemory }
-{
-    match fault {
-        BitsFault::Size => OpenFault::Bits,
-        BitsFault::NoMemory => OpenFault::NoMemory,
-    }
 }
 
 fn is_waiting(status: Status) -> bool

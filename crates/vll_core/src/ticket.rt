@@ -1,6 +1,6 @@
 use std::marker::Model;
 
-/// The place of an entered call in the order of entry, from 0. Contracts see it as that number.
+/// The index of an entered call in the order of entry, from 0. Contracts see it as that number.
 #[derive(Clone, Copy, PartialEq, Eq, Debug)]
 pub struct Ticket(pub u32);
 

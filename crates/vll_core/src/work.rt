@@ -8,10 +8,10 @@ ghost use Rattle.vll_proc.specs.Made.{IsCallOf};
 ghost use Rattle.vll_proc.specs.Serial.{apply};
 ghost use Rattle.vll_proc.specs.WellFormed.{IsWellFormed};
 ghost use Rattle.vll_core.specs.State.{is_aborted, writes};
-ghost use Rattle.vll_core.specs.Work.{IsLoading, IsAtWork};
+ghost use Rattle.vll_core.specs.Private.Work.{IsLoading, IsAtWork};
 
 use vll_proc::{Call, Frame, Proc, Reply};
-use vll_record::{Claim, Claims, Mode};
+use vll_record::{Claim, Claims, MOST_CLAIMS, Mode};
 
 /// What an entered call has done: its loads, stores and releases so far, the frame on which it runs, and its
 /// reply once its body has run.
@@ -118,9 +118,9 @@ impl Work {
             → self.now.loads ≡ length call.now.claims
             → p.1 ≡ slice_index (apply procs call.now records).records p.0.id) }
     {
-        let place = place_of_write(&call.claims, self.stores)?;
-        let claim = call.claims.get(place)?;
-        Some((claim, self.frame.get(place)))
+        let index = index_of_write(&call.claims, self.stores)?;
+        let claim = call.claims.get(index)?;
+        Some((claim, self.frame.get(index)))
     }
 
     /// One more store is made.
@@ -165,10 +165,10 @@ impl Work {
     }
 }
 
-// The place of a Write claim, by its number among the Write claims, and `None` where there are not so many.
-fn place_of_write(claims: &Claims, number: u8) -> Option<usize>
+// The index of a Write claim, by its number among the Write claims, and `None` where there are not so many.
+fn index_of_write(claims: &Claims, number: u8) -> Option<usize>
     ensures claim { option_and_then (slice_get claims.now) result ≡ slice_get (filter writes_record claims.now) number }
-    ensures within { IfSome result (λ i. i < 16) }
+    ensures within { IfSome result (λ i. i < MOST_CLAIMS) }
 {
     let mut left = number;
     for i in 0..claims.len() {

@@ -5,6 +5,7 @@ use Rattle.std.proofs.lemmas.Bool.{ltb-true, cases_lt, leb-true, eq-eqb, cond-tr
 use Rattle.std.proofs.lemmas.Map.Views.{exact_unsigned_eq}
 use Rattle.std.proofs.lemmas.List.{get_or-map, get_or_append_left, get_or-append_right, get_or-take, get_or_past, length-map}
 use Rattle.std.proofs.lemmas.Option.{slice_get_within, none-some}
+use Rattle.vll_record.specs.declared.claims.TheConstants.{MOST_CLAIMS}
 use Rattle.vll_record.specs.Canon.{laid}
 use Rattle.vll_record.specs.declared.claim.Claim.{Claim}
 use Rattle.vll_record.specs.declared.claim.Mode.{Mode}
@@ -18,7 +19,7 @@ use Rattle.vll_proc.specs.declared.syntax.KeyDecl.{KeyDecl}
 use Rattle.vll_proc.specs.declared.syntax.Proc.{Proc}
 use Rattle.vll_proc.specs.Made.{asked, place_of, IsCallOf}
 use Rattle.vll_proc.specs.Meaning.{record_named}
-use Rattle.vll_proc.specs.Running.{HasCells}
+use Rattle.vll_proc.specs.Private.Running.{HasCells}
 use Rattle.vll_proc.specs.WellFormed.{IsWellFormed, argument_is_declared}
 use Rattle.vll_record.proofs.ClaimsOf.{IsRising-claims_of, length-claims_of-le}
 use Rattle.vll_proc.proofs.Copy.{IsPlaceFor, both_true}
@@ -86,9 +87,9 @@ claims_made p c made = ap (λ (x : Call). x.claims) made.made
 pub claims_rise : (p : Proc) (c : Call) → IsCallOf p c → IsRising c.claims
 claims_rise p c made = rw (claims_made p c made) (IsRising-claims_of (asked p (take c.arg_count c.args)))
 
-pub claims_few : (p : Proc) (c : Call) → IsWellFormed p → IsCallOf p c → length c.claims ≤ 16
+pub claims_few : (p : Proc) (c : Call) → IsWellFormed p → IsCallOf p c → length c.claims ≤ MOST_CLAIMS
 claims_few p c formed made =
-    let few = leb-true (length p.keys) 16 formed.few_keys in
+    let few = leb-true (length p.keys) MOST_CLAIMS formed.few_keys in
     let as_asked = length-claims_of-le (asked p (take c.arg_count c.args)) in
     rw (claims_made p c made) (omega (arith, length-map p.keys (λ (k : KeyDecl). let d : Claim = record { id = record_named (take c.arg_count c.args) k.at; mode = k.mode } in d)))
 
@@ -112,12 +113,12 @@ key_place p c formed made k lt =
     let key : KeyDecl = get_or p.keys k some_key in
     let cell : KeyDecl → ℕ = λ d. place_of (claims_of (asked p args)) (record_named args d.at) in
     let cell_is : slice_index c.cells k ≡ cell key =
-    ap (λ (x : Call). slice_index x.cells k) made.made ∙ slice_index-laid 16 (map cell p.keys) k ∙ get_or-map cell p.keys k some_key 0 lt in
+    ap (λ (x : Call). slice_index x.cells k) made.made ∙ slice_index-laid MOST_CLAIMS (map cell p.keys) k ∙ get_or-map cell p.keys k some_key 0 lt in
     let claimed = mode_on-asked (λ (d : KeyDecl). record { id = record_named args d.at; mode = d.mode }) p.keys k some_key lt in
     rw (cell_is, key_record p c formed made k lt, claims_made p c made)
     (place_of-stands (claims_of (asked p args)) (record_named args key.at) claimed.0 (mode_on-claims_of (asked p args) (record_named args key.at) ∙ claimed.1))
 
--- each key position has one of sixteen cells
+-- each key position has one of the cells
 pub HasCells-made : (p : Proc) (c : Call) → IsWellFormed p → IsCallOf p c → HasCells c
 HasCells-made p c formed made k lt =
     ⊎_elim
@@ -129,7 +130,7 @@ HasCells-made p c formed made k lt =
     let args : List ℕ = take c.arg_count c.args in
     let cell : KeyDecl → ℕ = λ d. place_of (claims_of (asked p args)) (record_named args d.at) in
     let cell_is : slice_index c.cells k ≡ 0 =
-    ap (λ (x : Call). slice_index x.cells k) made.made ∙ slice_index-laid 16 (map cell p.keys) k
+    ap (λ (x : Call). slice_index x.cells k) made.made ∙ slice_index-laid MOST_CLAIMS (map cell p.keys) k
     ∙ get_or_past (map cell p.keys) k 0 (omega (arith, length-map p.keys cell)) in
     omega arith)
     (cases_lt k (length p.keys))

@@ -1,6 +1,7 @@
 -- A well-formed body ends alike on two scenes that its declarations cannot tell apart.
 use Rattle.std.proofs.Common.{◌≡◌, ℕ, zero, suc, false, length, map, replicate, get_or, Result, Ok, Err, refl, sym, ◌∙◌}
 use Rattle.std.proofs.lemmas.Bool.{false≢true}
+use Rattle.vll_proc.specs.declared.limits.TheConstants.{MOST_LOCALS}
 use Rattle.vll_proc.specs.declared.call.Reason.{Reason}
 use Rattle.vll_proc.specs.declared.syntax.Proc.{Proc}
 use Rattle.vll_proc.specs.Meaning.{Scene, effect, in_turn}
@@ -35,7 +36,7 @@ meets_nothing p s t formed agree =
     let alike : IsAlike (same_bridge p) nothing_set s t = record {
       args = agree.args;
       named = agree.named;
-      locals = λ i is. absurd (false≢true (sym (none_set 8 i) ∙ is));
+      locals = λ i is. absurd (false≢true (sym (none_set MOST_LOCALS i) ∙ is));
       as_many = agree.as_many_locals;
       values = agree.records;
       outputs = agree.outputs;

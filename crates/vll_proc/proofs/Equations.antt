@@ -5,7 +5,7 @@ use Rattle.vll_proc.specs.declared.call.Reason.{Reason}
 use Rattle.vll_proc.specs.declared.syntax.Expr.{Expr, Add, Sub, Mul, Div, Rem, Min, Max, Equal, Less, Not}
 use Rattle.vll_proc.specs.declared.syntax.Expr.TheBlock.{hidden-the_row-Expr-0}
 use Rattle.vll_proc.specs.Meaning.{Scene, and_then, value_of, truth, sum, difference, product, quotient, remainder, lesser, greater, equality, order}
-use Rattle.vll_proc.specs.Running.{both_values}
+use Rattle.vll_proc.specs.Private.Running.{both_values}
 use Rattle.vll_proc.specs.WellFormed.{all_leaves, depth, nodes}
 
 -- both operands at once, and then the operator

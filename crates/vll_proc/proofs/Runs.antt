@@ -3,6 +3,8 @@ use Rattle.std.proofs.Common.{◌≡◌, ℕ, ◌≤◌, Bool, true, ◌&&◌, n
 use Rattle.std.specs.List.{list_all}
 use Rattle.std.proofs.lemmas.Bool.{ltb-true, lt-ltb, leb-true}
 use Rattle.std.proofs.lemmas.List.{length-set}
+use Rattle.vll_record.specs.declared.claims.TheConstants.{MOST_CLAIMS}
+use Rattle.vll_proc.specs.declared.limits.TheConstants.{MOST_ARGS, MOST_LOCALS}
 use Rattle.vll_record.specs.declared.claim.Claim.{Claim}
 use Rattle.vll_record.specs.Claim.{IsRising}
 use Rattle.vll_proc.specs.declared.call.Call.{Call}
@@ -106,17 +108,17 @@ set_still_below m n (Abort code) le h = refl
 set_still_below m n (Reply e) le h = refl
 
 -- a well-formed body reads and sets sixteen key positions at most, and eight arguments
-pub keys_known : (p : Proc) → IsWellFormed p → list_all (throughout (key_is_below 16) (set_is_below 16)) p.body ≡ true
+pub keys_known : (p : Proc) → IsWellFormed p → list_all (throughout (key_is_below MOST_CLAIMS) (set_is_below MOST_CLAIMS)) p.body ≡ true
 keys_known p formed =
-    let few = leb-true (length p.keys) 16 formed.few_keys in
-    still_all (throughout (key_is_below (length p.keys)) (set_is_below (length p.keys))) (throughout (key_is_below 16) (set_is_below 16)) p.body
-    (λ st. throughout_still _ _ _ _ st (λ e. key_still_below (length p.keys) 16 e few) (λ x. set_still_below (length p.keys) 16 x few)) formed.known_keys
+    let few = leb-true (length p.keys) MOST_CLAIMS formed.few_keys in
+    still_all (throughout (key_is_below (length p.keys)) (set_is_below (length p.keys))) (throughout (key_is_below MOST_CLAIMS) (set_is_below MOST_CLAIMS)) p.body
+    (λ st. throughout_still _ _ _ _ st (λ e. key_still_below (length p.keys) MOST_CLAIMS e few) (λ x. set_still_below (length p.keys) MOST_CLAIMS x few)) formed.known_keys
 
-pub args_known : (p : Proc) → IsWellFormed p → list_all (throughout (arg_is_below 8) any_stmt) p.body ≡ true
+pub args_known : (p : Proc) → IsWellFormed p → list_all (throughout (arg_is_below MOST_ARGS) any_stmt) p.body ≡ true
 args_known p formed =
-    let few = leb-true p.args 8 formed.few_args in
-    still_all (throughout (arg_is_below p.args) any_stmt) (throughout (arg_is_below 8) any_stmt) p.body
-    (λ st. throughout_still _ _ _ _ st (λ e. arg_still_below p.args 8 e few) (λ x h. h)) formed.known_args
+    let few = leb-true p.args MOST_ARGS formed.few_args in
+    still_all (throughout (arg_is_below p.args) any_stmt) (throughout (arg_is_below MOST_ARGS) any_stmt) p.body
+    (λ st. throughout_still _ _ _ _ st (λ e. arg_still_below p.args MOST_ARGS e few) (λ x h. h)) formed.known_args
 
 -- cells on one side, records on the other: a claim's place stands for its record
 abbrev pub cells_bridge : Proc → (claims : List Claim) → IsRising claims → Bridge
@@ -131,7 +133,7 @@ cells_bridge p claims rising = record {
 
 -- where a body begins on the cells of a call
 abbrev pub cell_opening : Call → List ℕ → Scene
-cell_opening c cells = record { named = c.cells; args = c.args; locals = replicate 8 0; records = cells; outputs = [] }
+cell_opening c cells = record { named = c.cells; args = c.args; locals = replicate MOST_LOCALS 0; records = cells; outputs = [] }
 
 opening_alike : (p : Proc) (c : Call) (cells records : List ℕ) (formed : IsWellFormed p) (made : IsCallOf p c) → length c.claims ≤ length cells → Holds cells c.claims records
     → IsAlike (cells_bridge p c.claims (claims_rise p c made)) nothing_set (cell_opening c cells) (opening_scene p c.args records)
@@ -163,7 +165,7 @@ told_on p c cells records formed made room holds =
     told_by_end p c.claims (claims_rise p c made) (body_set_behind p.body nothing_set) cells records (in_turn (map effect p.body) (cell_opening c cells)) (body p c.args records) holds
     (ends_alike p c cells records formed made room holds)
 
-pub told : (p : Proc) (c : Call) (cells records : List ℕ) (r : Result Scene Reason) → IsWellFormed p → IsCallOf p c → length cells ≡ 16
+pub told : (p : Proc) (c : Call) (cells records : List ℕ) (r : Result Scene Reason) → IsWellFormed p → IsCallOf p c → length cells ≡ MOST_CLAIMS
     → in_turn (map effect p.body) (cell_opening c cells) ≡ r → Holds cells c.claims records → ToldBy cells c.claims r (applied p c.args records)
 told p c cells records r formed made whole e holds =
     let few = claims_few p c formed made in

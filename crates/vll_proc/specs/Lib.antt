@@ -2,7 +2,7 @@ pub mod Meaning
 pub mod Serial
 pub mod WellFormed
 pub mod Made
+pub mod Same
 pub mod Cells
-pub mod Running
-pub mod Kept
+pub mod Private
 pub mod Undeclared

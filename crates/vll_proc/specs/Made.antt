@@ -1,5 +1,7 @@
 -- The call of a procedure with given arguments.
 use Rattle.std.specs.Prelude.{◌≡◌, ℕ, suc, ◌==◌, List, [], ◌∷◌, map, length, take, if◌then◌else◌}
+use Rattle.vll_record.specs.declared.claims.TheConstants.{MOST_CLAIMS}
+use Rattle.vll_proc.specs.declared.limits.TheConstants.{MOST_ARGS}
 use Rattle.vll_record.specs.declared.claim.Claim.{Claim}
 use Rattle.vll_record.specs.Claim.{claims_of}
 use Rattle.vll_record.specs.Canon.{laid}
@@ -22,9 +24,9 @@ abbrev pub call_of : ℕ → Proc → List ℕ → Call
 call_of n p args = record {
   number = n;
   arg_count = length args;
-  args = laid 8 0 args;
+  args = laid MOST_ARGS 0 args;
   claims = claims_of (asked p args);
-  cells = laid 16 0 (map (λ (k : KeyDecl). place_of (claims_of (asked p args)) (record_named args k.at)) p.keys);
+  cells = laid MOST_CLAIMS 0 (map (λ (k : KeyDecl). place_of (claims_of (asked p args)) (record_named args k.at)) p.keys);
 }
 
 -- a call that was made for the procedure

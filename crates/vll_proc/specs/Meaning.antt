@@ -1,5 +1,6 @@
 -- What a procedure's body means on a whole map of records: by cases on the syntax, operands from left to right, and the first reason ends the call.
 use Rattle.std.specs.Prelude.{ℕ, ◌+◌, ◌-◌, ◌*◌, ◌/◌, ◌%◌, ◌^◌, ◌==◌, min, max, Bool, List, [], ◌∷◌, ◌++◌, map, replicate, Result, Ok, Err, nat_lt, if◌then◌else◌, slice_index, slice_set}
+use Rattle.vll_proc.specs.declared.limits.TheConstants.{MOST_LOCALS}
 use Rattle.vll_proc.specs.declared.call.Reason.{Reason}
 use Rattle.vll_proc.specs.declared.call.Reason.TheVariants.{Code, Overflow, Underflow, ZeroDivisor}
 use Rattle.vll_proc.specs.declared.syntax.KeyAt.{KeyAt}
@@ -122,7 +123,7 @@ abbrev pub opening_scene : Proc → List ℕ → List ℕ → Scene
 opening_scene p args records = record {
   named = map (λ (k : KeyDecl). record_named args k.at) p.keys;
   args = args;
-  locals = replicate 8 0;
+  locals = replicate MOST_LOCALS 0;
   records = records;
   outputs = [];
 }

@@ -1,6 +1,8 @@
 -- Which procedures are well-formed: the tests look at the text alone.
 use Rattle.std.specs.Prelude.{◌≡◌, ℕ, suc, ◌+◌, max, Bool, true, false, ◌&&◌, nat_lt, nat_le, List, [], ◌∷◌, length, replicate, get_or, sum_by, Option, Some, None, slice_get, slice_set}
 use Rattle.std.specs.List.{list_all}
+use Rattle.vll_record.specs.declared.claims.TheConstants.{MOST_CLAIMS}
+use Rattle.vll_proc.specs.declared.limits.TheConstants.{MOST_ARGS, MOST_LOCALS, MOST_OUTPUTS, MOST_DEPTH, MOST_NODES}
 use Rattle.vll_record.specs.declared.claim.Mode.TheVariants.{Read, Write}
 use Rattle.vll_proc.specs.declared.syntax.KeyAt.TheVariants as at
 use Rattle.vll_proc.specs.declared.syntax.KeyDecl.{KeyDecl}
@@ -58,9 +60,9 @@ abbrev pub arg_is_below : ℕ → Expr → Bool
 arg_is_below n (Arg i) = nat_lt i n
 arg_is_below n leaf = true
 
--- a local that is read is one of the 8
+-- a local that is read is one of those there are
 abbrev pub local_is_known : Expr → Bool
-local_is_known (Local i) = nat_lt i 8
+local_is_known (Local i) = nat_lt i MOST_LOCALS
 local_is_known leaf = true
 
 -- a key position that is set is below a number
@@ -68,9 +70,9 @@ abbrev pub set_is_below : ℕ → Stmt → Bool
 set_is_below n (Set i e) = nat_lt i n
 set_is_below n st = true
 
--- a local that is given a value is one of the 8
+-- a local that is given a value is one of those there are
 abbrev pub let_is_known : Stmt → Bool
-let_is_known (Let i e) = nat_lt i 8
+let_is_known (Let i e) = nat_lt i MOST_LOCALS
 let_is_known st = true
 
 -- a key position is not one that is declared Read
@@ -90,13 +92,13 @@ any_leaf e = true
 abbrev pub any_stmt : Stmt → Bool
 any_stmt st = true
 
--- for each of the 8 locals, whether it is surely set
+-- for each local, whether it is surely set
 abbrev pub Locals : Type 0
 Locals = List Bool
 
 -- none is set
 abbrev pub nothing_set : Locals
-nothing_set = replicate 8 false
+nothing_set = replicate MOST_LOCALS false
 
 -- a local that is read is surely set
 abbrev pub local_is_set : Locals → Expr → Bool
@@ -225,10 +227,10 @@ abbrev mutual
 
 -- the tests, one by one
 abbrev pub has_few_args : Proc → Bool
-has_few_args p = nat_le p.args 8
+has_few_args p = nat_le p.args MOST_ARGS
 
 abbrev pub has_few_keys : Proc → Bool
-has_few_keys p = nat_le (length p.keys) 16
+has_few_keys p = nat_le (length p.keys) MOST_CLAIMS
 
 abbrev pub has_declared_key_args : Proc → Bool
 has_declared_key_args p = list_all (argument_is_declared p.args) p.keys
@@ -252,13 +254,13 @@ abbrev pub reads_set_locals : Proc → Bool
 reads_set_locals p = body_reads_set nothing_set p.body
 
 abbrev pub has_few_replies : Proc → Bool
-has_few_replies p = nat_le (sum_by replies p.body) 8
+has_few_replies p = nat_le (sum_by replies p.body) MOST_OUTPUTS
 
 abbrev pub is_shallow : Proc → Bool
-is_shallow p = nat_le (body_depth p.body) 32
+is_shallow p = nat_le (body_depth p.body) MOST_DEPTH
 
 abbrev pub is_short : Proc → Bool
-is_short p = nat_le (sum_by stmt_nodes p.body) 1024
+is_short p = nat_le (sum_by stmt_nodes p.body) MOST_NODES
 
 -- well-formed, whatever the number of records
 pub record IsWellFormed (p : Proc) : Type 0 where

@@ -1,5 +1,8 @@
+ghost use Rattle.std.specs.Prelude.{◌≡◌, ◌↔◌, IsTrue};
+
+use crate::limits::MOST_ARGS;
 use crate::outputs::Outputs;
-use vll_record::Claims;
+use vll_record::{Claims, MOST_CLAIMS};
 
 /// Why a call was aborted.
 #[derive(Clone, Copy, PartialEq, Eq, Debug)]
@@ -28,9 +31,29 @@ pub struct Call {
     pub number: u32,
     pub arg_count: u8,
     /// The arguments, and then zeros.
-    pub args: [u64; 8],
+    pub args: [u64; MOST_ARGS],
     /// The records that the key positions name, each once.
     pub claims: Claims,
     /// For each key position the place of its claim, and then zeros.
-    pub cells: [u8; 16],
+    pub cells: [u8; MOST_CLAIMS],
+}
+
+impl PartialEq for Call {
+    ghost use Rattle.vll_proc.specs.Same.{is_same_call};
+    ghost use Rattle.vll_proc.specs.Private.Same.{is_same_call-laws};
+
+    ghost eq = { is_same_call };
+
+    ghost laws = { is_same_call-laws };
+
+    fn eq(&self, other: &Call) -> bool
+        ensures value { result ≡ is_same_call self.now other.now }
+        ensures same { IsTrue result ↔ (self.now ≡ other.now) }
+    {
+        self.number == other.number
+            && self.arg_count == other.arg_count
+            && self.args == other.args
+            && self.cells == other.cells
+            && self.claims == other.claims
+    }
 }

@@ -7,15 +7,17 @@ ghost use Rattle.vll_proc.specs.Serial.{applied};
 ghost use Rattle.vll_proc.specs.WellFormed.{IsWellFormed};
 
 use crate::call::{Call, Reply};
+use crate::limits::MOST_LOCALS;
 use crate::outputs::Outputs;
 use crate::run::Progress;
 use crate::syntax::Proc;
 use std::marker::Model;
+use vll_record::MOST_CLAIMS;
 
-/// Sixteen cells, one for each claim of a call. Contracts see them as their list.
+/// The cells of a call, one for each claim that it may have. Contracts see them as their list.
 #[derive(Clone, Copy)]
 pub struct Frame {
-    cells: [u64; 16],
+    cells: [u64; MOST_CLAIMS],
 }
 
 impl Model for Frame {
@@ -31,14 +33,16 @@ impl Model for Frame {
 impl Frame {
     /// All cells are 0.
     pub fn new() -> Frame
-        ensures { result ≡ replicate 16 0 }
+        ensures { result ≡ replicate MOST_CLAIMS 0 }
     {
-        Frame { cells: [0; 16] }
+        Frame {
+            cells: [0; MOST_CLAIMS],
+        }
     }
 
     /// The value of a cell, from 0.
     pub fn get(&self, i: usize) -> u64
-        requires { i < 16 }
+        requires { i < MOST_CLAIMS }
         ensures { result ≡ slice_index self.now i }
     {
         self.cells[i]
@@ -46,7 +50,7 @@ impl Frame {
 
     /// Gives a cell, from 0, a value.
     pub fn put(&mut self, i: usize, value: u64)
-        requires { i < 16 }
+        requires { i < MOST_CLAIMS }
         ensures { self.new ≡ slice_set self.old i value }
     {
         self.cells[i] = value;
@@ -67,13 +71,13 @@ impl Frame {
         ensures cells { (records : List ℕ) → Holds self.old call.now.claims records
             → Holds self.new call.now.claims (applied procedure.now call.now.args records).records }
         ensures aborted { (why : Reason) → result ≡ Aborted why → self.new ≡ self.old }
-        ensures whole { length self.new ≡ 16 }
+        ensures whole { length self.new ≡ MOST_CLAIMS }
     {
-        // A contract sees the list of cells, and that it is one of sixteen only where they are read.
+        // A contract sees the list of cells, and how long it is only where they are read.
         let _ = &self.cells;
         let mut progress = Progress {
             cells: *self,
-            locals: [0; 8],
+            locals: [0; MOST_LOCALS],
             outputs: Outputs::new(),
         };
         match progress.steps(procedure.body.as_slice(), call) {

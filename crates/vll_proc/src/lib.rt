@@ -4,6 +4,7 @@
 mod call;
 mod frame;
 mod laws;
+mod limits;
 mod outputs;
 mod run;
 mod syntax;
@@ -14,5 +15,6 @@ pub use laws::{
     changes_claimed_records_alone, depends_on_claimed_records_alone, keeps_the_number_of_records,
     meets_nothing_undeclared,
 };
+pub use limits::{MOST_ARGS, MOST_DEPTH, MOST_LOCALS, MOST_NODES, MOST_OUTPUTS};
 pub use outputs::Outputs;
 pub use syntax::{Expr, KeyAt, KeyDecl, Proc, Stmt, Text};

@@ -1,11 +1,12 @@
-ghost use Rattle.std.specs.Prelude.{◌≡◌, ◌<◌, ◌≤◌, ◌++◌, ◌∷◌, [], length, slice_get};
+ghost use Rattle.std.specs.Prelude.{◌≡◌, ◌<◌, ◌≤◌, ◌++◌, ◌∷◌, [], length, slice_get, IsTrue, ◌↔◌, ◌==◌};
 
+use crate::limits::MOST_OUTPUTS;
 use std::marker::Model;
 
-/// What a call replies: up to 8 numbers, in the order of the reply statements. Contracts see them as their list.
+/// What a call replies: up to `MOST_OUTPUTS` numbers, in the order of the reply statements. Contracts see them as their list.
 #[derive(Clone, Copy)]
 pub struct Outputs {
-    places: [u64; 8],
+    places: [u64; MOST_OUTPUTS],
     len: u8,
 }
 
@@ -14,7 +15,7 @@ impl Model for Outputs {
 
     ghost Value = { List ℕ };
 
-    ghost use Rattle.vll_proc.specs.Kept.{kept, from_list, IsCanonical, from_list-kept};
+    ghost use Rattle.vll_proc.specs.Private.Kept.{kept, from_list, IsCanonical, from_list-kept};
 
     ghost view = { kept };
 
@@ -31,15 +32,15 @@ impl Outputs {
         ensures { result ≡ [] }
     {
         Outputs {
-            places: [0; 8],
+            places: [0; MOST_OUTPUTS],
             len: 0,
         }
     }
 
-    /// How many outputs there are, at most 8.
+    /// How many outputs there are, at most `MOST_OUTPUTS`.
     pub fn len(&self) -> usize
         ensures value { result ≡ length self.now }
-        ensures few { length self.now ≤ 8 }
+        ensures few { length self.now ≤ MOST_OUTPUTS }
     {
         self.len as usize
     }
@@ -55,12 +56,37 @@ impl Outputs {
         }
     }
 
+    /// The outputs, in the order of the reply statements.
+    pub fn as_slice(&self) -> &[u64]
+        ensures { result.now ≡ self.now }
+    {
+        &self.places[..self.len as usize]
+    }
+
     // Puts an output behind all others.
     pub(crate) fn push(&mut self, value: u64)
-        requires { length self.old < 8 }
+        requires { length self.old < MOST_OUTPUTS }
         ensures { self.new ≡ self.old ++ value ∷ [] }
     {
         self.places[self.len as usize] = value;
         self.len += 1;
+    }
+}
+
+impl PartialEq for Outputs {
+    ghost use Rattle.std.specs.Cmp.Lexicographic.{pointwise};
+    ghost use Rattle.std.specs.Cmp.Rules.{comparing};
+    ghost use Rattle.std.specs.Prelude.{◌==◌};
+    ghost use Rattle.std.proofs.Common.{rules};
+
+    ghost eq = { pointwise ◌==◌ };
+
+    ghost laws = { Prim.search (comparing, rules) };
+
+    fn eq(&self, other: &Outputs) -> bool
+        ensures value { result ≡ pointwise ◌==◌ self.now other.now }
+        ensures same { IsTrue result ↔ (self.now ≡ other.now) }
+    {
+        self.as_slice() == other.as_slice()
     }
 }

@@ -1,19 +1,21 @@
 ghost use Rattle.std.specs.Prelude.{◌≡◌, ◌+◌, ◌<◌, ◌≤◌, ◌&&◌, ◌^◌, ◌==◌, true, length, map, sum_by, nat_lt, OnOk};
 ghost use Rattle.std.specs.List.{list_all};
 ghost use Rattle.vll_proc.specs.Meaning.{sum, difference, product, quotient, remainder, value_of, effect, in_turn};
-ghost use Rattle.vll_proc.specs.Running.{scene_of, HasCells, ended, both_values};
+ghost use Rattle.vll_proc.specs.Private.Running.{scene_of, HasCells, ended, both_values};
 ghost use Rattle.vll_proc.specs.WellFormed.{all_leaves, throughout, key_is_below, arg_is_below, local_is_known, set_is_below, let_is_known, any_stmt, replies};
 
 use crate::call::{Call, Reason};
 use crate::frame::Frame;
+use crate::limits::{MOST_ARGS, MOST_LOCALS, MOST_OUTPUTS};
 use crate::outputs::Outputs;
 use crate::syntax::{Expr, Stmt};
+use vll_record::MOST_CLAIMS;
 
 // What changes while a body runs: it works on copies, so an aborted call leaves its frame as it was.
 #[derive(Clone, Copy)]
 pub(crate) struct Progress {
     pub(crate) cells: Frame,
-    pub(crate) locals: [u64; 8],
+    pub(crate) locals: [u64; MOST_LOCALS],
     pub(crate) outputs: Outputs,
 }
 
@@ -22,10 +24,10 @@ impl Progress {
     #[cycle(statement)]
     pub(crate) fn steps(&mut self, statements: &[Stmt], call: &Call) -> Result<(), Reason>
         requires cells { HasCells call.now }
-        requires keys { list_all (throughout (key_is_below 16) (set_is_below 16)) statements.now ≡ true }
-        requires args { list_all (throughout (arg_is_below 8) any_stmt) statements.now ≡ true }
+        requires keys { list_all (throughout (key_is_below MOST_CLAIMS) (set_is_below MOST_CLAIMS)) statements.now ≡ true }
+        requires args { list_all (throughout (arg_is_below MOST_ARGS) any_stmt) statements.now ≡ true }
         requires locals { list_all (throughout local_is_known let_is_known) statements.now ≡ true }
-        requires room { length self.old.outputs + sum_by replies statements.now ≤ 8 }
+        requires room { length self.old.outputs + sum_by replies statements.now ≤ MOST_OUTPUTS }
         ensures effect { in_turn (map effect statements.now) (scene_of call.now self.old)
             ≡ ended result (scene_of call.now self.new) }
         ensures outputs { OnOk result
@@ -42,10 +44,10 @@ impl Progress {
     #[tactic(auto, using(crate::proofs::Lists::branches))]
     fn step(&mut self, statement: &Stmt, call: &Call) -> Result<(), Reason>
         requires cells { HasCells call.now }
-        requires keys { throughout (key_is_below 16) (set_is_below 16) statement.now ≡ true }
-        requires args { throughout (arg_is_below 8) any_stmt statement.now ≡ true }
+        requires keys { throughout (key_is_below MOST_CLAIMS) (set_is_below MOST_CLAIMS) statement.now ≡ true }
+        requires args { throughout (arg_is_below MOST_ARGS) any_stmt statement.now ≡ true }
         requires locals { throughout local_is_known let_is_known statement.now ≡ true }
-        requires room { length self.old.outputs + replies statement.now ≤ 8 }
+        requires room { length self.old.outputs + replies statement.now ≤ MOST_OUTPUTS }
         ensures effect { effect statement.now (scene_of call.now self.old)
             ≡ ended result (scene_of call.now self.new) }
         ensures outputs { OnOk result
@@ -83,8 +85,8 @@ impl Progress {
     #[tactic(auto, using(crate::proofs::Equations::forms))]
     fn value(&self, expr: &Expr, call: &Call) -> Result<u64, Reason>
         requires cells { HasCells call.now }
-        requires keys { all_leaves (key_is_below 16) expr.now ≡ true }
-        requires args { all_leaves (arg_is_below 8) expr.now ≡ true }
+        requires keys { all_leaves (key_is_below MOST_CLAIMS) expr.now ≡ true }
+        requires args { all_leaves (arg_is_below MOST_ARGS) expr.now ≡ true }
         requires locals { all_leaves local_is_known expr.now ≡ true }
         ensures { result ≡ value_of expr.now (scene_of call.now self.now) }
     {
@@ -140,8 +142,8 @@ impl Progress {
     #[cycle(expression)]
     fn values(&self, left: &Expr, right: &Expr, call: &Call) -> Result<(u64, u64), Reason>
         requires cells { HasCells call.now }
-        requires keys { (all_leaves (key_is_below 16) left.now && all_leaves (key_is_below 16) right.now) ≡ true }
-        requires args { (all_leaves (arg_is_below 8) left.now && all_leaves (arg_is_below 8) right.now) ≡ true }
+        requires keys { (all_leaves (key_is_below MOST_CLAIMS) left.now && all_leaves (key_is_below MOST_CLAIMS) right.now) ≡ true }
+        requires args { (all_leaves (arg_is_below MOST_ARGS) left.now && all_leaves (arg_is_below MOST_ARGS) right.now) ≡ true }
         requires locals { (all_leaves local_is_known left.now && all_leaves local_is_known right.now) ≡ true }
         ensures { result ≡ both_values left.now right.now (scene_of call.now self.now) }
     {

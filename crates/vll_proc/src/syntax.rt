@@ -13,7 +13,7 @@ pub enum Expr {
     Arg(u8),
     /// The present value of the record that a key position names.
     Key(u8),
-    /// A local, by its place from 0 to 7.
+    /// A local, by its place from 0, below `MOST_LOCALS`.
     Local(u8),
     /// The sum. Over 18446744073709551615 the call is aborted with `Overflow`.
     Add(Boxed<Expr>, Boxed<Expr>),
@@ -40,7 +40,7 @@ pub enum Expr {
 /// A statement of a procedure's body.
 #[derive(Drop)]
 pub enum Stmt {
-    /// Gives a local, from 0 to 7, a value.
+    /// Gives a local, by its place from 0, a value.
     Let(u8, Expr),
     /// Gives the record that a key position names a new value.
     Set(u8, Expr),

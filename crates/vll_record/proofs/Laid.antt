@@ -1,30 +1,42 @@
--- Claims laid in the array: what a write and an insert among them leave.
-use Rattle.std.proofs.Common.{◌≡◌, ℕ, suc, ◌+◌, ◌-◌, ◌<◌, ◌≤◌, List, ◌∷◌, ◌++◌, length, take, drop, set, replicate, insert, refl, subst, sym, ap, ap₂, ◌∙◌, arith, drop-drop, append_assoc, length-append, length-set, length-drop, length-take-le, take_at, drop_at}
+-- Claims laid in their fields: what a mode that is strengthened and an insert leave.
+use Rattle.std.proofs.Common.{◌≡◌, ℕ, suc, ◌+◌, ◌-◌, ◌<◌, ◌≤◌, List, ◌∷◌, ◌++◌, length, take, drop, set, replicate, insert, refl, subst, sym, ap, ap₂, ◌∙◌, arith, drop-drop, append_assoc, length-append, length-set, length-drop, length-take-le, take_at, drop_at, slice_get, Some}
 use Rattle.std.specs.List.{copy_within}
-use Rattle.std.proofs.lemmas.List.{length-replicate, set-append_left, set_split, take-append-le, drop-append-le, take-take, drop-replicate}
+use Rattle.std.specs.List.Sorted.{IsStrictlyIncreasing}
+use Rattle.std.proofs.lemmas.List.{length-replicate, length-map, map-append, take-map, drop-map, set_split, take-append-le, drop-append-le, take-take, drop-replicate}
 use Rattle.std.proofs.lemmas.List.Edits.{length-insert}
+use Rattle.std.proofs.lemmas.Option.{get_or_from_slice_get}
+use Rattle.std.proofs.Math.Seq.{map-set_same}
 use Rattle.vll_record.specs.declared.claim.Claim.{Claim}
-use Rattle.vll_record.specs.Claim.{IsRising}
-use Rattle.vll_record.specs.Canon.{laid, no_claim}
+use Rattle.vll_record.specs.declared.claim.Mode.{Mode}
+use Rattle.vll_record.specs.declared.claims.TheConstants.{MOST_CLAIMS}
 use Rattle.vll_record.specs.declared.claims.Claims.TheInside.{Inside}
-use Rattle.vll_record.specs.Kept.{kept, from_list, IsCanonical}
+use Rattle.vll_record.specs.Canon.{laid}
+use Rattle.vll_record.specs.Claim.{IsRising}
+use Rattle.vll_record.specs.Private.Kept.{kept, from_list, ids_of, IsCanonical}
+use Rattle.vll_record.specs.Private.Masks.{claims_with, mask_of}
+use Rattle.vll_record.proofs.Masks.{claims_with-mask_of}
 
-pub kept-from_list : (cs : List Claim) → kept (from_list cs) ≡ cs
-kept-from_list cs = take_at cs _ (length cs) refl
+length-ids_of : (cs : List Claim) → length (ids_of cs) ≡ length cs
+length-ids_of cs = rw length-map refl
 
--- a list that is laid whole and rises meets the invariant
-pub IsCanonical-from_list : (cs : List Claim) → length cs ≤ 16 → IsRising cs → IsCanonical (from_list cs)
-IsCanonical-from_list cs few rising = record {
-  few = few;
-  whole = ap length (kept-from_list cs);
-  filled = ap (laid 16 no_claim) (sym (kept-from_list cs));
-  rising = rw kept-from_list rising;
-}
+kept-from_list : (cs : List Claim) → kept (from_list cs) ≡ cs
+kept-from_list cs =
+    ap (λ (ids : List ℕ). claims_with ids (mask_of cs)) (take_at (ids_of cs) (replicate (MOST_CLAIMS - length (ids_of cs)) 0) (length cs) (length-ids_of cs))
+    ∙ claims_with-mask_of cs
 
-pub laid-set : {A : Type 0} (n : ℕ) (blank y : A) (xs : List A) (i : ℕ) → i < length xs → set (laid n blank xs) i y ≡ laid n blank (set xs i y)
-laid-set {A} n blank y xs i lt =
-    set-append_left xs (replicate (n - length xs) blank) i y lt
-    ∙ ap (λ (m : ℕ). set xs i y ++ replicate (n - m) blank) (sym (length-set xs i y))
+-- fields in which a list lies keep that list
+pub kept-lies : (a : Inside) (cs : List Claim) → a ≡ from_list cs → kept a ≡ cs
+kept-lies a cs e = ap kept e ∙ kept-from_list cs
+
+-- fields in which a list lies that rises meet the invariant
+pub IsCanonical-lies : (a : Inside) (cs : List Claim) → a ≡ from_list cs → length cs ≤ MOST_CLAIMS → IsRising cs → IsCanonical a
+IsCanonical-lies a cs e few rising =
+    let is = kept-lies a cs e in
+    record { few = rw is few; lies = ap from_list is ∙ sym e; rising = rw is rising }
+
+-- what is kept is laid
+pub lies-kept : (a : Inside) (cs : List Claim) → IsCanonical a → kept a ≡ cs → a ≡ from_list cs
+lies-kept a cs h is = sym h.lies ∙ ap from_list is
 
 length-laid : {A : Type 0} (n : ℕ) (blank : A) (xs : List A) → length xs ≤ n → length (laid n blank xs) ≡ n
 length-laid n blank xs le =
@@ -65,7 +77,7 @@ set-last y xs ys i e =
     set_split (xs ++ ys) i y (omega arith)
     ∙ ap₂ (λ a b. a ++ y ∷ b) (take-append-le i xs ys (omega arith)) (drop_at xs ys (suc i) (omega arith))
 
-pub laid-insert : {A : Type 0} (n : ℕ) (blank y : A) (xs : List A) (i : ℕ) → i ≤ length xs → length xs < n
+laid-insert : {A : Type 0} (n : ℕ) (blank y : A) (xs : List A) (i : ℕ) → i ≤ length xs → length xs < n
     → set (copy_within (laid n blank xs) i (length xs) (i + 1)) i y ≡ laid n blank (insert xs i y)
 laid-insert n blank y xs i le lt =
     let whole = length-laid n blank xs (omega arith) in
@@ -79,43 +91,61 @@ laid-insert n blank y xs i le lt =
     ∙ sym (append_assoc (take i xs) (y ∷ drop i xs) (replicate (n - suc (length xs)) blank))
     ∙ ap (λ (k : ℕ). insert xs i y ++ replicate k blank) fewer
 
--- what a write among the claims leaves is laid too
-from_list-set : (a : Inside) (cs : List Claim) (i : ℕ) (c : Claim) → IsCanonical a → kept a ≡ cs → i < length cs
-    → ◌≡◌ {A = Inside} (record { places = set a.places i c; len = a.len }) (from_list (set cs i c))
-from_list-set a cs i c h is lt =
-    let lies : a.places ≡ laid 16 no_claim cs = h.filled ∙ ap (laid 16 no_claim) is in
-    let same_places : set a.places i c ≡ laid 16 no_claim (set cs i c) =
-    ap (λ p. set p i c) lies ∙ laid-set 16 no_claim c cs i lt in
-    let same_len : a.len ≡ length (set cs i c) = sym h.whole ∙ ap length is ∙ sym (length-set cs i c) in
-    ap₂ (λ (p : List Claim) (n : ℕ). let r : Inside = record { places = p; len = n } in r) same_places same_len
+-- fields are known from their parts
+fields : (a : Inside) (cs : List Claim) → a.ids ≡ laid MOST_CLAIMS 0 (ids_of cs) → a.modes.writes ≡ mask_of cs → a.len ≡ length cs → a ≡ from_list cs
+fields a cs ids writes len =
+    ap (λ (x : List ℕ). let i : Inside = record { ids = x; modes = a.modes; len = a.len } in i) ids
+    ∙ ap (λ (x : ℕ). let i : Inside = record { ids = laid MOST_CLAIMS 0 (ids_of cs); modes = record { writes = x }; len = a.len } in i) writes
+    ∙ ap (λ (x : ℕ). let i : Inside = record { ids = laid MOST_CLAIMS 0 (ids_of cs); modes = record { writes = mask_of cs }; len = x } in i) len
 
-pub IsCanonical-set : (a : Inside) (cs : List Claim) (i : ℕ) (c : Claim) → IsCanonical a → kept a ≡ cs → i < length cs → IsRising (set cs i c)
-    → IsCanonical (record { places = set a.places i c; len = a.len })
-IsCanonical-set a cs i c h is lt rising =
-    let few : length (set cs i c) ≤ 16 = omega (arith, h.few, h.whole, ap length is, length-set cs i c) in
-    subst IsCanonical (sym (from_list-set a cs i c h is lt)) (IsCanonical-from_list (set cs i c) few rising)
+-- a claim whose record stays
+pub lies-modes : (a : Inside) (cs ds : List Claim) (writes : ℕ) → a ≡ from_list cs → ids_of ds ≡ ids_of cs → writes ≡ mask_of ds
+    → ◌≡◌ {A = Inside} (record a { modes = record { writes = writes } }) (from_list ds)
+lies-modes a cs ds writes e same is =
+    let one : a.ids ≡ laid MOST_CLAIMS 0 (ids_of ds) = ap (λ (i : Inside). i.ids) e ∙ ap (laid MOST_CLAIMS 0) (sym same) in
+    let long : length ds ≡ length cs = sym (length-ids_of ds) ∙ ap length same ∙ length-ids_of cs in
+    fields (record a { modes = record { writes = writes } }) ds one is (ap (λ (i : Inside). i.len) e ∙ sym long)
 
-pub kept-set : (a : Inside) (cs : List Claim) (i : ℕ) (c : Claim) → IsCanonical a → kept a ≡ cs → i < length cs
-    → kept (record { places = set a.places i c; len = a.len }) ≡ set cs i c
-kept-set a cs i c h is lt = ap kept (from_list-set a cs i c h is lt) ∙ kept-from_list (set cs i c)
+ids_of-insert : (cs : List Claim) (i : ℕ) (c : Claim) → ids_of (insert cs i c) ≡ insert (ids_of cs) i c.id
+ids_of-insert cs i c =
+    map-append (λ (d : Claim). d.id) (take i cs) (c ∷ drop i cs)
+    ∙ ap₂ (λ (xs ys : List ℕ). xs ++ c.id ∷ ys) (sym (take-map (λ (d : Claim). d.id) i cs)) (sym (drop-map (λ (d : Claim). d.id) i cs))
 
--- and so is what an insert leaves
-from_list-insert : (a : Inside) (cs : List Claim) (i : ℕ) (c : Claim) → IsCanonical a → kept a ≡ cs → i ≤ length cs → length cs < 16
-    → ◌≡◌ {A = Inside} (record { places = set (copy_within a.places i a.len (i + 1)) i c; len = a.len + 1 }) (from_list (insert cs i c))
-from_list-insert a cs i c h is le lt =
-    let lies : a.places ≡ laid 16 no_claim cs = h.filled ∙ ap (laid 16 no_claim) is in
-    let long : a.len ≡ length cs = sym h.whole ∙ ap length is in
-    let same_places : set (copy_within a.places i a.len (i + 1)) i c ≡ laid 16 no_claim (insert cs i c) =
-    ap₂ (λ (p : List Claim) (n : ℕ). set (copy_within p i n (i + 1)) i c) lies long ∙ laid-insert 16 no_claim c cs i le lt in
-    let same_len : a.len + 1 ≡ length (insert cs i c) = omega (arith, length-insert cs i c le) in
-    ap₂ (λ (p : List Claim) (n : ℕ). let r : Inside = record { places = p; len = n } in r) same_places same_len
+-- a claim that comes in
+pub lies-insert : (a : Inside) (cs : List Claim) (i : ℕ) (c : Claim) (writes : ℕ) → a ≡ from_list cs → i ≤ length cs → length cs < MOST_CLAIMS → writes ≡ mask_of (insert cs i c)
+    → ◌≡◌ {A = Inside} (record { ids = set (copy_within a.ids i a.len (i + 1)) i c.id; modes = record { writes = writes }; len = a.len + 1 }) (from_list (insert cs i c))
+lies-insert a cs i c writes e le lt is =
+    let long : length (ids_of cs) ≡ length cs = length-ids_of cs in
+    let len : a.len ≡ length (ids_of cs) = ap (λ (x : Inside). x.len) e ∙ sym long in
+    let ids : set (copy_within a.ids i a.len (i + 1)) i c.id ≡ laid MOST_CLAIMS 0 (ids_of (insert cs i c)) =
+    ap₂ (λ (xs : List ℕ) (n : ℕ). set (copy_within xs i n (i + 1)) i c.id) (ap (λ (x : Inside). x.ids) e) len
+    ∙ laid-insert MOST_CLAIMS 0 c.id (ids_of cs) i (omega arith) (omega arith)
+    ∙ ap (laid MOST_CLAIMS 0) (sym (ids_of-insert cs i c)) in
+    let longer = length-insert cs i c le in
+    fields (record { ids = set (copy_within a.ids i a.len (i + 1)) i c.id; modes = record { writes = writes }; len = a.len + 1 }) (insert cs i c) ids is (omega arith)
 
-pub IsCanonical-insert : (a : Inside) (cs : List Claim) (i : ℕ) (c : Claim) → IsCanonical a → kept a ≡ cs → i ≤ length cs → length cs < 16 → IsRising (insert cs i c)
-    → IsCanonical (record { places = set (copy_within a.places i a.len (i + 1)) i c; len = a.len + 1 })
-IsCanonical-insert a cs i c h is le lt rising =
-    let few : length (insert cs i c) ≤ 16 = omega (arith, length-insert cs i c le) in
-    subst IsCanonical (sym (from_list-insert a cs i c h is le lt)) (IsCanonical-from_list (insert cs i c) few rising)
+pub writes-kept : (a : Inside) (cs : List Claim) → IsCanonical a → kept a ≡ cs → a.modes.writes ≡ mask_of cs
+writes-kept a cs h is = ap (λ (i : Inside). i.modes.writes) (lies-kept a cs h is)
 
-pub kept-insert : (a : Inside) (cs : List Claim) (i : ℕ) (c : Claim) → IsCanonical a → kept a ≡ cs → i ≤ length cs → length cs < 16
-    → kept (record { places = set (copy_within a.places i a.len (i + 1)) i c; len = a.len + 1 }) ≡ insert cs i c
-kept-insert a cs i c h is le lt = ap kept (from_list-insert a cs i c h is le lt) ∙ kept-from_list (insert cs i c)
+-- a claim whose mode changes
+ids_of-set : (cs : List Claim) (i : ℕ) (held : Claim) (m : Mode) → slice_get cs i ≡ Some held → ids_of (set cs i (record held { mode = m })) ≡ ids_of cs
+ids_of-set cs i held m at =
+    map-set_same (λ (c : Claim). c.id) cs i (record held { mode = m }) held (ap (λ (c : Claim). c.id) (sym (get_or_from_slice_get cs i held held at)))
+
+lies-set : (a : Inside) (cs : List Claim) (i : ℕ) (held : Claim) (m : Mode) (writes : ℕ) → IsCanonical a → kept a ≡ cs → slice_get cs i ≡ Some held → writes ≡ mask_of (set cs i (record held { mode = m }))
+    → ◌≡◌ {A = Inside} (record a { modes = record { writes = writes } }) (from_list (set cs i (record held { mode = m })))
+lies-set a cs i held m writes h is at word =
+    lies-modes a cs (set cs i (record held { mode = m })) writes (lies-kept a cs h is) (ids_of-set cs i held m at) word
+
+pub IsCanonical-set : (a : Inside) (cs : List Claim) (i : ℕ) (held : Claim) (m : Mode) (writes : ℕ) → IsCanonical a → kept a ≡ cs → slice_get cs i ≡ Some held → writes ≡ mask_of (set cs i (record held { mode = m }))
+    → IsCanonical (record a { modes = record { writes = writes } })
+IsCanonical-set a cs i held m writes h is at word =
+    let ds : List Claim = set cs i (record held { mode = m }) in
+    let few : length ds ≤ MOST_CLAIMS = omega (arith, h.few, ap length is, length-set cs i (record held { mode = m })) in
+    let rising : IsRising ds = subst IsStrictlyIncreasing (ap ids_of is ∙ sym (ids_of-set cs i held m at)) h.rising in
+    IsCanonical-lies (record a { modes = record { writes = writes } }) ds (lies-set a cs i held m writes h is at word) few rising
+
+pub kept-set : (a : Inside) (cs : List Claim) (i : ℕ) (held : Claim) (m : Mode) (writes : ℕ) → IsCanonical a → kept a ≡ cs → slice_get cs i ≡ Some held → writes ≡ mask_of (set cs i (record held { mode = m }))
+    → kept (record a { modes = record { writes = writes } }) ≡ set cs i (record held { mode = m })
+kept-set a cs i held m writes h is at word =
+    kept-lies (record a { modes = record { writes = writes } }) (set cs i (record held { mode = m })) (lies-set a cs i held m writes h is at word)

@@ -1,10 +1,12 @@
 -- A claim put in its place among rising claims: what it keeps, and where it goes.
-use Rattle.std.proofs.Common.{◌≡◌, ◌≢◌, ℕ, zero, suc, ◌<◌, ◌≤◌, ◌⊎◌, List, [], ◌∷◌, length, Some, None, Option, eqb, false, IsSome, refl, ap, ◌∙◌, subst, sym, inl, inr, ◌==◌, nat_lt, slice_get, set, insert, arith, ⊎_elim}
-use Rattle.std.proofs.lemmas.Bool.{false≢true, ltb-true, ltb-false, eqb-false, lt-ltb, le-ltb, eq-eqb, ne_eqb, cond_both, cond-true, cond-false, cases_order}
-use Rattle.std.proofs.lemmas.Option.{none-some, same_Some}
+use Rattle.std.proofs.Common.{◌≡◌, ◌≢◌, ℕ, zero, suc, ◌<◌, ◌≤◌, ◌⊎◌, List, [], ◌∷◌, length, Some, None, Option, eqb, false, IsSome, refl, ap, ◌∙◌, subst, sym, inl, inr, ◌==◌, nat_lt, nat_le, not, Bool, slice_get, set, insert, unwrap_or, arith, ⊎_elim}
+use Rattle.std.proofs.lemmas.Bool.{false≢true, ltb-true, ltb-false, leb-true, leb-false, eqb-false, lt-ltb, le-ltb, eq-eqb, ne_eqb, cond_both, cond-true, cond-false, cases_order, cases_lt}
+use Rattle.std.specs.List.{position, position_or_len}
+use Rattle.std.proofs.lemmas.List.Sums.{fails_before_first, passes_at_first, prefix_len-le-length}
+use Rattle.std.proofs.lemmas.Option.{none-some, same_Some, get_or_from_slice_get, slice_get_within}
 use Rattle.vll_record.specs.declared.claim.Claim.{Claim}
 use Rattle.vll_record.specs.Claim.{IsRising, stronger, mode_on, with_claim}
-use Rattle.vll_record.specs.Place.{IsPlaceOf}
+use Rattle.vll_record.specs.Private.Place.{place_in}
 use Rattle.vll_record.proofs.Rising.{RisesFrom, RisesFrom-zero, IsRising-from_rises, mode_on_below, mode_on-other}
 
 pub RisesFrom-with_claim : (n : ℕ) (c : Claim) (cs : List Claim) → n ≤ c.id → RisesFrom n cs → RisesFrom n (with_claim c cs)
@@ -43,6 +45,33 @@ with_claim-same c d ds e =
 pub with_claim-after : (c d : Claim) (ds : List Claim) → d.id < c.id → with_claim c (d ∷ ds) ≡ d ∷ with_claim c ds
 with_claim-after c d ds gt =
     cond-false (nat_lt c.id d.id) _ _ (le-ltb c.id d.id (omega arith)) ∙ cond-false (c.id == d.id) _ _ (ne_eqb c.id d.id (λ e. omega arith))
+
+-- the claims before the place are for lower records, and the claim at the place, if there is one, is not
+pub record IsPlaceOf (r : ℕ) (cs : List Claim) (at : ℕ) : Type 0 where
+  pub within : at ≤ length cs
+  pub before : (k : ℕ) (c : Claim) → k < at → slice_get cs k ≡ Some c → c.id < r
+  pub from : (c : Claim) → slice_get cs at ≡ Some c → r ≤ c.id
+
+pub IsPlaceOf-place_in : (r : ℕ) (cs : List Claim) → IsPlaceOf r cs (place_in cs r)
+IsPlaceOf-place_in r cs =
+    let test : Claim → Bool = λ c. nat_le r c.id in
+    record {
+      within = prefix_len-le-length (λ (c : Claim). not (nat_le r c.id)) cs;
+      before = λ k c lt e. leb-false r c.id (ap test (sym (get_or_from_slice_get cs k c c e)) ∙ fails_before_first test cs k c lt);
+      from = λ c e. leb-true r c.id (ap test (sym (get_or_from_slice_get cs (place_in cs r) c c e)) ∙ passes_at_first test cs c (slice_get_within cs (place_in cs r) c e));
+    }
+
+pub IsPlaceOf-is : (r : ℕ) (cs : List Claim) (at : ℕ) → at ≡ place_in cs r → IsPlaceOf r cs at
+IsPlaceOf-is r cs at e = subst (IsPlaceOf r cs) (sym e) (IsPlaceOf-place_in r cs)
+
+-- the first that passes, or the end
+pub unwrap_or-position : (test : Claim → Bool) (cs : List Claim) → unwrap_or (position test cs) (length cs) ≡ position_or_len test cs
+unwrap_or-position test cs =
+    let le = prefix_len-le-length (λ (c : Claim). not (test c)) cs in
+    ⊎_elim
+    (λ (lt : position_or_len test cs < length cs). ap (λ (o : Option ℕ). unwrap_or o (length cs)) (cond-true (nat_lt (position_or_len test cs) (length cs)) _ _ (lt-ltb (position_or_len test cs) (length cs) lt)))
+    (λ (ge : length cs ≤ position_or_len test cs). ap (λ (o : Option ℕ). unwrap_or o (length cs)) (cond-false (nat_lt (position_or_len test cs) (length cs)) _ _ (le-ltb (position_or_len test cs) (length cs) ge)) ∙ omega arith)
+    (cases_lt (position_or_len test cs) (length cs))
 
 IsPlaceOf-tail : (r : ℕ) (d : Claim) (ds : List Claim) (at : ℕ) → IsPlaceOf r (d ∷ ds) (suc at) → IsPlaceOf r ds at
 IsPlaceOf-tail r d ds at p = record {

@@ -1,5 +1,7 @@
 -- Claims on records: which conflict, and the claims of a call from what its key positions ask for.
 use Rattle.std.specs.Prelude.{◌≡◌, ℕ, Bool, true, false, ◌||◌, ◌&&◌, ◌==◌, nat_lt, List, [], ◌∷◌, map, if◌then◌else◌, Option, Some, None}
+use Rattle.std.specs.Bool.{beq}
+use Rattle.std.specs.Ordering.{eq_of_both, on}
 use Rattle.std.specs.List.{list_any}
 use Rattle.std.specs.List.Sorted.{IsStrictlyIncreasing}
 use Rattle.vll_record.specs.declared.claim.Mode.{Mode}
@@ -8,6 +10,10 @@ use Rattle.vll_record.specs.declared.claim.Claim.{Claim}
 
 abbrev pub is_write : Claim → Bool
 is_write c = elim c.mode [ Read ↦ false | Write ↦ true ]
+
+-- two claims are one: of one record, in one mode
+abbrev pub is_same_claim : Claim → Claim → Bool
+is_same_claim = eq_of_both (on (λ (c : Claim). c.id) ◌==◌) (on is_write beq)
 
 -- two claims conflict where they name one record and at least one is Write
 abbrev pub conflicts : Claim → Claim → Bool

@@ -1,6 +1,5 @@
 pub mod Claim
 pub mod Counter
 pub mod Word
-pub mod Place
 pub mod Canon
-pub mod Kept
+pub mod Private

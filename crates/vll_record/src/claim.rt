@@ -1,6 +1,3 @@
-ghost use Rattle.std.specs.Prelude.{◌≡◌};
-ghost use Rattle.vll_record.specs.Claim.{stronger};
-
 use std::marker::Model;
 
 /// A record's number, from 0. Contracts see it as that number.
@@ -29,16 +26,4 @@ pub enum Mode {
 pub struct Claim {
     pub id: RecordId,
     pub mode: Mode,
-}
-
-impl Claim {
-    // The claim, and Write where `mode` is.
-    pub(crate) fn with(self, mode: Mode) -> Claim
-        ensures { result ≡ record self { mode = stronger mode self.mode } }
-    {
-        match mode {
-            Mode::Write => Claim { mode, ..self },
-            Mode::Read => self,
-        }
-    }
 }

@@ -1,14 +1,25 @@
-ghost use Rattle.std.specs.Prelude.{◌≡◌, ◌<◌, ◌≤◌, ◌⊎◌, [], length, slice_get, slice_set, insert, IsSome};
-ghost use Rattle.vll_record.specs.Claim.{IsRising, mode_on, with_claim};
-ghost use Rattle.vll_record.specs.Place.{IsPlaceOf};
+ghost use Rattle.std.specs.Prelude.{◌≡◌, ◌<◌, ◌≤◌, ◌⊎◌, ◌↔◌, [], length, slice_get, slice_set, insert, IsSome, Some, IsTrue};
+ghost use Rattle.vll_record.specs.Claim.{IsRising, stronger, mode_on, with_claim};
+ghost use Rattle.vll_record.specs.declared.claim.Claim.{Claim};
+ghost use Rattle.vll_record.specs.Private.Place.{place_in};
 
 use crate::claim::{Claim, Mode, RecordId};
 use std::marker::Model;
 
-/// Up to 16 claims, strictly rising by record number. Contracts see them as their list.
+mod iter;
+mod modes;
+
+pub use iter::ClaimsIter;
+use modes::Modes;
+
+/// How many claims a call has at most.
+pub const MOST_CLAIMS: usize = 16;
+
+/// Up to `MOST_CLAIMS` claims, strictly rising by record number. Contracts see them as their list.
 #[derive(Clone, Copy)]
 pub struct Claims {
-    places: [Claim; 16],
+    ids: [RecordId; MOST_CLAIMS],
+    modes: Modes,
     len: u8,
 }
 
@@ -18,7 +29,7 @@ impl Model for Claims {
 
     ghost Value = { List Claim };
 
-    ghost use Rattle.vll_record.specs.Kept.{kept, from_list, IsCanonical, from_list-kept};
+    ghost use Rattle.vll_record.specs.Private.Kept.{kept, from_list, IsCanonical, from_list-kept};
 
     ghost view = { kept };
 
@@ -35,18 +46,16 @@ impl Claims {
         ensures { result ≡ [] }
     {
         Claims {
-            places: [Claim {
-                id: RecordId(0),
-                mode: Mode::Read,
-            }; 16],
+            ids: [RecordId(0); MOST_CLAIMS],
+            modes: Modes::new(),
             len: 0,
         }
     }
 
-    /// How many claims there are, at most 16. They rise strictly by record number.
+    /// How many claims there are, at most `MOST_CLAIMS`. They rise strictly by record number.
     pub fn len(&self) -> usize
         ensures value { result ≡ length self.now }
-        ensures few { length self.now ≤ 16 }
+        ensures few { length self.now ≤ MOST_CLAIMS }
         ensures rising { IsRising self.now }
     {
         self.len as usize
@@ -57,59 +66,85 @@ impl Claims {
         ensures { result ≡ slice_get self.now i }
     {
         if i < self.len as usize {
-            Some(self.places[i])
+            Some(Claim {
+                id: self.ids[i],
+                mode: self.modes.get(i),
+            })
         } else {
             None
         }
     }
 
+    /// The claims, in rising order of their records.
+    pub fn iter(&self) -> ClaimsIter<'_>
+        ensures { result ≡ self.now }
+    {
+        ClaimsIter::new(self)
+    }
+
     /// Puts a claim in its place. A record that is there keeps one claim, Write where either is.
-    /// A record that is not there needs room: at most 15 claims so far.
+    /// A record that is not there needs room: fewer than `MOST_CLAIMS` claims so far.
     pub fn add(&mut self, claim: Claim)
-        requires { (length self.old < 16) ⊎ IsSome (mode_on self.old claim.id) }
+        requires { (length self.old < MOST_CLAIMS) ⊎ IsSome (mode_on self.old claim.id) }
         ensures { self.new ≡ with_claim claim self.old }
     {
         let place = self.place_of(claim.id);
         match self.get(place) {
-            Some(held) if held.id == claim.id => self.replace(place, held.with(claim.mode)),
+            Some(held) if held.id == claim.id => self.strengthen(place, claim.mode),
             _ => self.insert(place, claim),
         }
     }
 
     // Where the record's claim stands, or would stand.
     fn place_of(&self, id: RecordId) -> usize
-        ensures place { IsPlaceOf id self.now result }
+        ensures place { result ≡ place_in self.now id }
         ensures rising { IsRising self.now }
     {
-        for i in 0..self.len() {
-            let held = self.places[i];
-            if held.id.0 >= id.0 {
-                return i;
-            }
-        }
-        self.len()
+        let len = self.len();
+        self.iter()
+            .position(|held| held.id.0 >= id.0)
+            .unwrap_or(len)
     }
 
-    fn replace(&mut self, place: usize, claim: Claim)
+    // The claim at the place is Write where it was or the mode is.
+    fn strengthen(&mut self, place: usize, mode: Mode)
         requires within { place < length self.old }
-        requires rising { IsRising (slice_set self.old place claim) }
-        ensures { self.new ≡ slice_set self.old place claim }
+        ensures { (held : Claim) → slice_get self.old place ≡ Some held
+            → self.new ≡ slice_set self.old place (record held { mode = stronger mode held.mode }) }
     {
-        let places = &mut self.places;
-        places[place] = claim;
+        self.modes.strengthen(place, mode);
     }
 
     // The claims from the place on move up by one.
     fn insert(&mut self, place: usize, claim: Claim)
-        requires room { length self.old < 16 }
+        requires room { length self.old < MOST_CLAIMS }
         requires within { place ≤ length self.old }
         requires rising { IsRising (insert self.old place claim) }
         ensures { self.new ≡ insert self.old place claim }
     {
         let len = self.len as usize;
-        self.places.copy_within(place..len, place + 1);
-        self.places[place] = claim;
+        self.ids.copy_within(place..len, place + 1);
+        self.ids[place] = claim.id;
+        self.modes.insert(place, claim.mode);
         self.len += 1;
+    }
+}
+
+impl PartialEq for Claims {
+    ghost use Rattle.std.specs.Cmp.Lexicographic.{pointwise};
+    ghost use Rattle.std.specs.Cmp.Rules.{comparing};
+    ghost use Rattle.std.proofs.Common.{rules};
+    ghost use Rattle.vll_record.specs.Claim.{is_same_claim};
+
+    ghost eq = { pointwise is_same_claim };
+
+    ghost laws = { Prim.search (comparing, rules) };
+
+    fn eq(&self, other: &Claims) -> bool
+        ensures value { result ≡ pointwise is_same_claim self.now other.now }
+        ensures same { IsTrue result ↔ (self.now ≡ other.now) }
+    {
+        self.len == other.len && self.modes == other.modes && self.ids == other.ids
     }
 }
 

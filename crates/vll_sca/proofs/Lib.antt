@@ -1,3 +1,6 @@
 pub mod Scanning
 pub mod Steps
 pub mod Rows
+pub mod Words
+pub mod Meeting
+pub mod Finding

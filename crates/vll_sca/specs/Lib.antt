@@ -2,3 +2,4 @@ pub mod Status
 pub mod Placing
 pub mod Scan
 pub mod Laws
+pub mod Private

@@ -2,50 +2,56 @@ ghost use Rattle.std.specs.Prelude.{◌≡◌, ◌≤◌, ◌↔◌, ◌⊎◌, 
 ghost use Rattle.vll_sca.specs.Scan.{scan};
 ghost use Rattle.vll_sca.specs.declared.bits.BitsFault.TheVariants as BitsFault;
 
+use crate::claim_marks::ClaimMarks;
 use crate::entry::Entry;
-use crate::pairs::is_held_back;
 use crate::place::Place;
-use crate::status::Status;
 use std::alloc::Global;
 use std::marker::Model;
 
-/// The room for a scan: how many bits records share. Contracts see their number.
+/// The most bits that records can share: 2^20.
+pub const MOST_BITS: u32 = 1_048_576;
+
+/// The room for a scan: two arrays of bits that records share. Contracts see the number of bits.
 #[derive(Drop)]
 pub struct Bits {
     count: u32,
+    // Clear between scans, so that no scan costs a walk over the bits.
+    marks: ClaimMarks,
 }
 
 impl Model for Bits {
-    ghost use Rattle.std.specs.Prelude.{ℕ, ◌≤◌};
+    ghost use Rattle.std.specs.Prelude.{ℕ};
 
     ghost Value = { ℕ };
 
+    ghost use Rattle.vll_sca.specs.Private.Bits.{IsReady};
+
     ghost view = { λ b. b.count };
 
-    ghost invariant = { λ b. (1 ≤ b.count) × (b.count ≤ 1048576) };
+    ghost invariant = { IsReady };
 }
 
 /// Why there is no room for scans.
 #[derive(Clone, Copy, PartialEq, Eq, Debug)]
 pub enum BitsFault {
-    /// The number of bits is not 1 to 1,048,576.
+    /// The number of bits is not 1 to `MOST_BITS`.
     Size,
     /// Memory was refused.
     NoMemory,
 }
 
 impl Bits {
-    /// Room for scans over this many bits. `Size` comes exactly where the number is not 1 to 1,048,576, before
+    /// Room for scans over this many bits. `Size` comes exactly where the number is not 1 to `MOST_BITS`, before
     /// any memory is asked for, and `NoMemory` only where memory was refused.
     pub fn new(alloc: Global, n: u32) -> Result<Bits, BitsFault>
-        ensures size { result ≡ Err BitsFault.Size ↔ ¬ ((1 ≤ n) × (n ≤ 1048576)) }
+        ensures size { result ≡ Err BitsFault.Size ↔ ¬ ((1 ≤ n) × (n ≤ MOST_BITS)) }
         ensures made { (result ≡ Ok n) ⊎ (result ≡ Err BitsFault.Size) ⊎ (result ≡ Err BitsFault.NoMemory) }
     {
-        let _ = alloc;
-        if n < 1 || n > 1_048_576 {
+        if n < 1 || n > MOST_BITS {
             return Err(BitsFault::Size);
         }
-        Ok(Bits { count: n })
+        let marks = ClaimMarks::new(alloc, n as usize).map_err(|_| BitsFault::NoMemory)?;
+        Ok(Bits { count: n, marks })
     }
 
     /// The place of the first waiting entry that is in hash conflict with no earlier entry that is running or
@@ -56,14 +62,10 @@ impl Bits {
         ensures found { result ≡ scan (H.place_of hash.now) self.old entries.now }
         ensures same { self.new ≡ self.old }
     {
-        for (i, entry) in entries.iter().enumerate() {
-            if matches!(entry.status, Status::Waiting)
-                && !is_held_back(hash, self.count, entry, &entries[..i])
-            {
-                return Some(i);
-            }
-        }
-        None
+        let found = self.marks.first_clear(hash, self.count, entries);
+        let passed = found.unwrap_or(entries.len());
+        self.marks.take_back(hash, self.count, &entries[..passed]);
+        found
     }
 }
 

@@ -2,13 +2,14 @@
 #![tactic(auto)]
 
 mod bits;
+mod claim_marks;
 mod entry;
 mod laws;
-mod pairs;
+mod marks;
 mod place;
 mod status;
 
-pub use bits::{Bits, BitsFault};
+pub use bits::{Bits, BitsFault, MOST_BITS};
 pub use entry::Entry;
 pub use laws::{
     conflict_implies_hash_conflict, gone_beginnings_do_not_matter, scanned_entry_waits_and_is_clear,

@@ -1,4 +1,4 @@
-ghost use Rattle.std.specs.Prelude.{◌≡◌};
+ghost use Rattle.std.specs.Prelude.{◌≡◌, ◌<◌, ◌≤◌, ◌%◌};
 
 use vll_record::RecordId;
 
@@ -14,6 +14,15 @@ pub trait Place {
     /// The place of a record. It takes no memory.
     fn place(&self, r: RecordId) -> u64
         ensures { result ≡ place_of self.now r };
+}
+
+/// Where a record stands among so many places.
+pub(crate) fn place_modulo<H: Place>(hash: &H, bits: u32, r: RecordId) -> usize
+    requires { 1 ≤ bits }
+    ensures place { result ≡ H.place_of hash.now r % bits }
+    ensures within { result < bits }
+{
+    (hash.place(r) % u64::from(bits)) as usize
 }
 
 /// The hashes that a scenario can name.

@@ -12,7 +12,7 @@ use Rattle.vll_proc.specs.declared.call.Call.{Call}
 use Rattle.vll_proc.specs.Serial.{Made}
 use Rattle.vll_check.specs.Calls.{Fits}
 use Rattle.vll_check.specs.Catalog.{Catalog}
-use Rattle.vll_core.proofs.CoreState.{all_from}
+use Rattle.vll_core.proofs.MachineState.{all_from}
 use Rattle.vll_core.proofs.Places.{all_at}
 use Rattle.vll_queue.specs.declared.closed.Closed.{Closed}
 use Rattle.vll_queue.specs.Closed.{calls_in}

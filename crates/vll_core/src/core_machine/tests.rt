@@ -1,5 +1,6 @@
 mod acts;
 mod blocking;
+mod handing;
 mod opening;
 mod procedures;
 mod refusals;

@@ -16,7 +16,7 @@ use vll_sca::Place;
 
 impl<H: Place> Machine<H> {
     /// Opens a turn for a call that is handed in, for a client that has a script, an empty one too; the script
-    /// stays at its place. Refused, in this order, by `TurnOpen`, `Spent` and `Busy`, as Enter is. A refusal
+    /// stays as it is. Refused, in this order, by `TurnOpen`, `Spent` and `Busy`, as Enter is. A refusal
     /// changes nothing. The library is the one of the opening. It takes no memory.
     pub fn enter(&mut self, library: &Library, client: u32, call: Call) -> Result<(), Refusal>
         requires same { library.now ≡ library_of self.old }
@@ -47,11 +47,11 @@ impl<H: Place> Machine<H> {
         if self.turn.is_some() {
             return Err(Refusal::TurnOpen);
         }
-        let place = client as usize;
-        let Some(script) = self.scripts.get(place) else {
+        let index = client as usize;
+        let Some(script) = self.scripts.get(index) else {
             return Err(Refusal::NoCall);
         };
-        let next = self.next[place];
+        let next = self.next[index];
         let Some(call) = script.get(next) else {
             return Err(Refusal::NoCall);
         };
@@ -63,7 +63,7 @@ impl<H: Place> Machine<H> {
             requested: 0,
             granted: true,
         });
-        self.next[place] = next + 1;
+        self.next[index] = next + 1;
         Ok(Seen::Opened)
     }
 

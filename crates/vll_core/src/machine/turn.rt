@@ -24,9 +24,9 @@ impl<H: Place> Machine<H> {
         let Some(claim) = turn.call.claims.get(turn.requested as usize) else {
             return Err(Refusal::OutOfStep);
         };
-        let place = pair_word(claim.id);
-        let old = self.words[place];
-        self.words[place] = old + delta(claim.mode);
+        let word = pair_word(claim.id);
+        let old = self.words[word];
+        self.words[word] = old + delta(claim.mode);
         let granted = granted(claim.mode, old);
         self.turn = Some(OpenTurn {
             requested: turn.requested + 1,

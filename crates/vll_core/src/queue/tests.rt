@@ -5,8 +5,8 @@ use crate::config::{Config, OpenFault};
 use crate::ticket::Ticket;
 use std::process::Abort;
 use std::test::Fail;
-use vll_proc::{Call, Reason, Reply};
-use vll_record::{Claim, Claims, Mode, RecordId};
+use vll_proc::{Call, MOST_ARGS, Reason, Reply};
+use vll_record::{Claim, Claims, MOST_CLAIMS, Mode, RecordId};
 use vll_sca::{Placing, Status};
 
 fn config(cap: u32, limit: u32, bits: u32) -> Config {
@@ -23,9 +23,9 @@ fn writes(number: u32, record: u32) -> Call {
     Call {
         number,
         arg_count: 0,
-        args: [0; 8],
+        args: [0; MOST_ARGS],
         claims,
-        cells: [0; 16],
+        cells: [0; MOST_CLAIMS],
     }
 }
 

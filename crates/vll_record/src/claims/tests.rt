@@ -1,6 +1,6 @@
 #![tactic(auto, using(crate::proofs::WithClaim::lengths))]
 
-use super::Claims;
+use super::{Claims, MOST_CLAIMS};
 use crate::claim::{Claim, Mode, RecordId};
 
 fn read(id: u32) -> Claim {
@@ -49,5 +49,32 @@ fn no_claim_stands_from_len_on(rt: HostRuntime) {
     claims.add(read(1));
     assert_eq!(rt; claims.len(), 2);
     assert_eq!(rt; claims.get(2), None);
-    assert_eq!(rt; claims.get(16), None);
+    assert_eq!(rt; claims.get(MOST_CLAIMS), None);
+}
+
+#[test]
+fn iterator_yields_each_claim_once(rt: HostRuntime) {
+    let mut claims = Claims::new();
+    claims.add(write(5));
+    claims.add(read(1));
+    let mut left = claims.iter();
+    assert_eq!(rt; left.next(), Some(read(1)));
+    assert_eq!(rt; left.next(), Some(write(5)));
+    assert_eq!(rt; left.next(), None);
+    assert_eq!(rt; left.next(), None);
+}
+
+#[test]
+fn claims_are_equal_where_records_and_modes_are(rt: HostRuntime) {
+    let mut claims = Claims::new();
+    claims.add(read(3));
+    let mut same = Claims::new();
+    same.add(read(3));
+    let mut stronger = same;
+    stronger.add(write(3));
+    let mut more = same;
+    more.add(read(4));
+    assert!(rt; claims == same);
+    assert!(rt; claims != stronger);
+    assert!(rt; claims != more);
 }

@@ -94,3 +94,22 @@ fn earlier_scan_leaves_nothing(rt: HostRuntime) -> Result<(), Fail> {
     assert_eq!(rt; four.scan(&Placing::Modulo, &read_above), Some(1));
     Ok(())
 }
+
+#[test]
+fn places_past_the_first_word_are_told_apart(rt: HostRuntime) -> Result<(), Fail> {
+    let mut room = Bits::new(rt.alloc(), 130)?;
+    let last_twice = [entry(Running, Write, 129), entry(Waiting, Read, 129)];
+    let same_bit_of_other_words = [
+        entry(Running, Write, 129),
+        entry(Running, Write, 1),
+        entry(Waiting, Write, 65),
+    ];
+    let round_the_end = [entry(Running, Read, 0), entry(Waiting, Write, 130)];
+    assert_eq!(rt; room.scan(&Placing::Modulo, &last_twice), None);
+    assert_eq!(rt;
+        room.scan(&Placing::Modulo, &same_bit_of_other_words),
+        Some(2)
+    );
+    assert_eq!(rt; room.scan(&Placing::Modulo, &round_the_end), None);
+    Ok(())
+}

@@ -1,7 +1,7 @@
 use Rattle.std.proofs.Common.{arith, inl, length, ap, map, take, drop, ◌-◌, length-take, length-drop}
 use Rattle.std.proofs.lemmas.List.{length-map}
 use Rattle.vll_record.proofs.ClaimsOf.{length-claims_of-le}
-use Rattle.vll_check.specs.Making.{asked_for}
+use Rattle.vll_check.specs.Private.Making.{asked_for}
 use Rattle.vll_check.proofs.making.+claims_of.Goals as goal
 
 pub add-requires : goal.add-requires

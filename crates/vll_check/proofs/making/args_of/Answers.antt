@@ -1,4 +1,5 @@
 use Rattle.std.proofs.Common.{◌∙◌, ap, set, get_or, refl, arith}
+use Rattle.vll_proc.specs.declared.limits.TheConstants.{MOST_ARGS}
 use Rattle.vll_check.proofs.ShortLists.{laid-next}
 use Rattle.vll_check.proofs.making.args_of.Goals as goal
 
@@ -6,4 +7,4 @@ pub loop-i-preserved : goal.loop-i-preserved
 loop-i-preserved c =
     let args = c.args.args.now in
     let i = c.loop-i.i in
-    ap (λ places. set places i (get_or args i 0)) c.loop-i.invariant ∙ laid-next 8 args i (get_or args i 0) (omega arith) (omega arith) refl
+    ap (λ places. set places i (get_or args i 0)) c.loop-i.invariant ∙ laid-next MOST_ARGS args i (get_or args i 0) (omega arith) (omega arith) refl

@@ -1,9 +1,11 @@
 use Rattle.std.proofs.Common.{◌∙◌, ap, ap₂, map, List, ℕ, length}
+use Rattle.vll_record.specs.declared.claims.TheConstants.{MOST_CLAIMS}
+use Rattle.vll_proc.specs.declared.limits.TheConstants.{MOST_ARGS}
 use Rattle.vll_record.specs.Canon.{laid}
 use Rattle.vll_record.specs.Claim.{claims_of}
 use Rattle.vll_record.specs.declared.claim.Claim.{Claim}
 use Rattle.vll_proc.specs.declared.call.Call.{Call}
-use Rattle.vll_check.specs.Making.{asked_for, cell_of}
+use Rattle.vll_check.specs.Private.Making.{asked_for, cell_of}
 use Rattle.vll_check.proofs.making.call_of.Goals as goal
 
 pub returns : goal.returns
@@ -11,6 +13,6 @@ returns c =
     let args = c.args.args.now in
     let keys = c.as_slice-keys.ensures in
     let claims = c.claims_of-claims.ensures ∙ ap (λ ks. claims_of (map (asked_for args) ks)) keys in
-    let cells = c.cells_of.ensures ∙ ap₂ (λ cs ks. laid 16 0 (map (cell_of cs args) ks)) claims keys in
+    let cells = c.cells_of.ensures ∙ ap₂ (λ cs ks. laid MOST_CLAIMS 0 (map (cell_of cs args) ks)) claims keys in
     let call : List ℕ → List Claim → List ℕ → Call = λ xs cs ys. record { number = c.args.number; arg_count = length args; args = xs; claims = cs; cells = ys } in
-    ap (λ xs. call xs c.claims_of-claims.result c.cells_of.result) c.args_of.ensures ∙ ap₂ (call (laid 8 0 args)) claims cells
+    ap (λ xs. call xs c.claims_of-claims.result c.cells_of.result) c.args_of.ensures ∙ ap₂ (call (laid MOST_ARGS 0 args)) claims cells

@@ -1,6 +1,7 @@
 use Rattle.std.proofs.Common.{◌∙◌, ap, set, arith}
+use Rattle.vll_record.specs.declared.claims.TheConstants.{MOST_CLAIMS}
 use Rattle.vll_proc.specs.Made.{place_of}
-use Rattle.vll_check.specs.Making.{cell_of}
+use Rattle.vll_check.specs.Private.Making.{cell_of}
 use Rattle.vll_check.proofs.ShortLists.{laid-mapped}
 use Rattle.vll_check.proofs.making.cells_of.Goals as goal
 
@@ -9,4 +10,4 @@ loop-i-preserved c =
     let claims = c.args.claims.now in
     let cell = c.place_of.ensures ∙ ap (place_of claims) c.record_of.ensures in
     ap (λ cells. set cells c.loop-i.i c.place_of.result) c.loop-i.invariant
-    ∙ laid-mapped (cell_of claims c.args.args.now) 16 c.args.keys.now c.loop-i.i _ c.place_of.result (omega arith) (omega arith) cell
+    ∙ laid-mapped (cell_of claims c.args.args.now) MOST_CLAIMS c.args.keys.now c.loop-i.i _ c.place_of.result (omega arith) (omega arith) cell

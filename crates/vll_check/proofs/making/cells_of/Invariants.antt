@@ -1,7 +1,8 @@
 use Rattle.std.proofs.Common.{◌≡◌, map, take}
+use Rattle.vll_record.specs.declared.claims.TheConstants.{MOST_CLAIMS}
 use Rattle.vll_record.specs.Canon.{laid}
-use Rattle.vll_check.specs.Making.{cell_of}
+use Rattle.vll_check.specs.Private.Making.{cell_of}
 use Rattle.vll_check.proofs.making.cells_of.Given as goal
 
 abbrev pub invariant-loop-i : goal.invariant-loop-i
-invariant-loop-i l = l.cells ≡ laid 16 0 (map (cell_of l.claims l.args) (take l.i l.keys))
+invariant-loop-i l = l.cells ≡ laid MOST_CLAIMS 0 (map (cell_of l.claims l.args) (take l.i l.keys))

@@ -1,16 +1,20 @@
-use Rattle.std.proofs.Common.{◌∙◌, ap, sym, arith}
+use Rattle.std.proofs.Common.{◌≡◌, ◌∙◌, ℕ, ap, ap₂, rules, sym, List, unwrap_or, ◌==◌, length, Option}
+use Rattle.std.specs.List.{position}
+use Rattle.std.proofs.lemmas.Iterator.Consumers.{YieldsList-from_first}
+use Rattle.std.proofs.lemmas.Iterator.Search.{position_from_yields_List}
+use borrow.Author.Tests.{tests}
 use Rattle.vll_record.specs.declared.claim.Claim.{Claim}
-use Rattle.vll_check.proofs.ShortLists.{place_of-here, place_of-later}
+use Rattle.vll_record.proofs.WithClaim.{unwrap_or-position}
+use Rattle.vll_check.proofs.ShortLists.{place_of-first}
 use Rattle.vll_check.proofs.making.place_of.Goals as goal
 
-pub returns-then-claim-id : goal.returns-then-claim-id
-returns-then-claim-id c =
-    let at = sym c.get.ensures ∙ c.unwrap-claim.ensures in
-    let same = sym (ap (λ (d : Claim). d.id) c.claim.view_is) ∙ c.if-claim-id.true in
-    omega (arith, c.loop-i.invariant, place_of-here c.args.claims.now c.loop-i.i c.args.id c.unwrap-claim.result at same)
-
-pub loop-i-preserved : goal.loop-i-preserved
-loop-i-preserved c =
-    let at = sym c.get.ensures ∙ c.unwrap-claim.ensures in
-    let id_is = ap (λ (d : Claim). d.id) c.claim.view_is in
-    omega (arith, c.loop-i.invariant, place_of-later c.args.claims.now c.loop-i.i c.args.id c.unwrap-claim.result at (λ e. c.if-claim-id.false (id_is ∙ e)))
+pub returns : goal.returns
+returns c =
+    let cs : List Claim = c.args.claims.now in
+    let found : c.position.result ≡ position (λ (d : Claim). d.id == c.args.id) cs =
+    position_from_yields_List (λ (d : Claim). d.id == c.args.id) _ _ c.position.result c.position.ensures.ran
+    (YieldsList-from_first (λ d. d) (λ (rest : List Claim). rest) cs c.iter.ensures) (λ x b q k. search (rules, tests)) in
+    c.unwrap_or.ensures
+    ∙ ap₂ (λ (o : Option ℕ) (n : ℕ). unwrap_or o n) found c.len-none.ensures.value
+    ∙ unwrap_or-position (λ (d : Claim). d.id == c.args.id) cs
+    ∙ sym (place_of-first cs c.args.id)

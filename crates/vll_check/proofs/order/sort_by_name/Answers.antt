@@ -4,7 +4,7 @@ use Rattle.std.specs.Ordering.{is_lt}
 use Rattle.std.proofs.lemmas.List.MinMax.{ranks_by}
 use Rattle.std.proofs.lemmas.List.Sorted.{answers_always}
 use Rattle.vll_check.specs.Entry.{Entry}
-use Rattle.vll_check.specs.Order.{by_name}
+use Rattle.vll_check.specs.Private.Order.{by_name}
 use Rattle.vll_check.proofs.order.sort_by_name.Goals as goal
 
 -- the closure compares the names

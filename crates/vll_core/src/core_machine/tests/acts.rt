@@ -26,7 +26,7 @@ pub(super) enum Step {
     Finish(u32),
 }
 
-fn event(step: Step) -> Event {
+pub(super) fn event(step: Step) -> Event {
     match step {
         Step::Enter(client) => Event::Enter(client),
         Step::Claim => Event::Claim,
@@ -113,7 +113,8 @@ fn perform(
     }
 }
 
-// Goes through these acts in turn, with a core over these records. At most `limit` calls are entered.
+// Goes through these acts in turn, with a core over these records. At most `limit` calls are entered, and at most
+// 8 of these wait.
 pub(super) fn run(
     rt: &(impl AllocGlobal + Abort),
     records: &[u64],
@@ -121,7 +122,19 @@ pub(super) fn run(
     limit: u32,
     acts: &[Act],
 ) -> Result<(), Fail> {
-    let mut core = core(rt.alloc(), records, scripts, limit)?;
+    run_capped(rt, records, scripts, (limit, 8), acts)
+}
+
+// Goes through these acts in turn, with a core over these records. The bounds are how many calls may be entered, and
+// how many of these may wait.
+pub(super) fn run_capped(
+    rt: &(impl AllocGlobal + Abort),
+    records: &[u64],
+    scripts: Scripts,
+    (limit, cap): (u32, u32),
+    acts: &[Act],
+) -> Result<(), Fail> {
+    let mut core = core(rt.alloc(), records, scripts, limit, cap)?;
     for each in acts {
         perform(rt, &mut core, *each)?;
     }

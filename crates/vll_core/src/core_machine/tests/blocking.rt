@@ -1,6 +1,6 @@
 // Requests that are granted and denied, and blocked calls that run once those before them are gone.
 use super::acts::Act::{Play, Stands};
-use super::acts::Step::{Admit, Claim, Enter, Finish, Front, Load, Release, Store};
+use super::acts::Step::{Admit, Claim, Enter, Finish, Front, Load, Release, Scan, Store};
 use super::acts::run;
 use std::test::Fail;
 
@@ -157,6 +157,52 @@ fn reads_run_together_and_a_waiting_write_blocks_later_reads(rt: HostRuntime) ->
             ]),
             Stands(
                 "call 0 client 0 running\ncall 1 client 0 running\ncall 2 client 0 waiting\ncall 3 client 0 waiting\nrecord 0 value 0 pair 4294967299\n",
+            ),
+        ],
+    )
+}
+
+// Tickets 0 and 2 are for record 0, and 1 and 3 for record 1. A ticket that has released its claims holds others back
+// until it is gone.
+#[test]
+fn scan_runs_a_call_behind_one_that_still_waits(rt: HostRuntime) -> Result<(), Fail> {
+    run(
+        &rt,
+        &[0, 0],
+        &[&[
+            ("bump", &[0]),
+            ("bump", &[1]),
+            ("bump", &[0]),
+            ("bump", &[1]),
+        ]],
+        4,
+        &[
+            Play(&[
+                (Enter(0), "opened"),
+                (Claim, "claimed 0 granted"),
+                (Admit, "free 0"),
+                (Enter(0), "opened"),
+                (Claim, "claimed 0 granted"),
+                (Admit, "free 1"),
+                (Enter(0), "opened"),
+                (Claim, "claimed 4294967296 denied"),
+                (Admit, "blocked 2"),
+                (Enter(0), "opened"),
+                (Claim, "claimed 4294967296 denied"),
+                (Admit, "blocked 3"),
+                (Scan, "refused idle"),
+                (Load(1), "loaded 0"),
+                (Store(1), "stored"),
+                (Release(1), "released 8589934592"),
+                (Scan, "refused idle"),
+                (Finish(1), "replied committed 1"),
+                (Front, "refused idle"),
+                (Scan, "run 3"),
+                (Scan, "refused idle"),
+                (Load(3), "loaded 1"),
+            ]),
+            Stands(
+                "call 0 client 0 running\ncall 1 client 0 committed 1\ncall 2 client 0 waiting\ncall 3 client 0 running\nrecord 0 value 0 pair 8589934592\nrecord 1 value 1 pair 4294967296\n",
             ),
         ],
     )

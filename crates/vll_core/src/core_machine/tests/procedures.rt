@@ -12,7 +12,7 @@ use vll_proc::{Call, Expr, KeyAt, KeyDecl, Proc, Stmt, Text};
 use vll_record::Mode;
 use vll_sca::Placing;
 
-// A key whose record is the argument of the same place.
+// A key whose record is the argument of that number.
 fn key(mode: Mode, argument: u8) -> KeyDecl {
     KeyDecl {
         mode,
@@ -162,7 +162,7 @@ pub(super) fn library(alloc: Global, records: u32) -> Result<Library, Fail>
     Ok(Library::new(records, procs)?)
 }
 
-fn made(library: &Library, name: &str, args: &[u64]) -> Result<Call, CallFault>
+pub(super) fn made(library: &Library, name: &str, args: &[u64]) -> Result<Call, CallFault>
     ensures { IfOk result (Fits library.now) }
 {
     library.call(name, args)
@@ -194,19 +194,21 @@ fn scripts(
     Ok(scripts)
 }
 
-// A core over these records, whose clients have these scripts. 8 calls may wait, and there are 64 bits.
+// A core over these records, whose clients have these scripts, and in which so many calls may be entered and wait.
+// There are 64 bits.
 pub(super) fn core(
     alloc: Global,
     records: &[u64],
     clients: &[&[(&str, &[u64])]],
     limit: u32,
+    cap: u32,
 ) -> Result<Core<Placing>, Fail> {
     let count = u32::try_from(records.len())?;
     let library = library(alloc, count)?;
     let scripts = scripts(alloc, &library, clients)?;
     let records = Vec::from_slice(alloc, records)?;
     let config = Config {
-        cap: 8,
+        cap,
         limit,
         bits: 64,
     };

@@ -1,7 +1,7 @@
 // Turns: which calls may enter, and what may happen while a turn is open.
 use super::acts::Act::{Play, Stands};
 use super::acts::Step::{Admit, Claim, Enter, Finish, Front, Load, Release, Store};
-use super::acts::run;
+use super::acts::{run, run_capped};
 use std::test::Fail;
 
 #[test]
@@ -73,5 +73,32 @@ fn lowest_refusal_that_stands_is_answered(rt: HostRuntime) -> Result<(), Fail> {
             ]),
             Stands("record 0 value 0 pair 0\n"),
         ],
+    )
+}
+
+// One call may wait. The client is refused while it does, also when the call before it is gone.
+#[test]
+fn client_is_refused_while_as_many_calls_as_the_cap_wait(rt: HostRuntime) -> Result<(), Fail> {
+    run_capped(
+        &rt,
+        &[0],
+        &[&[("bump", &[0]), ("bump", &[0]), ("bump", &[0])]],
+        (4, 1),
+        &[Play(&[
+            (Enter(0), "opened"),
+            (Claim, "claimed 0 granted"),
+            (Admit, "free 0"),
+            (Enter(0), "opened"),
+            (Claim, "claimed 4294967296 denied"),
+            (Admit, "blocked 1"),
+            (Enter(0), "refused busy"),
+            (Load(0), "loaded 0"),
+            (Store(0), "stored"),
+            (Release(0), "released 8589934592"),
+            (Finish(0), "replied committed 1"),
+            (Enter(0), "refused busy"),
+            (Front, "run 1"),
+            (Enter(0), "opened"),
+        ])],
     )
 }

@@ -66,7 +66,7 @@ fn push_seen(text: &mut String, seen: &Seen) -> Result<(), AllocError> {
     }
 }
 
-fn words_of(refusal: Refusal) -> &'static str {
+pub(super) fn words_of(refusal: Refusal) -> &'static str {
     match refusal {
         Refusal::TurnOpen => "refused turn open",
         Refusal::NoTurn => "refused no turn",

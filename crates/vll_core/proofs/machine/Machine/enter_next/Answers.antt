@@ -3,10 +3,10 @@ use Rattle.std.proofs.Common.{rules, ◌≡◌, ◌∙◌, sym, Ok, Err}
 use Rattle.std.proofs.lemmas.Option.{slice_get_read, slice_get_within}
 use Rattle.vll_core.specs.declared.event.Event.TheVariants as event
 use Rattle.vll_core.specs.declared.refusal.Refusal.TheVariants.{NoCall}
-use Rattle.vll_core.specs.View.{shown}
+use Rattle.vll_core.specs.Private.View.{shown}
 use Rattle.vll_core.proofs.Entries.{lent_item}
 use Rattle.vll_core.proofs.Entering.{HasNext, IsRoom, room_inside, refused_client, refused_call, refused_room, taken_enter, core_enter}
-use Rattle.vll_core.proofs.CoreSteps.{closed_turn, Refuses, refused_told, refused_stays, taken_told, taken_shown}
+use Rattle.vll_core.proofs.MachineSteps.{closed_turn, Refuses, refused_told, refused_stays, taken_told, taken_shown}
 use Rattle.vll_core.proofs.machine.Machine.enter_next.Goals.{In_default, In_default-get, In-Some-get, After-from_residual, In_ok-room}
 use Rattle.vll_core.proofs.machine.Machine.enter_next.Goals as goal
 

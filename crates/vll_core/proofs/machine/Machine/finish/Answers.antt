@@ -5,11 +5,11 @@ use Rattle.vll_proc.specs.declared.call.Reply.{Reply}
 use Rattle.vll_core.specs.declared.event.Event.TheVariants as event
 use Rattle.vll_core.specs.declared.refusal.Refusal.TheVariants.{OutOfStep}
 use Rattle.vll_core.specs.Queue.{Queued}
-use Rattle.vll_core.specs.View.{shown}
-use Rattle.vll_core.specs.MachineKept.{IsMachine}
-use Rattle.vll_core.proofs.CoreRunning.{RunsAt, runs_told, read_work, work_there, read_at_work}
-use Rattle.vll_core.proofs.CoreSteps.{closed_turn, Refuses, refused_told, refused_stays, taken_told, taken_shown}
-use Rattle.vll_core.proofs.CoreFinish.{Ends, refused_stores, refused_releases, ends_of, status_runs, reply_there, with_queue, taken_finish, core_finish}
+use Rattle.vll_core.specs.Private.View.{shown}
+use Rattle.vll_core.specs.Private.MachineKept.{IsMachine}
+use Rattle.vll_core.proofs.RunningCalls.{RunsAt, runs_told, read_work, work_there, read_at_work}
+use Rattle.vll_core.proofs.MachineSteps.{closed_turn, Refuses, refused_told, refused_stays, taken_told, taken_shown}
+use Rattle.vll_core.proofs.Finishing.{Ends, refused_stores, refused_releases, ends_of, status_runs, reply_there, with_queue, taken_finish, core_finish}
 use Rattle.vll_core.proofs.machine.Machine.finish.Goals.{In-Some, After-as_ref, After-unwrap-reply, Joined-then-not-has_stored, then-not-has_stored-via-then-not-has_stored, then-not-has_stored-via-else-not-has_stored+then-is_some-2}
 use Rattle.vll_core.proofs.machine.Machine.finish.Goals as goal
 

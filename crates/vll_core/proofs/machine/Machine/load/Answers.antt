@@ -6,11 +6,11 @@ use Rattle.vll_core.specs.declared.event.Event.TheVariants as event
 use Rattle.vll_core.specs.declared.refusal.Refusal.TheVariants.{OutOfStep}
 use Rattle.vll_core.specs.declared.seen.Seen.TheVariants.{Loaded}
 use Rattle.vll_core.specs.State.{value as value_of}
-use Rattle.vll_core.specs.View.{shown}
-use Rattle.vll_core.specs.MachineKept.{IsMachine}
-use Rattle.vll_core.proofs.CoreRunning.{RunsAt, runs_told, read_work, work_there, read_at_work, lent_here, procedure_lent, procedure_is}
-use Rattle.vll_core.proofs.CoreSteps.{Refuses, refused_told, refused_stays, taken_told, taken_shown}
-use Rattle.vll_core.proofs.CoreLoad.{LoadsNext, HasLoaded, refused_load, value_there, read_value, sees_serial, next_again, load_left, with_work, taken_load, core_load}
+use Rattle.vll_core.specs.Private.View.{shown}
+use Rattle.vll_core.specs.Private.MachineKept.{IsMachine}
+use Rattle.vll_core.proofs.RunningCalls.{RunsAt, runs_told, read_work, work_there, read_at_work, lent_here, procedure_lent, procedure_is}
+use Rattle.vll_core.proofs.MachineSteps.{Refuses, refused_told, refused_stays, taken_told, taken_shown}
+use Rattle.vll_core.proofs.Loading.{LoadsNext, HasLoaded, refused_load, value_there, read_value, sees_serial, next_again, load_left, with_work, taken_load, core_load}
 use Rattle.vll_core.proofs.machine.Machine.load.Goals.{In-Some, In-Some-next_load, In_default-next_load, After-proc, After-index_mut, After-load}
 use Rattle.vll_core.proofs.machine.Machine.load.Goals as goal
 

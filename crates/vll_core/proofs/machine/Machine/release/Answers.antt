@@ -4,10 +4,10 @@ use Rattle.std.specs.Vec.{with_item}
 use Rattle.vll_core.specs.declared.work.Work.{Work}
 use Rattle.vll_core.specs.declared.event.Event.TheVariants as event
 use Rattle.vll_core.specs.declared.seen.Seen.TheVariants.{Released}
-use Rattle.vll_core.specs.View.{shown}
+use Rattle.vll_core.specs.Private.View.{shown}
 use Rattle.vll_core.specs.Machine.{has_stored}
-use Rattle.vll_core.proofs.CoreRuns.{Runs, runs_of, work_within}
-use Rattle.vll_core.proofs.CoreSteps.{refused_told, refused_stays, taken_told, taken_shown}
+use Rattle.vll_core.proofs.RunningWorks.{Runs, runs_of, work_within}
+use Rattle.vll_core.proofs.MachineSteps.{refused_told, refused_stays, taken_told, taken_shown}
 use Rattle.vll_core.proofs.Releasing.{finds, entry_of, read_counter, read_again, put_again, word_less, refused_stores, refused_releases, taken_release, core_release}
 use Rattle.vll_core.proofs.machine.Machine.release.Goals.{After-index-work, Then-not-has_stored, In-Some-next_release}
 use Rattle.vll_core.proofs.machine.Machine.release.Goals as goal

@@ -5,8 +5,8 @@ use Rattle.vll_core.specs.Machine.{running}
 use Rattle.vll_core.specs.State.{Entered}
 use Rattle.vll_core.specs.Shown.{Shown}
 use Rattle.vll_core.specs.declared.machine.Machine.TheInside.{Inside}
-use Rattle.vll_core.specs.View.{shown}
-use Rattle.vll_core.proofs.CoreRunning.{none_runs, other_runs_not, line_runs, line_there}
+use Rattle.vll_core.specs.Private.View.{shown}
+use Rattle.vll_core.proofs.RunningCalls.{none_runs, other_runs_not, line_runs, line_there}
 use Rattle.vll_core.proofs.machine.Machine.running_call.Goals as goal
 
 -- the call that runs is told of what is shown

@@ -7,8 +7,8 @@ use Rattle.vll_core.specs.declared.event.Event.TheVariants as event
 use Rattle.vll_core.specs.declared.refusal.Refusal.TheVariants.{OutOfStep}
 use Rattle.vll_core.specs.declared.work.Work.{Work}
 use Rattle.vll_core.specs.State.{writes}
-use Rattle.vll_core.proofs.CoreRuns.{Runs, work_within, runs_of, same_work}
-use Rattle.vll_core.proofs.CoreSteps.{Refuses, refused_told, refused_stays, taken_told, taken_shown}
+use Rattle.vll_core.proofs.RunningWorks.{Runs, work_within, runs_of, same_work}
+use Rattle.vll_core.proofs.MachineSteps.{Refuses, refused_told, refused_stays, taken_told, taken_shown}
 use Rattle.vll_core.proofs.Storing.{Stores, refused_unloaded, refused_aborted, refused_stored, taken_store, core_store, word_within, few_stores}
 use Rattle.vll_core.proofs.machine.Machine.store.Goals.{In-Some, After-index-work, In_default-next_store, In-Some-next_store, After-index_mut-2, After-stored, Joined-then-not-has_loaded, then-not-has_loaded-via-then-not-has_loaded, then-not-has_loaded-via-else-not-has_loaded+then-has_aborted}
 use Rattle.vll_core.proofs.machine.Machine.store.Goals as goal

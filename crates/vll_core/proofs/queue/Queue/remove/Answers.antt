@@ -2,7 +2,7 @@ use Rattle.std.proofs.Common.{◌∙◌, ap, List, arith}
 use Rattle.std.specs.List.{position_or_len}
 use Rattle.vll_sca.specs.declared.entry.Entry.{Entry}
 use Rattle.vll_core.specs.Queue.{is_left}
-use Rattle.vll_core.specs.QueueKept.{statuses_of}
+use Rattle.vll_core.specs.Private.QueueKept.{statuses_of}
 use Rattle.vll_core.proofs.Entries.{Ends, ends, shown_status, ticket_within}
 use Rattle.vll_core.proofs.QueueChanges.{kept_finished, shown_finished, first_moves}
 use Rattle.vll_core.proofs.queue.Queue.remove.Goals as goal

@@ -1,5 +1,5 @@
 use Rattle.std.proofs.Common.{arith}
-use Rattle.vll_core.specs.QueueKept.{statuses_of}
+use Rattle.vll_core.specs.Private.QueueKept.{statuses_of}
 use Rattle.vll_core.proofs.Entries.{Starts, starts, shown_status, ticket_within}
 use Rattle.vll_core.proofs.QueueChanges.{kept_started, shown_started}
 use Rattle.vll_core.proofs.queue.Queue.start.Goals as goal

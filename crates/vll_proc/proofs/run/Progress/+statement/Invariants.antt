@@ -1,7 +1,7 @@
 -- What is left to run, from where the body stands, comes to what all of it comes to from the start. A list has more nodes than each of its statements.
 use Rattle.std.proofs.Common.{◌≡◌, ◌+◌, ◌*◌, ◌≤◌, length, map, drop, sum_by}
 use Rattle.vll_proc.specs.Meaning.{effect, in_turn}
-use Rattle.vll_proc.specs.Running.{scene_of}
+use Rattle.vll_proc.specs.Private.Running.{scene_of}
 use Rattle.vll_proc.specs.WellFormed.{replies, stmt_nodes}
 use Rattle.vll_proc.proofs.run.Progress.+statement.Given as goal
 

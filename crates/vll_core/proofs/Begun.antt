@@ -1,0 +1,89 @@
+-- What is shown of a machine in which nothing is entered, and that it keeps what a machine keeps.
+use Rattle.std.proofs.Common.{◌≡◌, ℕ, ◌≤◌, List, [], ◌∷◌, length, map, replicate, refl, sym, ap, ◌∙◌, subst, vec_capacity, Option, Some, None, IfSome, Result, Ok, Err, IfOk, slice_get}
+use Rattle.std.specs.Global.{Vec}
+use Rattle.std.specs.List.{All}
+use Rattle.std.proofs.lemmas.List.{length-replicate}
+use Rattle.std.proofs.lemmas.List.Elements.{All-map, All-nil}
+use Rattle.vll_proc.specs.declared.call.Call.{Call}
+use Rattle.vll_check.specs.Calls.{Fits}
+use Rattle.vll_check.specs.Catalog.{IsCatalog}
+use Rattle.vll_core.specs.declared.config.Config.{Config}
+use Rattle.vll_core.specs.declared.machine.Machine.TheInside.{Inside}
+use Rattle.vll_core.specs.State.{Base}
+use Rattle.vll_core.specs.Machine.{opened}
+use Rattle.vll_core.specs.Moves.{IsProper, AreProper, IsReached, begun}
+use Rattle.vll_core.specs.declared.machine.OpenTurn.{OpenTurn}
+use Rattle.vll_core.specs.Queue.{QueueEntry, Queued, IsQueued, empty}
+use Rattle.vll_core.specs.Private.FirstWords.{AreFirstWords}
+use Rattle.vll_core.specs.Shown.{Shown, AreWords, opening_of}
+use Rattle.vll_core.specs.Shown as shown_of
+use Rattle.vll_core.specs.Private.View.{shown, entries_of, turn_of, left_of}
+use Rattle.vll_core.specs.Private.MachineKept.{IsMachine}
+use Rattle.vll_core.proofs.Fitted.{proper_fits}
+
+-- each script is left whole where its next call is its first
+left_whole : (vs : List (Vec Call)) (ns : List ℕ) → ns ≡ replicate (length vs) 0 → left_of vs ns ≡ map (λ (v : Vec Call). v.items) vs
+left_whole vs ns is = ap (left_of vs) is ∙ whole vs
+  where
+    whole : (vs : List (Vec Call)) → left_of vs (replicate (length vs) 0) ≡ map (λ (v : Vec Call). v.items) vs
+    whole [] = refl
+    whole (v ∷ vs) = ap (λ (left : List (List Call)). v.items ∷ left) (whole vs)
+
+-- a list that is filled with 0
+pub filled : {E : Type 0} (n : ℕ) (r : Result (Vec ℕ) E) → IfOk r (λ v. ((y : ℕ) → y ≡ 0 → y ≡ 0) → v.items ≡ replicate n 0) → IfOk r (λ v. v.items ≡ replicate n 0)
+filled n (Ok v) h = h (λ y e. e)
+filled n (Err why) h = tt
+
+-- a machine in which nothing is entered
+pub record IsFresh {H : Type 0} (config : Config) (hash : H) (c : Inside H) : Type 0 where
+  pub queue : c.queue ≡ empty config hash
+  pub work : c.work.items ≡ []
+  pub turn : c.turn ≡ None
+  pub nexts : c.next.items ≡ replicate (length c.scripts.items) 0
+
+-- nothing is entered in its queue
+pub none_entered : {H : Type 0} (config : Config) (hash : H) (c : Inside H) → IsFresh config hash c → c.queue.entries ≡ []
+none_entered {H} config hash c fresh = ap (λ (q : Queued H). q.entries) fresh.queue
+
+pub shown_begun : {H : Type 0} (config : Config) (hash : H) (c : Inside H) → IsFresh config hash c
+    → shown c ≡ shown_of.begun c.library.value c.opening.value.items c.scripts.items config hash
+shown_begun {H} config hash c fresh =
+    let entries : entries_of c.queue.entries c.work.items ≡ [] = ap (λ es. entries_of es c.work.items) (none_entered config hash c fresh) in
+    cc (
+      entries,
+      ap (λ (q : Queued H). q.cap) fresh.queue,
+      ap (λ (q : Queued H). q.limit) fresh.queue,
+      ap (λ (q : Queued H). q.bits) fresh.queue,
+      ap (λ (q : Queued H). q.hash) fresh.queue,
+      ap turn_of fresh.turn,
+      left_whole c.scripts.items c.next.items fresh.nexts,
+    )
+
+-- the words at the opening are those of the state
+pub words_begun : (base : Base) (scripts : List (List Call)) (words : List ℕ) → AreFirstWords base.records words → AreWords base (opened scripts) words
+words_begun base scripts words are = record { long = are.long; turn = are.turn; values = are.values; pairs = are.pairs }
+
+-- what the opening makes is a machine
+pub core_begun : {H : Type 0} {places : H → ℕ → ℕ} (config : Config) (hash : H) (c : Inside H) → IsFresh config hash c → AreFirstWords c.opening.value.items c.words.items → 1 ≤ length c.opening.value.items → length c.opening.value.items ≤ 65536
+    → c.library.value.records ≡ length c.opening.value.items → IsCatalog c.library.value → IsQueued c.queue → c.queue.limit ≤ vec_capacity c.work
+    → All (λ (v : Vec Call). All (Fits c.library.value) v.items) c.scripts.items → IsMachine places c
+core_begun {H} {places} config hash c fresh words some few records catalog queue room fits = record {
+  reached = subst (λ (s : Shown H). IsReached (opening_of places s) s.state) (sym (shown_begun config hash c fresh)) (begun _ proper);
+  words = subst (λ (s : Shown H). AreWords s.base s.state c.words.items) (sym (shown_begun config hash c fresh)) (words_begun _ _ c.words.items words);
+  some_records = some;
+  few_records = few;
+  records = records;
+  catalog = catalog;
+  queue = queue;
+  works = ap length fresh.work ∙ ap length (sym (none_entered config hash c fresh));
+  room = room;
+  nexts = ap length fresh.nexts ∙ length-replicate (length c.scripts.items) 0;
+  entries_fit = subst (All (λ (e : QueueEntry). Fits c.library.value e.line.call)) (sym (none_entered config hash c fresh)) (All-nil _);
+  turn_fits = subst (λ (o : Option OpenTurn). IfSome o (λ (t : OpenTurn). Fits c.library.value t.call)) (sym fresh.turn) tt;
+  scripts_fit = fits;
+  at_work = λ t e w at has. absurd (let none : slice_get [] t ≡ Some e = ap (λ (es : List QueueEntry). slice_get es t) (sym (none_entered config hash c fresh)) ∙ at in cc none);
+  replied = λ t e w at has gone. absurd (let none : slice_get [] t ≡ Some e = ap (λ (es : List QueueEntry). slice_get es t) (sym (none_entered config hash c fresh)) ∙ at in cc none);
+}
+  where
+    proper : AreProper (record { procs = c.library.value.procs; records = c.opening.value.items }) (map (λ (v : Vec Call). v.items) c.scripts.items)
+    proper = All-map (All (IsProper (record { procs = c.library.value.procs; records = c.opening.value.items }))) (λ (v : Vec Call). v.items) c.scripts.items (λ k d lt j e low. proper_fits c.library.value c.opening.value.items _ catalog (fits k d lt j e low))

@@ -1,0 +1,164 @@
+-- The end of a running call of a machine: what it finds, and what the machine is after it.
+use Rattle.std.proofs.Common.{◌≡◌, ℕ, ◌||◌, Bool, true, false, not, nat_lt, refl, sym, ap, ◌∙◌, arith, ⊎_elim, List, length, slice_get, Option, Some, is_some, Ok}
+use Rattle.std.specs.Option.{option_map}
+use Rattle.std.proofs.lemmas.Bool.{or_right}
+use Rattle.std.proofs.lemmas.Bool.Decides.{nat_tests}
+use Rattle.std.proofs.lemmas.Option.{same_Some, slice_get-map, slice_get_cases}
+use Rattle.vll_record.specs.declared.claim.Claim.{Claim}
+use Rattle.vll_proc.specs.declared.call.Call.{Call}
+use Rattle.vll_proc.specs.declared.call.Reply.{Reply}
+use Rattle.vll_proc.specs.Serial.{apply}
+use Rattle.vll_core.specs.declared.event.Event.TheVariants as event
+use Rattle.vll_core.specs.declared.machine.Machine.TheInside.{Inside}
+use Rattle.vll_core.specs.declared.refusal.Refusal.TheVariants.{TurnOpen, NotRunning, OutOfStep}
+use Rattle.vll_core.specs.declared.seen.Seen.TheVariants.{Replied}
+use Rattle.vll_sca.specs.declared.status.Status.{Status}
+use Rattle.vll_sca.specs.declared.status.Status.TheVariants.{Running, Waiting, Gone}
+use Rattle.vll_core.specs.declared.work.Work.{Work}
+use Rattle.vll_sca.specs.Status.{is_running}
+use Rattle.vll_core.specs.State.{Entered, Opening, State, reply_at}
+use Rattle.vll_core.specs.Machine.{Outcome, step, refuse_if, or_refuse, running, has_stored, with_entry}
+use Rattle.vll_core.specs.Queue.{QueueEntry, Queued, statuses, finished}
+use Rattle.vll_core.specs.Shown.{opening_of}
+use Rattle.vll_core.specs.Private.View.{entered_of, shown}
+use Rattle.vll_core.specs.Private.MachineKept.{IsMachine}
+use Rattle.vll_core.proofs.MachineState.{entry_changed, made_changed, fits_same, at_work_same, replied_changed, queued_finished, length_changed}
+use Rattle.vll_core.proofs.MachineSteps.{Refuses, Takes, taken_reached, taken_words}
+use Rattle.vll_core.proofs.RunningCalls.{RunsAt, now_at, now_shown, stored_by_work, stored_shown, replies}
+
+-- ---- the plain machine
+
+-- the call of an entry has more to do before it ends
+abbrev cannot_end : Opening → State → ℕ → Entered → Bool
+cannot_end o s t e = not (has_stored o.base s t e) || nat_lt e.releases (length e.call.claims)
+
+-- where no turn is open, the end of a running call goes by what it has left to do
+finish_by : (o : Opening) (s : State) (t : ℕ) (e : Entered) (b : Bool) → is_some s.turn ≡ false → running s t ≡ Some e → cannot_end o s t e ≡ b
+    → step o s (event.Finish t) ≡ refuse_if b OutOfStep (Ok (Replied (reply_at o.base s t e), with_entry s t (record e { status = Gone })))
+finish_by o s t e b closed runs is =
+    ap (λ (x : Bool). refuse_if x TurnOpen (or_refuse (running s t) NotRunning (λ d. ends d))) closed
+    ∙ (ap (λ (x : Option Entered). or_refuse x NotRunning (λ d. ends d)) runs
+    ∙ ap (λ (x : Bool). refuse_if x OutOfStep (Ok (Replied (reply_at o.base s t e), with_entry s t (record e { status = Gone })))) is)
+  where
+    ends : Entered → Outcome
+    ends d = refuse_if (not (has_stored o.base s t d) || nat_lt d.releases (length d.call.claims)) OutOfStep (Ok (Replied (reply_at o.base s t d), with_entry s t (record d { status = Gone })))
+
+-- ---- the machine that is kept
+
+-- a place has an item exactly where it lies within the list
+item_within : {X : Type 0} (xs : List X) (n : ℕ) → is_some (slice_get xs n) ≡ nat_lt n (length xs)
+item_within xs n =
+    ⊎_elim
+    (λ p. let within : nat_lt n (length xs) ≡ true = grind (arith, nat_tests, p.1) in ap (λ (o : Option _). is_some o) p.2 ∙ sym within)
+    (λ p. let past : nat_lt n (length xs) ≡ false = grind (arith, nat_tests, p.0) in ap (λ (o : Option _). is_some o) p.1 ∙ sym past)
+    (slice_get_cases xs n).1
+
+releases_left : {H : Type 0} (a : Inside H) (t : ℕ) (call : Call) (r : RunsAt a t call) (w : Work) (o : Option Claim) (b : Bool) → w ≡ r.work → o ≡ slice_get call.claims w.releases → b ≡ is_some o
+    → nat_lt (entered_of r.entry r.work).releases (length (entered_of r.entry r.work).call.claims) ≡ b
+releases_left a t call r w o b is next told =
+    ap (λ (x : Call). nat_lt r.work.releases (length x.claims)) r.own
+    ∙ (ap (λ (x : Work). nat_lt x.releases (length call.claims)) (sym is)
+    ∙ (sym (item_within call.claims w.releases) ∙ (ap (λ (x : Option Claim). is_some x) (sym next) ∙ sym told)))
+
+-- a call with stores left, or with claims left, does not end
+pub refused_stores : {H : Type 0} {places : H → ℕ → ℕ} (a : Inside H) (t : ℕ) (call : Call) (r : RunsAt a t call) (w : Work) → IsMachine places a → is_some (shown a).state.turn ≡ false → w ≡ r.work
+    → stored_by_work call (apply a.library.value.procs call (now_at a t)) w ≡ false → Refuses places a (event.Finish t) OutOfStep
+refused_stores {H} {places} a t call r w core closed is left = record {
+  is =
+      finish_by (opening_of places (shown a)) (shown a).state t (entered_of r.entry r.work) true closed r.is
+      (ap (λ (b : Bool). not b || nat_lt (entered_of r.entry r.work).releases (length (entered_of r.entry r.work).call.claims)) (stored_shown a t call r w core.works is ∙ left));
+}
+
+pub refused_releases : {H : Type 0} {places : H → ℕ → ℕ} (a : Inside H) (t : ℕ) (call : Call) (r : RunsAt a t call) (w : Work) (o : Option Claim) (b : Bool) → is_some (shown a).state.turn ≡ false → w ≡ r.work
+    → o ≡ slice_get call.claims w.releases → b ≡ is_some o → b ≡ true → Refuses places a (event.Finish t) OutOfStep
+refused_releases {H} {places} a t call r w o b closed is next told left = record {
+  is =
+      finish_by (opening_of places (shown a)) (shown a).state t (entered_of r.entry r.work) true closed r.is
+      (or_right _ _ (releases_left a t call r w o b is next told ∙ left));
+}
+
+-- a running call that has nothing left to do
+pub record Ends {H : Type 0} (a : Inside H) (t : ℕ) (call : Call) (w : Work) : Type 0 where
+  pub runs : RunsAt a t call
+  pub work : w ≡ runs.work
+  pub closed : is_some (shown a).state.turn ≡ false
+  pub stored : stored_by_work call (apply a.library.value.procs call (now_at a t)) w ≡ true
+  pub released : nat_lt (entered_of runs.entry runs.work).releases (length (entered_of runs.entry runs.work).call.claims) ≡ false
+
+pub ends_of : {H : Type 0} (a : Inside H) (t : ℕ) (call : Call) (r : RunsAt a t call) (w : Work) (o : Option Claim) (b : Bool) → is_some (shown a).state.turn ≡ false → w ≡ r.work
+    → stored_by_work call (apply a.library.value.procs call (now_at a t)) w ≡ true → o ≡ slice_get call.claims w.releases → b ≡ is_some o → b ≡ false → Ends a t call w
+ends_of a t call r w o b closed is stored next told none =
+    record { runs = r; work = is; closed = closed; stored = stored; released = releases_left a t call r w o b is next told ∙ none }
+
+-- its status
+pub status_runs : {H : Type 0} (a : Inside H) (t : ℕ) (call : Call) → RunsAt a t call → slice_get (statuses a.queue) t ≡ Some Running
+status_runs a t call r =
+    slice_get-map (λ (e : QueueEntry). e.status) a.queue.entries t
+    ∙ (ap (λ (o : Option QueueEntry). option_map (λ (e : QueueEntry). e.status) o) r.at ∙ ap (λ (s : Status). Some s) (only r.entry.status r.runs))
+  where
+    only : (s : Status) → is_running s ≡ true → s ≡ Running
+    only Running runs = refl
+    only Waiting runs = absurd (cc runs)
+    only Gone runs = absurd (cc runs)
+
+-- its work has the reply, and that is what the machine answers
+pub reply_there : {H : Type 0} (a : Inside H) (t : ℕ) (call : Call) (w : Work) → Ends a t call w → w.reply ≡ Some (apply a.library.value.procs call (now_at a t)).reply
+reply_there a t call w e = replies a t call e.runs w e.work e.stored
+
+reply_shown : {H : Type 0} {places : H → ℕ → ℕ} (a : Inside H) (t : ℕ) (call : Call) (r : RunsAt a t call) → IsMachine places a
+    → reply_at (shown a).base (shown a).state t (entered_of r.entry r.work) ≡ (apply a.library.value.procs call (now_at a t)).reply
+reply_shown a t call r core =
+    ap (λ (records : List ℕ). (apply a.library.value.procs r.entry.line.call records).reply) (now_shown a t core.works)
+    ∙ ap (λ (x : Call). (apply a.library.value.procs x (now_at a t)).reply) r.own
+
+-- the machine with another queue, and that where a call is gone with its reply
+abbrev pub with_queue : {H : Type 0} → Inside H → Queued H → Inside H
+with_queue a q = record a { queue = q }
+
+abbrev pub without : {H : Type 0} → Inside H → ℕ → Reply → Inside H
+without a t reply = with_queue a (finished a.queue t reply)
+
+pub taken_finish : {H : Type 0} {places : H → ℕ → ℕ} (a : Inside H) (t : ℕ) (call : Call) (w : Work) (reply : Reply) → IsMachine places a → Ends a t call w → w.reply ≡ Some reply
+    → Takes places a (without a t reply) (event.Finish t) (Replied reply)
+taken_finish {H} {places} a t call w reply core e is =
+    let r : RunsAt a t call = e.runs in
+    let s : State = (shown a).state in
+    let answer : reply_at (shown a).base s t (entered_of r.entry r.work) ≡ reply = reply_shown a t call r core ∙ same_Some _ reply (sym (reply_there a t call w e) ∙ is) in
+    let test : cannot_end (opening_of places (shown a)) s t (entered_of r.entry r.work) ≡ false =
+    ap (λ (b : Bool). not b || nat_lt (entered_of r.entry r.work).releases (length (entered_of r.entry r.work).call.claims)) (stored_shown a t call r w core.works e.work ∙ e.stored)
+    ∙ e.released in
+    record {
+      fixed = refl;
+      is =
+          finish_by (opening_of places (shown a)) s t (entered_of r.entry r.work) false e.closed r.is test
+          ∙ (ap (λ (x : Reply). let out : Outcome = Ok (Replied x, with_entry s t (record (entered_of r.entry r.work) { status = Gone })) in out) answer
+          ∙ ap (λ (es : List Entered). let out : Outcome = Ok (Replied reply, record s { entries = es }) in out)
+          (sym (entry_changed a.queue.entries a.work.items t r.entry r.work (λ (d : QueueEntry). record { line = record d.line { reply = Some reply }; status = Gone }) r.at r.has)));
+    }
+
+pub core_finish : {H : Type 0} {places : H → ℕ → ℕ} (a : Inside H) (t : ℕ) (call : Call) (w : Work) (reply : Reply) → IsMachine places a → Ends a t call w → w.reply ≡ Some reply → IsMachine places (without a t reply)
+core_finish {H} {places} a t call w reply core e is =
+    let b : Inside H = without a t reply in
+    let r : RunsAt a t call = e.runs in
+    let takes = taken_finish {places = places} a t call w reply core e is in
+    let change : QueueEntry → QueueEntry = λ d. record { line = record d.line { reply = Some reply }; status = Gone } in
+    let made = made_changed a.queue.entries t change (λ d. refl) in
+    record {
+      reached = taken_reached a b (event.Finish t) _ takes core.reached;
+      words = taken_words a b (event.Finish t) _ takes core.reached refl refl refl core.words;
+      some_records = core.some_records;
+      few_records = core.few_records;
+      records = core.records;
+      catalog = core.catalog;
+      queue = queued_finished a.queue t reply core.queue;
+      works = core.works ∙ sym (length_changed a.queue.entries t change);
+      room = core.room;
+      nexts = core.nexts;
+      entries_fit = fits_same a.library.value a.queue.entries _ (sym made) core.entries_fit;
+      turn_fits = core.turn_fits;
+      scripts_fit = core.scripts_fit;
+      at_work = at_work_same a.library.value a.opening.value.items a.queue.entries _ a.work.items (sym made) core.at_work;
+      replied =
+          replied_changed a.queue.entries a.work.items t change
+          (λ d v at has gone. sym is ∙ ap (λ (x : Work). x.reply) (e.work ∙ same_Some r.work v (sym r.has ∙ has))) core.replied;
+    }

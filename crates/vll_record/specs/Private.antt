@@ -1,0 +1,4 @@
+-- What private contracts and what types keep cite: no contract of an exported item does.
+pub mod Masks
+pub mod Kept
+pub mod Place

@@ -1,0 +1,4 @@
+-- What private contracts and what types keep cite: no contract of an exported item does.
+pub mod Marks
+pub mod ClaimMarks
+pub mod Bits

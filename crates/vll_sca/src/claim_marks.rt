@@ -1,0 +1,167 @@
+ghost use Rattle.std.specs.Prelude.{◌≡◌, ◌<◌, ◌≤◌, ◌&&◌, not, false, true, [], ◌∷◌, length, map, IfOk};
+ghost use Rattle.std.specs.List.{list_any};
+ghost use Rattle.vll_sca.specs.Status.{is_waiting};
+ghost use Rattle.vll_sca.specs.Scan.{hashed, scan};
+ghost use Rattle.vll_sca.specs.Private.ClaimMarks.{HasRoom, IsClear, meets, with_claims, claims_left, passed};
+
+use crate::entry::Entry;
+use crate::marks::Marks;
+use crate::place::{Place, place_modulo};
+use crate::status::Status;
+use std::alloc::{AllocError, Global};
+use vll_record::{Claims, Mode};
+
+/// The two bit arrays of the analysis: the places of the claims that were marked, by mode.
+#[derive(Drop)]
+pub(crate) struct ClaimMarks {
+    // Places of Write claims, DX in the paper.
+    writes: Marks,
+    // Places of Read claims, DS in the paper.
+    reads: Marks,
+}
+
+impl ClaimMarks {
+    /// Bits for the places below `n`, and none is marked.
+    pub(crate) fn new(alloc: Global, n: usize) -> Result<ClaimMarks, AllocError>
+        requires { 1 ≤ n }
+        ensures room { IfOk result (HasRoom n) }
+        ensures clear { IfOk result IsClear }
+    {
+        Ok(ClaimMarks {
+            writes: Marks::new(alloc, n)?,
+            reads: Marks::new(alloc, n)?,
+        })
+    }
+
+    /// The index of the first waiting entry that meets no mark of an earlier one, and `None` if there is none. Each
+    /// entry that is passed is marked after its own test, so that it is met by later entries and not by itself.
+    pub(crate) fn first_clear<H: Place>(
+        &mut self,
+        hash: &H,
+        bits: u32,
+        entries: &[Entry],
+    ) -> Option<usize>
+        requires room { HasRoom bits self.old }
+        requires clear { IsClear self.old }
+        ensures found { result ≡ scan (H.place_of hash.now) bits entries.now }
+        ensures marked { self.new ≡ with_claims true
+            (map (hashed (H.place_of hash.now) bits) (claims_left (passed result entries.now))) self.old }
+    {
+        for (i, entry) in entries.iter().enumerate() {
+            if self.is_clear(hash, bits, entry) {
+                return Some(i);
+            }
+            self.mark(hash, bits, entry);
+        }
+        None
+    }
+
+    /// Takes back the marks of these entries. It tests no mark.
+    pub(crate) fn take_back<H: Place>(&mut self, hash: &H, bits: u32, entries: &[Entry])
+        requires { HasRoom bits self.old }
+        ensures { self.new ≡ with_claims false (map (hashed (H.place_of hash.now) bits) (claims_left entries.now)) self.old }
+    {
+        for entry in entries {
+            self.unmark(hash, bits, entry);
+        }
+    }
+
+    // The entry waits, and none of its claims meets a mark.
+    fn is_clear<H: Place>(&self, hash: &H, bits: u32, entry: &Entry) -> bool
+        requires { HasRoom bits self.now }
+        ensures { result ≡ (is_waiting entry.now.status
+            && not (list_any (meets self.now) (map (hashed (H.place_of hash.now) bits) entry.now.claims))) }
+    {
+        matches!(entry.status, Status::Waiting) && !self.meets(hash, bits, &entry.claims)
+    }
+
+    // Marks the claims of an entry that runs or waits. One that is gone holds none back.
+    fn mark<H: Place>(&mut self, hash: &H, bits: u32, entry: &Entry)
+        requires { HasRoom bits self.old }
+        ensures { self.new ≡ with_claims true (map (hashed (H.place_of hash.now) bits) (claims_left (entry.now ∷ []))) self.old }
+    {
+        if !matches!(entry.status, Status::Gone) {
+            self.mark_claims(hash, bits, &entry.claims);
+        }
+    }
+
+    // Takes back what `mark` has marked.
+    fn unmark<H: Place>(&mut self, hash: &H, bits: u32, entry: &Entry)
+        requires { HasRoom bits self.old }
+        ensures { self.new ≡ with_claims false (map (hashed (H.place_of hash.now) bits) (claims_left (entry.now ∷ []))) self.old }
+    {
+        if !matches!(entry.status, Status::Gone) {
+            self.unmark_claims(hash, bits, &entry.claims);
+        }
+    }
+
+    // One of these claims meets a mark.
+    fn meets<H: Place>(&self, hash: &H, bits: u32, claims: &Claims) -> bool
+        requires { HasRoom bits self.now }
+        ensures { result ≡ list_any (meets self.now) (map (hashed (H.place_of hash.now) bits) claims.now) }
+    {
+        for i in 0..claims.len() {
+            if let Some(claim) = claims.get(i) {
+                if self.meets_at(place_modulo(hash, bits, claim.id), claim.mode) {
+                    return true;
+                }
+            }
+        }
+        false
+    }
+
+    fn mark_claims<H: Place>(&mut self, hash: &H, bits: u32, claims: &Claims)
+        requires { HasRoom bits self.old }
+        ensures { self.new ≡ with_claims true (map (hashed (H.place_of hash.now) bits) claims.now) self.old }
+    {
+        for i in 0..claims.len() {
+            if let Some(claim) = claims.get(i) {
+                self.mark_at(place_modulo(hash, bits, claim.id), claim.mode);
+            }
+        }
+    }
+
+    fn unmark_claims<H: Place>(&mut self, hash: &H, bits: u32, claims: &Claims)
+        requires { HasRoom bits self.old }
+        ensures { self.new ≡ with_claims false (map (hashed (H.place_of hash.now) bits) claims.now) self.old }
+    {
+        for i in 0..claims.len() {
+            if let Some(claim) = claims.get(i) {
+                self.unmark_at(place_modulo(hash, bits, claim.id), claim.mode);
+            }
+        }
+    }
+
+    fn meets_at(&self, place: usize, mode: Mode) -> bool
+        requires writes { place < length self.now.writes }
+        requires reads { place < length self.now.reads }
+        ensures { result ≡ meets self.now (record { id = place; mode = mode }) }
+    {
+        match mode {
+            Mode::Write => self.writes.is_set(place) || self.reads.is_set(place),
+            Mode::Read => self.writes.is_set(place),
+        }
+    }
+
+    fn mark_at(&mut self, place: usize, mode: Mode)
+        requires writes { place < length self.old.writes }
+        requires reads { place < length self.old.reads }
+        ensures { self.new ≡ with_claims true (record { id = place; mode = mode } ∷ []) self.old }
+    {
+        match mode {
+            Mode::Write => self.writes.set(place),
+            Mode::Read => self.reads.set(place),
+        }
+    }
+
+    fn unmark_at(&mut self, place: usize, mode: Mode)
+        requires writes { place < length self.old.writes }
+        requires reads { place < length self.old.reads }
+        ensures { self.new ≡ with_claims false (record { id = place; mode = mode } ∷ []) self.old }
+    {
+        match mode {
+            Mode::Write => self.writes.clear(place),
+            Mode::Read => self.reads.clear(place),
+        }
+    }
+}

@@ -1,0 +1,57 @@
+ghost use Rattle.std.specs.Prelude.{◌≡◌, ◌<◌, ◌≤◌, false, true, length, All, IfOk, slice_set, slice_index_or};
+
+use std::alloc::{AllocError, Global};
+use std::marker::Model;
+
+/// A bit for each place, in words of 64. Contracts see them as the list that says of each place whether it is
+/// marked. The list may be longer than what was asked for, by what is left of the last word.
+#[derive(Drop)]
+pub(crate) struct Marks {
+    words: Vec<u64>,
+}
+
+impl Model for Marks {
+    ghost use Rattle.std.specs.Prelude.{Bool, List};
+    ghost use Rattle.vll_sca.specs.Private.Marks.{bits_of};
+
+    ghost Value = { List Bool };
+
+    ghost view = { λ m. bits_of m.words.items };
+}
+
+impl Marks {
+    /// Bits for the places below `n`, and none is marked.
+    pub(crate) fn new(alloc: Global, n: usize) -> Result<Marks, AllocError>
+        ensures room { IfOk result (λ m. n ≤ length m) }
+        ensures clear { IfOk result (All (λ b. b ≡ false)) }
+    {
+        let words = vec![in alloc; 0; n.div_ceil(64)]?;
+        Ok(Marks { words })
+    }
+
+    /// The place is marked.
+    pub(crate) fn is_set(&self, place: usize) -> bool
+        requires { place < length self.now }
+        ensures { result ≡ slice_index_or self.now place false }
+    {
+        self.words[place / 64] & (1 << (place % 64)) != 0
+    }
+
+    /// Marks the place.
+    pub(crate) fn set(&mut self, place: usize)
+        requires { place < length self.old }
+        ensures { self.new ≡ slice_set self.old place true }
+    {
+        let word = self.words[place / 64];
+        self.words[place / 64] = word | (1 << (place % 64));
+    }
+
+    /// Takes the mark of the place back, if it has one.
+    pub(crate) fn clear(&mut self, place: usize)
+        requires { place < length self.old }
+        ensures { self.new ≡ slice_set self.old place false }
+    {
+        let word = self.words[place / 64];
+        self.words[place / 64] = word & !(1 << (place % 64));
+    }
+}
