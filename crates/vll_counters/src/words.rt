@@ -86,8 +86,7 @@ fn gathered(mut words: Vec<u64>, closed: &Closed<(), Global>) -> Vec<u64>
 
 impl Words {
     /// The words of these records, with no claim open, the queue's seat, and one session's seat for each client, in
-    /// order. The library is named for contracts and not kept. All memory is taken here; `NoMemory` comes only if it
-    /// was refused.
+    /// order. The library is named for contracts and not kept. All memory is taken here.
     pub fn open(
         alloc: Global,
         records: &[u64],

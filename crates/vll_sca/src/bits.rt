@@ -42,7 +42,7 @@ pub enum BitsFault {
 
 impl Bits {
     /// Room for scans over this many bits. `Size` comes exactly where the number is not 1 to `MOST_BITS`, before
-    /// any memory is asked for, and `NoMemory` only where memory was refused.
+    /// any memory is asked for. The only other fault is `NoMemory`.
     pub fn new(alloc: Global, n: u32) -> Result<Bits, BitsFault>
         ensures size { result ≡ Err BitsFault.Size ↔ ¬ ((1 ≤ n) × (n ≤ MOST_BITS)) }
         ensures made { (result ≡ Ok n) ⊎ (result ≡ Err BitsFault.Size) ⊎ (result ≡ Err BitsFault.NoMemory) }

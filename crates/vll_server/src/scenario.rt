@@ -91,8 +91,8 @@ impl Scenario {
         }
     }
 
-    /// The scenario with this cap, which is how many calls may wait at a time, 1 to `MOST_WAITING` of `vll_core`, in place of its own.
-    /// All else stays as it was.
+    /// The scenario with this cap, which is how many calls may wait at a time, 1 to `MOST_WAITING` of `vll_core`, in
+    /// place of its own. All else stays as it was.
     pub fn with_cap(mut self, cap: u32) -> Scenario
         requires least { 1 ≤ cap }
         requires most { cap ≤ MOST_WAITING }
@@ -102,8 +102,8 @@ impl Scenario {
         self
     }
 
-    /// The scenario with this many places for the contention analysis, 1 to `MOST_BITS` of `vll_sca`, in place of its own.
-    /// All else stays as it was.
+    /// The scenario with this many places for the contention analysis, 1 to `MOST_BITS` of `vll_sca`, in place of its
+    /// own. All else stays as it was.
     pub fn with_bits(mut self, bits: u32) -> Scenario
         requires least { 1 ≤ bits }
         requires most { bits ≤ MOST_BITS }

@@ -29,9 +29,9 @@ use vll_queue::{Closed, Name, NotClosed, Opening};
 use vll_sca::Placing;
 use vll_workers::{Gate, MOST_WORKERS, RunError, Token};
 
-/// Has a scenario's scripts run by so many worker threads, 1 to `MOST_WORKERS` of `vll_workers`, and writes the text of the outcome: a line for
-/// each call in the order in which the calls entered, and then one for each record. The gate is told of each call that
-/// is executed. The scenario's cap, bits and hash are the engine's; its limit and its schedule are not read, since the
+/// Has a scenario's scripts run by so many worker threads, 1 to `MOST_WORKERS` of `vll_workers`, and writes the text
+/// of the outcome: a line for each call in the order in which the calls entered, and then one for each record. The
+/// gate is told of each call that is executed. The scenario's cap, bits and hash are the engine's; its limit and its schedule are not read, since the
 /// engine takes as many calls as the scripts have.
 ///
 /// Each script's calls enter in its order. The replies and records are those of the entered calls made one at a time,
