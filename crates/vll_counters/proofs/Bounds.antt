@@ -16,8 +16,8 @@ use Rattle.vll_core.specs.declared.line.Line.{Line}
 use Rattle.vll_core.specs.State.{Base, Entered}
 use Rattle.vll_core.specs.Machine.{opened}
 use Rattle.vll_core.specs.Moves.{begun}
-use Rattle.vll_core.specs.Shown.{AreFirstWords, AreWords}
-use Rattle.vll_core.proofs.Opening.{words_begun}
+use Rattle.vll_core.specs.Shown.{AreWords}
+use Rattle.vll_counters.specs.Laid.{AreLaid}
 use Rattle.vll_core.proofs.Places.{entry_at}
 use Rattle.vll_core.proofs.Finished.{finished_reached}
 use Rattle.vll_counters.specs.declared.views.QueueView.{QueueView}
@@ -39,7 +39,7 @@ only_first zero v e go = go (some-injective first_view v e)
 only_first (suc seat) v e go = absurd (some-ne-none v (sym e))
 
 -- nothing is entered, and no seat but the queue's is there
-pub starts : {S : Type 0} (base : Base) (words : List ℕ) → AreFirstWords base.records words → Rule {S = S} base (opening words [] first_view)
+pub starts : {S : Type 0} (base : Base) (words : List ℕ) → AreLaid base.records words → Rule {S = S} base (opening words [] first_view)
 starts base words first = record {
   state = opened [];
   queue = first_queue 0;
@@ -47,7 +47,7 @@ starts base words first = record {
   session_seat = λ n. 0;
   at_queue = refl;
   shows = record { reached = begun [] (λ k d low. absurd (omega (arith, low))); lines = refl; statuses = refl; turn = refl };
-  words = words_begun base [] words first;
+  words = record { long = first.long; turn = first.turn; values = first.values; pairs = first.pairs };
   hosted = tt;
   passes = record {
     each = λ seat v p at has. only_first seat v at (λ is. no_some p (ap pass_in is ∙ has));

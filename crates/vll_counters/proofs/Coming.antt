@@ -18,7 +18,7 @@ use Rattle.vll_core.specs.State.{Base, Entered, entered}
 use Rattle.vll_core.specs.Machine.{with_entry}
 use Rattle.vll_core.specs.Moves.{by_event, moved}
 use Rattle.vll_core.specs.Shown.{AreWords}
-use Rattle.vll_core.proofs.CoreWords.{words_stay}
+use Rattle.vll_core.proofs.WordsKept.{words_stay}
 use Rattle.vll_core.proofs.Places.{get_set, at_push}
 use Rattle.vll_counters.specs.declared.views.TurnView.{TurnView}
 use Rattle.vll_counters.specs.declared.views.PassView.{PassView}

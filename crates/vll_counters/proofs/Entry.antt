@@ -13,7 +13,7 @@ use Rattle.vll_core.specs.declared.line.Line.{Line}
 use Rattle.vll_core.specs.State.{Base, Turn, State}
 use Rattle.vll_core.specs.Moves.{IsReached, by_event, moved}
 use Rattle.vll_core.specs.Shown.{AreWords}
-use Rattle.vll_core.proofs.CoreWords.{words_stay}
+use Rattle.vll_core.proofs.WordsKept.{words_stay}
 use Rattle.vll_counters.specs.declared.views.TurnView.{TurnView}
 use Rattle.vll_counters.specs.declared.views.SessionView.{SessionView}
 use Rattle.vll_counters.specs.declared.views.QueueView.{QueueView}

@@ -14,7 +14,7 @@ use Rattle.vll_core.specs.declared.line.Line.{Line}
 use Rattle.vll_core.specs.State.{Base, Entered, State, entered, is_clear}
 use Rattle.vll_core.specs.Machine.{with_entry}
 use Rattle.vll_core.specs.Moves.{wake, moved}
-use Rattle.vll_core.proofs.CoreWords.{words_stay}
+use Rattle.vll_core.proofs.WordsKept.{words_stay}
 use Rattle.vll_core.proofs.Picked.{clear_picked}
 use Rattle.vll_core.proofs.Reached.{kept_reached}
 use Rattle.vll_counters.specs.declared.views.TurnView.{TurnView}

@@ -19,8 +19,8 @@ use Rattle.vll_core.specs.State.{Base, Entered, State, made, entered, records_be
 use Rattle.vll_core.specs.Machine.{with_entry, has_stored}
 use Rattle.vll_core.specs.Moves.{Move, move, by_event, IsLawful, moved, is_on, entry_store}
 use Rattle.vll_core.specs.Shown.{AreWords}
-use Rattle.vll_core.proofs.CoreWords.{words_stay, counters_stay}
-use Rattle.vll_core.proofs.CorePairs.{words_set_value, words_set_pair}
+use Rattle.vll_core.proofs.WordsKept.{words_stay, counters_stay}
+use Rattle.vll_core.proofs.WordChanges.{words_set_value, words_set_pair}
 use Rattle.vll_core.proofs.Claiming.{delta_here, delta_elsewhere}
 use Rattle.vll_core.proofs.Deltas.{counter_release}
 use Rattle.vll_core.proofs.Places.{take_next}
@@ -31,9 +31,9 @@ use Rattle.vll_core.proofs.Values.{store_reached, others_stay}
 use Rattle.vll_counters.specs.declared.views.PassView.{PassView}
 use Rattle.vll_counters.specs.declared.views.View.{View}
 use Rattle.vll_counters.specs.declared.views.View.TheVariants.{Pass}
-use Rattle.vll_counters.specs.Rule.{widest, values_before, pass_for, pass_of, Rule}
+use Rattle.vll_counters.specs.Rule.{widest, values_before, pass_for, pass_of, Moment, Rule}
 use Rattle.vll_counters.specs.Steps.{loaded, stored, released, records_before_pass, reply_of_pass}
-use Rattle.vll_counters.specs.Told.{IsPassNow, has_stored_pass, LoadTells, StoreTells, ReleaseTells}
+use Rattle.vll_counters.specs.Told.{PassMoment, has_stored_pass, LoadTells, StoreTells, ReleaseTells}
 use Rattle.vll_counters.proofs.Moves.{load_made, store_made, release_made}
 use Rattle.vll_counters.proofs.Passes.{passes_moved}
 use Rattle.vll_counters.proofs.Sessions.{sessions_reviewed}
@@ -73,12 +73,12 @@ not_stored : (a b c : Bool) → b ≡ false → c ≡ false → (a && ((a && b) 
 not_stored true b c e f = rw (e, f) refl
 not_stored false b c e f = refl
 
-pub pass_now : {S : Type 0} (base : Base) (t : table.State S View) (k : Rule base t) (by : ℕ) (p : PassView) → get_elem? t.views by ≡ some (Pass p) → IsPassNow base p k.state
-pass_now base t k by p at = record { reached = k.shows.reached; running = (k.passes.each by (Pass p) p at refl).1 }
+abbrev pass_now : (base : Base) (t : Moment) (k : Rule base t) (by : ℕ) (p : PassView) → get_elem? t.views by ≡ some (Pass p) → PassMoment base p
+pass_now base t k by p at = record { moment = t; rule = k; seat = by; at = at }
 
-module _ {S : Type 0} (base : Base) where
+module _ (base : Base) where
   -- a step of a pass's seat, by a move that changes the counts of its entry alone
-  pass_step : (t : table.State S View) (k : Rule base t) (by : ℕ) (p q : PassView) (o : IsPassOf base k.state p.ticket p) (f : Entered) (m : Move) (seen : Seen) (words : List ℕ) (homes : List (mathlib.Core.Option.Option S))
+  pass_step : (t : Moment) (k : Rule base t) (by : ℕ) (p q : PassView) (o : IsPassOf base k.state p.ticket p) (f : Entered) (m : Move) (seen : Seen) (words : List ℕ) (homes : List (mathlib.Core.Option.Option (Unit {0})))
       → get_elem? t.views by ≡ some (Pass p) → made f ≡ made o.entry → f.status ≡ o.entry.status → q ≡ pass_for base (entered k.state) p.ticket f
       → IsLawful (widest base) m → move (widest base) k.state m ≡ Ok (seen, with_entry k.state p.ticket f) → AreWords base (with_entry k.state p.ticket f) words
       → Rule base (record { words = words; homes = homes; views = slice_set t.views by (Pass q) })
@@ -109,7 +109,7 @@ module _ {S : Type 0} (base : Base) where
       }
 
   pub loads : (slots by : ℕ) (p : PassView) (c : Claim) → slice_get p.call.claims p.loads ≡ Some c → c.id < length base.records
-      → Allows (Rule {S = S} base) slots by (Pass p, []) (value_word_of c.id) (λ n. n) (LoadTells base c.id (step 0 0 0 0 mathlib.Core.Option.none) (Pass p, []))
+      → Allows (Rule {S = Unit {0}} base) slots by (Pass p, []) (value_word_of c.id) (λ n. n) (LoadTells base c.id (step 0 0 0 0 mathlib.Core.Option.none) (Pass p, []))
   loads slots by p c next room t k _ at small =
       let o = own_pass base t k by p at in
       let s = k.state in
@@ -133,12 +133,12 @@ module _ {S : Type 0} (base : Base) where
         pass_step t k by p (loaded word p) o f (by_event (event.Load n)) _ (slice_set t.words i word) t.homes at refl refl is tt made_is
             (subst (AreWords base (with_entry s n f)) (sym (same_words t.words i))
             (words_stay (widest base) s (with_entry s n f) (by_event (event.Load n)) _ t.words k.shows.reached made_is refl refl refl k.words)),
-        (refl, record { state = s; now = pass_now base t k by p at; present = present; serial = serial ∙ ap (λ (xs : List ℕ). slice_index xs c.id) (sym (records_own base s n p o)) }),
+        (refl, record { now = pass_now base t k by p at; present = present; serial = serial ∙ ap (λ (xs : List ℕ). slice_index xs c.id) (sym (records_own base s n p o)) }),
       )
 
   pub stores : (slots by : ℕ) (p : PassView) (c : Claim) (new : ℕ) → slice_get (writes p.call) p.stores ≡ Some c → c.id < length base.records → p.loads ≡ length p.call.claims
       → is_aborted (reply_of_pass base p) ≡ false → new ≡ slice_index (apply base.procs p.call (records_before_pass base p)).records c.id
-      → Allows (Rule {S = S} base) slots by (Pass p, []) (value_word_of c.id) (λ _. new) (λ _. StoreTells (step 0 0 0 0 mathlib.Core.Option.none) (Pass p, []) new)
+      → Allows (Rule {S = Unit {0}} base) slots by (Pass p, []) (value_word_of c.id) (λ _. new) (λ _. StoreTells (step 0 0 0 0 mathlib.Core.Option.none) (Pass p, []) new)
   stores slots by p c new next room all runs right t k _ at small =
       let o = own_pass base t k by p at in
       let s = k.state in
@@ -176,7 +176,7 @@ module _ {S : Type 0} (base : Base) where
       )
 
   pub releases : (slots by : ℕ) (p : PassView) (c : Claim) → slice_get p.call.claims p.releases ≡ Some c → c.id < length base.records → has_stored_pass base p ≡ true
-      → Allows (Rule {S = S} base) slots by (Pass p, []) (pair_word_of_record c.id) (λ n. (n + (18446744073709551616 - delta_of c.mode)) % 18446744073709551616)
+      → Allows (Rule {S = Unit {0}} base) slots by (Pass p, []) (pair_word_of_record c.id) (λ n. (n + (18446744073709551616 - delta_of c.mode)) % 18446744073709551616)
       (ReleaseTells base c.id (step 0 0 0 0 mathlib.Core.Option.none) (Pass p, []))
   releases slots by p c next room all t k _ at small =
       let o = own_pass base t k by p at in
@@ -200,7 +200,7 @@ module _ {S : Type 0} (base : Base) where
         tt,
         pass_step t k by p (released p) o f (by_event (event.Release n)) _ (slice_set t.words i v) t.homes at refl refl (ap released o.is) tt made_is
             (words_set_pair base s after t.words c.id v room here others (λ r. others_stay (widest base) s after (by_event (event.Release n)) _ r k.shows.reached made_is refl) k.words),
-        (refl, record { state = s; now = pass_now base t k by p at; counts = counted }),
+        (refl, record { now = pass_now base t k by p at; counts = counted }),
       )
     where
       left_after : (x z d : ℕ) → x ≡ z + d → x < 18446744073709551616 → z ≡ (x + (18446744073709551616 - d)) % 18446744073709551616

@@ -4,8 +4,7 @@ use Rattle.std.specs.Option.{option_map}
 use Rattle.std.proofs.lemmas.List.Sums.{count_by-le-length}
 use mathlib.Core.Option.{some}
 use lib.ListN.{get_elem?}
-use Rattle.atomic_table.specs.Table as table
-use Rattle.atomic_table.specs.Table.{Me, Step, step, keeps, stepped, Allows}
+use Rattle.atomic_table.specs.Table.{step, keeps, Allows}
 use Rattle.atomic_table.proofs.Lists.{set_here}
 use Rattle.vll_record.specs.declared.claim.Claim.{Claim}
 use Rattle.vll_record.specs.Counter.{delta_of}
@@ -17,14 +16,13 @@ use Rattle.vll_core.specs.Machine.{waiting}
 use Rattle.vll_core.specs.Moves.{IsProper, IsReached, hand, moved}
 use Rattle.vll_core.specs.Shown.{AreWords}
 use Rattle.vll_core.proofs.Claiming.{after_request, request_reached, words_asked, counter_asked, counter_fits}
-use Rattle.vll_core.proofs.CoreWords.{words_stay}
+use Rattle.vll_core.proofs.WordsKept.{words_stay}
 use Rattle.vll_counters.specs.declared.views.TurnView.{TurnView}
 use Rattle.vll_counters.specs.declared.views.SessionView.{SessionView}
 use Rattle.vll_counters.specs.declared.views.QueueView.{QueueView}
-use Rattle.vll_counters.specs.declared.views.View.{View}
 use Rattle.vll_counters.specs.declared.views.View.TheVariants.{Queue}
 use Rattle.vll_counters.specs.Views.{calls_in}
-use Rattle.vll_counters.specs.Rule.{widest, turn_view, Rule, pass_of}
+use Rattle.vll_counters.specs.Rule.{widest, turn_view, Moment, Rule, pass_of}
 use Rattle.vll_counters.specs.Steps.{asked, requested, turn_of, opened}
 use Rattle.vll_counters.specs.Told.{KnowsSession, RequestTells, OpenTells}
 use Rattle.vll_counters.proofs.Places.{at_below}
@@ -42,9 +40,9 @@ uncut x d y e small = omega arith
 abbrev pub MayOpen : Base → List Line → Option Call → Type 0
 MayOpen base lines call = (c : Call) → call ≡ Some c → IsProper base c × (length lines < 65536)
 
-module _ {S : Type 0} (base : Base) where
+module _ (base : Base) where
   pub requests : (slots : ℕ) (q : QueueView) (turn : TurnView) (c : Claim) → q.turn ≡ Some turn → slice_get turn.call.claims turn.requested ≡ Some c → c.id < length base.records
-      → Allows (Rule {S = S} base) slots 0 (Queue q, []) (pair_word_of_record c.id) (λ n. (n + delta_of c.mode) % 18446744073709551616) (RequestTells base c (step 0 0 0 0 mathlib.Core.Option.none) (Queue q, []))
+      → Allows (Rule {S = Unit {0}} base) slots 0 (Queue q, []) (pair_word_of_record c.id) (λ n. (n + delta_of c.mode) % 18446744073709551616) (RequestTells base c (step 0 0 0 0 mathlib.Core.Option.none) (Queue q, []))
   requests slots q turn c turn_open next room t k _ at small =
       let h = held base t q k at in
       let s = h.state in
@@ -79,15 +77,15 @@ module _ {S : Type 0} (base : Base) where
               sessions = sessions_reviewed (calls_in q.lines) q.statuses q.clients h.session_seat t.views 0 (Queue q) (Queue new) at refl h.sessions;
             })
             here,
-        (refl, record { state = s; shows = h.shows; counts = counted }),
+        (refl, record { now = record { moment = t; rule = k; at = at }; counts = k.words.pairs c.id room }),
       )
 
   -- what the queue's seat is told of a session that has come
-  knows : (t : table.State S View) (q : QueueView) → Holds base q t.words t.views → get_elem? t.views 0 ≡ some (Queue q) → (g : SessionView) → q.session ≡ Some g → KnowsSession base q g
+  knows : (t : Moment) (q : QueueView) → Holds base q t.words t.views → get_elem? t.views 0 ≡ some (Queue q) → (g : SessionView) → q.session ≡ Some g → KnowsSession base q g
   knows t q h at g has = let o = h.sessions 0 (Queue q) g at has in record { client = o.client; has_seen = o.has_seen; replied = replied base q h.state h.shows }
 
   pub opens : (slots : ℕ) (q : QueueView) (call : Option Call) → q.turn ≡ None → MayOpen base q.lines call
-      → Allows (Rule {S = S} base) slots 0 (Queue q, []) 0 (λ n. n) (OpenTells base call (step 0 0 0 0 mathlib.Core.Option.none) (Queue q, []))
+      → Allows (Rule {S = Unit {0}} base) slots 0 (Queue q, []) 0 (λ n. n) (OpenTells base call (step 0 0 0 0 mathlib.Core.Option.none) (Queue q, []))
   opens slots q call closed may t k _ at small =
       let h = held base t q k at in (
         Queue (opened call q),

@@ -11,7 +11,7 @@ use Rattle.vll_check.specs.Calls.{Fits}
 use Rattle.vll_check.specs.Catalog.{Catalog, IsCatalog}
 use Rattle.vll_core.specs.declared.line.Line.{Line}
 use Rattle.vll_sca.specs.Status.{is_waiting, is_running}
-use Rattle.vll_core.specs.Shown.{AreFirstWords}
+use Rattle.vll_counters.specs.Laid.{AreLaid}
 use Rattle.vll_core.specs.State.{Base, writes, is_aborted}
 use Rattle.vll_core.specs.Moves.{IsProper}
 use Rattle.vll_core.proofs.Fitted.{proper_fits}
@@ -70,41 +70,41 @@ may_open base library lines None catalog same fits room c is = absurd (cc is)
 may_open base library lines (Some d) catalog same fits room c is =
     subst (λ (x : Call). IsProper base x × (length lines < 65536)) (cc is) (proper_fits (record { records = length base.records; procs = base.procs }) base.records d (subst IsCatalog same catalog) fits, room)
 
-module _ {S : Type 0} (slots : ℕ) where
-  pub requests_at : (base b d : Base) (id : ℕ) (me : Me S View) (q : QueueView) (c e : Claim) (word k : ℕ) → base ≡ b → d ≡ b → e ≡ c → id ≡ 0 → me ≡ (Queue q, []) → word ≡ pair_word_of_record c.id → k ≡ delta_of c.mode
+module _ (slots : ℕ) where
+  pub requests_at : (base b d : Base) (id : ℕ) (me : Me (Unit {0}) View) (q : QueueView) (c e : Claim) (word k : ℕ) → base ≡ b → d ≡ b → e ≡ c → id ≡ 0 → me ≡ (Queue q, []) → word ≡ pair_word_of_record c.id → k ≡ delta_of c.mode
       → next_claim q.turn ≡ Some c → c.id < length b.records
-      → Allows (Rule {S = S} base) slots id me word (λ n. (n + k) % 18446744073709551616) (RequestTells d e (step 0 0 0 0 mathlib.Core.Option.none) me)
+      → Allows (Rule {S = Unit {0}} base) slots id me word (λ n. (n + k) % 18446744073709551616) (RequestTells d e (step 0 0 0 0 mathlib.Core.Option.none) me)
   requests_at base b d id me q c e word k same told claim i is at by next low =
       let turn = turn_of_claim q.turn c next in
       rw (same, told, claim, i, is, at, by) (requests b slots q turn.0 c turn.1 turn.2 low)
 
-  pub opens_at : (base b d : Base) (id : ℕ) (me : Me S View) (q : QueueView) (call given : Option Call) → base ≡ b → d ≡ b → given ≡ call → id ≡ 0 → me ≡ (Queue q, []) → q.turn ≡ None → MayOpen b q.lines call
-      → Allows (Rule {S = S} base) slots id me 0 (λ n. n) (OpenTells d given (step 0 0 0 0 mathlib.Core.Option.none) me)
+  pub opens_at : (base b d : Base) (id : ℕ) (me : Me (Unit {0}) View) (q : QueueView) (call given : Option Call) → base ≡ b → d ≡ b → given ≡ call → id ≡ 0 → me ≡ (Queue q, []) → q.turn ≡ None → MayOpen b q.lines call
+      → Allows (Rule {S = Unit {0}} base) slots id me 0 (λ n. n) (OpenTells d given (step 0 0 0 0 mathlib.Core.Option.none) me)
   opens_at base b d id me q call given same told brings i is closed may = rw (same, told, brings, i, is) (opens b slots q call closed may)
 
-  pub loads_at : (base b d : Base) (id : ℕ) (me : Me S View) (p : PassView) (r n word : ℕ) → base ≡ b → d ≡ b → n ≡ r → me ≡ (Pass p, []) → word ≡ value_word_of r
+  pub loads_at : (base b d : Base) (id : ℕ) (me : Me (Unit {0}) View) (p : PassView) (r n word : ℕ) → base ≡ b → d ≡ b → n ≡ r → me ≡ (Pass p, []) → word ≡ value_word_of r
       → record_of (slice_get p.call.claims p.loads) ≡ Some r → r < length b.records
-      → Allows (Rule {S = S} base) slots id me word (λ n. n) (LoadTells d n (step 0 0 0 0 mathlib.Core.Option.none) me)
+      → Allows (Rule {S = Unit {0}} base) slots id me word (λ n. n) (LoadTells d n (step 0 0 0 0 mathlib.Core.Option.none) me)
   loads_at base b d id me p r n word same told number is at next low =
       let c = claim_of (slice_get p.call.claims p.loads) r next in
       rw (same, told, number ∙ sym c.2, is, at ∙ ap value_word_of (sym c.2)) (loads b slots id p c.0 c.1 (subst (λ m. m < length b.records) (sym c.2) low))
 
-  pub stores_at : (base b : Base) (id : ℕ) (me : Me S View) (p : PassView) (r word new : ℕ) → base ≡ b → me ≡ (Pass p, []) → word ≡ value_word_of r
+  pub stores_at : (base b : Base) (id : ℕ) (me : Me (Unit {0}) View) (p : PassView) (r word new : ℕ) → base ≡ b → me ≡ (Pass p, []) → word ≡ value_word_of r
       → record_of (slice_get (writes p.call) p.stores) ≡ Some r → r < length b.records → p.loads ≡ length p.call.claims → is_aborted (reply_of_pass b p) ≡ false
       → new ≡ slice_index (apply b.procs p.call (records_before_pass b p)).records r
-      → Allows (Rule {S = S} base) slots id me word (λ _. new) (λ _. StoreTells (step 0 0 0 0 mathlib.Core.Option.none) me new)
+      → Allows (Rule {S = Unit {0}} base) slots id me word (λ _. new) (λ _. StoreTells (step 0 0 0 0 mathlib.Core.Option.none) me new)
   stores_at base b id me p r word new same is at next low all commits right =
       let c = claim_of (slice_get (writes p.call) p.stores) r next in
       rw (same, is, at ∙ ap value_word_of (sym c.2))
       (stores b slots id p c.0 new c.1 (subst (λ m. m < length b.records) (sym c.2) low) all commits (right ∙ ap (slice_index (apply b.procs p.call (records_before_pass b p)).records) (sym c.2)))
 
-  pub releases_at : (base b d : Base) (id : ℕ) (me : Me S View) (p : PassView) (c : Claim) (n word k : ℕ) → base ≡ b → d ≡ b → n ≡ c.id → me ≡ (Pass p, []) → word ≡ pair_word_of_record c.id → k ≡ delta_of c.mode
+  pub releases_at : (base b d : Base) (id : ℕ) (me : Me (Unit {0}) View) (p : PassView) (c : Claim) (n word k : ℕ) → base ≡ b → d ≡ b → n ≡ c.id → me ≡ (Pass p, []) → word ≡ pair_word_of_record c.id → k ≡ delta_of c.mode
       → slice_get p.call.claims p.releases ≡ Some c → c.id < length b.records → has_stored_pass b p ≡ true
-      → Allows (Rule {S = S} base) slots id me word (λ n. (n + (18446744073709551616 - k)) % 18446744073709551616) (ReleaseTells d n (step 0 0 0 0 mathlib.Core.Option.none) me)
+      → Allows (Rule {S = Unit {0}} base) slots id me word (λ n. (n + (18446744073709551616 - k)) % 18446744073709551616) (ReleaseTells d n (step 0 0 0 0 mathlib.Core.Option.none) me)
   releases_at base b d id me p c n word k same told number is at by next low all = rw (same, told, number, is, at, by) (releases b slots id p c next low all)
 
-  pub ends_at : (base b d : Base) (id : ℕ) (me : Me S View) (q : QueueView) (p : PassView) → base ≡ b → d ≡ b → id ≡ 0 → me ≡ (Queue q, []) → q.pass ≡ Some p → q.turn ≡ None → has_stored_pass b p ≡ true → p.releases ≡ length p.call.claims
-      → Allows (Rule {S = S} base) slots id me 0 (λ n. n) (EndTells d (step 0 0 0 0 mathlib.Core.Option.none) me)
+  pub ends_at : (base b d : Base) (id : ℕ) (me : Me (Unit {0}) View) (q : QueueView) (p : PassView) → base ≡ b → d ≡ b → id ≡ 0 → me ≡ (Queue q, []) → q.pass ≡ Some p → q.turn ≡ None → has_stored_pass b p ≡ true → p.releases ≡ length p.call.claims
+      → Allows (Rule {S = Unit {0}} base) slots id me 0 (λ n. n) (EndTells d (step 0 0 0 0 mathlib.Core.Option.none) me)
   ends_at base b d id me q p same told i is has closed all released = rw (same, told, i, is) (ends b slots q p has closed all released)
 
 module _ {S : Type 0} where
@@ -168,8 +168,8 @@ library_is library records b same many =
 
 -- ---- the opening and the end
 
-pub starts_at : {S : Type 0} (key : Key) (records words ws : List ℕ) → AreFirstWords records words → ws ≡ words → key.records.value.items ≡ records → Rule {S = S} (base_of key) (opening ws [] first_view)
-starts_at key records words ws first laid is = starts (base_of key) ws (subst (λ (p : List ℕ × List ℕ). AreFirstWords p.0 p.1) (λ i. (sym is i, sym laid i)) first)
+pub starts_at : {S : Type 0} (key : Key) (records words ws : List ℕ) → AreLaid records words → ws ≡ words → key.records.value.items ≡ records → Rule {S = S} (base_of key) (opening ws [] first_view)
+starts_at key records words ws first laid is = starts (base_of key) ws (subst (λ (p : List ℕ × List ℕ). AreLaid p.0 p.1) (λ i. (sym is i, sym laid i)) first)
 
 pub closes_at : (base b : Base) (id : ℕ) (me : Me (Unit {0}) View) (q : QueueView) (words ws : List ℕ) (slots : List (Unit {0})) → base ≡ b → id ≡ 0 → me ≡ (Queue q, []) → q.turn ≡ None
     → count_by is_waiting q.statuses ≡ 0 → count_by is_running q.statuses ≡ 0 → Final (SeenBy (Rule {S = Unit {0}} base) id me.0) words slots → ws ≡ words → IsAtEnd b q.lines ws

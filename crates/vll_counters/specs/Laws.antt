@@ -2,18 +2,13 @@
 use Rattle.std.specs.Prelude.{◌≡◌, ℕ, true, false, Some, slice_get}
 use mathlib.Core.Option as opt
 use lib.ListN.{get_elem?}
-use Rattle.atomic_table.specs.Table as table
 use Rattle.vll_sca.specs.Status.{is_waiting, is_running}
 use Rattle.vll_core.specs.State.{Base, Entered, is_clear}
 use Rattle.vll_counters.specs.declared.views.PassView.{PassView}
 use Rattle.vll_counters.specs.declared.views.SessionView.{SessionView}
 use Rattle.vll_counters.specs.declared.views.View.{View}
 use Rattle.vll_counters.specs.Views.{pass_in, session_in}
-use Rattle.vll_counters.specs.Rule.{Rule}
-
--- the words and the views at some moment
-abbrev pub Moment : Type 0
-Moment = table.State (Unit {0}) View
+use Rattle.vll_counters.specs.Rule.{Moment, Rule}
 
 -- each ticket that is running or gone is clear
 abbrev pub TicketsAreClear : Type 0

@@ -3,5 +3,6 @@ pub mod Rule
 pub mod Steps
 pub mod Told
 pub mod Shown
+pub mod Laid
 pub mod Kept
 pub mod Laws

@@ -8,6 +8,7 @@ use Rattle.vll_proc.specs.Serial.{Made, before}
 use Rattle.vll_sca.specs.declared.status.Status.{Status}
 use Rattle.vll_sca.specs.declared.status.Status.TheVariants.{Gone}
 use Rattle.vll_core.specs.State.{Base, Opening, Entered, Turn, State, entered}
+use Rattle.vll_core.specs.declared.config.TheConstants.{MOST_CALLS, MOST_WAITING}
 use Rattle.vll_core.specs.Machine.{running}
 use Rattle.vll_core.specs.Moves.{IsReached}
 use Rattle.vll_core.specs.Journal.{journal_of}
@@ -20,9 +21,9 @@ use Rattle.vll_counters.specs.declared.views.View.{View}
 use Rattle.vll_counters.specs.declared.views.View.TheVariants.{Queue}
 use Rattle.vll_counters.specs.Views.{calls_in, calls_by, Begins, pass_in, session_in}
 
--- the opening that allows most: 65,536 calls, which may all wait. No step uses its hash
+-- the opening that allows most: as many calls as a machine can have, which may all wait. No step uses its hash
 abbrev pub widest : Base → Opening
-widest base = record { base = base; cap = 65536; limit = 65536; bits = 1; place = λ r. r }
+widest base = record { base = base; cap = MOST_WAITING; limit = MOST_CALLS; bits = 1; place = λ r. r }
 
 -- the open turn, as the queue's seat knows it
 abbrev pub turn_view : Option Turn → Option TurnView
@@ -95,3 +96,7 @@ module _ {S : Type 0} where
     pub hosted : IsHosted queue.turn queue.session
     pub passes : ArePasses (pass_of base state) pass_seat t.views
     pub sessions : AreSessions (calls_in queue.lines) queue.statuses queue.clients session_seat t.views
+
+-- the words and the views at some moment
+abbrev pub Moment : Type 0
+Moment = table.State (Unit {0}) View

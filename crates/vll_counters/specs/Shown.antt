@@ -2,6 +2,7 @@
 use Rattle.std.specs.Prelude.{◌≡◌, ℕ, ◌<◌, length, List, [], Option, Some, None, slice_get, option_map}
 use Rattle.atomic_table.specs.Seated.{TableId}
 use Rattle.vll_record.specs.declared.claim.Claim.{Claim}
+use Rattle.vll_record.specs.declared.claim.Mode.TheVariants.{Read}
 use Rattle.vll_proc.specs.declared.call.Call.{Call}
 use Rattle.vll_check.specs.Catalog.{Catalog}
 use Rattle.vll_sca.specs.declared.status.Status.{Status}
@@ -57,6 +58,9 @@ queue_in v = first_queue 0
 abbrev pub session_of : View → SessionView
 session_of (Session g) = g
 session_of v = new_session 0
+
+abbrev pub no_claim : Claim
+no_claim = record { id = 0; mode = Read }
 
 abbrev pub no_call : Call
 no_call = record { number = 0; arg_count = 0; args = []; claims = []; cells = [] }

@@ -1,5 +1,7 @@
 -- What each step tells its caller, beside its new view.
 use Rattle.std.specs.Prelude.{◌≡◌, ℕ, suc, ◌+◌, ◌*◌, ◌<◌, ◌≤◌, ◌&&◌, ◌||◌, ◌==◌, Bool, true, false, List, length, take, Option, Some, None, slice_get, slice_index}
+use mathlib.Core.Option as opt
+use lib.ListN.{get_elem?}
 use Rattle.atomic_table.specs.Table.{Me, Step}
 use Rattle.vll_record.specs.declared.claim.Claim.{Claim}
 use Rattle.vll_record.specs.Claim.{conflict}
@@ -8,8 +10,7 @@ use Rattle.vll_proc.specs.declared.call.Call.{Call}
 use Rattle.vll_sca.specs.declared.status.Status.{Status}
 use Rattle.vll_sca.specs.declared.status.Status.TheVariants.{Running, Waiting, Gone}
 use Rattle.vll_sca.specs.Status.{is_gone}
-use Rattle.vll_core.specs.State.{Base, State, counter, value, writes, is_aborted}
-use Rattle.vll_core.specs.Moves.{IsReached}
+use Rattle.vll_core.specs.State.{Base, counter, value, writes, is_aborted}
 use Rattle.vll_core.specs.declared.line.Line.{Line}
 use Rattle.vll_proc.specs.Serial.{answer, end}
 use Rattle.vll_counters.specs.declared.views.TurnView.{TurnView}
@@ -19,7 +20,7 @@ use Rattle.vll_counters.specs.declared.views.QueueView.{QueueView}
 use Rattle.vll_counters.specs.declared.views.View.{View}
 use Rattle.vll_counters.specs.declared.views.View.TheVariants.{Queue, Pass}
 use Rattle.vll_counters.specs.Views.{calls_in}
-use Rattle.vll_counters.specs.Rule.{widest, pass_of, Shows, HasSeen}
+use Rattle.vll_counters.specs.Rule.{HasSeen, Moment, Rule}
 use Rattle.vll_counters.specs.Steps.{on_queue, on_pass, opened, requested, loaded, stored, released, ended, records_before_pass, reply_of_pass}
 
 -- a fact about the view of the queue's seat
@@ -32,29 +33,34 @@ abbrev pub AtPass : (PassView → Type 0) → View → Type 0
 AtPass P (Pass p) = P p
 AtPass P v = Unit {0}
 
--- there is a state that the queue's seat knows, and in it this is the record's counter
+-- a moment at which the rule holds, and the queue's seat has this view
+pub record QueueMoment (base : Base) (q : QueueView) : Type 0 where
+  pub moment : Moment
+  pub rule : Rule base moment
+  pub at : get_elem? moment.views 0 ≡ opt.some (Queue q)
+
+-- a moment at which the rule holds, and a seat has this pass
+pub record PassMoment (base : Base) (p : PassView) : Type 0 where
+  pub moment : Moment
+  pub rule : Rule base moment
+  pub seat : ℕ
+  pub at : get_elem? moment.views seat ≡ opt.some (Pass p)
+
+-- this is the record's counter at such a moment
 pub record IsCounterNow (base : Base) (q : QueueView) (r n : ℕ) : Type 0 where
-  pub state : State
-  pub shows : Shows base q state
-  pub counts : n ≡ counter state r
+  pub now : QueueMoment base q
+  pub counts : n ≡ counter now.rule.state r
 
--- there is a reached state in which this is the pass of its ticket
-pub record IsPassNow (base : Base) (p : PassView) (state : State) : Type 0 where
-  pub reached : IsReached (widest base) state
-  pub running : pass_of base state p.ticket ≡ Some p
-
--- this is the record's present value, and the value before the pass's ticket, where the entered calls run one at a time
+-- this is the record's present value at a moment of the pass, and the value before the pass's ticket, where the entered calls run one at a time
 pub record IsValueNow (base : Base) (p : PassView) (r n : ℕ) : Type 0 where
-  pub state : State
-  pub now : IsPassNow base p state
-  pub present : n ≡ value base state r
+  pub now : PassMoment base p
+  pub present : n ≡ value base now.rule.state r
   pub serial : n ≡ slice_index (records_before_pass base p) r
 
--- this is the record's counter while the pass is that of its ticket
+-- this is the record's counter at a moment of the pass
 pub record IsCountedNow (base : Base) (p : PassView) (r n : ℕ) : Type 0 where
-  pub state : State
-  pub now : IsPassNow base p state
-  pub counts : n ≡ counter state r
+  pub now : PassMoment base p
+  pub counts : n ≡ counter now.rule.state r
 
 -- each line of a call that is gone has its serial reply
 abbrev pub AreReplied : Base → QueueView → Type 0

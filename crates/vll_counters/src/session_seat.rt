@@ -1,6 +1,7 @@
 // The steps that bring a session to the queue's seat and let it leave.
 ghost use Rattle.std.specs.Prelude.{◌≡◌, ◌<◌, suc, [], length, Some, None, IfSome, IsSome};
 ghost use Rattle.vll_check.specs.Calls.{Fits};
+ghost use Rattle.vll_core.specs.declared.config.TheConstants.{MOST_CALLS};
 ghost use Rattle.vll_counters.specs.Shown.{queue_view, after, library_of, without_session, left_session};
 ghost use Rattle.vll_counters.specs.Steps.{new_session, turn_of};
 ghost use Rattle.vll_counters.specs.Told.{KnowsSession, MayLeave, IsGivenOut};
@@ -56,7 +57,7 @@ impl Words {
         requires alone { queue.old.session ≡ None }
         requires closed { queue.old.turn ≡ None }
         requires fits { IfSome call (Fits (library_of self.now)) }
-        requires room { IfSome call (λ _. length queue.old.lines < 65536) }
+        requires room { IfSome call (λ _. length queue.old.lines < MOST_CALLS) }
         ensures queue { queue.new ≡ record queue.old { session = Some session.session; turn = turn_of call (Some session.session) } }
         ensures session { KnowsSession self.now.base (queue_view queue.old) session.session }
     {
@@ -74,7 +75,7 @@ impl Words {
         requires alone { queue.old.session ≡ None }
         requires closed { queue.old.turn ≡ None }
         requires fits { IfSome call (Fits (library_of self.now)) }
-        requires room { IfSome call (λ _. length queue.old.lines < 65536) }
+        requires room { IfSome call (λ _. length queue.old.lines < MOST_CALLS) }
         ensures queue { queue.new ≡ record queue.old { session = Some session.session; turn = turn_of call (Some session.session) } }
         ensures session { KnowsSession self.now.base (queue_view queue.old) session.session }
     {

@@ -23,7 +23,7 @@ pub trait Told {
 
 impl Told for Brand {
     ghost use Rattle.std.specs.Prelude.{[], None};
-    ghost use Rattle.vll_record.specs.Canon.{no_claim};
+    ghost use Rattle.vll_counters.specs.Shown.{no_claim};
 
     ghost base = { record { procs = []; records = [] } };
 

@@ -1,7 +1,7 @@
 ghost use Rattle.std.specs.Prelude.{◌≡◌, ◌+◌, ◌*◌, ◌≤◌, ◌∷◌, length, take, slice_index, count_by, vec_capacity, vec_len, IfOk, None, []};
 ghost use Rattle.std.specs.Mem.Slots.{slots_items, slots_len, IsFull};
 ghost use Rattle.vll_sca.specs.Status.{is_waiting, is_running};
-ghost use Rattle.vll_core.specs.Shown.{AreFirstWords};
+ghost use Rattle.vll_counters.specs.Laid.{AreLaid};
 ghost use Rattle.vll_counters.specs.Shown.{shown_queue, AreNewSessions};
 ghost use Rattle.vll_counters.specs.Steps.{first_queue};
 ghost use Rattle.vll_counters.specs.Told.{IsAtEnd};
@@ -61,7 +61,7 @@ fn copied(alloc: Global, records: &[u64]) -> Result<Vec<u64>, AllocError>
 fn lay(words: &mut Vec<u64>, records: &[u64])
     requires empty { words.old.items ≡ [] }
     requires room { 1 + 2 * length records.now ≤ vec_capacity words.old }
-    ensures words { AreFirstWords records.now words.new.items }
+    ensures words { AreLaid records.now words.new.items }
     ensures room { vec_capacity words.new ≡ vec_capacity words.old }
 {
     words.push_reserved(0);
@@ -146,3 +146,6 @@ impl Words {
         words
     }
 }
+
+#[cfg(test)]
+mod tests;

@@ -14,4 +14,6 @@ loop-value-preserved c = record {
 }
 
 pub returns-clause-words : goal.returns-clause-words
-returns-clause-words c = first_words c.args.records.now c.loop-value.words.items (c.loop-value.invariant.items ∙ ap (λ vs. 0 ∷ laid vs) (take_all c.loop-value.value-index c.args.records.now c.loop-value-test.false))
+returns-clause-words c =
+    let first = first_words c.args.records.now c.loop-value.words.items (c.loop-value.invariant.items ∙ ap (λ vs. 0 ∷ laid vs) (take_all c.loop-value.value-index c.args.records.now c.loop-value-test.false)) in
+    record { long = first.long; turn = first.turn; values = first.values; pairs = first.pairs }

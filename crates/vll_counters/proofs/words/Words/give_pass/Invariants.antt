@@ -1,5 +1,5 @@
 use Rattle.std.proofs.Common.{[], None}
-use Rattle.vll_record.specs.Canon.{no_claim}
+use Rattle.vll_counters.specs.Shown.{no_claim}
 use Rattle.vll_counters.proofs.words.Words.give_pass.Given as goal
 
 abbrev pub ghosts-give_pass_told : goal.ghosts-give_pass_told

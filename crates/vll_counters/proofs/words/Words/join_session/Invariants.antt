@@ -1,5 +1,5 @@
 use Rattle.std.proofs.Common.{None}
-use Rattle.vll_record.specs.Canon.{no_claim}
+use Rattle.vll_counters.specs.Shown.{no_claim}
 use Rattle.vll_counters.proofs.words.Words.join_session.Given as goal
 
 abbrev pub ghosts-join_session_told : goal.ghosts-join_session_told

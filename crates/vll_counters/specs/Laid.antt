@@ -1,0 +1,10 @@
+-- The words with which a table begins.
+use Rattle.std.specs.Prelude.{◌≡◌, ℕ, ◌+◌, ◌*◌, ◌<◌, List, length, slice_index}
+use Rattle.vll_record.specs.Word.{value_word_of, pair_word_of_record}
+
+-- word 0 is 0, and each record has its value, with no claim open
+pub record AreLaid (records words : List ℕ) : Type 0 where
+  pub long : length words ≡ 1 + 2 * length records
+  pub turn : slice_index words 0 ≡ 0
+  pub values : (r : ℕ) → r < length records → slice_index words (value_word_of r) ≡ slice_index records r
+  pub pairs : (r : ℕ) → r < length records → slice_index words (pair_word_of_record r) ≡ 0
