@@ -108,7 +108,7 @@ fn enters_up_to_the_limit<N: Name + Send + Sync, R: Wait + Threads + Abort + Syn
     opening: Opening<Placing>,
     entered: usize,
 ) -> Result<(), Fail>
-    requires { opening ≡ named N.library N.records N.config N.clients }
+    requires { IsNamed placing N.library N.records N.config N.places N.clients opening }
 {
     let (engine, sessions) = opening.start::<N>();
     let tokens = all_bumping::<N>(rt, alloc, engine.library(), sessions, 2, 2)?;
