@@ -1,5 +1,5 @@
 -- A machine has as many scripts at any time as at its opening.
-use Rattle.std.proofs.Common.{◌≡◌, ℕ, refl, sym, ap, ◌∙◌, List, length, slice_get, slice_set, Option, Some, None, Ok, Err, length-set}
+use Rattle.std.proofs.Common.{◌≡◌, ℕ, refl, ap, ◌∙◌, List, length, slice_get, slice_set, Option, Some, None, Ok, Err, length-set}
 use Rattle.vll_proc.specs.declared.call.Call.{Call}
 use Rattle.vll_core.specs.Machine.{Outcome, rest_of, used, state_after}
 use Rattle.vll_core.specs.Moves.{Move, move}

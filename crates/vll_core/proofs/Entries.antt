@@ -1,59 +1,45 @@
--- The queue's entries lie as lines beside entries that the contention analysis sees.
-use Rattle.std.proofs.Common.{Bor, if◌then◌else◌, nat_lt, ◌≡◌, ℕ, zero, suc, ◌+◌, ◌<◌, ◌≤◌, Bool, true, false, List, [], ◌∷◌, ◌++◌, length, map, refl, sym, ap, ap₂, ◌∙◌, arith, slice_get, slice_set, get_or, not, cond, Option, Some, None}
+-- The queue's entries lie as lines beside statuses.
+use Rattle.std.proofs.Common.{Bor, if◌then◌else◌, nat_lt, ◌≡◌, ℕ, zero, suc, ◌+◌, ◌<◌, ◌≤◌, Bool, true, false, List, [], ◌∷◌, ◌++◌, length, map, refl, sym, ap, ◌∙◌, arith, slice_get, slice_set, get_or, cond, Option, Some, None}
 use Rattle.std.specs.List.{position_or_len, count_by}
-use Rattle.std.proofs.lemmas.List.Sums.{sum_by-cons, sum_by-set, sum_by_push, fails_before_first, passes_at_first, prefix_len-le-length}
-use Rattle.std.proofs.lemmas.List.Folds.{position_or_len-set}
+use Rattle.std.proofs.lemmas.List.Sums.{sum_by-cons, sum_by-set, sum_by_push}
 use Rattle.std.proofs.lemmas.Bool.Decides.{nat_tests}
-use Rattle.std.proofs.lemmas.List.{get_or-map, length-map}
-use Rattle.std.proofs.lemmas.Option.{slice_get-map, slice_get_past, slice_get_read, slice_get_within, get_or_from_slice_get}
-use Rattle.std.specs.Option.{option_copied, option_map}
+use Rattle.std.proofs.lemmas.Option.{slice_get_past, slice_get_read, slice_get_within, get_or_from_slice_get}
+use Rattle.std.specs.Option.{option_copied}
 use Rattle.std.specs.Slice.{IsItemAt}
 use Rattle.std.proofs.Math.Seq.{map-set_same}
 use Rattle.vll_proc.specs.declared.call.Reply.{Reply}
-use Rattle.vll_record.specs.declared.claim.Claim.{Claim}
 use Rattle.vll_core.specs.declared.line.Line.{Line}
-use Rattle.vll_sca.specs.declared.entry.Entry.{Entry}
 use Rattle.vll_sca.specs.declared.status.Status.{Status}
 use Rattle.vll_sca.specs.declared.status.Status.TheVariants.{Running, Waiting, Gone}
 use Rattle.vll_sca.specs.Status.{is_waiting, is_running, is_gone}
-use Rattle.vll_core.specs.Queue.{QueueEntry, Queued, IsQueued, is_left, changed_at, lines, statuses, waiting_ticket, front_among, analysed}
-use Rattle.vll_core.specs.Private.QueueKept.{paired, statuses_of, kept, IsKept}
+use Rattle.vll_core.specs.Queue.{QueueEntry, Queued, IsQueued, is_left, changed_at, lines, statuses, waiting_ticket, front_among}
+use Rattle.vll_core.specs.Private.QueueKept.{paired, kept, IsKept}
 use Rattle.vll_core.specs.declared.queue.Queue.TheInside.{Inside}
 
-pub lines_paired : (ls : List Line) (es : List Entry) → length ls ≡ length es → map (λ (e : QueueEntry). e.line) (paired ls es) ≡ ls
+pub lines_paired : (ls : List Line) (ss : List Status) → length ls ≡ length ss → map (λ (e : QueueEntry). e.line) (paired ls ss) ≡ ls
 lines_paired [] es same = refl
 lines_paired (l ∷ ls) [] same = absurd (omega (arith, same))
-lines_paired (l ∷ ls) (e ∷ es) same = ap (λ (m : List Line). l ∷ m) (lines_paired ls es (omega (arith, same)))
+lines_paired (l ∷ ls) (s ∷ ss) same = ap (λ (m : List Line). l ∷ m) (lines_paired ls ss (omega (arith, same)))
 
-pub statuses_paired : (ls : List Line) (es : List Entry) → length ls ≡ length es → map (λ (e : QueueEntry). e.status) (paired ls es) ≡ statuses_of es
+pub statuses_paired : (ls : List Line) (ss : List Status) → length ls ≡ length ss → map (λ (e : QueueEntry). e.status) (paired ls ss) ≡ ss
 statuses_paired [] [] same = refl
-statuses_paired [] (e ∷ es) same = absurd (omega (arith, same))
+statuses_paired [] (s ∷ ss) same = absurd (omega (arith, same))
 statuses_paired (l ∷ ls) [] same = absurd (omega (arith, same))
-statuses_paired (l ∷ ls) (e ∷ es) same = ap (λ (m : List Status). e.status ∷ m) (statuses_paired ls es (omega (arith, same)))
+statuses_paired (l ∷ ls) (s ∷ ss) same = ap (λ (m : List Status). s ∷ m) (statuses_paired ls ss (omega (arith, same)))
 
-pub length_paired : (ls : List Line) (es : List Entry) → length ls ≡ length es → length (paired ls es) ≡ length es
+pub length_paired : (ls : List Line) (ss : List Status) → length ls ≡ length ss → length (paired ls ss) ≡ length ss
 length_paired [] [] same = refl
-length_paired [] (e ∷ es) same = absurd (omega (arith, same))
+length_paired [] (s ∷ ss) same = absurd (omega (arith, same))
 length_paired (l ∷ ls) [] same = absurd (omega (arith, same))
-length_paired (l ∷ ls) (e ∷ es) same = omega (arith, length_paired ls es (omega (arith, same)))
+length_paired (l ∷ ls) (s ∷ ss) same = omega (arith, length_paired ls ss (omega (arith, same)))
 
--- entries with the claims of the lines are what the contention analysis sees
-pub analysed_paired : (ls : List Line) (es : List Entry) → map (λ (l : Line). l.call.claims) ls ≡ map (λ (e : Entry). e.claims) es → map analysed (paired ls es) ≡ es
-analysed_paired [] [] same = refl
-analysed_paired [] (e ∷ es) same = absurd (cc same)
-analysed_paired (l ∷ ls) [] same = absurd (cc same)
-analysed_paired (l ∷ ls) (e ∷ es) same =
-    let head : l.call.claims ≡ e.claims = cc same in
-    let tail : map (λ (m : Line). m.call.claims) ls ≡ map (λ (d : Entry). d.claims) es = cc same in
-    ap₂ (λ (claims : List Claim) (ds : List Entry). let d : Entry = record { claims = claims; status = e.status } in d ∷ ds) head (analysed_paired ls es tail)
-
-pub paired_push : (ls : List Line) (es : List Entry) (l : Line) (e : Entry) → length ls ≡ length es
-    → paired (ls ++ l ∷ []) (es ++ e ∷ []) ≡ paired ls es ++ record { line = l; status = e.status } ∷ []
-paired_push [] [] l e same = refl
-paired_push [] (d ∷ es) l e same = absurd (omega (arith, same))
-paired_push (m ∷ ls) [] l e same = absurd (omega (arith, same))
-paired_push (m ∷ ls) (d ∷ es) l e same =
-    ap (λ (ds : List QueueEntry). record { line = m; status = d.status } ∷ ds) (paired_push ls es l e (omega (arith, same)))
+pub paired_push : (ls : List Line) (ss : List Status) (l : Line) (s : Status) → length ls ≡ length ss
+    → paired (ls ++ l ∷ []) (ss ++ s ∷ []) ≡ paired ls ss ++ record { line = l; status = s } ∷ []
+paired_push [] [] l s same = refl
+paired_push [] (r ∷ ss) l s same = absurd (omega (arith, same))
+paired_push (m ∷ ls) [] l s same = absurd (omega (arith, same))
+paired_push (m ∷ ls) (r ∷ ss) l s same =
+    ap (λ (ds : List QueueEntry). record { line = m; status = r } ∷ ds) (paired_push ls ss l s (omega (arith, same)))
 
 -- an entry after the first is changed
 pub changed_later : (x : QueueEntry) (es : List QueueEntry) (t : ℕ) (change : QueueEntry → QueueEntry) → x ∷ changed_at es t change ≡ changed_at (x ∷ es) (suc t) change
@@ -64,39 +50,32 @@ changed_later x es t change = by_option (slice_get es t)
     by_option None = refl
     by_option (Some e) = refl
 
-pub paired_started : (ls : List Line) (es : List Entry) (t : ℕ) (new : Entry) → length ls ≡ length es
-    → paired ls (slice_set es t new) ≡ changed_at (paired ls es) t (λ e. record e { status = new.status })
-paired_started [] [] t new same = refl
-paired_started [] (d ∷ es) t new same = absurd (omega (arith, same))
-paired_started (l ∷ ls) [] t new same = absurd (omega (arith, same))
-paired_started (l ∷ ls) (d ∷ es) zero new same = refl
-paired_started (l ∷ ls) (d ∷ es) (suc t) new same =
-    ap (λ (ds : List QueueEntry). record { line = l; status = d.status } ∷ ds) (paired_started ls es t new (omega (arith, same)))
-    ∙ changed_later (record { line = l; status = d.status }) (paired ls es) t (λ e. record e { status = new.status })
+pub paired_started : (ls : List Line) (ss : List Status) (t : ℕ) (s : Status) → length ls ≡ length ss
+    → paired ls (slice_set ss t s) ≡ changed_at (paired ls ss) t (λ e. record e { status = s })
+paired_started [] [] t s same = refl
+paired_started [] (r ∷ ss) t s same = absurd (omega (arith, same))
+paired_started (l ∷ ls) [] t s same = absurd (omega (arith, same))
+paired_started (l ∷ ls) (r ∷ ss) zero s same = refl
+paired_started (l ∷ ls) (r ∷ ss) (suc t) s same =
+    ap (λ (ds : List QueueEntry). record { line = l; status = r } ∷ ds) (paired_started ls ss t s (omega (arith, same)))
+    ∙ changed_later (record { line = l; status = r }) (paired ls ss) t (λ e. record e { status = s })
 
-pub paired_finished : (ls : List Line) (es : List Entry) (t : ℕ) (new : Entry) (reply : Option Reply) (old : Line) → length ls ≡ length es → old ≡ get_or ls t old
-    → paired (slice_set ls t (record old { reply = reply })) (slice_set es t new) ≡ changed_at (paired ls es) t (λ e. record { line = record e.line { reply = reply }; status = new.status })
-paired_finished [] [] t new reply old same at = refl
-paired_finished [] (d ∷ es) t new reply old same at = absurd (omega (arith, same))
-paired_finished (l ∷ ls) [] t new reply old same at = absurd (omega (arith, same))
-paired_finished (l ∷ ls) (d ∷ es) zero new reply old same at =
-    ap (λ (m : Line). let e : QueueEntry = record { line = record m { reply = reply }; status = new.status } in e ∷ paired ls es) at
-paired_finished (l ∷ ls) (d ∷ es) (suc t) new reply old same at =
-    ap (λ (ds : List QueueEntry). record { line = l; status = d.status } ∷ ds) (paired_finished ls es t new reply old (omega (arith, same)) at)
-    ∙ changed_later (record { line = l; status = d.status }) (paired ls es) t (λ e. record { line = record e.line { reply = reply }; status = new.status })
-
--- a ticket with a status is one of the queue
-pub ticket_within : (es : List Entry) (t : ℕ) (s : Status) → slice_get (statuses_of es) t ≡ Some s → t < length es
-ticket_within es t s at =
-    let same : length (statuses_of es) ≡ length es = length-map es (λ (e : Entry). e.status) in
-    omega (arith, slice_get_within (statuses_of es) t s at, same)
+pub paired_finished : (ls : List Line) (ss : List Status) (t : ℕ) (s : Status) (reply : Option Reply) (old : Line) → length ls ≡ length ss → old ≡ get_or ls t old
+    → paired (slice_set ls t (record old { reply = reply })) (slice_set ss t s) ≡ changed_at (paired ls ss) t (λ e. record { line = record e.line { reply = reply }; status = s })
+paired_finished [] [] t s reply old same at = refl
+paired_finished [] (r ∷ ss) t s reply old same at = absurd (omega (arith, same))
+paired_finished (l ∷ ls) [] t s reply old same at = absurd (omega (arith, same))
+paired_finished (l ∷ ls) (r ∷ ss) zero s reply old same at =
+    ap (λ (m : Line). let e : QueueEntry = record { line = record m { reply = reply }; status = s } in e ∷ paired ls ss) at
+paired_finished (l ∷ ls) (r ∷ ss) (suc t) s reply old same at =
+    ap (λ (ds : List QueueEntry). record { line = l; status = r } ∷ ds) (paired_finished ls ss t s reply old (omega (arith, same)) at)
+    ∙ changed_later (record { line = l; status = r }) (paired ls ss) t (λ e. record { line = record e.line { reply = reply }; status = s })
 
 -- what changes where a waiting call begins to run
 pub record Starts (ss : List Status) (t : ℕ) : Type 0 where
   pub within : t < length ss
   pub waiting : count_by is_waiting ss ≡ count_by is_waiting (slice_set ss t Running) + 1
   pub running : count_by is_running (slice_set ss t Running) ≡ count_by is_running ss + 1
-  pub first : position_or_len is_left (slice_set ss t Running) ≡ position_or_len is_left ss
   pub gone : map is_gone (slice_set ss t Running) ≡ map is_gone ss
 
 pub starts : (ss : List Status) (t : ℕ) → slice_get ss t ≡ Some Waiting → Starts ss t
@@ -107,31 +86,14 @@ starts ss t at =
       within = in_list;
       waiting = grind (arith, sum_by-set (λ (s : Status). cond (is_waiting s) 1 0) ss t Running Gone in_list);
       running = grind (arith, sum_by-set (λ (s : Status). cond (is_running s) 1 0) ss t Running Gone in_list);
-      first = position_or_len-set is_left ss t Running Gone (rw here);
       gone = map-set_same is_gone ss t Running Gone (rw here);
     }
-
--- the first that is left is no earlier where one more is gone
-first_later : (ss : List Status) (t : ℕ) → position_or_len is_left ss ≤ position_or_len is_left (slice_set ss t Gone)
-first_later [] t = omega arith
-first_later (r ∷ ss) zero = by_test (not (is_left r))
-  where
-    by_test : (b : Bool) → cond b (1 + position_or_len is_left ss) 0 ≤ 1 + position_or_len is_left ss
-    by_test true = omega arith
-    by_test false = omega arith
-first_later (r ∷ ss) (suc t) = by_test (not (is_left r)) (first_later ss t)
-  where
-    by_test : (b : Bool) → position_or_len is_left ss ≤ position_or_len is_left (slice_set ss t Gone)
-        → cond b (1 + position_or_len is_left ss) 0 ≤ cond b (1 + position_or_len is_left (slice_set ss t Gone)) 0
-    by_test true later = omega (arith, later)
-    by_test false later = omega arith
 
 -- what changes where a running call is finished
 pub record Ends (ss : List Status) (t : ℕ) : Type 0 where
   pub within : t < length ss
   pub waiting : count_by is_waiting (slice_set ss t Gone) ≡ count_by is_waiting ss
   pub running : count_by is_running ss ≡ count_by is_running (slice_set ss t Gone) + 1
-  pub first : position_or_len is_left ss ≤ position_or_len is_left (slice_set ss t Gone)
 
 pub ends : (ss : List Status) (t : ℕ) → slice_get ss t ≡ Some Running → Ends ss t
 ends ss t at =
@@ -141,7 +103,6 @@ ends ss t at =
       within = in_list;
       waiting = grind (arith, sum_by-set (λ (s : Status). cond (is_waiting s) 1 0) ss t Gone Gone in_list);
       running = grind (arith, sum_by-set (λ (s : Status). cond (is_running s) 1 0) ss t Gone Gone in_list);
-      first = first_later ss t;
     }
 
 -- no more wait where one is gone
@@ -164,45 +125,16 @@ one_more_waits ss s = by_test (is_waiting s) (sum_by_push (λ (r : Status). cond
     by_test true sum = omega (arith, sum)
     by_test false sum = omega (arith, sum)
 
--- what is gone is not the first that is left
-pub first_past : (es : List Entry) (k : ℕ) (d : Entry) → k ≤ position_or_len is_left (statuses_of es) → k < length es → is_gone (get_or es k d).status ≡ true
-    → k + 1 ≤ position_or_len is_left (statuses_of es)
-first_past es k d before inside gone =
-    let same : length (statuses_of es) ≡ length es = length-map es (λ (e : Entry). e.status) in
-    let at : get_or (statuses_of es) k d.status ≡ (get_or es k d).status = get_or-map (λ (e : Entry). e.status) es k d d.status inside in
-    past (statuses_of es) k d.status before (omega (arith, inside, same)) (ap is_gone at ∙ gone)
-  where
-    past : (ss : List Status) (n : ℕ) (s : Status) → n ≤ position_or_len is_left ss → n < length ss → is_gone (get_or ss n s) ≡ true → n + 1 ≤ position_or_len is_left ss
-    past ss n s below within is = grind (arith, passes_at_first is_left ss s)
-
--- what is left is the first that is left, where all before it are gone
-pub first_here : (es : List Entry) (k : ℕ) (d : Entry) → k ≤ position_or_len is_left (statuses_of es) → k < length es → is_gone (get_or es k d).status ≡ false
-    → position_or_len is_left (statuses_of es) ≡ k
-first_here es k d before inside left =
-    let same : length (statuses_of es) ≡ length es = length-map es (λ (e : Entry). e.status) in
-    let at : get_or (statuses_of es) k d.status ≡ (get_or es k d).status = get_or-map (λ (e : Entry). e.status) es k d d.status inside in
-    here (statuses_of es) k d.status before (omega (arith, inside, same)) (ap is_gone at ∙ left)
-  where
-    here : (ss : List Status) (n : ℕ) (s : Status) → n ≤ position_or_len is_left ss → n < length ss → is_gone (get_or ss n s) ≡ false → position_or_len is_left ss ≡ n
-    here ss n s below within is = grind (arith, fails_before_first is_left ss n s)
-
-pub first_within : (es : List Entry) → position_or_len is_left (statuses_of es) ≤ length es
-first_within es =
-    let same : length (statuses_of es) ≡ length es = length-map es (λ (e : Entry). e.status) in
-    omega (arith, prefix_len-le-length (λ s. not (is_left s)) (statuses_of es), same)
-
-pub ruleset first_of = (first_past, first_here, first_within)
-
 -- what a queue shows of its fields
-pub shown_statuses : {H : Type 0} (a : Inside H) (q : Queued H) → IsKept a → kept a ≡ q → statuses q ≡ statuses_of a.entries.items
-shown_statuses a q h is = ap statuses (sym is) ∙ statuses_paired a.journal.items a.entries.items h.as_many
+pub shown_statuses : {H : Type 0} (a : Inside H) (q : Queued H) → IsKept a → kept a ≡ q → statuses q ≡ a.statuses.items
+shown_statuses a q h is = ap statuses (sym is) ∙ statuses_paired a.journal.items a.statuses.items h.as_many
 
 pub shown_lines : {H : Type 0} (a : Inside H) (q : Queued H) → IsKept a → kept a ≡ q → lines q ≡ a.journal.items
-shown_lines a q h is = ap lines (sym is) ∙ lines_paired a.journal.items a.entries.items h.as_many
+shown_lines a q h is = ap lines (sym is) ∙ lines_paired a.journal.items a.statuses.items h.as_many
 
-pub shown_length : {H : Type 0} (a : Inside H) (q : Queued H) → IsKept a → kept a ≡ q → length q.entries ≡ length a.entries.items
+pub shown_length : {H : Type 0} (a : Inside H) (q : Queued H) → IsKept a → kept a ≡ q → length q.entries ≡ length a.statuses.items
 shown_length {H} a q h is =
-    ap (λ (p : Queued H). length p.entries) (sym is) ∙ length_paired a.journal.items a.entries.items h.as_many
+    ap (λ (p : Queued H). length p.entries) (sym is) ∙ length_paired a.journal.items a.statuses.items h.as_many
 
 pub shown_limit : {H : Type 0} (a : Inside H) (q : Queued H) → kept a ≡ q → q.limit ≡ a.limit
 shown_limit {H} a q is = ap (λ (p : Queued H). p.limit) (sym is)
@@ -211,15 +143,15 @@ pub shown_cap : {H : Type 0} (a : Inside H) (q : Queued H) → kept a ≡ q → 
 shown_cap {H} a q is = ap (λ (p : Queued H). p.cap) (sym is)
 
 -- a queue that is not spent has room
-pub shown_room : {H : Type 0} (a : Inside H) (q : Queued H) → IsKept a → kept a ≡ q → length q.entries < q.limit → length a.entries.items < a.limit
+pub shown_room : {H : Type 0} (a : Inside H) (q : Queued H) → IsKept a → kept a ≡ q → length q.entries < q.limit → length a.statuses.items < a.limit
 shown_room a q h is unspent = omega (arith, unspent, shown_length a q h is, shown_limit a q is)
 
-pub shown_waiting : {H : Type 0} (a : Inside H) (q : Queued H) → IsKept a → kept a ≡ q → count_by is_waiting (statuses q) ≡ count_by is_waiting (statuses_of a.entries.items)
+pub shown_waiting : {H : Type 0} (a : Inside H) (q : Queued H) → IsKept a → kept a ≡ q → count_by is_waiting (statuses q) ≡ count_by is_waiting a.statuses.items
 shown_waiting a q h is = ap (count_by is_waiting) (shown_statuses a q h is)
 
 -- a queue that is not busy lets one more wait
 pub shown_idle : {H : Type 0} (a : Inside H) (q : Queued H) → IsKept a → kept a ≡ q → count_by is_waiting (statuses q) < q.cap
-    → count_by is_waiting (statuses_of a.entries.items) < a.cap
+    → count_by is_waiting a.statuses.items < a.cap
 shown_idle a q h is idle = omega (arith, idle, shown_waiting a q h is, shown_cap a q is)
 
 -- each queue that is kept is one
@@ -228,7 +160,7 @@ shown_queued {H} a q h is =
     let limit : q.limit ≡ a.limit = shown_limit a q is in
     let cap : q.cap ≡ a.cap = shown_cap a q is in
     let bits : q.bits ≡ a.bits = ap (λ (p : Queued H). p.bits) (sym is) in
-    let long : length q.entries ≡ length a.entries.items = shown_length a q h is in
+    let long : length q.entries ≡ length a.statuses.items = shown_length a q h is in
     record {
       some_calls = omega (arith, h.some_calls);
       few_calls = omega (arith, h.few_calls);
@@ -252,20 +184,15 @@ lent_item {X} xs ys i r o same lookup is =
     ap (λ (zs : List X). slice_get zs i) (sym same) ∙ (sym (copied_item ys i r lookup) ∙ ap (λ (x : Option (Bor X)). option_copied x) is)
 
 -- the status of what `get` lends at a ticket
-pub shown_item : {H : Type 0} (a : Inside H) (q : Queued H) (es : List Entry) (t u : ℕ) (r : Option (Bor Entry)) → IsKept a → kept a ≡ q → es ≡ a.entries.items → t ≡ u → IsItemAt es t r
-    → option_map (λ (e : Entry). e.status) (option_copied r) ≡ slice_get (statuses q) u
-shown_item a q es t u r h is same at lookup =
-    ap (option_map (λ (e : Entry). e.status)) (copied_item es t r lookup)
-    ∙ (sym (slice_get-map (λ (e : Entry). e.status) es t)
-    ∙ (ap (λ (ds : List Entry). slice_get (statuses_of ds) t) same
-    ∙ (ap (λ (ss : List Status). slice_get ss t) (sym (shown_statuses a q h is)) ∙ ap (slice_get (statuses q)) at)))
+pub shown_item : {H : Type 0} (a : Inside H) (q : Queued H) (ss : List Status) (t u : ℕ) (r : Option (Bor Status)) → IsKept a → kept a ≡ q → ss ≡ a.statuses.items → t ≡ u → IsItemAt ss t r
+    → option_copied r ≡ slice_get (statuses q) u
+shown_item a q ss t u r h is same at lookup =
+    copied_item ss t r lookup
+    ∙ (ap (λ (rs : List Status). slice_get rs t) (same ∙ sym (shown_statuses a q h is)) ∙ ap (slice_get (statuses q)) at)
 
-pub shown_status : {H : Type 0} (a : Inside H) (q : Queued H) (t u : ℕ) (s : Option Status) → IsKept a → kept a ≡ q → t ≡ u → slice_get (statuses q) u ≡ s → slice_get (statuses_of a.entries.items) t ≡ s
+pub shown_status : {H : Type 0} (a : Inside H) (q : Queued H) (t u : ℕ) (s : Option Status) → IsKept a → kept a ≡ q → t ≡ u → slice_get (statuses q) u ≡ s → slice_get a.statuses.items t ≡ s
 shown_status a q t u s h is same at =
     ap (λ (ss : List Status). slice_get ss t) (sym (shown_statuses a q h is)) ∙ (ap (λ (k : ℕ). slice_get (statuses q) k) same ∙ at)
-
-pub shown_first : {H : Type 0} (a : Inside H) (q : Queued H) → IsKept a → kept a ≡ q → a.first ≡ position_or_len is_left (statuses q)
-shown_first a q h is = h.first ∙ sym (ap (λ (ss : List Status). position_or_len is_left ss) (shown_statuses a q h is))
 
 -- the front stands at the first that is left
 pub front_at : (ss : List Status) (t : ℕ) → t ≡ position_or_len is_left ss → front_among ss ≡ waiting_ticket t (slice_get ss t)
@@ -276,11 +203,10 @@ front_at ss t first =
     by_test p true is = refl
     by_test p false is = sym (ap (λ (o : Option Status). waiting_ticket p o) (slice_get_past ss p (grind (arith, nat_tests))))
 
--- the front by the status that stands at the kept ticket
-pub front_shown : {H : Type 0} (a : Inside H) (q : Queued H) (r : Option Status) (o : Option ℕ) → IsKept a → kept a ≡ q → r ≡ slice_get (statuses q) a.first
-    → waiting_ticket a.first r ≡ o → front_among (statuses q) ≡ o
-front_shown a q r o h is at told =
-    front_at (statuses q) a.first (shown_first a q h is) ∙ (ap (λ (s : Option Status). waiting_ticket a.first s) (sym at) ∙ told)
+-- the front by the status that stands at the lowest ticket that is left
+pub front_shown : {H : Type 0} (q : Queued H) (t : ℕ) (r : Option Status) (o : Option ℕ) → t ≡ position_or_len is_left (statuses q) → r ≡ slice_get (statuses q) t
+    → waiting_ticket t r ≡ o → front_among (statuses q) ≡ o
+front_shown q t r o first at told = front_at (statuses q) t first ∙ (ap (λ (s : Option Status). waiting_ticket t s) (sym at) ∙ told)
 
 -- whether a ticket waits is told by its status
 pub waits : (t : ℕ) (r : Option Status) (s : Status) (b : Bool) → r ≡ Some s → b ≡ is_waiting s → waiting_ticket t r ≡ (if b then Some t else None)

@@ -1,5 +1,5 @@
 -- What it tells that no fault stands at an opening.
-use Rattle.std.proofs.Common.{◌≡◌, ℕ, ◌≤◌, Bool, true, false, ◌&&◌, nat_le, Option, Some, None, if◌then◌else◌, refl}
+use Rattle.std.proofs.Common.{◌≡◌, ℕ, ◌≤◌, Bool, true, false, nat_le, Option, Some, None, if◌then◌else◌, refl}
 use Rattle.std.proofs.lemmas.Bool.{leb-true}
 use Rattle.vll_sca.specs.declared.bits.TheConstants.{MOST_BITS}
 use Rattle.vll_core.specs.declared.config.TheConstants.{MOST_RECORDS, MOST_CALLS, MOST_WAITING}

@@ -18,7 +18,11 @@ pub mod Clients
 pub mod Counters
 pub mod Values
 pub mod Finished
+pub mod Windows
+pub mod Searching
 pub mod Entries
+pub mod WindowChanges
+pub mod Analysed
 pub mod QueueChanges
 pub mod QueueScan
 pub mod Proper

@@ -1,43 +1,45 @@
 -- The queue stays kept where a call enters, begins to run and finishes, and what it shows is what its definitions say.
-use Rattle.std.proofs.Common.{Vec, Global, vec_capacity, ◌-◌, ◌≡◌, ℕ, ◌+◌, ◌<◌, ◌≤◌, Bool, true, false, List, [], ◌∷◌, ◌++◌, length, map, sym, ap, ap₂, ◌∙◌, subst, arith, slice_get, slice_set, get_or, cond, Some, length-set, length-append}
-use Rattle.std.specs.List.{position_or_len, count_by}
+use Rattle.std.proofs.Common.{Vec, Global, vec_capacity, ◌-◌, ◌≡◌, ℕ, ◌+◌, ◌<◌, ◌≤◌, Bool, true, false, List, [], ◌∷◌, ◌++◌, length, map, not, refl, sym, ap, ap₂, ◌∙◌, subst, arith, slice_get, slice_set, get_or, cond, Some, length-set, length-append}
+use Rattle.std.specs.List.{count_by, enumerate_from}
 use Rattle.std.specs.Vec.{with_item}
 use Rattle.std.proofs.lemmas.List.{map-append}
 use Rattle.std.proofs.lemmas.List.Sums.{sum_by_push}
-use Rattle.std.proofs.lemmas.List.Folds.{position_or_len_push}
-use Rattle.std.proofs.lemmas.Bool.Decides.{nat_tests}
-use Rattle.std.proofs.Math.Seq.{map-set, map-set_same}
+use Rattle.std.proofs.Math.Seq.{map-set}
 use Rattle.vll_proc.specs.declared.call.Reply.{Reply}
-use Rattle.vll_record.specs.declared.claim.Claim.{Claim}
 use Rattle.vll_core.specs.declared.line.Line.{Line}
 use Rattle.vll_sca.specs.declared.entry.Entry.{Entry}
 use Rattle.vll_sca.specs.declared.status.Status.{Status}
 use Rattle.vll_sca.specs.declared.status.Status.TheVariants.{Running, Waiting, Gone}
 use Rattle.vll_sca.specs.Status.{is_waiting, is_running, is_gone}
 use Rattle.vll_core.specs.Queue.{QueueEntry, Queued, has_reply, is_left, admitted, started, finished}
-use Rattle.vll_core.specs.Private.QueueKept.{paired, statuses_of, kept, IsKept}
+use Rattle.vll_core.specs.Private.Window.{Windowed, left_of, put_status, with_entry, with_status, has_ticket}
+use Rattle.vll_core.specs.Private.QueueKept.{paired, seen, kept, IsKept}
 use Rattle.vll_core.specs.declared.queue.Queue.TheInside.{Inside}
+use Rattle.vll_core.proofs.Analysed.{seen_line, left_has, left_changed, left_entered}
 use Rattle.vll_core.proofs.Entries.{Starts, starts, Ends, ends, one_more_waits, paired_push, paired_started, paired_finished}
 
 -- the queue that is kept, with these entries
 abbrev pub kept_with : {H : Type 0} → Inside H → List QueueEntry → Queued H
 kept_with a es = record { cap = a.cap; limit = a.limit; bits = a.bits; hash = a.hash; entries = es }
 
--- an entry is put with another status
-put_status : (es : List Entry) (t : ℕ) (d : Entry) (s : Status) → statuses_of (slice_set es t (record d { status = s })) ≡ slice_set (statuses_of es) t s
-put_status es t d s = map-set (λ (e : Entry). e.status) es t (record d { status = s })
+-- what the window has after a call's status was changed
+window_changed : {H : Type 0} (a : Inside H) (w : Windowed) (t : ℕ) (old new : Status) → IsKept a → slice_get a.statuses.items t ≡ Some old → is_left old ≡ true → w ≡ with_status a.window t new
+    → w.left ≡ left_of (enumerate_from 0 (seen a.journal.items (slice_set a.statuses.items t new)))
+window_changed a w t old new h at left is =
+    ap (λ (v : Windowed). v.left) is
+    ∙ (ap (λ xs. left_of (put_status t new xs)) h.left ∙ left_changed a.journal.items a.statuses.items t old new h.as_many at left)
 
-keeps_claims : (es : List Entry) (t : ℕ) (d : Entry) (s : Status) → d ≡ get_or es t d
-    → map (λ (e : Entry). e.claims) (slice_set es t (record d { status = s })) ≡ map (λ (e : Entry). e.claims) es
-keeps_claims es t d s at = map-set_same (λ (e : Entry). e.claims) es t (record d { status = s }) d (ap (λ (e : Entry). e.claims) at)
+next_stays : {H : Type 0} (a : Inside H) (w : Windowed) (t : ℕ) (new : Status) → IsKept a → w ≡ with_status a.window t new → w.next ≡ length (slice_set a.statuses.items t new)
+next_stays a w t new h is = ap (λ (v : Windowed). v.next) is ∙ (h.next ∙ sym (length-set a.statuses.items t new))
 
-pub kept_started : {H : Type 0} (a : Inside H) (t : ℕ) (d : Entry) → IsKept a → slice_get (statuses_of a.entries.items) t ≡ Some Waiting → d ≡ get_or a.entries.items t d
-    → IsKept (record a { entries = with_item a.entries t (record d { status = Running }); waiting = a.waiting - 1; running = a.running + 1 })
-kept_started a t d h at here =
-    let change : Starts (statuses_of a.entries.items) t = starts (statuses_of a.entries.items) t at in
-    let new : Entry = record d { status = Running } in
-    let long : length (slice_set a.entries.items t new) ≡ length a.entries.items = length-set a.entries.items t new in
-    let put : statuses_of (slice_set a.entries.items t new) ≡ slice_set (statuses_of a.entries.items) t Running = put_status a.entries.items t d Running in
+room_stays : {H : Type 0} (a : Inside H) (w : Windowed) (t : ℕ) (new : Status) → IsKept a → w ≡ with_status a.window t new → a.limit ≤ w.room
+room_stays a w t new h is = omega (arith, h.room_in_window, ap (λ (v : Windowed). v.room) is)
+
+pub kept_started : {H : Type 0} (a : Inside H) (w : Windowed) (t : ℕ) → IsKept a → slice_get a.statuses.items t ≡ Some Waiting → w ≡ with_status a.window t Running
+    → IsKept (record a { statuses = with_item a.statuses t Running; window = w; waiting = a.waiting - 1; running = a.running + 1 })
+kept_started a w t h at is =
+    let change : Starts a.statuses.items t = starts a.statuses.items t at in
+    let long : length (slice_set a.statuses.items t Running) ≡ length a.statuses.items = length-set a.statuses.items t Running in
     record {
       some_calls = h.some_calls;
       few_calls = h.few_calls;
@@ -45,41 +47,32 @@ kept_started a t d h at here =
       few_wait = h.few_wait;
       some_bits = h.some_bits;
       few_bits = h.few_bits;
-      capped = rw put (omega (arith, h.capped, change.waiting));
+      capped = omega (arith, h.capped, change.waiting);
       within = omega (arith, h.within, long);
       as_many = h.as_many ∙ sym long;
-      claims = h.claims ∙ sym (keeps_claims a.entries.items t d Running here);
       room = h.room;
       room_for_lines = h.room_for_lines;
-      answered = rw put (h.answered ∙ sym change.gone);
-      first = rw put (h.first ∙ sym change.first);
-      waiting = rw put (omega (arith, h.waiting, change.waiting));
-      running = rw put (ap (λ (n : ℕ). n + 1) h.running ∙ sym change.running);
+      room_in_window = room_stays a w t Running h is;
+      answered = h.answered ∙ sym change.gone;
+      next = next_stays a w t Running h is;
+      left = window_changed a w t Waiting Running h at refl is;
+      waiting = omega (arith, h.waiting, change.waiting);
+      running = ap (λ (n : ℕ). n + 1) h.running ∙ sym change.running;
     }
 
-pub shown_started : {H : Type 0} (a : Inside H) (q : Queued H) (t u : ℕ) (d : Entry) → IsKept a → kept a ≡ q → t ≡ u
-    → kept_with a (paired a.journal.items (slice_set a.entries.items t (record d { status = Running }))) ≡ started q u
-shown_started {H} a q t u d h is same =
-    ap (kept_with a) (paired_started a.journal.items a.entries.items t (record d { status = Running }) h.as_many)
+pub shown_started : {H : Type 0} (a : Inside H) (q : Queued H) (t u : ℕ) → IsKept a → kept a ≡ q → t ≡ u
+    → kept_with a (paired a.journal.items (slice_set a.statuses.items t Running)) ≡ started q u
+shown_started {H} a q t u h is same =
+    ap (kept_with a) (paired_started a.journal.items a.statuses.items t Running h.as_many)
     ∙ (ap (λ (p : Queued H). started p t) is ∙ ap (λ (k : ℕ). started q k) same)
 
--- the first that is left is no earlier where a running call is finished
-pub first_moves : {H : Type 0} (a : Inside H) (t : ℕ) (d : Entry) → IsKept a → slice_get (statuses_of a.entries.items) t ≡ Some Running
-    → a.first ≤ position_or_len is_left (statuses_of (slice_set a.entries.items t (record d { status = Gone })))
-first_moves a t d h at =
-    let change : Ends (statuses_of a.entries.items) t = ends (statuses_of a.entries.items) t at in
-    rw (put_status a.entries.items t d Gone) (omega (arith, h.first, change.first))
-
-pub kept_finished : {H : Type 0} (a : Inside H) (t first : ℕ) (reply : Reply) (d : Entry) (l : Line) → IsKept a → slice_get (statuses_of a.entries.items) t ≡ Some Running
-    → d ≡ get_or a.entries.items t d → l ≡ get_or a.journal.items t l
-    → first ≡ position_or_len is_left (statuses_of (slice_set a.entries.items t (record d { status = Gone })))
-    → IsKept (record a { entries = with_item a.entries t (record d { status = Gone }); journal = with_item a.journal t (record l { reply = Some reply }); first = first; running = a.running - 1 })
-kept_finished a t first reply d l h at here there left =
-    let change : Ends (statuses_of a.entries.items) t = ends (statuses_of a.entries.items) t at in
-    let new : Entry = record d { status = Gone } in
+pub kept_finished : {H : Type 0} (a : Inside H) (w : Windowed) (t : ℕ) (reply : Reply) (l : Line) → IsKept a → slice_get a.statuses.items t ≡ Some Running
+    → l ≡ get_or a.journal.items t l → w ≡ with_status a.window t Gone
+    → IsKept (record a { statuses = with_item a.statuses t Gone; journal = with_item a.journal t (record l { reply = Some reply }); window = w; running = a.running - 1 })
+kept_finished a w t reply l h at there is =
+    let change : Ends a.statuses.items t = ends a.statuses.items t at in
     let line : Line = record l { reply = Some reply } in
-    let long : length (slice_set a.entries.items t new) ≡ length a.entries.items = length-set a.entries.items t new in
-    let put : statuses_of (slice_set a.entries.items t new) ≡ slice_set (statuses_of a.entries.items) t Gone = put_status a.entries.items t d Gone in
+    let long : length (slice_set a.statuses.items t Gone) ≡ length a.statuses.items = length-set a.statuses.items t Gone in
     record {
       some_calls = h.some_calls;
       few_calls = h.few_calls;
@@ -87,39 +80,39 @@ kept_finished a t first reply d l h at here there left =
       few_wait = h.few_wait;
       some_bits = h.some_bits;
       few_bits = h.few_bits;
-      capped = rw put (omega (arith, h.capped, change.waiting));
+      capped = omega (arith, h.capped, change.waiting);
       within = omega (arith, h.within, long);
       as_many = length-set a.journal.items t line ∙ (h.as_many ∙ sym long);
-      claims =
-          map-set_same (λ (m : Line). m.call.claims) a.journal.items t line l (ap (λ (m : Line). m.call.claims) there)
-          ∙ (h.claims ∙ sym (keeps_claims a.entries.items t d Gone here));
       room = h.room;
       room_for_lines = h.room_for_lines;
+      room_in_window = room_stays a w t Gone h is;
       answered =
-          rw put
-          (map-set has_reply a.journal.items t line
-          ∙ (ap (λ (bs : List Bool). slice_set bs t true) h.answered ∙ sym (map-set is_gone (statuses_of a.entries.items) t Gone)));
-      first = left;
-      waiting = rw put (h.waiting ∙ sym change.waiting);
-      running = rw put (omega (arith, h.running, change.running));
+          map-set has_reply a.journal.items t line
+          ∙ (ap (λ (bs : List Bool). slice_set bs t true) h.answered ∙ sym (map-set is_gone a.statuses.items t Gone));
+      next = next_stays a w t Gone h is;
+      left =
+          window_changed a w t Running Gone h at refl is
+          ∙ sym (ap (λ (es : List Entry). left_of (enumerate_from 0 es)) (seen_line a.journal.items (slice_set a.statuses.items t Gone) t l (Some reply) there));
+      waiting = h.waiting ∙ sym change.waiting;
+      running = omega (arith, h.running, change.running);
     }
 
-pub shown_finished : {H : Type 0} (a : Inside H) (q : Queued H) (t u : ℕ) (reply : Reply) (d : Entry) (l : Line) → IsKept a → kept a ≡ q → t ≡ u → l ≡ get_or a.journal.items t l
-    → kept_with a (paired (slice_set a.journal.items t (record l { reply = Some reply })) (slice_set a.entries.items t (record d { status = Gone }))) ≡ finished q u reply
-shown_finished {H} a q t u reply d l h is same at =
-    ap (kept_with a) (paired_finished a.journal.items a.entries.items t (record d { status = Gone }) (Some reply) l h.as_many at)
+pub shown_finished : {H : Type 0} (a : Inside H) (q : Queued H) (t u : ℕ) (reply : Reply) (l : Line) → IsKept a → kept a ≡ q → t ≡ u → l ≡ get_or a.journal.items t l
+    → kept_with a (paired (slice_set a.journal.items t (record l { reply = Some reply })) (slice_set a.statuses.items t Gone)) ≡ finished q u reply
+shown_finished {H} a q t u reply l h is same at =
+    ap (kept_with a) (paired_finished a.journal.items a.statuses.items t Gone (Some reply) l h.as_many at)
     ∙ (ap (λ (p : Queued H). finished p t reply) is ∙ ap (λ (k : ℕ). finished q k reply) same)
 
-pub kept_entered : {H : Type 0} (a : Inside H) (vs : Vec Entry Global) (vl : Vec Line Global) (l : Line) (e : Entry) (waiting running : ℕ) → IsKept a
-    → length a.entries.items < a.limit → count_by is_waiting (statuses_of a.entries.items) < a.cap
-    → vs.items ≡ a.entries.items ++ e ∷ [] → vec_capacity vs ≡ vec_capacity a.entries → vl.items ≡ a.journal.items ++ l ∷ [] → vec_capacity vl ≡ vec_capacity a.journal
-    → l.call.claims ≡ e.claims → has_reply l ≡ false → is_gone e.status ≡ false
-    → waiting ≡ a.waiting + cond (is_waiting e.status) 1 0 → running ≡ a.running + cond (is_running e.status) 1 0
-    → IsKept (record a { entries = vs; journal = vl; waiting = waiting; running = running })
-kept_entered a vs vl l e waiting running h room idle new_entry same_room new_line same_line_room same_claims silent left one_waits one_runs =
-    let ss : List Status = statuses_of a.entries.items in
-    let pushed : statuses_of vs.items ≡ ss ++ e.status ∷ [] = ap statuses_of new_entry ∙ map-append (λ (d : Entry). d.status) a.entries.items (e ∷ []) in
-    let long : length vs.items ≡ length a.entries.items + 1 = rw new_entry (omega (arith, length-append a.entries.items (e ∷ []))) in
+pub kept_entered : {H : Type 0} (a : Inside H) (vs : Vec Status Global) (vl : Vec Line Global) (w : Windowed) (l : Line) (s : Status) (waiting running : ℕ) → IsKept a
+    → length a.statuses.items < a.limit → count_by is_waiting a.statuses.items < a.cap
+    → vs.items ≡ a.statuses.items ++ s ∷ [] → vec_capacity vs ≡ vec_capacity a.statuses → vl.items ≡ a.journal.items ++ l ∷ [] → vec_capacity vl ≡ vec_capacity a.journal
+    → w ≡ with_entry a.window (record { claims = l.call.claims; status = s }) → has_reply l ≡ false → is_gone s ≡ false
+    → waiting ≡ a.waiting + cond (is_waiting s) 1 0 → running ≡ a.running + cond (is_running s) 1 0
+    → IsKept (record a { statuses = vs; journal = vl; window = w; waiting = waiting; running = running })
+kept_entered a vs vl w l s waiting running h room idle pushed same_room new_line same_line_room seen_entry silent left one_waits one_runs =
+    let ss : List Status = a.statuses.items in
+    let e : Entry = record { claims = l.call.claims; status = s } in
+    let long : length vs.items ≡ length ss + 1 = rw pushed (omega (arith, length-append ss (s ∷ []))) in
     let long_lines : length vl.items ≡ length a.journal.items + 1 = rw new_line (omega (arith, length-append a.journal.items (l ∷ []))) in
     record {
       some_calls = h.some_calls;
@@ -128,54 +121,59 @@ kept_entered a vs vl l e waiting running h room idle new_entry same_room new_lin
       few_wait = h.few_wait;
       some_bits = h.some_bits;
       few_bits = h.few_bits;
-      capped = rw pushed (omega (arith, idle, one_more_waits ss e.status));
+      capped = rw pushed (omega (arith, idle, one_more_waits ss s));
       within = omega (arith, long, room);
       as_many = omega (arith, long, long_lines, h.as_many);
-      claims = rw (new_line, new_entry) (claims_push a.journal.items a.entries.items l e h.claims same_claims);
       room = omega (arith, same_room, h.room);
       room_for_lines = omega (arith, same_line_room, h.room_for_lines);
-      answered = rw (pushed, new_line) (answered_push a.journal.items ss l e.status h.answered (silent ∙ sym left));
-      first = rw pushed (h.first ∙ first_push ss e.status left);
-      waiting = rw pushed (one_waits ∙ (ap (λ (n : ℕ). n + cond (is_waiting e.status) 1 0) h.waiting ∙ sym (sum_by_push (λ (t : Status). cond (is_waiting t) 1 0) ss e.status)));
-      running = rw pushed (one_runs ∙ (ap (λ (n : ℕ). n + cond (is_running e.status) 1 0) h.running ∙ sym (sum_by_push (λ (t : Status). cond (is_running t) 1 0) ss e.status)));
+      room_in_window = omega (arith, h.room_in_window, ap (λ (v : Windowed). v.room) seen_entry);
+      answered = rw (pushed, new_line) (answered_push a.journal.items ss l s h.answered (silent ∙ sym left));
+      next = omega (arith, ap (λ (v : Windowed). v.next) seen_entry, h.next, long);
+      left =
+          ap (λ (v : Windowed). v.left) seen_entry
+          ∙ (ap₂ (λ (xs : List (ℕ × Entry)) (n : ℕ). xs ++ (n, e) ∷ []) h.left h.next
+          ∙ (left_entered a.journal.items ss l s h.as_many (ap not left)
+          ∙ sym (ap₂ (λ (ls : List Line) (rs : List Status). left_of (enumerate_from 0 (seen ls rs))) new_line pushed)));
+      waiting = rw pushed (one_waits ∙ (ap (λ (n : ℕ). n + cond (is_waiting s) 1 0) h.waiting ∙ sym (sum_by_push (λ (t : Status). cond (is_waiting t) 1 0) ss s)));
+      running = rw pushed (one_runs ∙ (ap (λ (n : ℕ). n + cond (is_running s) 1 0) h.running ∙ sym (sum_by_push (λ (t : Status). cond (is_running t) 1 0) ss s)));
     }
   where
-    claims_push : (ls : List Line) (es : List Entry) (m : Line) (d : Entry) → map (λ (k : Line). k.call.claims) ls ≡ map (λ (x : Entry). x.claims) es → m.call.claims ≡ d.claims
-        → map (λ (k : Line). k.call.claims) (ls ++ m ∷ []) ≡ map (λ (x : Entry). x.claims) (es ++ d ∷ [])
-    claims_push ls es m d all last =
-        map-append (λ (k : Line). k.call.claims) ls (m ∷ [])
-        ∙ (ap₂ (λ (xs : List (List Claim)) (x : List Claim). xs ++ x ∷ []) all last ∙ sym (map-append (λ (x : Entry). x.claims) es (d ∷ [])))
-
     answered_push : (ls : List Line) (ss : List Status) (m : Line) (t : Status) → map has_reply ls ≡ map is_gone ss → has_reply m ≡ is_gone t
         → map has_reply (ls ++ m ∷ []) ≡ map is_gone (ss ++ t ∷ [])
     answered_push ls ss m t all last =
         map-append has_reply ls (m ∷ []) ∙ (ap₂ (λ (bs : List Bool) (b : Bool). bs ++ b ∷ []) all last ∙ sym (map-append is_gone ss (t ∷ [])))
 
-    first_push : (ss : List Status) (t : Status) → is_gone t ≡ false → position_or_len is_left ss ≡ position_or_len is_left (ss ++ t ∷ [])
-    first_push ss t there = grind (arith, nat_tests, position_or_len_push is_left ss t, there)
-
 -- the same where the line stands already and the call is counted
-pub kept_counted : {H : Type 0} (a b : Inside H) (vs : Vec Entry Global) (vl : Vec Line Global) (l : Line) (e : Entry) (waiting running : ℕ) → IsKept a
-    → length a.entries.items < a.limit → count_by is_waiting (statuses_of a.entries.items) < a.cap
+pub kept_counted : {H : Type 0} (a b : Inside H) (vs : Vec Status Global) (vl : Vec Line Global) (w : Windowed) (l : Line) (s : Status) (waiting running : ℕ) → IsKept a
+    → length a.statuses.items < a.limit → count_by is_waiting a.statuses.items < a.cap
     → b ≡ record a { journal = vl; waiting = waiting; running = running }
-    → vs.items ≡ b.entries.items ++ e ∷ [] → vec_capacity vs ≡ vec_capacity b.entries → vl.items ≡ a.journal.items ++ l ∷ [] → vec_capacity vl ≡ vec_capacity a.journal
-    → l.call.claims ≡ e.claims → has_reply l ≡ false → is_gone e.status ≡ false
-    → waiting ≡ a.waiting + cond (is_waiting e.status) 1 0 → running ≡ a.running + cond (is_running e.status) 1 0
-    → IsKept (record b { entries = vs })
-kept_counted {H} a b vs vl l e waiting running h room idle is new_entry same_room new_line same_line_room same_claims silent left one_waits one_runs =
-    subst (λ (x : Inside H). vs.items ≡ x.entries.items ++ e ∷ [] → vec_capacity vs ≡ vec_capacity x.entries → IsKept (record x { entries = vs })) (sym is)
-    (λ new same. kept_entered a vs vl l e waiting running h room idle new same new_line same_line_room same_claims silent left one_waits one_runs)
-    new_entry same_room
+    → vs.items ≡ b.statuses.items ++ s ∷ [] → vec_capacity vs ≡ vec_capacity b.statuses → vl.items ≡ a.journal.items ++ l ∷ [] → vec_capacity vl ≡ vec_capacity a.journal
+    → w ≡ with_entry b.window (record { claims = l.call.claims; status = s }) → has_reply l ≡ false → is_gone s ≡ false
+    → waiting ≡ a.waiting + cond (is_waiting s) 1 0 → running ≡ a.running + cond (is_running s) 1 0
+    → IsKept (record b { statuses = vs; window = w })
+kept_counted {H} a b vs vl w l s waiting running h room idle is pushed same_room new_line same_line_room seen_entry silent left one_waits one_runs =
+    subst (λ (x : Inside H). vs.items ≡ x.statuses.items ++ s ∷ [] → vec_capacity vs ≡ vec_capacity x.statuses → w ≡ with_entry x.window (record { claims = l.call.claims; status = s }) → IsKept (record x { statuses = vs; window = w }))
+    (sym is)
+    (λ new same entered. kept_entered a vs vl w l s waiting running h room idle new same new_line same_line_room entered silent left one_waits one_runs)
+    pushed same_room seen_entry
 
-pub shown_entered : {H : Type 0} (a b : Inside H) (q : Queued H) (vs : Vec Entry Global) (vl : Vec Line Global) (l : Line) (e : Entry) (s : Status) (waiting running : ℕ) → IsKept a → kept a ≡ q
+pub shown_entered : {H : Type 0} (a b : Inside H) (q : Queued H) (vs : Vec Status Global) (vl : Vec Line Global) (w : Windowed) (l : Line) (r s : Status) (waiting running : ℕ) → IsKept a → kept a ≡ q
     → b ≡ record a { journal = vl; waiting = waiting; running = running }
-    → vl.items ≡ a.journal.items ++ l ∷ [] → vs.items ≡ b.entries.items ++ e ∷ [] → e.status ≡ s
-    → kept (record b { entries = vs }) ≡ admitted q (record { line = l; status = s })
-shown_entered {H} a b q vs vl l e s waiting running h shows is new_line new_entry status =
-    subst (λ (x : Inside H). vs.items ≡ x.entries.items ++ e ∷ [] → kept (record x { entries = vs }) ≡ admitted q (record { line = l; status = s })) (sym is)
+    → vl.items ≡ a.journal.items ++ l ∷ [] → vs.items ≡ b.statuses.items ++ r ∷ [] → r ≡ s
+    → kept (record b { statuses = vs; window = w }) ≡ admitted q (record { line = l; status = s })
+shown_entered {H} a b q vs vl w l r s waiting running h shows is new_line pushed status =
+    subst (λ (x : Inside H). vs.items ≡ x.statuses.items ++ r ∷ [] → kept (record x { statuses = vs; window = w }) ≡ admitted q (record { line = l; status = s })) (sym is)
     (λ new.
     rw (new_line, new)
-    (ap (kept_with a) (paired_push a.journal.items a.entries.items l e h.as_many)
-    ∙ (ap (λ (p : Queued H). admitted p (record { line = l; status = e.status })) shows
-    ∙ ap (λ (r : Status). admitted q (record { line = l; status = r })) status)))
-    new_entry
+    (ap (kept_with a) (paired_push a.journal.items a.statuses.items l r h.as_many)
+    ∙ (ap (λ (p : Queued H). admitted p (record { line = l; status = r })) shows
+    ∙ ap (λ (t : Status). admitted q (record { line = l; status = t })) status)))
+    pushed
+
+-- a window has room where the queue has
+pub window_room : {H : Type 0} (a : Inside H) → IsKept a → length a.statuses.items < a.limit → a.window.next < a.window.room
+window_room a h room = omega (arith, room, h.next, h.room_in_window)
+
+-- a call that runs or waits is in the window
+pub window_has : {H : Type 0} (a : Inside H) (t : ℕ) (s : Status) → IsKept a → slice_get a.statuses.items t ≡ Some s → is_left s ≡ true → has_ticket t a.window.left ≡ true
+window_has a t s h at left = ap (has_ticket t) h.left ∙ left_has a.journal.items a.statuses.items t s h.as_many at left

@@ -1,100 +1,93 @@
--- A scan that starts at the lowest ticket that is not gone finds what the contention analysis of the whole queue finds.
-use Rattle.std.proofs.Common.{◌≡◌, ℕ, ◌+◌, ◌-◌, ◌<◌, ◌≤◌, true, false, List, [], length, take, drop, refl, sym, ap, ◌∙◌, arith, slice_get, get_or, Option, Some, None, All}
-use Rattle.std.specs.List.{position_or_len}
+-- A scan of the window finds what the contention analysis of the whole queue finds, and the window's front is the queue's.
+use Rattle.std.proofs.Common.{◌≡◌, ℕ, ◌+◌, ◌<◌, true, List, [], ◌∷◌, length, map, refl, sym, ap, ◌∙◌, arith, slice_get, get_or, Option, Some, None, suc, zero, zero-add}
+use Rattle.std.specs.List.{position_or_len, enumerate_from}
 use Rattle.std.specs.Option.{option_map}
-use Rattle.std.proofs.lemmas.Bool.{true≢false, not-false}
-use Rattle.std.proofs.lemmas.List.{take-append-drop, length-take-le, length-drop, get_or-take, get_or-map}
-use Rattle.std.proofs.Math.Seq.{take-length}
-use Rattle.std.proofs.lemmas.List.Sums.{fails_before_first}
-use Rattle.std.proofs.lemmas.Option.{slice_get-map, slice_get-get_or}
+use Rattle.std.proofs.lemmas.Bool.{true≢false}
+use Rattle.std.proofs.lemmas.Option.{slice_get-map, slice_get-get_or, slice_get_past}
 use Rattle.vll_sca.specs.declared.entry.Entry.{Entry}
 use Rattle.vll_sca.specs.declared.status.Status.{Status}
 use Rattle.vll_sca.specs.declared.status.Status.TheVariants.{Running, Waiting, Gone}
-use Rattle.vll_sca.specs.Status.{is_waiting, is_gone}
-use Rattle.vll_sca.specs.Scan.{scan}
-use Rattle.vll_sca.proofs.Scanning.{scanned_within, scanned_waits, gone_beginnings_do_not_matter}
-use Rattle.vll_core.specs.Queue.{Queued, statuses, is_left, found_by}
-use Rattle.vll_core.specs.Private.QueueKept.{statuses_of, kept, IsKept}
+use Rattle.vll_sca.specs.Status.{is_waiting}
+use Rattle.vll_sca.specs.Scan.{scan, scan_numbered}
+use Rattle.vll_sca.proofs.Scanning.{scanned_within, scanned_waits}
+use Rattle.vll_sca.proofs.Leaving.{gone_entries_do_not_matter}
+use Rattle.vll_core.specs.Queue.{Queued, statuses, is_left, found_by, front_among, waiting_ticket}
+use Rattle.vll_core.specs.Private.Window.{statuses_of, tickets_of}
+use Rattle.vll_core.specs.Private.QueueKept.{seen, kept, IsKept}
 use Rattle.vll_core.specs.declared.queue.Queue.TheInside.{Inside}
-use Rattle.vll_core.proofs.Entries.{analysed_paired, first_within, shown_statuses}
+use Rattle.vll_core.proofs.Entries.{shown_statuses, front_at}
+use Rattle.vll_core.proofs.Analysed.{seen_statuses, lowest_left, none_left}
 
--- all before the first that is left are gone
-gone_before : (es : List Entry) (n : ℕ) → n ≤ position_or_len is_left (statuses_of es) → All (λ (e : Entry). is_gone e.status ≡ true) (take n es)
-gone_before es n before = λ k d within.
-    let long : length (take n es) ≡ n = length-take-le n es (let most = first_within es in omega (arith, most, before)) in
-    let below : k < n = omega (arith, within, long) in
-    let inside : k < length es = let most = first_within es in omega (arith, below, most, before) in
-    let here : get_or (take n es) k d ≡ get_or es k d = get_or-take n es k d below in
-    let status : get_or (statuses_of es) k d.status ≡ (get_or es k d).status = get_or-map (λ (e : Entry). e.status) es k d d.status inside in
-    let gone : is_left (get_or (statuses_of es) k d.status) ≡ false = fails_before_first is_left (statuses_of es) k d.status (omega (arith, below, before)) in
-    ap (λ (e : Entry). is_gone e.status) here ∙ (sym (ap is_gone status) ∙ not-false _ gone)
+-- entries beside their places
 
--- entries before the first that is left only move what is found
-scan_from_first : (place : ℕ → ℕ) (bits n : ℕ) (es : List Entry) → n ≡ position_or_len is_left (statuses_of es)
-    → scan place bits es ≡ option_map (λ i. n + i) (scan place bits (drop n es))
-scan_from_first place bits n es first =
-    let long : length (take n es) ≡ n = length-take-le n es (let most = first_within es in omega (arith, most, first)) in
-    ap (scan place bits) (sym (take-append-drop n es))
-    ∙ (gone_beginnings_do_not_matter place bits (take n es) (drop n es) (gone_before es n (omega (arith, first)))
-    ∙ ap (λ (m : ℕ). option_map (λ i. m + i) (scan place bits (drop n es))) long)
+entries_numbered : (k : ℕ) (es : List Entry) → map (λ (x : ℕ × Entry). x.1) (enumerate_from k es) ≡ es
+entries_numbered k [] = refl
+entries_numbered k (e ∷ es) = ap (λ (ds : List Entry). e ∷ ds) (entries_numbered (k + 1) es)
 
--- what the contention analysis finds is what a scan of the kept entries finds
-found_kept : {H : Type 0} (place : H → ℕ → ℕ) (a : Inside H) (q : Queued H) → IsKept a → kept a ≡ q → found_by place q ≡ scan (place a.hash) a.bits a.entries.items
-found_kept place a q h is = ap (found_by place) (sym is) ∙ ap (scan (place a.hash) a.bits) (analysed_paired a.journal.items a.entries.items h.claims)
+place_numbered : (k : ℕ) (es : List Entry) (i : ℕ) → i < length es → slice_get (map (λ (x : ℕ × Entry). x.0) (enumerate_from k es)) i ≡ Some (k + i)
+place_numbered k [] i within = absurd (omega (arith, within))
+place_numbered k (e ∷ es) zero within = ap Some (let same : k ≡ k + 0 = omega arith in same)
+place_numbered k (e ∷ es) (suc i) within = place_numbered (k + 1) es i (omega (arith, within)) ∙ ap Some (let same : (k + 1) + i ≡ k + suc i = omega arith in same)
 
--- the entries that a scan is given
-abbrev pub part_from : ℕ → List Entry → List Entry
-part_from n es = take (length es - n) (drop n es)
+-- beside their places, the scan finds the place
+scan_by_place : (place : ℕ → ℕ) (bits : ℕ) (es : List Entry) → scan_numbered place bits (enumerate_from 0 es) ≡ scan place bits es
+scan_by_place place bits es =
+    ap (λ (ds : List Entry). number_of (scan place bits ds)) (entries_numbered 0 es) ∙ by_found (scan place bits es) refl
+  where
+    number_of : Option ℕ → Option ℕ
+    number_of o = elim o [ None ↦ None | Some i ↦ slice_get (map (λ (x : ℕ × Entry). x.0) (enumerate_from 0 es)) i ]
 
-part_is_rest : (n : ℕ) (es : List Entry) → part_from n es ≡ drop n es
-part_is_rest n es = ap (λ (m : ℕ). take m (drop n es)) (sym (length-drop n es)) ∙ take-length (drop n es)
+    by_found : (o : Option ℕ) → scan place bits es ≡ o → number_of o ≡ o
+    by_found None is = refl
+    by_found (Some i) is = place_numbered 0 es i (scanned_within place bits es i is) ∙ ap Some (zero-add i)
 
--- what is found from the first that is left on is found in the whole queue
-found_from_first : {H : Type 0} (place : H → ℕ → ℕ) (a : Inside H) (q : Queued H) (es : List Entry) (o : Option ℕ) → IsKept a → kept a ≡ q
-    → es ≡ a.entries.items → o ≡ scan (place a.hash) a.bits (part_from a.first es) → found_by place q ≡ option_map (λ i. a.first + i) o
-found_from_first place a q es o h is same found =
-    found_kept place a q h is
-    ∙ (scan_from_first (place a.hash) a.bits a.first a.entries.items h.first
-    ∙ sym (ap (option_map (λ i. a.first + i)) (found ∙ ap (scan (place a.hash) a.bits) (part_is_rest a.first es ∙ ap (drop a.first) same))))
-
-pub none_found : {H : Type 0} (place : H → ℕ → ℕ) (a : Inside H) (q : Queued H) (es : List Entry) (o : Option ℕ) → IsKept a → kept a ≡ q
-    → es ≡ a.entries.items → o ≡ scan (place a.hash) a.bits (part_from a.first es) → o ≡ None → found_by place q ≡ None
-none_found place a q es o h is same found none = found_from_first place a q es o h is same found ∙ ap (option_map (λ i. a.first + i)) none
+-- what the contention analysis finds is what a scan of the window finds
+pub found_shown : {H : Type 0} (place : H → ℕ → ℕ) (a : Inside H) (q : Queued H) (o : Option ℕ) → IsKept a → kept a ≡ q
+    → o ≡ scan_numbered (place a.hash) a.bits a.window.left → found_by place q ≡ o
+found_shown place a q o h is found =
+    let es : List Entry = seen a.journal.items a.statuses.items in
+    ap (found_by place) (sym is)
+    ∙ (sym (scan_by_place (place a.hash) a.bits es)
+    ∙ (sym (gone_entries_do_not_matter (place a.hash) a.bits (enumerate_from 0 es)) ∙ (ap (scan_numbered (place a.hash) a.bits) (sym h.left) ∙ sym found)))
 
 waits_alone : (s : Status) → is_waiting s ≡ true → s ≡ Waiting
 waits_alone Running is = absurd (true≢false (sym is))
 waits_alone Waiting is = refl
 waits_alone Gone is = absurd (true≢false (sym is))
 
--- a scan finds a ticket of the queue, whose call waits
-pub record Finds {H : Type 0} (place : H → ℕ → ℕ) (q : Queued H) (t : ℕ) : Type 0 where
-  pub is : found_by place q ≡ Some t
-  pub fits : t < 65536
-  pub waits : slice_get (statuses q) t ≡ Some Waiting
-
-pub one_found : {H : Type 0} (place : H → ℕ → ℕ) (a : Inside H) (q : Queued H) (es : List Entry) (o : Option ℕ) (i : ℕ) → IsKept a → kept a ≡ q
-    → es ≡ a.entries.items → o ≡ scan (place a.hash) a.bits (part_from a.first es) → o ≡ Some i → Finds place q (a.first + i)
-one_found place a q es o i h is same found some =
-    let t : ℕ = a.first + i in
-    let told : found_by place q ≡ Some t = found_from_first place a q es o h is same found ∙ ap (option_map (λ j. a.first + j)) some in
-    let here : scan (place a.hash) a.bits a.entries.items ≡ Some t = sym (found_kept place a q h is) ∙ told in
-    let within : t < length a.entries.items = scanned_within (place a.hash) a.bits a.entries.items t here in
+-- the call that is found waits
+pub found_waits : {H : Type 0} (place : H → ℕ → ℕ) (a : Inside H) (q : Queued H) (t : ℕ) → IsKept a → kept a ≡ q
+    → found_by place q ≡ Some t → slice_get (statuses q) t ≡ Some Waiting
+found_waits place a q t h is found =
+    let es : List Entry = seen a.journal.items a.statuses.items in
+    let here : scan (place a.hash) a.bits es ≡ Some t = ap (found_by place) is ∙ found in
     let none : Entry = record { claims = []; status = Gone } in
-    let at : slice_get a.entries.items t ≡ Some (get_or a.entries.items t none) = slice_get-get_or a.entries.items t none within in
-    record {
-      is = told;
-      fits = omega (arith, within, h.within, h.few_calls);
-      waits =
-          ap (λ (ss : List Status). slice_get ss t) (shown_statuses a q h is)
-          ∙ (slice_get-map (λ (e : Entry). e.status) a.entries.items t
-          ∙ (ap (option_map (λ (e : Entry). e.status)) at
-          ∙ ap Some (waits_alone _ (scanned_waits (place a.hash) a.bits a.entries.items t _ here at))));
-    }
+    let at : slice_get es t ≡ Some (get_or es t none) = slice_get-get_or es t none (scanned_within (place a.hash) a.bits es t here) in
+    ap (λ (ss : List Status). slice_get ss t) (shown_statuses a q h is ∙ sym (seen_statuses a.journal.items a.statuses.items h.as_many))
+    ∙ (slice_get-map (λ (e : Entry). e.status) es t
+    ∙ (ap (option_map (λ (e : Entry). e.status)) at
+    ∙ ap Some (waits_alone _ (scanned_waits (place a.hash) a.bits es t _ here at))))
 
 -- the number of bits stays where a scan leaves it
 pub shown_bits : {H : Type 0} (a : Inside H) (q : Queued H) (bits : ℕ) → kept a ≡ q → bits ≡ a.bits → kept (record a { bits = bits }) ≡ q
 shown_bits a q bits is same = ap (λ (n : ℕ). kept (record a { bits = n })) same ∙ is
 
--- a scan starts within the entries
-pub starts_within : {H : Type 0} (a : Inside H) (es : List Entry) → IsKept a → es ≡ a.entries.items → a.first ≤ length es
-starts_within a es h is = let most = first_within a.entries.items in rw is (omega (arith, h.first, most))
+statuses_seen : {H : Type 0} (a : Inside H) (q : Queued H) → IsKept a → kept a ≡ q → statuses_of (seen a.journal.items a.statuses.items) ≡ statuses q
+statuses_seen a q h is = seen_statuses a.journal.items a.statuses.items h.as_many ∙ sym (shown_statuses a q h is)
+
+-- the window's front is the lowest ticket that is left
+pub shown_front : {H : Type 0} (a : Inside H) (q : Queued H) (o : Option ℕ) (t : ℕ) → IsKept a → kept a ≡ q
+    → o ≡ slice_get (tickets_of a.window.left) 0 → o ≡ Some t → t ≡ position_or_len is_left (statuses q)
+shown_front a q o t h is front some =
+    lowest_left 0 (seen a.journal.items a.statuses.items) t (sym (front ∙ ap (λ xs. slice_get (tickets_of xs) 0) h.left) ∙ some)
+    ∙ (zero-add _ ∙ ap (λ (ss : List Status). position_or_len is_left ss) (statuses_seen a q h is))
+
+pub shown_no_front : {H : Type 0} (a : Inside H) (q : Queued H) (o : Option ℕ) → IsKept a → kept a ≡ q
+    → o ≡ slice_get (tickets_of a.window.left) 0 → o ≡ None → front_among (statuses q) ≡ None
+shown_no_front a q o h is front none =
+    ap front_among (sym (statuses_seen a q h is))
+    ∙ (front_at (statuses_of es) (length es) (sym (none_left 0 es (sym (front ∙ ap (λ xs. slice_get (tickets_of xs) 0) h.left) ∙ none)))
+    ∙ ap (waiting_ticket (length es)) (slice_get-map (λ (e : Entry). e.status) es (length es) ∙ ap (option_map (λ (e : Entry). e.status)) (slice_get_past es (length es) (omega arith))))
+  where
+    es : List Entry
+    es = seen a.journal.items a.statuses.items

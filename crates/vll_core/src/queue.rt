@@ -1,15 +1,14 @@
-ghost use Rattle.std.specs.Prelude.{◌≡◌, ◌<◌, ◌≤◌, ◌↔◌, Some, length, count_by, slice_get, slice_set, IfOk, IsTrue};
-ghost use Rattle.std.specs.List.{position_or_len};
+ghost use Rattle.std.specs.Prelude.{◌≡◌, ◌<◌, ◌↔◌, Some, length, count_by, slice_get, slice_set, IfOk, IsTrue};
 ghost use Rattle.std.specs.Option.{option_copied};
-ghost use Rattle.vll_sca.specs.Status.{is_waiting as waiting, is_running as running, is_gone as gone};
+ghost use Rattle.vll_sca.specs.Status.{is_waiting as waiting, is_running as running};
 ghost use Rattle.vll_sca.specs.declared.status.Status.TheVariants as Status;
 ghost use Rattle.vll_core.specs.Faults.{Refuses, config_fault};
-ghost use Rattle.vll_core.specs.Queue.{IsQueued, empty, entry, admitted, lines, statuses, is_left, started, finished, front_among, fronted, found_by, scanned};
-ghost use Rattle.vll_core.specs.Private.QueueKept.{statuses_of};
+ghost use Rattle.vll_core.specs.Queue.{IsQueued, empty, entry, admitted, lines, statuses, started, finished, front_among, fronted, found_by, scanned};
 
-use crate::config::{Config, MOST_CALLS, OpenFault};
+use crate::config::{Config, OpenFault};
 use crate::line::Line;
 use crate::opening::config_fault;
+use crate::queue::window::Window;
 use crate::ticket::Ticket;
 use std::alloc::{AllocError, Global};
 use std::marker::Model;
@@ -24,10 +23,10 @@ pub struct Queue<H: Place> {
     limit: u32,
     bits: Bits,
     hash: H,
-    entries: Vec<Entry>,
     journal: Vec<Line>,
-    // The lowest ticket that is not gone, or the number of tickets.
-    first: u32,
+    statuses: Vec<Status>,
+    // What the analysis reads of the entries that are left.
+    window: Window,
     waiting: u32,
     running: u32,
 }
@@ -67,16 +66,17 @@ impl<H: Place + Drop> Queue<H> {
     {
         let bits = Bits::new(alloc, config.bits).map_err(|_| AllocError)?;
         let room = config.limit as usize;
-        let entries = Vec::with_capacity(alloc, room)?;
         let journal = Vec::with_capacity(alloc, room)?;
+        let statuses = Vec::with_capacity(alloc, room)?;
+        let window = Window::with_room(alloc, config.limit)?;
         Ok(Queue {
             cap: config.cap,
             limit: config.limit,
             bits,
             hash,
-            entries,
             journal,
-            first: 0,
+            statuses,
+            window,
             waiting: 0,
             running: 0,
         })
@@ -127,7 +127,7 @@ impl<H: Place> Queue<H> {
     pub fn status(&self, ticket: Ticket) -> Option<Status>
         ensures { result ≡ slice_get (statuses self.now) ticket }
     {
-        Some(self.entries.get(ticket.0 as usize)?.status)
+        self.statuses.get(ticket.0 as usize).copied()
     }
 
     /// The line of a ticket. `None` exactly where there is no such ticket yet.
@@ -167,7 +167,8 @@ impl<H: Place> Queue<H> {
             self.waiting += 1;
             Status::Waiting
         };
-        self.entries.push_reserved(Entry { claims, status });
+        self.statuses.push_reserved(status);
+        self.window.push(Entry { claims, status });
         ticket
     }
 
@@ -177,7 +178,7 @@ impl<H: Place> Queue<H> {
         ensures ticket { result ≡ front_among (statuses self.old) }
         ensures fronted { self.new ≡ fronted self.old }
     {
-        let front = Ticket(self.first);
+        let front = Ticket(self.window.front()?);
         if !is_waiting(self.status(front)?) {
             return None;
         }
@@ -187,14 +188,12 @@ impl<H: Place> Queue<H> {
 
     /// Where the contention analysis finds a waiting call that is in hash conflict with no earlier one that runs or
     /// waits, the first such call begins to run, and its ticket is answered. Else the answer is `None`, and nothing
-    /// changes. Only entries from the lowest ticket that is not gone are looked at. No memory is taken.
+    /// changes. It walks over the calls that run or wait, and over no more that are gone. No memory is taken.
     pub fn scan(&mut self) -> Option<Ticket>
         ensures ticket { result ≡ found_by H.place_of self.old }
         ensures scanned { self.new ≡ scanned H.place_of self.old }
     {
-        let first = self.first as usize;
-        let index = self.bits.scan(&self.hash, &self.entries[first..])?;
-        let ticket = Ticket((first + index) as u32);
+        let ticket = Ticket(self.window.scan(&mut self.bits, &self.hash)?);
         self.start(ticket);
         Some(ticket)
     }
@@ -204,7 +203,8 @@ impl<H: Place> Queue<H> {
         requires { slice_get (statuses self.old) ticket ≡ Some Status.Waiting }
         ensures { self.new ≡ started self.old ticket }
     {
-        self.entries[ticket.0 as usize].status = Status::Running;
+        self.statuses[ticket.0 as usize] = Status::Running;
+        self.window.start(ticket.0);
         self.waiting -= 1;
         self.running += 1;
     }
@@ -215,28 +215,14 @@ impl<H: Place> Queue<H> {
         ensures { self.new ≡ finished self.old ticket reply }
     {
         let index = ticket.0 as usize;
-        self.entries[index].status = Status::Gone;
+        self.statuses[index] = Status::Gone;
         let line = &mut self.journal[index];
         line.reply = Some(reply);
         self.running -= 1;
-        self.first = first_left(&self.entries, self.first);
+        self.window.remove(ticket.0);
+        let left = self.waiting as usize + self.running as usize;
+        self.window.shrink(2 * left);
     }
-}
-
-// The lowest ticket from one on that is not gone, or the number of tickets. All before that one are gone.
-#[tactic(auto, using(crate::proofs::Entries::first_of))]
-fn first_left(entries: &[Entry], from: u32) -> u32
-    requires few { length entries.now ≤ MOST_CALLS }
-    requires gone { from ≤ position_or_len is_left (statuses_of entries.now) }
-    ensures { result ≡ position_or_len is_left (statuses_of entries.now) }
-{
-    let tickets = entries.len() as u32;
-    for ticket in from..tickets {
-        if !is_gone(entries[ticket as usize].status) {
-            return ticket;
-        }
-    }
-    tickets
 }
 
 fn is_waiting(status: Status) -> bool
@@ -245,11 +231,6 @@ fn is_waiting(status: Status) -> bool
     matches!(status, Status::Waiting)
 }
 
-fn is_gone(status: Status) -> bool
-    ensures { result ≡ gone status }
-{
-    matches!(status, Status::Gone)
-}
-
 #[cfg(test)]
 mod tests;
+mod window;

@@ -1,4 +1,5 @@
 pub mod Scanning
+pub mod Leaving
 pub mod Steps
 pub mod Rows
 pub mod Words

@@ -43,7 +43,7 @@ any_below p (x ∷ xs) (suc i) zero d below here is = or_left _ _ (ap p (same_So
 any_below p (x ∷ xs) (suc i) (suc j) d below here is = or_right (p x) _ (any_below p xs i j d (omega (arith, below)) here is)
 
 -- tests that agree one place apart find one and the same
-abbrev Shifted : {X : Type 0} → (p q : ℕ × X → Bool) → Type 0
+abbrev pub Shifted : {X : Type 0} → (p q : ℕ × X → Bool) → Type 0
 Shifted {X} p q = (i : ℕ) (x : X) → p (suc i, x) ≡ q (i, x)
 
 shifted_at : {X : Type 0} (p q : ℕ × X → Bool) (n : ℕ) (x : X) (xs : List X) → Shifted p q
@@ -54,7 +54,7 @@ shifted_at p q n x xs one rest true is =
 shifted_at p q n x xs one rest false is =
     position-next p (suc n, x) (enumerate_from (suc n + 1) xs) (one n x ∙ is) ∙ (ap (option_map suc) rest ∙ sym (position-next q (n, x) (enumerate_from (n + 1) xs) is))
 
-position-shifted : {X : Type 0} (p q : ℕ × X → Bool) (n : ℕ) (xs : List X) → Shifted p q
+pub position-shifted : {X : Type 0} (p q : ℕ × X → Bool) (n : ℕ) (xs : List X) → Shifted p q
     → position p (enumerate_from (suc n) xs) ≡ position q (enumerate_from n xs)
 position-shifted p q n [] one = refl
 position-shifted p q n (x ∷ xs) one =
@@ -68,7 +68,7 @@ moved_by_none : (o : Option ℕ) → o ≡ option_map (λ i. 0 + i) o
 moved_by_none None = refl
 moved_by_none (Some i) = ap Some (sym (zero-add i))
 
-not_waiting : (s : Status) → is_gone s ≡ true → is_waiting s ≡ false
+pub not_waiting : (s : Status) → is_gone s ≡ true → is_waiting s ≡ false
 not_waiting Running h = absurd (true≢false (sym h))
 not_waiting Waiting h = absurd (true≢false (sym h))
 not_waiting Gone h = refl
@@ -120,7 +120,7 @@ module _ (place : ℕ → ℕ) (bits : ℕ) where
       let none : list_any held (take i entries) ≡ false = not-true _ (and_parts (is_waiting e.status) (not (list_any held (take i entries))) (found_may_run entries i e found at)).1 in
       clear_of d e (false_from_ne_true (held d) (λ is. both_ways _ none (any_below held entries i j d below here is))) left
 
-  gone_holds_none_back : (x e : Entry) → is_gone x.status ≡ true → holds_back place bits x e ≡ false
+  pub gone_holds_none_back : (x e : Entry) → is_gone x.status ≡ true → holds_back place bits x e ≡ false
   gone_holds_none_back x e gone = and_left (not (is_gone x.status)) (hash_conflict place bits x e) (ap not gone)
 
   may_run-shifted : (x : Entry) (ys : List Entry) → is_gone x.status ≡ true → Shifted (may_run place bits (x ∷ ys)) (may_run place bits ys)

@@ -1,9 +1,10 @@
 -- What holds of every scan, whatever the places and the number of bits: a collision only holds an entry back.
-use Rattle.std.specs.Prelude.{◌≡◌, ℕ, ◌+◌, ◌<◌, true, false, List, ◌++◌, length, Some, slice_get, option_map, All}
+use Rattle.std.specs.Prelude.{◌≡◌, ℕ, ◌+◌, ◌<◌, true, false, List, ◌++◌, length, Some, slice_get, option_map, All, not}
+use Rattle.std.specs.List.{filter}
 use Rattle.vll_record.specs.Claim.{conflict}
 use Rattle.vll_sca.specs.declared.entry.Entry.{Entry}
 use Rattle.vll_sca.specs.Status.{is_waiting, is_gone}
-use Rattle.vll_sca.specs.Scan.{hash_conflict, scan}
+use Rattle.vll_sca.specs.Scan.{hash_conflict, scan, scan_numbered}
 
 -- entries that conflict are in hash conflict
 abbrev pub ConflictImpliesHashConflict : Type 0
@@ -35,3 +36,9 @@ abbrev pub GoneBeginningsDoNotMatter : Type 0
 GoneBeginningsDoNotMatter =
     (place : ℕ → ℕ) (bits : ℕ) (xs ys : List Entry) → All (λ (x : Entry). is_gone x.status ≡ true) xs
     → scan place bits (xs ++ ys) ≡ option_map (λ i. length xs + i) (scan place bits ys)
+
+-- among entries beside numbers, those that are gone can be left out: the scan finds the same number
+abbrev pub GoneEntriesDoNotMatter : Type 0
+GoneEntriesDoNotMatter =
+    (place : ℕ → ℕ) (bits : ℕ) (numbered : List (ℕ × Entry))
+    → scan_numbered place bits (filter (λ x. not (is_gone x.1.status)) numbered) ≡ scan_numbered place bits numbered

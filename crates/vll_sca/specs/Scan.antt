@@ -1,5 +1,5 @@
 -- The scan: which waiting entry may run. Records are told apart by their places alone, modulo the number of bits.
-use Rattle.std.specs.Prelude.{ℕ, ◌%◌, Bool, ◌&&◌, not, List, map, take, Option, position}
+use Rattle.std.specs.Prelude.{ℕ, ◌%◌, Bool, ◌&&◌, not, List, map, take, Option, Some, None, position, slice_get}
 use Rattle.std.specs.List.{list_any, enumerate_from}
 use Rattle.vll_record.specs.declared.claim.Claim.{Claim}
 use Rattle.vll_record.specs.Claim.{conflict}
@@ -26,3 +26,7 @@ module _ (place : ℕ → ℕ) (bits : ℕ) where
   -- the first entry that may run
   abbrev pub scan : List Entry → Option ℕ
   scan entries = position (may_run entries) (enumerate_from 0 entries)
+
+  -- the number of the entry that the scan finds, where each entry stands beside a number
+  abbrev pub scan_numbered : List (ℕ × Entry) → Option ℕ
+  scan_numbered numbered = elim (scan (map (λ x. x.1) numbered)) [ None ↦ None | Some i ↦ slice_get (map (λ x. x.0) numbered) i ]

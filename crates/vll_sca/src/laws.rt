@@ -1,6 +1,6 @@
 // Laws of the scan, each the contract of a function that does nothing. They hold for every hash and every
 // number of bits.
-ghost use Rattle.vll_sca.specs.Laws.{ConflictImpliesHashConflict, ScannedEntryIsThere, ScannedEntryWaits, ScannedEntryIsClear, GoneBeginningsDoNotMatter};
+ghost use Rattle.vll_sca.specs.Laws.{ConflictImpliesHashConflict, ScannedEntryIsThere, ScannedEntryWaits, ScannedEntryIsClear, GoneBeginningsDoNotMatter, GoneEntriesDoNotMatter};
 
 /// Two entries that conflict are in hash conflict: a record has one place.
 #[tactic(auto, using(crate::proofs::Scanning::conflict_implies_hash_conflict))]
@@ -20,6 +20,12 @@ pub fn scanned_entry_waits_and_is_clear()
 #[tactic(auto, using(crate::proofs::Scanning::gone_beginnings_do_not_matter))]
 pub fn gone_beginnings_do_not_matter()
     ensures { GoneBeginningsDoNotMatter }
+{}
+
+/// Entries that are gone may be left out wherever they stand: what is found stays the same entry.
+#[tactic(auto, using(crate::proofs::Leaving::gone_entries_do_not_matter))]
+pub fn gone_entries_do_not_matter()
+    ensures { GoneEntriesDoNotMatter }
 {}
 
 #[cfg(test)]

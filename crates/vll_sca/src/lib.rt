@@ -12,7 +12,8 @@ mod status;
 pub use bits::{Bits, BitsFault, MOST_BITS};
 pub use entry::Entry;
 pub use laws::{
-    conflict_implies_hash_conflict, gone_beginnings_do_not_matter, scanned_entry_waits_and_is_clear,
+    conflict_implies_hash_conflict, gone_beginnings_do_not_matter, gone_entries_do_not_matter,
+    scanned_entry_waits_and_is_clear,
 };
 pub use place::{Place, Placing};
 pub use status::Status;

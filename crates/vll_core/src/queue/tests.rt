@@ -295,6 +295,62 @@ fn scan_passes_calls_that_are_gone(rt: HostRuntime) -> Result<(), Fail> {
     Ok(())
 }
 
+// Of the calls behind the running front so many are gone, and then four enter: two that want the front's record, one
+// that runs on another, and one that wants that.
+fn behind_many_that_are_gone(rt: &(impl AllocGlobal + Abort), gone: u16) -> Result<(), OpenFault> {
+    let gone = u32::from(gone);
+    let mut queue = Queue::open(rt.alloc(), config(4, 65_536, 64), Placing::Modulo)?;
+    play(rt, &mut queue, &[(Free(0, 0, 0), Some(0))]);
+    for ticket in 1..=gone {
+        let steps = [
+            (Free(0, 0, 1), Some(ticket)),
+            (Finish(ticket, 0), Some(ticket)),
+            (Scan, None),
+        ];
+        play(rt, &mut queue, &steps);
+    }
+    play(
+        rt,
+        &mut queue,
+        &[
+            (Blocked(0, 0, 0), Some(gone + 1)),
+            (Free(0, 0, 2), Some(gone + 2)),
+            (Blocked(0, 0, 0), Some(gone + 3)),
+            (Blocked(0, 0, 2), Some(gone + 4)),
+            (Scan, None),
+            (Front, None),
+            (Finish(gone + 2, 1), Some(gone + 2)),
+            (Scan, Some(gone + 4)),
+            (Scan, None),
+            (Finish(0, 2), Some(0)),
+            (Front, Some(gone + 1)),
+            (Scan, None),
+            (Finish(gone + 1, 3), Some(gone + 1)),
+            (Front, Some(gone + 3)),
+            (Finish(gone + 4, 4), Some(gone + 4)),
+            (Finish(gone + 3, 5), Some(gone + 3)),
+            (Front, None),
+            (Scan, None),
+            (Blocked(0, 0, 0), Some(gone + 5)),
+            (Front, Some(gone + 5)),
+        ],
+    );
+    perform(rt, &mut queue, Counts(1, 0));
+    perform(rt, &mut queue, Standing(0, Some(Status::Gone)));
+    perform(rt, &mut queue, Standing(gone, Some(Status::Gone)));
+    perform(rt, &mut queue, Standing(gone + 5, Some(Status::Running)));
+    perform(rt, &mut queue, Line(gone + 2, Some((0, 0, Some(1)))));
+    Ok(())
+}
+
+#[test]
+fn calls_that_are_gone_behind_the_front_are_in_nobodys_way(rt: HostRuntime) -> Result<(), Fail> {
+    for gone in [1, 2, 3, 4, 5, 6, 7, 8, 9, 100, 3_000] {
+        behind_many_that_are_gone(&rt, gone)?;
+    }
+    Ok(())
+}
+
 #[test]
 fn gone_call_keeps_its_line_with_the_reply(rt: HostRuntime) -> Result<(), Fail> {
     run(

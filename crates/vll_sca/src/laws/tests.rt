@@ -1,5 +1,6 @@
 use super::{
-    conflict_implies_hash_conflict, gone_beginnings_do_not_matter, scanned_entry_waits_and_is_clear,
+    conflict_implies_hash_conflict, gone_beginnings_do_not_matter, gone_entries_do_not_matter,
+    scanned_entry_waits_and_is_clear,
 };
 
 #[test]
@@ -7,4 +8,5 @@ fn laws_ask_for_nothing() {
     conflict_implies_hash_conflict();
     scanned_entry_waits_and_is_clear();
     gone_beginnings_do_not_matter();
+    gone_entries_do_not_matter();
 }

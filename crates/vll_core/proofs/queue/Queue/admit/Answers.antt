@@ -1,8 +1,9 @@
 use Rattle.std.proofs.Common.{◌∙◌, ap, sym, Bool, refl, arith, if◌then◌else◌}
 use Rattle.vll_sca.specs.Status.{is_gone}
 use Rattle.vll_sca.specs.declared.status.Status.TheVariants.{Running, Waiting}
+use Rattle.vll_core.specs.Queue.{is_left}
 use Rattle.vll_core.proofs.Entries.{shown_length, shown_room, shown_idle}
-use Rattle.vll_core.proofs.QueueChanges.{kept_counted, shown_entered}
+use Rattle.vll_core.proofs.QueueChanges.{kept_counted, shown_entered, window_room}
 use Rattle.vll_core.proofs.queue.Queue.admit.Goals.{then-free, else-free}
 use Rattle.vll_core.proofs.queue.Queue.admit.Goals as goal
 
@@ -17,19 +18,33 @@ push_reserved-requires-2 g c =
       | else-free w ↦ rw w.self-inside-is (omega (arith, shown_room _ _ c.self.invariant c.self.view_is c.requires.unspent, c.self.invariant.room))
     ]
 
+pub push-requires-clause-room : goal.push-requires-clause-room
+push-requires-clause-room g c =
+    elim c.if-free.branch [
+      | then-free w ↦ rw w.self-inside-is (window_room _ c.self.invariant (shown_room _ _ c.self.invariant c.self.view_is c.requires.unspent))
+      | else-free w ↦ rw w.self-inside-is (window_room _ c.self.invariant (shown_room _ _ c.self.invariant c.self.view_is c.requires.unspent))
+    ]
+
+pub push-requires-clause-left : goal.push-requires-clause-left
+push-requires-clause-left g c =
+    elim c.if-free.branch [
+      | then-free w ↦ ap is_left w.status-is
+      | else-free w ↦ ap is_left w.status-is
+    ]
+
 pub invariant_of-self : goal.invariant_of-self
 invariant_of-self g c =
     elim c.if-free.branch [
       | then-free w ↦
-          kept_counted c.self.inside c.if-free.self-inside c.push_reserved-2.new.self c.push_reserved.new.self _ _ _ _
+          kept_counted c.self.inside c.if-free.self-inside c.push_reserved-2.new.self c.push_reserved.new.self c.push.new.self _ _ _ _
           c.self.invariant (shown_room _ _ c.self.invariant c.self.view_is c.requires.unspent) (shown_idle _ _ c.self.invariant c.self.view_is c.requires.idle)
           w.self-inside-is c.push_reserved-2.ensures.items c.push_reserved-2.ensures.capacity
-          c.push_reserved.ensures.items c.push_reserved.ensures.capacity refl refl (ap is_gone w.status-is) (rw w.status-is (omega arith)) (rw w.status-is refl)
+          c.push_reserved.ensures.items c.push_reserved.ensures.capacity c.push.ensures refl (ap is_gone w.status-is) (rw w.status-is (omega arith)) (rw w.status-is refl)
       | else-free w ↦
-          kept_counted c.self.inside c.if-free.self-inside c.push_reserved-2.new.self c.push_reserved.new.self _ _ _ _
+          kept_counted c.self.inside c.if-free.self-inside c.push_reserved-2.new.self c.push_reserved.new.self c.push.new.self _ _ _ _
           c.self.invariant (shown_room _ _ c.self.invariant c.self.view_is c.requires.unspent) (shown_idle _ _ c.self.invariant c.self.view_is c.requires.idle)
           w.self-inside-is c.push_reserved-2.ensures.items c.push_reserved-2.ensures.capacity
-          c.push_reserved.ensures.items c.push_reserved.ensures.capacity refl refl (ap is_gone w.status-is) (rw w.status-is refl) (rw w.status-is (omega arith))
+          c.push_reserved.ensures.items c.push_reserved.ensures.capacity c.push.ensures refl (ap is_gone w.status-is) (rw w.status-is refl) (rw w.status-is (omega arith))
     ]
 
 pub returns-clause-ticket : goal.returns-clause-ticket
@@ -40,11 +55,11 @@ pub returns-clause-entered : goal.returns-clause-entered
 returns-clause-entered g c =
     elim c.if-free.branch [
       | then-free w ↦
-          shown_entered c.self.inside c.if-free.self-inside _ c.push_reserved-2.new.self c.push_reserved.new.self _ _ _ _ _
+          shown_entered c.self.inside c.if-free.self-inside _ c.push_reserved-2.new.self c.push_reserved.new.self c.push.new.self _ _ _ _ _
           c.self.invariant c.self.view_is w.self-inside-is c.push_reserved.ensures.items c.push_reserved-2.ensures.items
           (w.status-is ∙ ap (λ (b : Bool). if b then Running else Waiting) (sym w.if-free.true))
       | else-free w ↦
-          shown_entered c.self.inside c.if-free.self-inside _ c.push_reserved-2.new.self c.push_reserved.new.self _ _ _ _ _
+          shown_entered c.self.inside c.if-free.self-inside _ c.push_reserved-2.new.self c.push_reserved.new.self c.push.new.self _ _ _ _ _
           c.self.invariant c.self.view_is w.self-inside-is c.push_reserved.ensures.items c.push_reserved-2.ensures.items
           (w.status-is ∙ ap (λ (b : Bool). if b then Running else Waiting) (sym w.if-free.false))
     ]
