@@ -1,6 +1,6 @@
-ghost use Rattle.std.specs.Prelude.{◌≡◌, ◌<◌, All, IfOk, IfSome};
+ghost use Rattle.std.specs.Prelude.{◌≡◌, All, IfOk, IfSome};
 ghost use Rattle.vll_check.specs.Calls.{Fits};
-ghost use Rattle.vll_queue.specs.Shown.{IsNamed};
+ghost use Rattle.vll_engine.specs.Shown.{library_of, name_of};
 ghost use Rattle.vll_sca.specs.Placing.{placing};
 
 use crate::fault::Fault;
@@ -10,8 +10,8 @@ use std::sync::Wait;
 use std::time::{CpuClock, Duration};
 use vll_check::{CallFault, Library};
 use vll_core::MOST_CALLS;
+use vll_engine::{Begun, Engine, Name, Opening, Session};
 use vll_proc::Call;
-use vll_queue::{Begun, Engine, Name, Opening, Session};
 use vll_sca::Placing;
 
 // How many calls are made one after the other.
@@ -42,7 +42,7 @@ fn time_of<N: Name, R: Wait + CpuClock>(
     rt: &R,
     opening: Opening<Placing>,
 ) -> Result<Duration, Fault>
-    requires { IsNamed placing N.library N.records N.config N.places N.clients opening }
+    requires { N.engine ≡ name_of placing opening }
 {
     let (engine, mut sessions) = opening.start::<N>();
     let Some(mut session) = last::<N>(&mut sessions) else {
@@ -63,14 +63,14 @@ fn cycle<N: Name>(
     session: &mut Session,
     call: Call,
 ) -> Result<(), Fault>
-    requires client { session.old.client < N.clients }
-    requires fits { Fits N.library call }
-    ensures { session.new ≡ session.old }
+    requires session { session.old.table ≡ N.engine.table }
+    requires fits { Fits (library_of N.engine) call }
+    ensures { session.new.table ≡ session.old.table }
 {
     match engine.begin(rt, session, call) {
         Begun::Free(pass) => {
-            let done = engine.execute(rt, pass)?;
-            engine.finish(rt, engine.release(done))?;
+            let done = engine.execute(pass);
+            engine.finish(rt, engine.release(done));
             Ok(())
         }
         Begun::Blocked(_) | Begun::Refused(_) => Err(Fault::Refused),
@@ -79,8 +79,8 @@ fn cycle<N: Name>(
 
 // The last session of a list.
 fn last<N: Name>(sessions: &mut Vec<Session>) -> Option<Session>
-    requires { All (λ s. s.client < N.clients) sessions.old.items }
-    ensures { IfSome result (λ s. s.client < N.clients) }
+    requires { All (λ s. s.table ≡ N.engine.table) sessions.old.items }
+    ensures { IfSome result (λ s. s.table ≡ N.engine.table) }
 {
     sessions.pop()
 }

@@ -1,13 +1,10 @@
 use crate::fault::Fault;
 use crate::setup;
-use crate::workload::{Workload, enter_all, run_all, scan_in_vain};
+use crate::workload::{Workload, enter_all, run_all};
 use std::time::CpuClock;
 
 // How many calls are made. What an event costs should be the same for all of them.
 const COUNTS: [u32; 3] = [1_024, 8_192, 65_536];
-
-// How many calls wait where a scan is measured.
-const WAITING: [u32; 3] = [1_000, 2_000, 4_000];
 
 // How often each is measured. The fastest counts, since other work disturbs the others.
 const REPEATS: u32 = 5;
@@ -18,9 +15,6 @@ pub(crate) fn measure_events(rt: &(impl CpuClock + Print + AllocGlobal)) -> Resu
         for calls in COUNTS {
             measure(rt, workload, calls)?;
         }
-    }
-    for waiting in WAITING {
-        measure_scan(rt, waiting)?;
     }
     Ok(())
 }
@@ -46,22 +40,5 @@ fn measure(
         "{name}, {calls} calls: {} ns an event",
         fastest / u128::from(events.max(1))
     )?;
-    Ok(())
-}
-
-// Prints how many microseconds of processor time one scan takes that finds no call. As many calls run as wait, and
-// each that waits meets none of them but the last.
-fn measure_scan(rt: &(impl CpuClock + Print + AllocGlobal), waiting: u32) -> Result<(), Fault> {
-    let calls = waiting.saturating_mul(2);
-    let mut core = setup::core(rt.alloc(), waiting, calls)?;
-    enter_all(&mut core, calls)?;
-    let mut fastest = u128::MAX;
-    for _ in 0..REPEATS {
-        let start = rt.thread_cpu_time()?;
-        scan_in_vain(&mut core)?;
-        let end = rt.thread_cpu_time()?;
-        fastest = fastest.min(end.saturating_sub(start).as_micros());
-    }
-    println!(rt; "scan of {waiting} waiting calls: {fastest} us")?;
     Ok(())
 }

@@ -2,7 +2,6 @@ use std::alloc::{AllocError, AllocFailed};
 use std::io;
 use vll_check::{CallFault, CheckFault, NameTwice};
 use vll_core::{OpenFault, Refusal};
-use vll_queue::Lost;
 use vll_server::ScenarioFault;
 use vll_workers::RunFault;
 
@@ -18,9 +17,8 @@ pub(crate) enum Fault {
     Call(CallFault),
     Open(OpenFault),
     Event(Refusal),
-    /// A call was blocked or refused where it is alone.
+    /// A call was blocked or refused, or did not run, where it is alone.
     Refused,
-    Lost,
     Scenario(ScenarioFault),
     Run(RunFault),
     /// Calls were left after a run.
@@ -74,12 +72,6 @@ impl From<OpenFault> for Fault {
 impl From<Refusal> for Fault {
     fn from(refusal: Refusal) -> Fault {
         Fault::Event(refusal)
-    }
-}
-
-impl From<Lost> for Fault {
-    fn from(_: Lost) -> Fault {
-        Fault::Lost
     }
 }
 

@@ -5,6 +5,7 @@ mod engine;
 mod events;
 mod fault;
 mod runs;
+mod scans;
 mod scripts;
 mod setup;
 mod task;
@@ -14,16 +15,19 @@ use crate::engine::measure_engine;
 use crate::events::measure_events;
 use crate::fault::Fault;
 use crate::runs::measure_runs;
+use crate::scans::measure_scans;
 use crate::task::{Task, task_of};
 use std::env;
 use vll_workers::MOST_WORKERS;
 
 const USAGE: &str = "usage: vll_bench events
        vll_bench engine
+       vll_bench scan
        vll_bench WORKERS ROUNDS < scenario
 
 events   what an event of the machine costs, on one thread
 engine   what a call of the engine costs from begin to finish, on one thread
+scan     what a scan of the queue costs that finds no call, on one thread
 WORKERS  runs the scenario by so many worker threads, 1 to 64, as often as
 ROUNDS   says, and prints the nanoseconds of each run, a line each";
 
@@ -32,6 +36,7 @@ fn main(rt: HostRuntime) -> Result<(), Fault> {
     match task_of(words.as_slice()) {
         Task::Events => measure_events(&rt),
         Task::Engine => measure_engine(&rt),
+        Task::Scan => measure_scans(&rt),
         Task::Runs { workers, rounds } if 1 <= workers && workers <= MOST_WORKERS => {
             measure_runs(&rt, workers, rounds)
         }

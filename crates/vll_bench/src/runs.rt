@@ -1,6 +1,6 @@
 ghost use Rattle.std.specs.Prelude.{◌≡◌, ◌≤◌, ◌<◌, ◌^◌, All, length};
 ghost use Rattle.vll_check.specs.Calls.{Fits};
-ghost use Rattle.vll_queue.specs.Shown.{IsNamed};
+ghost use Rattle.vll_engine.specs.Shown.{library_of, name_of};
 ghost use Rattle.vll_sca.specs.Placing.{placing};
 
 use crate::fault::Fault;
@@ -11,8 +11,8 @@ use std::marker::Brand;
 use std::sync::Wait;
 use std::thread::Threads;
 use std::time::{Clock, Duration, Instant};
+use vll_engine::{Name, Opening};
 use vll_proc::Call;
-use vll_queue::{Name, Opening};
 use vll_sca::Placing;
 use vll_server::{MOST_CLIENTS, Plain, read_scenario};
 use vll_workers::{MOST_WORKERS, OpenGate, RunError, run};
@@ -46,14 +46,14 @@ fn time_of<N: Name + Send + Sync, R: Threads + Wait + Clock + Sync>(
     workers: u32,
 ) -> Result<Duration, Fault>
     requires workers { (1 ≤ workers) × (workers ≤ MOST_WORKERS) }
-    requires opening { IsNamed placing N.library N.records N.config N.places N.clients opening }
-    requires clients { N.clients ≡ length scripts.items }
+    requires named { N.engine ≡ name_of placing opening }
+    requires clients { N.engine.clients ≡ length scripts.items }
     requires few { length scripts.items ≤ MOST_CLIENTS }
     requires short { All (λ script. length script.items < 2 ^ 32) scripts.items }
-    requires fits { All (λ script. All (Fits N.library) script.items) scripts.items }
+    requires fits { All (λ script. All (Fits (library_of N.engine)) script.items) scripts.items }
 {
     let (engine, sessions) = opening.start::<N>();
-    let tokens = tokens(alloc, sessions, scripts)?;
+    let tokens = tokens::<N>(alloc, sessions, scripts)?;
     let start = Instant::now(rt)?;
     let ran = run(rt, rt, alloc, &engine, tokens, workers, &OpenGate);
     let time = start.elapsed(rt)?;

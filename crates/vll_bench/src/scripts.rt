@@ -1,15 +1,18 @@
 //! The scripts of a scenario, and the engine and the tokens for them.
-ghost use Rattle.std.specs.Prelude.{◌≡◌, ◌≤◌, ◌<◌, ◌^◌, All, IfOk, length, sum_by};
+ghost use Rattle.std.specs.Prelude.{◌≡◌, ◌≤◌, ◌<◌, ◌^◌, All, IfOk, length, nat_eq, sum_by};
+ghost use Rattle.std.specs.List.{IsDistinct};
 ghost use Rattle.vll_check.specs.Calls.{Fits};
-ghost use Rattle.vll_queue.specs.Opened.{sessions_of};
-ghost use Rattle.vll_server.specs.Kept.{lists_of};
-ghost use Rattle.vll_server.specs.Serve.{tokens_from};
+ghost use Rattle.vll_counters.specs.Shown.{AreNewSessions};
+ghost use Rattle.vll_engine.specs.Shown.{library_of, name_of};
+ghost use Rattle.vll_sca.specs.Placing.{placing};
+ghost use Rattle.vll_server.specs.Setup.{lists_of};
+ghost use Rattle.vll_workers.specs.Tokens.{AreFit, clients_of};
 
 use crate::fault::Fault;
 use std::alloc::{AllocError, Global};
 use vll_core::{Config, MOST_CALLS};
+use vll_engine::{Name, Opening, Session};
 use vll_proc::Call;
-use vll_queue::{Opening, Session};
 use vll_sca::Placing;
 use vll_server::{MOST_CLIENTS, Scenario, ScenarioParts};
 use vll_workers::Token;
@@ -23,7 +26,7 @@ pub(crate) fn opening(
     ensures clients { IfOk result (λ made. made.0.clients ≡ length made.1.items) }
     ensures few { IfOk result (λ made. length made.1.items ≤ MOST_CLIENTS) }
     ensures short { IfOk result (λ made. All (λ script. length script.items < 2 ^ 32) made.1.items) }
-    ensures fits { IfOk result (λ made. All (λ script. All (Fits made.0.library) script.items) made.1.items) }
+    ensures fits { IfOk result (λ made. All (λ script. All (Fits (library_of (name_of placing made.0))) script.items) made.1.items) }
 {
     let ScenarioParts {
         records,
@@ -42,16 +45,18 @@ pub(crate) fn opening(
     Ok((opening, scripts))
 }
 
-/// A token for each client, in order, with its session and its script.
-pub(crate) fn tokens(
+/// A token for each client, the last one's first, with its session and its script.
+pub(crate) fn tokens<N: Name>(
     alloc: Global,
     sessions: Vec<Session>,
     scripts: Vec<Vec<Call>>,
 ) -> Result<Vec<Token>, AllocError>
-    requires sessions { sessions.items ≡ sessions_of (length scripts.items) }
+    requires sessions { AreNewSessions N.engine.table (length scripts.items) sessions.items }
     requires few { length scripts.items ≤ MOST_CLIENTS }
     requires short { All (λ script. length script.items < 2 ^ 32) scripts.items }
-    ensures { IfOk result (λ tokens. tokens.items ≡ tokens_from 0 (lists_of scripts.items)) }
+    requires fits { All (λ script. All (Fits (library_of N.engine)) script.items) scripts.items }
+    ensures fit { IfOk result (λ tokens. AreFit N.engine tokens.items) }
+    ensures distinct { IfOk result (λ tokens. IsDistinct nat_eq (clients_of tokens.items)) }
 {
     let mut sessions = sessions;
     let mut scripts = scripts;
@@ -61,7 +66,6 @@ pub(crate) fn tokens(
         let session = sessions.pop().unwrap();
         tokens.push(Token::new(client, session, script))?;
     }
-    tokens.reverse();
     Ok(tokens)
 }
 

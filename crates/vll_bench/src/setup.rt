@@ -6,8 +6,8 @@ use sqlite_items::{Boxed, Items};
 use std::alloc::{AllocError, Global};
 use vll_check::{Library, check};
 use vll_core::{Config, Core, MOST_WAITING};
+use vll_engine::Opening;
 use vll_proc::{Call, Expr, KeyAt, KeyDecl, Proc, Stmt, Text};
-use vll_queue::Opening;
 use vll_record::Mode;
 use vll_sca::Placing;
 

@@ -5,6 +5,7 @@ pub(crate) enum Task {
     Usage,
     Events,
     Engine,
+    Scan,
     Runs { workers: u32, rounds: u32 },
 }
 
@@ -13,6 +14,7 @@ pub(crate) fn task_of(words: &[String]) -> Task {
     match words {
         [_, word] if word.as_str() == "events" => Task::Events,
         [_, word] if word.as_str() == "engine" => Task::Engine,
+        [_, word] if word.as_str() == "scan" => Task::Scan,
         [_, workers, rounds] => match (
             workers.as_str().parse::<u32>(),
             rounds.as_str().parse::<u32>(),

@@ -1,5 +1,5 @@
 use crate::fault::Fault;
-use vll_core::{Core, Event, Refusal, Ticket};
+use vll_core::{Core, Event, Ticket};
 use vll_sca::{Placing, Status};
 
 /// Which records the calls bump, and in which order they run once all have entered.
@@ -87,14 +87,5 @@ fn take(core: &mut Core<Placing>, event: Event) -> Result<(), Fault> {
     match core.step(event) {
         Ok(_) => Ok(()),
         Err(refusal) => Err(Fault::Event(refusal)),
-    }
-}
-
-/// Scans the waiting calls, each of which an earlier one holds back.
-pub(crate) fn scan_in_vain(core: &mut Core<Placing>) -> Result<(), Fault> {
-    match core.step(Event::Scan) {
-        Err(Refusal::Idle) => Ok(()),
-        Err(refusal) => Err(Fault::Event(refusal)),
-        Ok(_) => Err(Fault::Found),
     }
 }

@@ -1,7 +1,8 @@
 // A bank over the engine: a transfer and a sum of the accounts that it changes.
-ghost use Rattle.std.specs.Prelude.{◌≡◌, ◌<◌, All, IfOk, IfSome};
+ghost use Rattle.std.specs.Prelude.{◌≡◌, All, IfOk, IfSome};
 ghost use Rattle.vll_check.specs.Calls.{Fits};
-ghost use Rattle.vll_queue.specs.Shown.{IsNamed};
+ghost use Rattle.vll_engine.specs.Pass.{IsFresh};
+ghost use Rattle.vll_engine.specs.Shown.{library_of, name_of};
 ghost use Rattle.vll_sca.specs.Placing.{placing};
 
 use crate::fault::Fault;
@@ -11,8 +12,8 @@ use std::marker::Brand;
 use std::sync::Wait;
 use vll_check::{CallFault, Library};
 use vll_core::{Config, Ticket};
+use vll_engine::{Begun, Engine, Name, Opening, Pass, Session};
 use vll_proc::{Call, Reply};
-use vll_queue::{Begun, Engine, Lost, Name, Opening, Pass, Session};
 use vll_sca::Placing;
 
 /// Opens the engine over two accounts, for two clients, and serves them. All memory is taken here.
@@ -31,7 +32,7 @@ pub(crate) fn open<R: Wait + Print>(rt: &R, alloc: Global) -> Result<(), Fault> 
 // The engine takes its name from the opening. So it is started in a function over the name, whose other types have
 // nothing to do with it.
 fn serve<N: Name, R: Wait + Print>(rt: &R, opening: Opening<Placing>) -> Result<(), Fault>
-    requires { IsNamed placing N.library N.records N.config N.places N.clients opening }
+    requires { N.engine ≡ name_of placing opening }
 {
     let (engine, mut sessions) = opening.start::<N>();
     let Some(mut other) = last::<N>(&mut sessions) else {
@@ -60,9 +61,9 @@ fn serve<N: Name, R: Wait + Print>(rt: &R, opening: Opening<Placing>) -> Result<
 
 // The last session of a list.
 fn last<N: Name>(sessions: &mut Vec<Session>) -> Option<Session>
-    requires { All (λ s. s.client < N.clients) sessions.old.items }
-    ensures session { IfSome result (λ s. s.client < N.clients) }
-    ensures others { All (λ s. s.client < N.clients) sessions.new.items }
+    requires { All (λ s. s.table ≡ N.engine.table) sessions.old.items }
+    ensures session { IfSome result (λ s. s.table ≡ N.engine.table) }
+    ensures others { All (λ s. s.table ≡ N.engine.table) sessions.new.items }
 {
     sessions.pop()
 }
@@ -83,9 +84,9 @@ fn transfer_then_sum<N: Name, R: Wait + Print>(
     other: &mut Session,
     sum: Call,
 ) -> Result<Ticket, Fault>
-    requires first { (first.old.client < N.clients) × Fits N.library transfer }
-    requires other { (other.old.client < N.clients) × Fits N.library sum }
-    ensures { (first.new ≡ first.old) × (other.new ≡ other.old) }
+    requires first { (first.old.table ≡ N.engine.table) × Fits (library_of N.engine) transfer }
+    requires other { (other.old.table ≡ N.engine.table) × Fits (library_of N.engine) sum }
+    ensures { (first.new.table ≡ first.old.table) × (other.new.table ≡ other.old.table) }
 {
     let pass = match engine.begin(rt, first, transfer) {
         Begun::Free(pass) => pass,
@@ -93,19 +94,20 @@ fn transfer_then_sum<N: Name, R: Wait + Print>(
         Begun::Refused(refusal) => return Err(Fault::Refused(refusal)),
     };
     let waiting = match engine.begin(rt, other, sum) {
-        Begun::Free(pass) => run(rt, engine, pass)
-            .map_err(|_| Fault::Lost)
-            .and(Err(Fault::OutOfTurn)),
+        Begun::Free(pass) => {
+            run(rt, engine, pass);
+            Err(Fault::OutOfTurn)
+        }
         Begun::Blocked(ticket) => Ok(ticket),
         Begun::Refused(refusal) => Err(Fault::Refused(refusal)),
     };
     // a pass has to be spent before the function may return
-    let reply = run(rt, engine, pass)?;
+    let reply = run(rt, engine, pass);
     show(rt, "the transfer leaves", &reply)?;
     let ticket = waiting?;
     match engine.next_front(rt) {
         Some(pass) => {
-            let reply = run(rt, engine, pass)?;
+            let reply = run(rt, engine, pass);
             show(rt, "the sum is", &reply)?;
             Ok(ticket)
         }
@@ -114,11 +116,13 @@ fn transfer_then_sum<N: Name, R: Wait + Print>(
 }
 
 // Brings a call to its end.
-fn run<N: Name>(rt: &impl Wait, engine: &Engine<N, Placing>, pass: Pass) -> Result<Reply, Lost> {
-    let done = engine.execute(rt, pass)?;
+fn run<N: Name>(rt: &impl Wait, engine: &Engine<N, Placing>, pass: Pass) -> Reply
+    requires { IsFresh N.engine pass }
+{
+    let done = engine.execute(pass);
     let released = engine.release(done);
-    let (_, reply) = engine.finish(rt, released)?;
-    Ok(reply)
+    let (_, reply) = engine.finish(rt, released);
+    reply
 }
 
 // Prints a reply behind some words.

@@ -2,7 +2,7 @@ use std::alloc::{AllocError, AllocFailed};
 use std::io;
 use vll_check::{CallFault, CheckFault, NameTwice};
 use vll_core::OpenFault;
-use vll_queue::{BeginRefusal, Lost};
+use vll_engine::BeginRefusal;
 
 /// Why the program stopped.
 #[derive(Clone, Copy, Debug, PartialEq, Eq)]
@@ -18,7 +18,6 @@ pub(crate) enum Fault {
     /// The engine could not be opened.
     Open(OpenFault),
     Refused(BeginRefusal),
-    Lost,
     /// A call was to wait and did not, or was to run and did not.
     OutOfTurn,
     /// Calls were left at the end.
@@ -64,11 +63,5 @@ impl From<CallFault> for Fault {
 impl From<OpenFault> for Fault {
     fn from(fault: OpenFault) -> Fault {
         Fault::Open(fault)
-    }
-}
-
-impl From<Lost> for Fault {
-    fn from(_: Lost) -> Fault {
-        Fault::Lost
     }
 }

@@ -1,5 +1,5 @@
 -- How what is answered for a tree becomes what is answered for its parts, and for its scenario.
-use Rattle.std.proofs.Common.{◌≡◌, ◌<◌, ◌⊎◌, inl, inr, ℕ, suc, Bool, true, false, List, [], ◌∷◌, ◌++◌, length, Option, Some, None, Result, Ok, Err, IfOk, IfErr, IfSome, refl, sym, ap, ◌∙◌, subst, arith, length-append, append-nil, option_map, is_none, if◌then◌else◌, ◌&&◌}
+use Rattle.std.proofs.Common.{◌≡◌, ◌⊎◌, inl, inr, ℕ, suc, Bool, true, false, List, [], ◌∷◌, ◌++◌, length, Option, Some, None, Result, Ok, Err, IfOk, IfErr, IfSome, refl, sym, ap, ◌∙◌, subst, arith, length-append, append-nil, option_map, is_none, if◌then◌else◌, ◌&&◌}
 use Rattle.serde_json.specs.Data.{Data}
 use Rattle.serde_json.specs.View.{view}
 use Rattle.serde_json.specs.declared.value.Value.{Value}
@@ -15,12 +15,14 @@ use Rattle.vll_core.specs.Faults.{open_fault}
 use Rattle.vll_core.specs.Machine.{refuse_if}
 use Rattle.vll_server.specs.declared.fault.ScenarioFault.{ScenarioFault}
 use Rattle.vll_server.specs.declared.fault.ScenarioFault.TheVariants as fault
-use Rattle.vll_server.specs.declared.shape.Parts.{Parts}
-use Rattle.vll_server.specs.Reading.{IsAnswerBy, ReadsEnough, Reads, Tells, data_of}
+use Rattle.vll_server.specs.declared.reading.shape.Parts.{Parts}
+use Rattle.vll_server.specs.Reading.{IsAnswerBy, ReadsEnough, Reads, Tells}
+use Rattle.vll_server.specs.Private.Reading.{data_of, GivesUnlessMemory}
 use Rattle.vll_server.specs.Scenario.{IsTree, call_at, config_of, each_given, first_check, first_check_from, in_call, ok_unless, or_else, script_made, scripts_made, setup_of, tree_or_json}
 use Rattle.vll_server.specs.Setup.{Setup, has_sizes}
-use Rattle.vll_server.specs.Shape.{◌>>=◌, GivesUnlessMemory}
-use Rattle.vll_server.specs.Streams.{AreTooMany, ReadsAll}
+use Rattle.vll_server.specs.Shape.{◌>>=◌}
+use Rattle.vll_server.specs.Streams.{AreTooMany}
+use Rattle.vll_server.specs.Private.Bytes.{ReadsAll}
 
 -- ---- the tree of the bytes
 

@@ -11,14 +11,12 @@ use Rattle.vll_proc.specs.declared.syntax.Proc.{Proc}
 use Rattle.vll_sca.specs.declared.bits.TheConstants.{MOST_BITS}
 use Rattle.vll_core.specs.declared.config.TheConstants.{MOST_CALLS, MOST_RECORDS, MOST_WAITING}
 use Rattle.vll_core.specs.declared.config.Config.{Config}
-use Rattle.vll_core.specs.declared.config.OpenFault.{OpenFault}
 use Rattle.vll_core.specs.declared.config.OpenFault.TheVariants.{Records, Limit, Cap, Bits}
 use Rattle.vll_core.specs.declared.event.Event.{Event}
 use Rattle.vll_core.specs.Faults.{config_fault, is_up_to, open_fault}
 use Rattle.vll_core.proofs.Faults.{IsAllowed, IsUpTo, allowed, openable}
 use Rattle.vll_server.specs.declared.limits.TheConstants.{MOST_CLIENTS, MOST_EVENTS, MOST_PROCS}
-use Rattle.vll_server.specs.Kept.{lists_of}
-use Rattle.vll_server.specs.Setup.{HasSizes, has_sizes}
+use Rattle.vll_server.specs.Setup.{lists_of, HasSizes, has_sizes}
 use Rattle.vll_server.proofs.Fitting.{in_lists}
 
 -- ---- sizes

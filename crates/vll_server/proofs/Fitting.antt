@@ -15,11 +15,10 @@ use Rattle.vll_check.specs.Catalog.{Catalog, IsCatalog}
 use Rattle.vll_check.proofs.Fitting.{fits_well}
 use Rattle.vll_core.specs.declared.config.TheConstants.{MOST_CALLS}
 use Rattle.vll_core.specs.declared.event.Event.{Event}
-use Rattle.vll_server.specs.declared.asked.Asked.{Asked}
+use Rattle.vll_server.specs.declared.reading.asked.Asked.{Asked}
 use Rattle.vll_server.specs.declared.limits.TheConstants.{MOST_CLIENTS, MOST_EVENTS, MOST_PROCS}
-use Rattle.vll_server.specs.Kept.{lists_of}
+use Rattle.vll_server.specs.Setup.{lists_of, has_sizes}
 use Rattle.vll_server.specs.Scenario.{call_at, each_given, in_call, script_made, scripts_made}
-use Rattle.vll_server.specs.Setup.{has_sizes}
 use Rattle.vll_server.specs.Shape.{◌>>=◌}
 
 -- the items from one on

@@ -1,90 +1,152 @@
--- The tokens that a run is handed and those that come back have the same scripts, in the same order.
-use Rattle.std.proofs.Common.{◌≡◌, ℕ, zero, suc, ◌+◌, ◌-◌, ◌<◌, ◌≤◌, List, [], ◌∷◌, ◌++◌, map, length, reverse, Option, Some, None, refl, ap, ap₂, ◌∙◌, sym, arith, slice_get, slice_index, subst, append_assoc, zero-add, nat_eq, false, Result, Ok, Err, IfOk}
+-- The tokens that a run is handed, and the calls that have entered once they are back.
+use Rattle.std.proofs.Common.{◌≡◌, ℕ, zero, suc, ◌+◌, ◌-◌, ◌<◌, ◌≤◌, ◌==◌, List, [], ◌∷◌, ◌++◌, map, length, take, reverse, Option, Some, None, refl, ap, ap₂, ◌∙◌, sym, arith, slice_get, slice_index, subst, append_assoc, zero-add, nat_eq, false}
 use Rattle.std.specs.Global.{Vec}
+use Rattle.std.specs.Prelude.{unwrap_or}
 use Rattle.std.specs.List.{All, AllByRecursion, IsDistinct}
 use Rattle.std.specs.List.Sorted.{IsStrictlyIncreasing}
 use Rattle.std.specs.Option.{option_map}
+use Rattle.std.proofs.Math.Nat.{sub-zero}
+use Rattle.std.proofs.Math.Seq.{take-length}
+use Rattle.std.proofs.lemmas.Bool.{cond-false, ne_eqb}
 use Rattle.std.proofs.lemmas.Bool.Decides.{nat_tests}
 use Rattle.std.proofs.lemmas.List.{length-map, map-append, reverse-append}
 use Rattle.std.proofs.lemmas.List.Elements.{All-map}
 use Rattle.std.proofs.lemmas.List.Sorted.{length_permutation}
 use Rattle.std.proofs.lemmas.Map.Keys.{IsDistinct-cons, IsDistinct-from_apart}
 use Rattle.std.proofs.lemmas.Option.{get_or_from_slice_get, same_Some, slice_get-map, slice_get_past, slice_get_within}
+use Rattle.atomic_table.specs.Seated.{TableId}
 use Rattle.vll_proc.specs.declared.call.Call.{Call}
 use Rattle.vll_proc.specs.Serial.{Made}
 use Rattle.vll_check.specs.Calls.{Fits}
-use Rattle.vll_check.specs.Catalog.{Catalog}
+use Rattle.vll_core.specs.declared.line.Line.{Line}
 use Rattle.vll_core.proofs.MachineState.{all_from}
 use Rattle.vll_core.proofs.Places.{all_at}
-use Rattle.vll_queue.specs.declared.closed.Closed.{Closed}
-use Rattle.vll_queue.specs.Closed.{calls_in}
-use Rattle.vll_queue.specs.Opened.{sessions_of}
-use Rattle.vll_queue.specs.Shown.{SessionShown}
+use Rattle.vll_counters.specs.Shown.{AreNewSessions, SessionShown}
+use Rattle.vll_counters.specs.Steps.{new_session}
+use Rattle.vll_counters.specs.Views.{calls_by, calls_in}
+use Rattle.vll_engine.specs.Sessions.{HasItsCalls}
+use Rattle.vll_engine.specs.Shown.{Named, library_of}
 use Rattle.vll_workers.specs.Shown.{TokenShown, token}
-use Rattle.vll_workers.specs.Tokens.{AreBack, AreFit, IsOf, clients_of}
-use Rattle.vll_server.specs.declared.fault.ServeFault.{ServeFault}
-use Rattle.vll_server.specs.Kept.{lists_of}
+use Rattle.vll_workers.specs.Tokens.{AreBack, AreFit, IsFit, IsOf, IsThrough, calls_between, clients_of}
+use Rattle.vll_server.specs.Setup.{lists_of}
 use Rattle.vll_server.specs.Merge.{IsMerge}
-use Rattle.vll_server.specs.Serve.{scripts_of, tokens_from}
+use Rattle.vll_server.specs.Private.Serving.{sessions_in, tokens_from}
+
+-- a client's session that has seen nothing, and its token, of which no call has entered
+abbrev pub session_at : TableId → ℕ → SessionShown
+session_at table client = record { table = table; session = new_session client }
+
+abbrev pub token_at : TableId → ℕ → List Call → TokenShown
+token_at table client script = token client script 0 (session_at table client)
 
 -- one more script at the end
-pub tokens_from-append : (client : ℕ) (scripts : List (List Call)) (script : List Call) → tokens_from client (scripts ++ script ∷ []) ≡ tokens_from client scripts ++ token (client + length scripts) script 0 ∷ []
-tokens_from-append client [] script = let same : client ≡ client + 0 = omega arith in ap (λ n. token n script 0 ∷ []) same
-tokens_from-append client (s ∷ scripts) script =
+pub tokens_from-append : (table : TableId) (client : ℕ) (scripts : List (List Call)) (script : List Call)
+    → tokens_from table client (scripts ++ script ∷ []) ≡ tokens_from table client scripts ++ token_at table (client + length scripts) script ∷ []
+tokens_from-append table client [] script = let same : client ≡ client + 0 = omega arith in ap (λ n. token_at table n script ∷ []) same
+tokens_from-append table client (s ∷ scripts) script =
     let same : suc client + length scripts ≡ client + length (s ∷ scripts) = omega arith in
-    ap (λ ts. token client s 0 ∷ ts) (tokens_from-append (suc client) scripts script ∙ ap (λ n. tokens_from (suc client) scripts ++ token n script 0 ∷ []) same)
+    ap (λ ts. token_at table client s ∷ ts) (tokens_from-append table (suc client) scripts script ∙ ap (λ n. tokens_from table (suc client) scripts ++ token_at table n script ∷ []) same)
 
 -- the last script's token is made
-pub tokens-next : (scripts new : List (Vec Call)) (script : Vec Call) (client : ℕ) (made : List TokenShown) (whole : List TokenShown) → scripts ≡ new ++ script ∷ [] → client ≡ length new
-    → tokens_from 0 (lists_of scripts) ++ reverse made ≡ whole → tokens_from 0 (lists_of new) ++ reverse (made ++ token client script.items 0 ∷ []) ≡ whole
-tokens-next scripts new script client made whole popped last so_far =
-    let behind : reverse (made ++ token client script.items 0 ∷ []) ≡ token client script.items 0 ∷ reverse made = reverse-append made (token client script.items 0 ∷ []) in
+pub tokens-next : (table : TableId) (scripts new : List (Vec Call)) (script : Vec Call) (client : ℕ) (made : List TokenShown) (whole : List TokenShown) → scripts ≡ new ++ script ∷ [] → client ≡ length new
+    → tokens_from table 0 (lists_of scripts) ++ reverse made ≡ whole → tokens_from table 0 (lists_of new) ++ reverse (made ++ token_at table client script.items ∷ []) ≡ whole
+tokens-next table scripts new script client made whole popped last so_far =
+    let behind : reverse (made ++ token_at table client script.items ∷ []) ≡ token_at table client script.items ∷ reverse made = reverse-append made (token_at table client script.items ∷ []) in
     let count : client ≡ 0 + length (lists_of new) = last ∙ sym (length-map new (λ (v : Vec Call). v.items)) ∙ sym (zero-add (length (lists_of new))) in
-    let split : tokens_from 0 (lists_of scripts) ≡ tokens_from 0 (lists_of new) ++ token client script.items 0 ∷ [] =
-    ap (λ (vs : List (Vec Call)). tokens_from 0 (lists_of vs)) popped ∙ ap (tokens_from 0) (map-append (λ (v : Vec Call). v.items) new (script ∷ []))
-    ∙ tokens_from-append 0 (lists_of new) script.items
-    ∙ ap (λ n. tokens_from 0 (lists_of new) ++ token n script.items 0 ∷ []) (sym count) in
-    ap (λ ts. tokens_from 0 (lists_of new) ++ ts) behind ∙ sym (append_assoc (tokens_from 0 (lists_of new)) (token client script.items 0 ∷ []) (reverse made)) ∙ ap (λ ts. ts ++ reverse made) (sym split) ∙ so_far
+    let split : tokens_from table 0 (lists_of scripts) ≡ tokens_from table 0 (lists_of new) ++ token_at table client script.items ∷ [] =
+    ap (λ (vs : List (Vec Call)). tokens_from table 0 (lists_of vs)) popped ∙ ap (tokens_from table 0) (map-append (λ (v : Vec Call). v.items) new (script ∷ []))
+    ∙ tokens_from-append table 0 (lists_of new) script.items
+    ∙ ap (λ n. tokens_from table 0 (lists_of new) ++ token_at table n script.items ∷ []) (sym count) in
+    ap (λ ts. tokens_from table 0 (lists_of new) ++ ts) behind ∙ sym (append_assoc (tokens_from table 0 (lists_of new)) (token_at table client script.items ∷ []) (reverse made)) ∙ ap (λ ts. ts ++ reverse made) (sym split) ∙ so_far
 
--- the last session is the last client's
-pub last_session : (sessions new : List SessionShown) (session : SessionShown) (count client : ℕ) → sessions ≡ sessions_of count → sessions ≡ new ++ session ∷ [] → count ≡ suc client → (session.client ≡ client) × (new ≡ sessions_of client)
-last_session sessions new session count client all popped last =
-    let both : new ++ session ∷ [] ≡ sessions_of client ++ record { client = client } ∷ [] = sym popped ∙ all ∙ ap sessions_of last in
-    let same = append-last new (sessions_of client) session (record { client = client }) both in
-    (ap (λ (s : SessionShown). s.client) same.1, same.0)
+-- ---- new sessions, from the last one on
+
+at_end : {A : Type 0} (xs : List A) (x : A) → slice_get (xs ++ x ∷ []) (length xs) ≡ Some x
+at_end [] x = refl
+at_end (y ∷ xs) x = at_end xs x
+
+before_end : {A : Type 0} (xs : List A) (x : A) (i : ℕ) → i < length xs → slice_get (xs ++ x ∷ []) i ≡ slice_get xs i
+before_end [] x i within = absurd (omega (arith, within))
+before_end (y ∷ xs) x zero within = refl
+before_end (y ∷ xs) x (suc i) within = before_end xs x i (omega (arith, within))
+
+length-last : {A : Type 0} (xs : List A) (x : A) → length (xs ++ x ∷ []) ≡ suc (length xs)
+length-last [] x = refl
+length-last (y ∷ xs) x = ap suc (length-last xs x)
+
+-- the last session is the last client's, and those before it are new too
+pub record IsLast (table : TableId) (client : ℕ) (session : SessionShown) (new : List SessionShown) : Type 0 where
+  pub own : session ≡ session_at table client
+  pub rest : AreNewSessions table client new
+
+pub last_session : (table : TableId) (sessions new : List SessionShown) (session : SessionShown) (count client : ℕ) → AreNewSessions table count sessions → sessions ≡ new ++ session ∷ [] → count ≡ suc client
+    → IsLast table client session new
+last_session table sessions new session count client all popped last = record {
+  own = same_Some session (session_at table client) (sym here ∙ all.1 client (omega (arith, last)));
+  rest = (long, λ c below. sym (there c below) ∙ all.1 c (omega (arith, below, last)));
+}
   where
-    append-last : {A : Type 0} (xs ys : List A) (x y : A) → xs ++ x ∷ [] ≡ ys ++ y ∷ [] → (xs ≡ ys) × (x ≡ y)
-    append-last [] [] x y e = let same : x ≡ y = cc in (refl, same)
-    append-last [] (b ∷ []) x y e = absurd (cc)
-    append-last [] (b ∷ c ∷ ys) x y e = absurd (cc)
-    append-last (a ∷ []) [] x y e = absurd (cc)
-    append-last (a ∷ b ∷ xs) [] x y e = absurd (cc)
-    append-last (a ∷ xs) (b ∷ ys) x y e =
-        let first : a ≡ b = cc in
-        let rest : xs ++ x ∷ [] ≡ ys ++ y ∷ [] = cc in
-        let more = append-last xs ys x y rest in
-        (ap₂ (λ z zs. z ∷ zs) first more.0, more.1)
+    long : length new ≡ client
+    long = let both : suc (length new) ≡ suc client = sym (length-last new session) ∙ ap length (sym popped) ∙ all.0 ∙ last in omega (arith, both)
 
--- ---- the tokens that come back
+    here : slice_get sessions client ≡ Some session
+    here = ap (λ (xs : List SessionShown). slice_get xs client) popped ∙ ap (slice_get (new ++ session ∷ [])) (sym long) ∙ at_end new session
 
-tokens_at : (client : ℕ) (scripts : List (List Call)) (i : ℕ) (t : TokenShown) → slice_get (tokens_from client scripts) i ≡ Some t → (t.client ≡ client + i) × (slice_get scripts i ≡ Some t.script)
-tokens_at client [] i t is = absurd (none_there i t is)
+    there : (c : ℕ) → c < client → slice_get sessions c ≡ slice_get new c
+    there c below = ap (λ (xs : List SessionShown). slice_get xs c) popped ∙ before_end new session c (omega (arith, below, long))
+
+-- ---- the tokens that are handed in
+
+-- a token of a list is that of its place
+record IsNew (table : TableId) (client : ℕ) (scripts : List (List Call)) (i : ℕ) (t : TokenShown) : Type 0 where
+  is : t ≡ token_at table (client + i) t.script
+  script : slice_get scripts i ≡ Some t.script
+
+tokens_at : (table : TableId) (client : ℕ) (scripts : List (List Call)) (i : ℕ) (t : TokenShown) → slice_get (tokens_from table client scripts) i ≡ Some t → IsNew table client scripts i t
+tokens_at table client [] i t at = absurd (none_there i t at)
   where
     none_there : (n : ℕ) (u : TokenShown) → slice_get [] n ≡ Some u → ⊥
     none_there zero u e = cc
     none_there (suc n) u e = cc
-tokens_at client (script ∷ scripts) zero t is =
-    let same : t ≡ token client script 0 = same_Some t (token client script 0) (sym is) in
+tokens_at table client (script ∷ scripts) zero t at =
+    let same : t ≡ token_at table client script = same_Some t (token_at table client script) (sym at) in
+    let own : t.script ≡ script = ap (λ (u : TokenShown). u.script) same in
     let here : client ≡ client + 0 = omega arith in
-    (ap (λ (u : TokenShown). u.client) same ∙ here, ap (λ (u : TokenShown). Some u.script) (sym same))
-tokens_at client (script ∷ scripts) (suc i) t is =
-    let rest = tokens_at (suc client) scripts i t is in
+    record { is = same ∙ ap₂ (token_at table) here (sym own); script = ap Some (sym own) }
+tokens_at table client (script ∷ scripts) (suc i) t at =
+    let rest = tokens_at table (suc client) scripts i t at in
     let here : suc client + i ≡ client + suc i = omega arith in
-    (rest.0 ∙ here, rest.1)
+    record { is = rest.is ∙ ap (λ n. token_at table n t.script) here; script = rest.script }
 
-length-tokens : (client : ℕ) (scripts : List (List Call)) → length (tokens_from client scripts) ≡ length scripts
-length-tokens client [] = refl
-length-tokens client (script ∷ scripts) = ap suc (length-tokens (suc client) scripts)
+length-tokens : (table : TableId) (client : ℕ) (scripts : List (List Call)) → length (tokens_from table client scripts) ≡ length scripts
+length-tokens table client [] = refl
+length-tokens table client (script ∷ scripts) = ap suc (length-tokens table (suc client) scripts)
+
+-- the library fits the calls of the scripts' tokens
+pub are_fit : (e : Named) (scripts : List (Vec Call)) → All (λ (script : Vec Call). All (Fits (library_of e)) script.items) scripts → AreFit e (tokens_from e.table 0 (lists_of scripts))
+are_fit e scripts fits = all_from (IsFit e) (tokens_from e.table 0 (lists_of scripts)) each
+  where
+    listed : All (All (Fits (library_of e))) (lists_of scripts)
+    listed = All-map (All (Fits (library_of e))) (λ (v : Vec Call). v.items) scripts fits
+
+    each : (i : ℕ) (t : TokenShown) → slice_get (tokens_from e.table 0 (lists_of scripts)) i ≡ Some t → IsFit e t
+    each i t at =
+        let new = tokens_at e.table 0 (lists_of scripts) i t at in
+        record { session = ap (λ (u : TokenShown). u.session.table) new.is; fits = all_at (All (Fits (library_of e))) (lists_of scripts) i t.script listed new.script }
+
+-- a client before the first is none of the scripts' tokens
+apart : (table : TableId) (n client : ℕ) (scripts : List (List Call)) → n < client → AllByRecursion (λ m. nat_eq n m ≡ false) (clients_of (tokens_from table client scripts))
+apart table n client [] before = tt
+apart table n client (script ∷ scripts) before = (grind (arith, nat_tests), apart table n (suc client) scripts (omega (arith, before)))
+
+-- the scripts' tokens are of distinct clients
+pub are_distinct : (table : TableId) (client : ℕ) (scripts : List (List Call)) → IsDistinct nat_eq (clients_of (tokens_from table client scripts))
+are_distinct table client [] = IsDistinct-from_apart nat_eq [] (λ i j d before within. let nothing : j < 0 = within in absurd (omega (arith, nothing)))
+are_distinct table client (script ∷ scripts) =
+    let first : client < suc client = omega arith in
+    IsDistinct-cons nat_eq client (clients_of (tokens_from table (suc client) scripts)) (apart table client (suc client) scripts first) (are_distinct table (suc client) scripts)
+
+-- ---- the tokens that come back
 
 -- numbers that rise are no smaller than their places
 rises : (xs : List ℕ) → IsStrictlyIncreasing xs → (i : ℕ) → i < length xs → i ≤ slice_index xs i
@@ -116,82 +178,114 @@ slice_get_none [] i is = omega arith
 slice_get_none (x ∷ xs) zero is = absurd (cc)
 slice_get_none (x ∷ xs) (suc i) is = let rest = slice_get_none xs i is in omega (arith, rest)
 
-same_lists : {A : Type 0} (xs ys : List A) → ((i : ℕ) → slice_get xs i ≡ slice_get ys i) → xs ≡ ys
-same_lists [] [] each = refl
-same_lists [] (y ∷ ys) each = let first = each 0 in absurd (cc first)
-same_lists (x ∷ xs) [] each = let first = each 0 in absurd (cc first)
-same_lists (x ∷ xs) (y ∷ ys) each = ap₂ (λ z zs. z ∷ zs) (same_Some x y (each 0)) (same_lists xs ys (λ i. each (suc i)))
+-- as many come back as were handed in
+pub count_back : (table : TableId) (scripts : List (List Call)) (back : List TokenShown) → AreBack (tokens_from table 0 scripts) back → length back ≡ length scripts
+count_back table scripts back h =
+    sym (length-map back (λ (t : TokenShown). t.client)) ∙ length_permutation (clients_of (tokens_from table 0 scripts)) (clients_of back) h.same
+    ∙ length-map (tokens_from table 0 scripts) (λ (t : TokenShown). t.client) ∙ length-tokens table 0 scripts
 
--- what came back has the scripts, in the clients' order
-pub scripts_back : (scripts : List (List Call)) (back : List TokenShown) → AreBack (tokens_from 0 scripts) back → scripts_of back ≡ scripts
-scripts_back scripts back h = same_lists (scripts_of back) scripts each
+-- a client's token that came back with every call entered: its session has seen just its script of the client's calls
+record IsHome (table : TableId) (scripts : List (List Call)) (t : TokenShown) : Type 0 where
+  table_is : t.session.table ≡ table
+  whose : t.session.session.client ≡ t.client
+  script : slice_get scripts t.client ≡ Some t.script
+  own : calls_by t.client t.session.session.seen ≡ t.script
+
+is_home : (table : TableId) (scripts : List (List Call)) (t : TokenShown) → IsOf (tokens_from table 0 scripts) t → IsThrough t → IsHome table scripts t
+is_home table scripts t of through = record {
+  table_is = of.table ∙ ap (λ (u : TokenShown). u.session.table) new.is;
+  whose = of.whose ∙ ap (λ (u : TokenShown). u.session.session.client) new.is ∙ sym client;
+  script = subst (λ n. slice_get scripts n ≡ Some t.script) (sym place) (new.script ∙ ap Some (sym of.script));
+  own = ap (λ n. calls_by n t.session.session.seen) whose_old ∙ of.gained.own ∙ ap₂ (λ xs ys. xs ++ ys) none whole ∙ sym of.script;
+}
+  where
+    new : IsNew table 0 scripts of.index of.old
+    new = tokens_at table 0 scripts of.index of.old of.at
+
+    client : t.client ≡ 0 + of.index
+    client = of.client ∙ ap (λ (u : TokenShown). u.client) new.is
+
+    place : t.client ≡ of.index
+    place = client ∙ zero-add of.index
+
+    whose_old : t.client ≡ of.old.session.session.client
+    whose_old = client ∙ sym (ap (λ (u : TokenShown). u.session.session.client) new.is)
+
+    -- the session had seen nothing
+    none : calls_by of.old.session.session.client of.old.session.session.seen ≡ []
+    none = ap (λ (u : TokenShown). calls_by of.old.session.session.client u.session.session.seen) new.is
+
+    -- and the calls that it has gained are the whole script
+    whole : calls_between of.old.next t.next of.old.script ≡ of.old.script
+    whole =
+        ap (λ (u : TokenShown). calls_between u.next t.next of.old.script) new.is
+        ∙ ap (λ n. take n of.old.script) (sub-zero t.next ∙ through ∙ ap (λ (cs : List Call). length cs) of.script)
+        ∙ take-length of.old.script
+
+-- each client's token is at its place
+record AreHome (table : TableId) (scripts : List (List Call)) (back : List TokenShown) : Type 0 where
+  count : length back ≡ length scripts
+  each : (i : ℕ) (t : TokenShown) → slice_get back i ≡ Some t → IsHome table scripts t
+  place : (i : ℕ) (t : TokenShown) → slice_get back i ≡ Some t → t.client ≡ i
+
+are_home : (table : TableId) (scripts : List (List Call)) (back : List TokenShown) → AreBack (tokens_from table 0 scripts) back → All IsThrough back → AreHome table scripts back
+are_home table scripts back h through = record { count = count; each = home; place = own_place }
   where
     count : length back ≡ length scripts
-    count = sym (length-map back (λ (t : TokenShown). t.client)) ∙ length_permutation (clients_of (tokens_from 0 scripts)) (clients_of back) h.same ∙ length-map (tokens_from 0 scripts) (λ (t : TokenShown). t.client) ∙ length-tokens 0 scripts
+    count = count_back table scripts back h
 
-    own : (i : ℕ) (t : TokenShown) → slice_get back i ≡ Some t → slice_get scripts t.client ≡ Some t.script
-    own i t is =
-        let mine = all_at (IsOf (tokens_from 0 scripts)) back i t h.own is in
-        let old = tokens_at 0 scripts mine.index mine.old mine.at in
-        let place : mine.index ≡ t.client = sym (zero-add mine.index) ∙ sym old.0 ∙ sym mine.client in
-        subst (λ n. slice_get scripts n ≡ Some t.script) place (old.1 ∙ ap Some (sym mine.script))
+    home : (i : ℕ) (t : TokenShown) → slice_get back i ≡ Some t → IsHome table scripts t
+    home i t at = is_home table scripts t (all_at (IsOf (tokens_from table 0 scripts)) back i t h.own at) (all_at IsThrough back i t through at)
 
     client_at : (i : ℕ) (t : TokenShown) → slice_get back i ≡ Some t → slice_index (clients_of back) i ≡ t.client
-    client_at i t is = get_or_from_slice_get (clients_of back) i t.client 0 (slice_get-map (λ (u : TokenShown). u.client) back i ∙ ap (option_map (λ (u : TokenShown). u.client)) is)
+    client_at i t at = get_or_from_slice_get (clients_of back) i t.client 0 (slice_get-map (λ (u : TokenShown). u.client) back i ∙ ap (option_map (λ (u : TokenShown). u.client)) at)
+
+    all : length (clients_of back) ≡ length scripts
+    all = length-map back (λ (t : TokenShown). t.client) ∙ count
 
     below : (i : ℕ) → i < length (clients_of back) → slice_index (clients_of back) i < length (clients_of back)
     below i within = there (slice_get back i) refl
       where
-        all : length (clients_of back) ≡ length scripts
-        all = length-map back (λ (t : TokenShown). t.client) ∙ count
-
         there : (o : Option TokenShown) → slice_get back i ≡ o → slice_index (clients_of back) i < length (clients_of back)
-        there None none = absurd (let past = slice_get_none back i none in omega (arith, past, length-map back (λ (t : TokenShown). t.client)))
-        there (Some t) is = let mine = slice_get_within scripts t.client t.script (own i t is) in omega (arith, mine, client_at i t is, all)
+        there None none = absurd (let past = slice_get_none back i none in omega (arith, past, within, length-map back (λ (t : TokenShown). t.client)))
+        there (Some t) at = let mine = slice_get_within scripts t.client t.script (home i t at).script in omega (arith, mine, client_at i t at, all)
 
-    each : (i : ℕ) → slice_get (scripts_of back) i ≡ slice_get scripts i
-    each i = by_token (slice_get back i) refl
-      where
-        by_token : (o : Option TokenShown) → slice_get back i ≡ o → slice_get (scripts_of back) i ≡ slice_get scripts i
-        by_token None none =
-            let past = slice_get_none back i none in
-            slice_get-map (λ (u : TokenShown). u.script) back i ∙ ap (option_map (λ (u : TokenShown). u.script)) none ∙ sym (slice_get_past scripts i (omega (arith, past, count)))
-        by_token (Some t) is =
-            let within : i < length (clients_of back) = omega (arith, slice_get_within back i t is, length-map back (λ (u : TokenShown). u.client)) in
-            let place : t.client ≡ i = sym (client_at i t is) ∙ are_places (clients_of back) h.rising below i within in
-            slice_get-map (λ (u : TokenShown). u.script) back i ∙ ap (option_map (λ (u : TokenShown). u.script)) is ∙ sym (own i t is) ∙ ap (slice_get scripts) place
+    own_place : (i : ℕ) (t : TokenShown) → slice_get back i ≡ Some t → t.client ≡ i
+    own_place i t at =
+        let within : i < length (clients_of back) = omega (arith, slice_get_within back i t at, length-map back (λ (u : TokenShown). u.client)) in
+        sym (client_at i t at) ∙ are_places (clients_of back) h.rising below i within
 
--- the library fits the calls of the scripts' tokens
-pub are_fit : (library : Catalog) (clients : ℕ) (scripts : List (Vec Call)) → clients ≡ length scripts → All (λ (script : Vec Call). All (Fits library) script.items) scripts → AreFit library clients (tokens_from 0 (lists_of scripts))
-are_fit library clients scripts count fits = all_from (λ (t : TokenShown). (t.client < clients) × All (Fits library) t.script) (tokens_from 0 (lists_of scripts)) each
+-- the sessions that are handed to the engine are its own
+pub are_own : (table : TableId) (scripts : List (List Call)) (back : List TokenShown) → AreBack (tokens_from table 0 scripts) back → All IsThrough back → All (λ (s : SessionShown). s.table ≡ table) (sessions_in back)
+are_own table scripts back h through =
+    All-map (λ (s : SessionShown). s.table ≡ table) (λ (t : TokenShown). t.session) back (all_from (λ (t : TokenShown). t.session.table ≡ table) back (λ i t at. ((are_home table scripts back h through).each i t at).table_is))
+
+-- where each call is of a client below a number, one from there on has no calls
+pub no_calls : (clients c : ℕ) (lines : List Line) → clients ≤ c → All (λ (l : Line). l.client < clients) lines → calls_by c (calls_in lines) ≡ []
+no_calls clients c [] past all = refl
+no_calls clients c (l ∷ lines) past all =
+    let first : l.client < clients = all 0 l (omega arith) in
+    let other : l.client ≡ c → ⊥ = λ e. omega (arith, first, e, past) in
+    ap (λ (ms : List Made). map (λ (m : Made). m.1) ms) (cond-false (l.client == c) _ _ (ne_eqb l.client c other))
+    ∙ no_calls clients c lines past (λ i d within. all (suc i) d (omega (arith, within)))
+
+-- the journal's calls are the scripts', each client's in its own order
+pub merged : (table : TableId) (scripts : List (List Call)) (back : List TokenShown) (lines : List Line) → AreBack (tokens_from table 0 scripts) back → All IsThrough back
+    → All (λ (l : Line). l.client < length scripts) lines → All (λ (s : SessionShown). HasItsCalls (calls_in lines) s.session) (sessions_in back) → IsMerge (calls_in lines) scripts
+merged table scripts back lines h through clients seen c = by_token (slice_get back c) refl
   where
-    listed : All (All (Fits library)) (lists_of scripts)
-    listed = All-map (All (Fits library)) (λ (v : Vec Call). v.items) scripts fits
+    homes : AreHome table scripts back
+    homes = are_home table scripts back h through
 
-    each : (i : ℕ) (t : TokenShown) → slice_get (tokens_from 0 (lists_of scripts)) i ≡ Some t → (t.client < clients) × All (Fits library) t.script
-    each i t is =
-        let at = tokens_at 0 (lists_of scripts) i t is in
-        let within = slice_get_within (lists_of scripts) i t.script at.1 in
-        (omega (arith, within, at.0, length-map scripts (λ (v : Vec Call). v.items)), all_at (All (Fits library)) (lists_of scripts) i t.script listed at.1)
-
--- a client before the first is none of the scripts' tokens
-apart : (n client : ℕ) (scripts : List (List Call)) → n < client → AllByRecursion (λ m. nat_eq n m ≡ false) (clients_of (tokens_from client scripts))
-apart n client [] before = tt
-apart n client (script ∷ scripts) before = (grind (arith, nat_tests), apart n (suc client) scripts (omega (arith, before)))
-
--- the scripts' tokens are of distinct clients
-pub are_distinct : (client : ℕ) (scripts : List (List Call)) → IsDistinct nat_eq (clients_of (tokens_from client scripts))
-are_distinct client [] = IsDistinct-from_apart nat_eq [] (λ i j d before within. let nothing : j < 0 = within in absurd (omega (arith, nothing)))
-are_distinct client (script ∷ scripts) =
-    let first : client < suc client = omega arith in
-    IsDistinct-cons nat_eq client (clients_of (tokens_from (suc client) scripts)) (apart client (suc client) scripts first) (are_distinct (suc client) scripts)
-
--- a merge of the scripts that came back is one of those that were handed in
-pub merge_back : (scripts : List (List Call)) (handed back : List TokenShown) (calls : List Made) → handed ≡ tokens_from 0 scripts → AreBack handed back → IsMerge calls (scripts_of back) → IsMerge calls scripts
-merge_back scripts handed back calls is h merge = subst (IsMerge calls) (scripts_back scripts back (subst (λ (ts : List TokenShown). AreBack ts back) is h)) merge
-
--- the same of what was left, where anything was
-pub left_back : (scripts : List (List Call)) (handed back : List TokenShown) (r : Result Closed ServeFault) → handed ≡ tokens_from 0 scripts → AreBack handed back → IfOk r (λ (left : Closed). IsMerge (calls_in left.journal.items) (scripts_of back))
-    → IfOk r (λ (left : Closed). IsMerge (calls_in left.journal.items) scripts)
-left_back scripts handed back (Ok left) is h merge = merge_back scripts handed back (calls_in left.journal.items) is h merge
-left_back scripts handed back (Err why) is h merge = tt
+    by_token : (o : Option TokenShown) → slice_get back c ≡ o → calls_by c (calls_in lines) ≡ unwrap_or (slice_get scripts c) []
+    by_token None none =
+        let past = slice_get_none back c none in
+        let beyond : length scripts ≤ c = omega (arith, past, homes.count) in
+        no_calls (length scripts) c lines beyond clients ∙ ap (λ (o : Option (List Call)). unwrap_or o []) (sym (slice_get_past scripts c beyond))
+    by_token (Some t) at =
+        let home = homes.each c t at in
+        let place = homes.place c t at in
+        let here : slice_get (sessions_in back) c ≡ Some t.session = slice_get-map (λ (u : TokenShown). u.session) back c ∙ ap (option_map (λ (u : TokenShown). u.session)) at in
+        let its = all_at (λ (s : SessionShown). HasItsCalls (calls_in lines) s.session) (sessions_in back) c t.session seen here in
+        let entered : calls_by t.client (calls_in lines) ≡ t.script = ap (λ n. calls_by n (calls_in lines)) (sym home.whose) ∙ sym its.own ∙ ap (λ n. calls_by n t.session.session.seen) home.whose ∙ home.own in
+        subst (λ n. calls_by n (calls_in lines) ≡ unwrap_or (slice_get scripts n) []) place (entered ∙ ap (λ (o : Option (List Call)). unwrap_or o []) (sym home.script))

@@ -11,7 +11,6 @@ pub mod Checking
 pub mod Sizes
 pub mod Answering
 pub mod Served
-pub mod Orders
 pub mod Handed
 pub mod Rows
 pub mod ReplayRows

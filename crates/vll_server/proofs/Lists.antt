@@ -1,5 +1,5 @@
 -- The readings of a list, item by item.
-use Rattle.std.proofs.Common.{◌≡◌, ℕ, ◌+◌, List, [], ◌∷◌, ◌++◌, length, Option, Some, None, Result, Ok, Err, refl, sym, ap, append_assoc, arith, length-append, zero, suc, take, ◌∙◌, add-one, slice_get}
+use Rattle.std.proofs.Common.{◌≡◌, ℕ, ◌+◌, List, [], ◌∷◌, ◌++◌, length, Option, Some, None, Result, Ok, Err, refl, sym, ap, append_assoc, arith, length-append}
 use Rattle.serde_json.specs.Data.{Data}
 use Rattle.serde_json.specs.View.{items_of}
 use Rattle.vll_server.specs.Tree.{in_front, each}
@@ -23,21 +23,3 @@ behind-each f xs a d ds is = rw is (sym (behind-push xs a (each f (items_of ds))
 
 pub behind-fault : {A : Type 0} (f : Data → Option A) (xs : List A) (d : Data) (ds : List Data) → f d ≡ None → behind xs (each f (items_of (d ∷ ds))) ≡ Err (length xs)
 behind-fault f xs d ds is = rw is (ap Err (omega arith))
-
--- ---- two lists
-
-same_front : {A : Type 0} (xs ys : List A) (i : ℕ) → take i xs ≡ take i ys → slice_get xs i ≡ slice_get ys i → take (suc i) xs ≡ take (suc i) ys
-same_front [] [] i front next = refl
-same_front [] (y ∷ ys) zero front next = cc
-same_front [] (y ∷ ys) (suc i) front next = cc
-same_front (x ∷ xs) [] zero front next = cc
-same_front (x ∷ xs) [] (suc i) front next = cc
-same_front (x ∷ xs) (y ∷ ys) zero front next = let same : x ≡ y = cc in ap (λ z. z ∷ []) same
-same_front (x ∷ xs) (y ∷ ys) (suc i) front next =
-    let same : x ≡ y = cc in
-    let rest : take i xs ≡ take i ys = cc in
-    ap (λ z. z ∷ take (suc i) xs) same ∙ ap (λ zs. y ∷ zs) (same_front xs ys i rest next)
-
--- two lists that are the same so far, and in the next item
-pub take_same_next : {A : Type 0} (xs ys : List A) (i : ℕ) → take i xs ≡ take i ys → slice_get xs i ≡ slice_get ys i → take (i + 1) xs ≡ take (i + 1) ys
-take_same_next xs ys i front next = ap (λ n. take n xs) (add-one i) ∙ same_front xs ys i front next ∙ ap (λ n. take n ys) (sym (add-one i))

@@ -1,14 +1,17 @@
 -- What an engine leaves, as the text of the serial run of its journal's calls.
-use Rattle.std.proofs.Common.{◌≡◌, ℕ, zero, suc, ◌+◌, List, [], ◌∷◌, map, length, Some, refl, ap, ap₂, ◌∙◌, sym, arith, slice_get, replicate, subst, Result, Ok, Err, IfOk}
+use Rattle.std.proofs.Common.{◌≡◌, ℕ, suc, ◌+◌, List, [], ◌∷◌, map, length, Some, refl, ap, ap₂, ◌∙◌, sym, arith, slice_get, replicate, subst, Result, Ok, Err, IfOk}
 use Rattle.std.specs.List.{enumerate_from, zip}
+use Rattle.std.proofs.Math.Seq.{take-length}
 use Rattle.vll_proc.specs.declared.call.Call.{Call}
 use Rattle.vll_proc.specs.declared.syntax.Proc.{Proc}
 use Rattle.vll_proc.specs.Serial.{Made, answer, end}
 use Rattle.vll_check.specs.Catalog.{Catalog}
 use Rattle.vll_core.specs.declared.line.Line.{Line}
-use Rattle.vll_queue.specs.declared.closed.Closed.{Closed}
-use Rattle.vll_queue.specs.Closed.{IsSerial, calls_in}
-use Rattle.vll_queue.proofs.Ends.{end_length}
+use Rattle.vll_core.proofs.SerialRun.{length_before}
+use Rattle.vll_counters.specs.Views.{calls_in}
+use Rattle.vll_engine.specs.declared.closed.Closed.{Closed}
+use Rattle.vll_engine.specs.Closed.{IsSerial}
+use Rattle.vll_engine.specs.Shown.{Named, library_of}
 use Rattle.vll_server.specs.declared.fault.ServeFault.{ServeFault}
 use Rattle.vll_server.specs.Merge.{IsMerge}
 use Rattle.vll_server.specs.Serve.{Serves}
@@ -29,21 +32,26 @@ zeros : (xs : List ℕ) → map {B = ℕ} (λ (r : ℕ). 0) xs ≡ replicate (le
 zeros [] = refl
 zeros (x ∷ xs) = ap (λ ys. 0 ∷ ys) (zeros xs)
 
+-- running calls one at a time keeps the number of records
+end_length : (procs : List Proc) (calls : List Made) (records : List ℕ) → length (end procs calls records) ≡ length records
+end_length procs calls records = ap (λ (cs : List Made). length (end procs cs records)) (sym (take-length calls)) ∙ length_before procs calls records (length calls)
+
 -- the text of what is left is that of the journal's calls, made one at a time
-pub closed_text-serial : (library : Catalog) (records : List ℕ) (c : Closed) → IsSerial library records c
-    → closed_text c ≡ serial_text library.procs records (calls_in c.journal.items)
-closed_text-serial library records c serial =
+pub closed_text-serial : (e : Named) (c : Closed) → IsSerial e c → closed_text c ≡ serial_text e.base.procs e.base.records (calls_in c.journal.items)
+closed_text-serial e c serial =
+    let procs = e.base.procs in
+    let records = e.base.records in
     let calls = calls_in c.journal.items in
-    let words = lines_tell library.procs calls records 0 c.journal.items (λ t l is. let same : t ≡ 0 + t = omega arith in serial.answered t l is ∙ ap (answer library.procs calls records) same) in
-    let pairs : c.pairs.items ≡ replicate (length (end library.procs calls records)) 0 = serial.none_open ∙ zeros records ∙ ap (λ n. replicate n 0) (sym (end_length library.procs calls records)) in
+    let words = lines_tell procs calls records 0 c.journal.items (λ t l is. let same : t ≡ 0 + t = omega arith in serial.answered t l is ∙ ap (answer procs calls records) same) in
+    let pairs : c.pairs.items ≡ replicate (length (end procs calls records)) 0 = serial.none_open ∙ zeros records ∙ ap (λ n. replicate n 0) (sym (end_length procs calls records)) in
     ap₂ outcome_text words (ap₂ zip serial.at_end pairs)
 
 -- what a run of the scripts left is a served outcome
-pub serves_closed : (s : Setup) (library : Catalog) (records : List ℕ) (scripts : List (List Call)) (r : Result Closed ServeFault) → library ≡ catalog_of s → records ≡ s.records → scripts ≡ s.scripts
-    → IfOk r (IsSerial library records) → IfOk r (λ (c : Closed). IsMerge (calls_in c.journal.items) scripts) → IfOk r (λ (c : Closed). Serves s (λ text. closed_text c ≡ text))
-serves_closed s library records scripts (Ok c) library_is records_is scripts_are serial merge = (
+pub serves_closed : (s : Setup) (e : Named) (scripts : List (List Call)) (r : Result Closed ServeFault) → library_of e ≡ catalog_of s → e.base.records ≡ s.records → scripts ≡ s.scripts
+    → IfOk r (IsSerial e) → IfOk r (λ (c : Closed). IsMerge (calls_in c.journal.items) scripts) → IfOk r (λ (c : Closed). Serves s (λ text. closed_text c ≡ text))
+serves_closed s e scripts (Ok c) library records scripts_are serial merge = (
   calls_in c.journal.items,
   subst (IsMerge (calls_in c.journal.items)) scripts_are merge,
-  closed_text-serial library records c serial ∙ ap₂ (λ (l : Catalog) (rs : List ℕ). serial_text l.procs rs (calls_in c.journal.items)) library_is records_is,
+  closed_text-serial e c serial ∙ ap₂ (λ (ps : List Proc) (rs : List ℕ). serial_text ps rs (calls_in c.journal.items)) (ap (λ (l : Catalog). l.procs) library) records,
 )
-serves_closed s library records scripts (Err why) library_is records_is scripts_are serial merge = tt
+serves_closed s e scripts (Err why) library records scripts_are serial merge = tt

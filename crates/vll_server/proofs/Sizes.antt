@@ -11,7 +11,7 @@ use Rattle.serde_json.specs.Data.{Data, number, array, object, Items, no_items, 
 use Rattle.serde_json.specs.Events.{items_len}
 use Rattle.serde_json.specs.Find.{get, get_member}
 use Rattle.serde_json.specs.Read.{number_of, of_json, of_items, of_members, max_depth, read}
-use Rattle.vll_server.specs.Longest.{longest_list, longest_in_items, longest_in_members}
+use Rattle.vll_server.specs.Private.Longest.{longest_list, longest_in_items, longest_in_members}
 use Rattle.vll_server.specs.Syntax.{member_at}
 use Rattle.vll_server.specs.Tree.{in_front, each, list_at}
 

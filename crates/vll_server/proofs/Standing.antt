@@ -13,7 +13,8 @@ use Rattle.vll_core.specs.declared.line.Line.{Line}
 use Rattle.vll_core.specs.Journal.{journal_of, line_of}
 use Rattle.vll_core.specs.Shown.{AreWords}
 use Rattle.vll_core.specs.State.{Base, Entered, State, counter, reply_at, value}
-use Rattle.vll_server.specs.ReplayText.{call_words, standing_text, status_text}
+use Rattle.vll_server.specs.ReplayText.{call_words, status_text}
+use Rattle.vll_server.specs.Private.ReplayText.{standing_text}
 use Rattle.vll_server.specs.Text.{call_line, record_line}
 
 -- the texts of items from one on, each made of what the item and its number give

@@ -1,11 +1,8 @@
 pub mod Tree
-pub mod Longest
 pub mod Syntax
 pub mod Schedule
 pub mod Shape
 pub mod Setup
-pub mod Kept
-pub mod Bytes
 pub mod Scenario
 pub mod Reading
 pub mod Merge
@@ -13,6 +10,6 @@ pub mod Text
 pub mod ReplayText
 pub mod Replay
 pub mod Serve
-pub mod Order
 pub mod Streams
 pub mod Plain
+pub mod Private

@@ -1,11 +1,8 @@
 -- The entered calls are the scripts' calls, each client's in its own order.
-use Rattle.std.specs.Prelude.{◌≡◌, ℕ, ◌==◌, List, [], map, filter, slice_get, unwrap_or}
+use Rattle.std.specs.Prelude.{◌≡◌, ℕ, List, [], slice_get, unwrap_or}
 use Rattle.vll_proc.specs.declared.call.Call.{Call}
 use Rattle.vll_proc.specs.Serial.{Made}
-
--- the calls of one client, in order of entry
-abbrev pub calls_by : ℕ → List Made → List Call
-calls_by c calls = map (λ (m : Made). m.1) (filter (λ (m : Made). m.0 == c) calls)
+use Rattle.vll_counters.specs.Views.{calls_by}
 
 -- each client's calls are its script, and no other client occurs
 abbrev pub IsMerge : List Made → List (List Call) → Type 0

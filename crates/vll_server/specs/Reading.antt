@@ -1,9 +1,7 @@
 -- What is answered for the bytes that a reader gives.
-use Rattle.std.specs.Prelude.{◌≡◌, ◌<◌, ◌≤◌, ◌⊎◌, ℕ, List, length, Option, IfSome, Result, Ok, Err}
+use Rattle.std.specs.Prelude.{◌≡◌, ◌<◌, ◌≤◌, ◌⊎◌, ℕ, List, length, Option, IfSome, Result, Err}
 use Rattle.std.specs.Io.KnownBytes.{Consumes, IsAtEnd}
 use Rattle.serde_json.specs.Data.{Data}
-use Rattle.serde_json.specs.View.{view}
-use Rattle.serde_json.specs.declared.value.Value.{Value}
 use Rattle.vll_server.specs.declared.fault.ScenarioFault.{ScenarioFault}
 use Rattle.vll_server.specs.declared.fault.ScenarioFault.TheVariants as fault
 use Rattle.vll_server.specs.declared.limits.TheConstants.{MOST_BYTES}
@@ -31,8 +29,3 @@ abbrev pub Tells : {A : Type 0} → (Option Data → Result A ScenarioFault) →
 Tells of known (Err fault.Read) = Unit {0}
 Tells of known (Err fault.NoMemory) = Unit {0}
 Tells of known result = IfSome known (λ bytes. IsAnswerBy of bytes result)
-
--- a tree as what it stands for
-abbrev pub data_of : Result Value ScenarioFault → Result Data ScenarioFault
-data_of (Ok v) = Ok (view v)
-data_of (Err why) = Err why

@@ -1,5 +1,5 @@
 -- The text of a replay: a line for each event of the schedule, and the outcome of what stands at its end.
-use Rattle.std.specs.Prelude.{ℕ, List, ◌∷◌, [], ◌++◌, map, Option, Some, None, Result, Ok, Err, Bool, true, false, codes}
+use Rattle.std.specs.Prelude.{ℕ, List, ◌∷◌, [], ◌++◌, map, Result, Ok, Err, Bool, true, false, codes}
 use Rattle.std.specs.List.{flat_map, enumerate_from}
 use Rattle.std.specs.Fmt.{decimal}
 use Rattle.vll_proc.specs.declared.call.Call.{Call}
@@ -56,12 +56,6 @@ abbrev pub status_text : Status → Reply → Text
 status_text Gone reply = reply_text reply
 status_text Running reply = codes "running"
 status_text Waiting reply = codes "waiting"
-
--- the same, told of its line and its status
-abbrev pub standing_text : Option Reply → Option Status → Text
-standing_text (Some reply) status = reply_text reply
-standing_text None (Some Waiting) = codes "waiting"
-standing_text None other = codes "running"
 
 -- an entered call's client, and what stands for the call
 abbrev pub call_words : Base → State → ℕ × Entered → ℕ × Text

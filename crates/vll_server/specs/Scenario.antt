@@ -10,16 +10,16 @@ use Rattle.vll_check.specs.Calls.{call_made}
 use Rattle.vll_check.specs.Catalog.{Catalog}
 use Rattle.vll_check.specs.Faults.{check_fault}
 use Rattle.vll_check.specs.Names.{has_name_twice}
-use Rattle.vll_server.specs.declared.asked.Asked.{Asked}
+use Rattle.vll_server.specs.declared.reading.asked.Asked.{Asked}
 use Rattle.vll_server.specs.declared.fault.ScenarioFault.{ScenarioFault}
 use Rattle.vll_server.specs.declared.fault.ScenarioFault.TheVariants as fault
 use Rattle.vll_core.specs.declared.config.Config.{Config}
 use Rattle.vll_core.specs.Faults.{open_fault}
 use Rattle.vll_core.specs.Machine.{refuse_if}
 use Rattle.vll_sca.specs.declared.place.Placing.TheVariants.{Modulo}
-use Rattle.vll_server.specs.declared.setup.TheConstants.{BITS, CAP}
+use Rattle.vll_server.specs.declared.reading.setup.TheConstants.{BITS, CAP}
 use Rattle.vll_server.specs.Setup.{Setup, has_sizes}
-use Rattle.vll_server.specs.declared.shape.Parts.{Parts}
+use Rattle.vll_server.specs.declared.reading.shape.Parts.{Parts}
 use Rattle.vll_server.specs.Shape.{◌>>=◌, shape_of}
 
 abbrev pub or_else : {A : Type 0} → Option A → Option A → Option A

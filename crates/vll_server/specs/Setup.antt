@@ -1,5 +1,6 @@
 -- What a scenario is: its records, its procedures, each client's calls, what is chosen for the machine, and its schedule.
-use Rattle.std.specs.Prelude.{◌≡◌, ℕ, ◌≤◌, Bool, ◌&&◌, nat_le, List, length, sum_by, All, None}
+use Rattle.std.specs.Prelude.{◌≡◌, ℕ, ◌≤◌, Bool, ◌&&◌, nat_le, List, length, map, sum_by, All, None}
+use Rattle.std.specs.Global.{Vec}
 use Rattle.vll_proc.specs.declared.call.Call.{Call}
 use Rattle.vll_proc.specs.declared.syntax.Proc.{Proc}
 use Rattle.vll_check.specs.Calls.{Fits}
@@ -18,6 +19,10 @@ pub record Setup : Type 0 where
   pub config : Config
   pub placing : Placing
   pub schedule : List Event
+
+-- scripts as lists of calls
+abbrev pub lists_of : List (Vec Call) → List (List Call)
+lists_of scripts = map (λ (v : Vec Call). v.items) scripts
 
 -- how many procedures, clients, calls and events a scenario may have
 abbrev pub has_sizes : {C : Type 0} → List Proc → List (List C) → List Event → Bool

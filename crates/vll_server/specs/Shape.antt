@@ -1,15 +1,15 @@
 -- The parts of a scenario as its JSON tree gives them, or the first fault of their shape.
-use Rattle.std.specs.Prelude.{◌≡◌, ℕ, ◌==◌, List, [], ◌∷◌, Option, Some, None, option_map, option_and_then, Result, Ok, Err, if◌then◌else◌, codes}
+use Rattle.std.specs.Prelude.{ℕ, ◌==◌, List, [], ◌∷◌, Option, Some, None, option_map, option_and_then, Result, Ok, Err, if◌then◌else◌, codes}
 use Rattle.serde_json.specs.Data.{Data}
 use Rattle.serde_json.specs.Find.{as_str, get}
 use Rattle.vll_sca.specs.declared.place.Placing.{Placing}
 use Rattle.vll_sca.specs.declared.place.Placing.TheVariants.{Modulo, Spread}
-use Rattle.vll_server.specs.declared.asked.Asked.{Asked}
+use Rattle.vll_server.specs.declared.reading.asked.Asked.{Asked}
 use Rattle.vll_server.specs.declared.fault.Part.{Part}
 use Rattle.vll_server.specs.declared.fault.Part.TheVariants.{Top, Version, Records, Procs, Clients, Cap, Bits, Limit, Hash, Schedule}
 use Rattle.vll_server.specs.declared.fault.ScenarioFault.{ScenarioFault}
-use Rattle.vll_server.specs.declared.fault.ScenarioFault.TheVariants.{NoMemory, Shape}
-use Rattle.vll_server.specs.declared.shape.Parts.{Parts}
+use Rattle.vll_server.specs.declared.fault.ScenarioFault.TheVariants.{Shape}
+use Rattle.vll_server.specs.declared.reading.shape.Parts.{Parts}
 use Rattle.vll_server.specs.Schedule.{event_at}
 use Rattle.vll_server.specs.Tree.{number_at, u32_at, list_at, whole}
 use Rattle.vll_server.specs.Syntax.{Table, both_of, find_word, has_exactly, has_members, member_at, proc_at}
@@ -99,8 +99,3 @@ parts_of d = do
 -- an object with the members of a scenario, and its parts
 abbrev pub shape_of : Data → Result Parts ScenarioFault
 shape_of d = if has_members must_names may_names d then parts_of d else Err (shape_fault Top 0)
-
--- what is answered is the reading, unless memory ran out
-abbrev pub GivesUnlessMemory : {A : Type 0} → Result A ScenarioFault → Result A ScenarioFault → Type 0
-GivesUnlessMemory (Err NoMemory) reading = Unit {0}
-GivesUnlessMemory result reading = reading ≡ result

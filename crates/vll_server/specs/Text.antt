@@ -9,7 +9,7 @@ use Rattle.vll_proc.specs.declared.call.Reply.TheVariants.{Committed, Aborted}
 use Rattle.vll_proc.specs.declared.syntax.Proc.{Proc}
 use Rattle.vll_proc.specs.Serial.{Made, answer, end}
 use Rattle.vll_core.specs.declared.line.Line.{Line}
-use Rattle.vll_queue.specs.declared.closed.Closed.{Closed}
+use Rattle.vll_engine.specs.declared.closed.Closed.{Closed}
 
 abbrev pub Text : Type 0
 Text = List ℕ

@@ -1,11 +1,7 @@
 -- What a JSON tree is read as.
-use Rattle.std.specs.Prelude.{◌≡◌, ℕ, suc, ◌^◌, List, [], ◌∷◌, Option, Some, None, option_and_then, Result, Ok, Err, nat_lt, if◌then◌else◌}
+use Rattle.std.specs.Prelude.{ℕ, suc, ◌^◌, List, [], ◌∷◌, Option, Some, None, option_and_then, Result, Ok, Err, nat_lt, if◌then◌else◌}
 use Rattle.serde_json.specs.Data.{Data, Items, no_items, item}
 use Rattle.serde_json.specs.Find.{as_number, as_u64, as_array}
-use Rattle.vll_server.specs.declared.tree.Misread.{Misread}
-use Rattle.vll_server.specs.declared.tree.Misread.TheVariants as misread
-use Rattle.vll_server.specs.declared.tree.FirstFault.{FirstFault}
-use Rattle.vll_server.specs.declared.tree.FirstFault.TheVariants as first_fault
 
 -- a whole number of 64 bits without a sign
 abbrev pub number_at : Data → Option ℕ
@@ -42,15 +38,3 @@ list_at f d = each_of f (as_array d)
 abbrev pub whole : {A : Type 0} → Result A ℕ → Option A
 whole (Ok a) = Some a
 whole (Err i) = None
-
--- what is answered is the reading, unless memory ran out
-abbrev pub Gives : {A : Type 0} → Result A Misread → Option A → Type 0
-Gives (Ok a) reading = reading ≡ Some a
-Gives (Err misread.NoMemory) reading = Unit {0}
-Gives (Err misread.Faulty) reading = reading ≡ None
-
--- the same of a list
-abbrev pub GivesList : {A : Type 0} → Result (List A) FirstFault → Result (List A) ℕ → Type 0
-GivesList (Ok xs) reading = reading ≡ Ok xs
-GivesList (Err first_fault.NoMemory) reading = Unit {0}
-GivesList (Err (first_fault.At i)) reading = reading ≡ Err i

@@ -1,4 +1,3 @@
-use crate::bytes::ReadFault;
 use std::alloc::{AllocError, AllocFailed};
 use thiserror::Error;
 use vll_check::{CallFault, CheckFault, NameTwice};
@@ -99,21 +98,6 @@ impl<T: Drop> From<AllocFailed<T>> for ScenarioFault {
     }
 }
 
-impl From<ReadFault> for ScenarioFault {
-    ghost use Rattle.std.specs.Prelude.{◌≡◌};
-    ghost use Rattle.vll_server.specs.Bytes.{fault_of};
-
-    ghost from_gives = { λ f e. e ≡ fault_of f };
-
-    fn from(fault: ReadFault) -> ScenarioFault {
-        match fault {
-            ReadFault::Read => ScenarioFault::Read,
-            ReadFault::Size => ScenarioFault::Size,
-            ReadFault::NoMemory => ScenarioFault::NoMemory,
-        }
-    }
-}
-
 impl From<NameTwice> for ScenarioFault {
     ghost use Rattle.std.specs.Prelude.{◌≡◌};
     ghost use Rattle.vll_server.specs.declared.fault.ScenarioFault.TheVariants as fault;
@@ -152,9 +136,6 @@ pub enum ServeFault {
     /// The outcome was not written whole.
     #[error("write")]
     Write,
-    /// The calls that entered are not the scripts' calls, each script's in its order.
-    #[error("order")]
-    Order,
 }
 
 impl From<AllocError> for ServeFault {

@@ -10,12 +10,15 @@ ghost use Rattle.vll_server.specs.declared.fault.ScenarioFault.{ScenarioFault};
 ghost use Rattle.vll_server.specs.declared.fault.ScenarioFault.TheVariants.{Read};
 ghost use Rattle.vll_server.specs.declared.fault.ReplayFault.TheVariants as fault;
 
+mod event_text;
+mod replay_text;
+
 use crate::fault::ReplayFault;
-use crate::outcome::write_text;
-use crate::read::read_scenario;
-use crate::replay_text::{push_event_lines, push_state};
+use crate::reading::read_scenario;
 use crate::scenario::{Scenario, ScenarioParts};
 use crate::stream::{Sink, Source};
+use crate::text::outcome::write_text;
+use replay_text::{push_event_lines, push_state};
 use sqlite_items::Items;
 use std::alloc::{AllocError, Global};
 use vll_core::{Core, Event, OpenFault};

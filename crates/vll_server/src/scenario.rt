@@ -1,7 +1,6 @@
 ghost use Rattle.std.specs.Prelude.{◌≡◌, ◌≤◌, All};
 ghost use Rattle.vll_check.specs.Calls.{Fits};
-ghost use Rattle.vll_server.specs.Kept.{lists_of};
-ghost use Rattle.vll_server.specs.Setup.{IsSetup, catalog_of};
+ghost use Rattle.vll_server.specs.Setup.{lists_of, IsSetup, catalog_of};
 
 use sqlite_items::Items;
 use std::marker::Model;
@@ -37,7 +36,7 @@ impl Model for Scenario {
 
     ghost coded = { Prim.hlevel (codes, expr.the_row.coded, stmt.the_row.coded) };
 
-    ghost use Rattle.vll_server.specs.Kept.{setup_in, IsScenario};
+    ghost use Rattle.vll_server.specs.Private.Kept.{setup_in, IsScenario};
 
     ghost view = { setup_in };
 

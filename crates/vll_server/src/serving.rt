@@ -2,32 +2,34 @@
 ghost use Rattle.std.specs.Prelude.{◌≡◌, ◌≤◌, ◌<◌, ◌^◌, ◌↔◌, false, true, All, IfErr, IfOk, OnOk, length, sum_by};
 ghost use Rattle.std.specs.Io.KnownBytes.{Appends};
 ghost use Rattle.vll_check.specs.Calls.{Fits};
-ghost use Rattle.vll_queue.specs.Closed.{IsSerial, calls_in};
-ghost use Rattle.vll_queue.specs.Shown.{IsNamed};
+ghost use Rattle.vll_counters.specs.Views.{calls_in};
+ghost use Rattle.vll_engine.specs.Closed.{IsSerial};
+ghost use Rattle.vll_engine.specs.Shown.{library_of, name_of, opening};
 ghost use Rattle.vll_sca.specs.Placing.{placing};
-ghost use Rattle.vll_server.specs.Kept.{lists_of};
+ghost use Rattle.vll_server.specs.Setup.{lists_of, catalog_of};
 ghost use Rattle.vll_server.specs.Merge.{IsMerge};
-ghost use Rattle.vll_server.specs.Serve.{Serves, config_for, scripts_of};
-ghost use Rattle.vll_server.specs.Setup.{catalog_of};
+ghost use Rattle.vll_server.specs.Serve.{Serves};
+ghost use Rattle.vll_server.specs.Private.Serving.{config_for};
 ghost use Rattle.vll_server.specs.Streams.{AppendsBeginning};
 ghost use Rattle.vll_server.specs.Text.{closed_text};
 
+mod tokens;
+
 use crate::fault::{ServeFault, WriteFault};
 use crate::limits::MOST_CLIENTS;
-use crate::order::is_merge;
-use crate::outcome::write_outcome;
 use crate::scenario::{Scenario, ScenarioParts};
 use crate::stream::Sink;
-use crate::tokens::tokens_of;
+use crate::text::outcome::write_outcome;
 use std::alloc::{AllocError, Global};
 use std::marker::Brand;
 use std::sync::Wait;
 use std::thread::Threads;
+use tokens::{into_sessions, tokens_of};
 use vll_core::{Config, MOST_CALLS, OpenFault};
+use vll_engine::{Closed, Name, NotClosed, Opening};
 use vll_proc::Call;
-use vll_queue::{Closed, Name, NotClosed, Opening};
 use vll_sca::Placing;
-use vll_workers::{Gate, MOST_WORKERS, RunError, Token};
+use vll_workers::{Gate, MOST_WORKERS, RunError};
 
 /// Has a scenario's scripts run by so many worker threads, 1 to `MOST_WORKERS` of `vll_workers`, and writes the text
 /// of the outcome: a line for each call in the order in which the calls entered, and then one for each record. The
@@ -37,10 +39,10 @@ use vll_workers::{Gate, MOST_WORKERS, RunError, Token};
 /// Each script's calls enter in its order. The replies and records are those of the entered calls made one at a time,
 /// in the order in which they entered, and each pair word is 0.
 ///
-/// Nothing is written before the run has ended well and its order was tested. `Run`, `Unfinished`, `NoMemory` and
-/// `Order` come before that, and leave the writer as it was; `NoMemory` comes too where the text cannot be made, which
-/// is before its first byte is written. `Write` comes exactly where the writer has failed; a beginning of the text has
-/// been written then.
+/// Nothing is written before the run has ended well and the engine is closed. `Run`, `Unfinished` and `NoMemory` come
+/// before that, and leave the writer as it was; `NoMemory` comes too where the text cannot be made, which is before its
+/// first byte is written. `Write` comes exactly where the writer has failed; a beginning of the text has been written
+/// then.
 pub fn serve<R: Threads + Wait + Sync, W: Wait + Sync, G: Gate + Sync, S: Sink>(
     rt: &R,
     wait: &W,
@@ -90,11 +92,8 @@ fn opening_of(
     alloc: Global,
     scenario: Scenario,
 ) -> Result<(Opening<Placing>, Vec<Vec<Call>>), AllocError>
-    ensures library { IfOk result (λ made. made.0.library ≡ catalog_of scenario) }
-    ensures records { IfOk result (λ made. made.0.records ≡ scenario.records) }
-    ensures config { IfOk result (λ made. made.0.config ≡ config_for scenario) }
-    ensures hash { IfOk result (λ made. made.0.hash ≡ scenario.placing) }
-    ensures clients { IfOk result (λ made. made.0.clients ≡ length scenario.scripts) }
+    ensures opened { IfOk result (λ made. made.0 ≡ opening made.0.table (catalog_of scenario) scenario.records (config_for
+        scenario) scenario.placing (length scenario.scripts)) }
     ensures scripts { IfOk result (λ made. lists_of made.1.items ≡ scenario.scripts) }
     ensures few { IfOk result (λ made. length made.1.items ≤ MOST_CLIENTS) }
     ensures short { IfOk result (λ made. All (λ script. length script.items < 2 ^ 32) made.1.items) }
@@ -147,23 +146,24 @@ fn run_named<N: Name + Send + Sync, R: Threads + Wait + Sync, W: Wait + Sync, G:
     gate: &G,
 ) -> Result<Closed, ServeFault>
     requires workers { (1 ≤ workers) × (workers ≤ MOST_WORKERS) }
-    requires opening { IsNamed placing N.library N.records N.config N.places N.clients opening }
-    requires clients { N.clients ≡ length scripts.items }
+    requires named { N.engine ≡ name_of placing opening }
+    requires clients { N.engine.clients ≡ length scripts.items }
     requires few { length scripts.items ≤ MOST_CLIENTS }
     requires short { All (λ script. length script.items < 2 ^ 32) scripts.items }
-    requires fits { All (λ script. All (Fits N.library) script.items) scripts.items }
-    ensures serial { IfOk result (IsSerial N.library N.records) }
+    requires fits { All (λ script. All (Fits (library_of N.engine)) script.items) scripts.items }
+    ensures serial { IfOk result (IsSerial N.engine) }
     ensures merge { IfOk result (λ closed. IsMerge (calls_in closed.journal.items) (lists_of scripts.items)) }
     ensures before { ¬ (result ≡ Err ServeFault.Write) }
 {
     let (engine, sessions) = opening.start::<N>();
-    let tokens = tokens_of(alloc, sessions, scripts)?;
+    let room = Vec::with_capacity(alloc, scripts.len())?;
+    let tokens = tokens_of::<N>(alloc, sessions, scripts)?;
     let tokens = match vll_workers::run(rt, wait, alloc, &engine, tokens, workers, gate) {
         Ok(tokens) => tokens,
         Err(error) => return Err(run_fault(error)),
     };
-    match engine.close(Vec::new(alloc)) {
-        Ok(closed) => in_order(alloc, closed, tokens),
+    match engine.close(into_sessions(tokens, room)) {
+        Ok(closed) => Ok(closed),
         Err(left) => Err(unfinished(left)),
     }
 }
@@ -182,19 +182,6 @@ fn unfinished<N: Name>(left: NotClosed<N, Placing>) -> ServeFault
     ServeFault::Unfinished {
         running: left.running,
         waiting: left.waiting,
-    }
-}
-
-// What a run left, where the calls of each token's script entered in its order and no others did.
-fn in_order(alloc: Global, closed: Closed, tokens: Vec<Token>) -> Result<Closed, ServeFault>
-    ensures same { IfOk result (λ left. left ≡ closed) }
-    ensures merge { IfOk result (λ left. IsMerge (calls_in left.journal.items) (scripts_of tokens.items)) }
-    ensures before { ¬ (result ≡ Err ServeFault.Write) }
-{
-    if is_merge(alloc, closed.journal.as_slice(), tokens.as_slice())? {
-        Ok(closed)
-    } else {
-        Err(ServeFault::Order)
     }
 }
 

@@ -2,10 +2,12 @@ ghost use Rattle.std.specs.Prelude.{◌≡◌, ◌++◌, ◌∷◌, [], IfOk, On
 ghost use Rattle.std.specs.List.{enumerate_from, flat_map, zip};
 ghost use Rattle.vll_server.specs.Text.{call_line, closed_text, line_words, output_text, reason_text, record_line, reply_text};
 
+pub(crate) mod outcome;
+
 use std::alloc::{AllocError, Global};
 use vll_core::Line;
+use vll_engine::Closed;
 use vll_proc::{Outputs, Reason, Reply};
-use vll_queue::Closed;
 
 // Each of these appends one part of the outcome. After an error a beginning of that part may be there.
 

@@ -1,3 +1,4 @@
+pub mod Gained
 pub mod Owned
 pub mod Distinct
 pub mod Settled

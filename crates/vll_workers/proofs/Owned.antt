@@ -1,36 +1,29 @@
 -- A token of those that were handed in is one that fits the engine, as they do.
-use Rattle.std.proofs.Common.{◌≡◌, ◌<◌, ℕ, List, [], ◌∷◌, Some, suc, subst, sym}
-use Rattle.std.specs.Prelude.{All, IfSome, slice_get}
-use Prim.Native.Nat.{zero}
-use Rattle.std.proofs.lemmas.List.Elements.{All-head, All-tail}
+use Rattle.std.proofs.Common.{◌≡◌, ◌∙◌, ℕ, List, Some, subst, sym}
+use Rattle.std.specs.Prelude.{All, slice_get}
+use Rattle.std.proofs.lemmas.List.Elements.{All-weaker}
 use Rattle.vll_proc.specs.declared.call.Call.{Call}
 use Rattle.vll_check.specs.Calls.{Fits}
-use Rattle.vll_check.specs.Catalog.{Catalog}
+use Rattle.vll_core.proofs.Places.{all_at}
+use Rattle.vll_engine.specs.Shown.{Named, library_of}
 use Rattle.vll_workers.specs.Shown.{TokenShown}
-use Rattle.vll_workers.specs.Tokens.{AreFit, IsOf}
-
-if_got : {X : Type 0} (P : X → Type 0) (xs : List X) (i : ℕ) → All P xs → IfSome (slice_get xs i) P
-if_got P [] i all = tt
-if_got P (x ∷ xs) zero all = All-head P x xs all
-if_got P (x ∷ xs) (suc i) all = if_got P xs i (All-tail P x xs all)
-
--- what holds of each element holds of the one at an index
-pub at_index : {X : Type 0} (P : X → Type 0) (xs : List X) (i : ℕ) (x : X) → slice_get xs i ≡ Some x → All P xs → P x
-at_index P xs i x is all = subst (λ o. IfSome o P) is (if_got P xs i all)
+use Rattle.vll_workers.specs.Tokens.{AreBack, AreFit, IsFit, IsOf}
 
 -- the token that was handed in fits
-old_fits : (library : Catalog) (clients : ℕ) (handed : List TokenShown) (t : TokenShown) → AreFit library clients handed → (own : IsOf handed t)
-    → (own.old.client < clients) × All (Fits library) own.old.script
-old_fits library clients handed t fit own = at_index (λ (u : TokenShown). (u.client < clients) × All (Fits library) u.script) handed own.index own.old own.at fit
+old_fits : (e : Named) (handed : List TokenShown) (t : TokenShown) → AreFit e handed → (own : IsOf handed t) → IsFit e own.old
+old_fits e handed t fit own = all_at (IsFit e) handed own.index own.old fit own.at
 
--- the token's client is one of the engine's
-pub client_fits : (library : Catalog) (clients : ℕ) (handed : List TokenShown) (t : TokenShown) → AreFit library clients handed → IsOf handed t → t.client < clients
-client_fits library clients handed t fit own =
-    subst (λ n. n < clients) (sym own.client) (old_fits library clients handed t fit own).0
+-- the token's session is one of the engine's
+pub table_fits : (e : Named) (handed : List TokenShown) (t : TokenShown) → AreFit e handed → IsOf handed t → t.session.table ≡ e.table
+table_fits e handed t fit own = own.table ∙ (old_fits e handed t fit own).session
+
+-- and so are those of the tokens that are back
+pub back_fits : (e : Named) (handed back : List TokenShown) → AreFit e handed → AreBack handed back → All (λ (t : TokenShown). t.session.table ≡ e.table) back
+back_fits e handed back fit are = All-weaker (IsOf handed) (λ (t : TokenShown). t.session.table ≡ e.table) (λ t of. table_fits e handed t fit of) back are.own
 
 -- the library fits the token's calls
-pub call_fits : (library : Catalog) (clients : ℕ) (handed : List TokenShown) (t : TokenShown) (i : ℕ) (call : Call)
-    → AreFit library clients handed → IsOf handed t → slice_get t.script i ≡ Some call → Fits library call
-call_fits library clients handed t i call fit own is =
-    at_index (Fits library) t.script i call is
-    (subst (All (Fits library)) (sym own.script) (old_fits library clients handed t fit own).1)
+pub call_fits : (e : Named) (handed : List TokenShown) (t : TokenShown) (i : ℕ) (call : Call)
+    → AreFit e handed → IsOf handed t → slice_get t.script i ≡ Some call → Fits (library_of e) call
+call_fits e handed t i call fit own is =
+    all_at (Fits (library_of e)) t.script i call
+    (subst (All (Fits (library_of e))) (sym own.script) (old_fits e handed t fit own).fits) is

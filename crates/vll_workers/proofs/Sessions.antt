@@ -1,27 +1,39 @@
--- An engine has as many sessions as clients, and the last one is its last client's.
-use Rattle.std.proofs.Common.{◌≡◌, ℕ, zero, suc, List, [], ◌∷◌, ◌++◌, refl, ap, ap₂, ◌∙◌, sym, length, length-append, add-one}
-use Rattle.vll_queue.specs.Opened.{sessions_of}
-use Rattle.vll_queue.specs.Shown.{SessionShown}
+-- The sessions of an opened engine, taken from the last on.
+use Rattle.std.proofs.Common.{◌≡◌, ◌<◌, ℕ, suc, List, [], ◌∷◌, ◌++◌, All, refl, sym, ap, ◌∙◌, subst, arith, get_or, length, length-append, add-one, Some, slice_get}
+use Rattle.std.proofs.lemmas.Option.{same_Some, slice_get-get_or}
+use Rattle.atomic_table.specs.Seated.{TableId}
+use Rattle.vll_core.proofs.Places.{entry_at, get_pushed}
+use Rattle.vll_counters.specs.Shown.{AreNewSessions, SessionShown}
+use Rattle.vll_counters.specs.Steps.{new_session}
 
-pub length-sessions : (n : ℕ) → length (sessions_of n) ≡ n
-length-sessions zero = refl
-length-sessions (suc n) = length-append (sessions_of n) (record { client = n } ∷ []) ∙ add-one (length (sessions_of n)) ∙ ap suc (length-sessions n)
+-- each is of the engine's words
+pub all_there : (table : TableId) (count : ℕ) (sessions : List SessionShown) → AreNewSessions table count sessions → All (λ (s : SessionShown). s.table ≡ table) sessions
+all_there table count sessions all i d within =
+    ap (λ (s : SessionShown). s.table)
+    (same_Some (get_or sessions i d) (record { table = table; session = new_session i })
+    (sym (slice_get-get_or sessions i d within) ∙ all.1 i (subst (λ (n : ℕ). i < n) all.0 within)))
 
-append-last : {A : Type 0} (xs ys : List A) (x y : A) → xs ++ x ∷ [] ≡ ys ++ y ∷ [] → (xs ≡ ys) × (x ≡ y)
-append-last [] [] x y e = let same : x ≡ y = cc in (refl, same)
-append-last [] (b ∷ []) x y e = absurd (cc)
-append-last [] (b ∷ c ∷ ys) x y e = absurd (cc)
-append-last (a ∷ []) [] x y e = absurd (cc)
-append-last (a ∷ b ∷ xs) [] x y e = absurd (cc)
-append-last (a ∷ xs) (b ∷ ys) x y e =
-    let first : a ≡ b = cc in
-    let rest : xs ++ x ∷ [] ≡ ys ++ y ∷ [] = cc in
-    let more = append-last xs ys x y rest in
-    (ap₂ (λ z zs. z ∷ zs) first more.0, more.1)
+get_last : {A : Type 0} (xs : List A) (x : A) → slice_get (xs ++ x ∷ []) (length xs) ≡ Some x
+get_last [] x = refl
+get_last (y ∷ ys) x = get_last ys x
 
--- the last session, and those before it
-pub last_session : (sessions new : List SessionShown) (session : SessionShown) (count client : ℕ) → sessions ≡ sessions_of count → sessions ≡ new ++ session ∷ [] → count ≡ suc client → (session.client ≡ client) × (new ≡ sessions_of client)
-last_session sessions new session count client all popped last =
-    let both : new ++ session ∷ [] ≡ sessions_of client ++ record { client = client } ∷ [] = sym popped ∙ all ∙ ap sessions_of last in
-    let same = append-last new (sessions_of client) session (record { client = client }) both in
-    (ap (λ (s : SessionShown). s.client) same.1, same.0)
+-- the last session is the last client's, and before it stand those of the others
+pub record IsLast (table : TableId) (client : ℕ) (session : SessionShown) (others : List SessionShown) : Type 0 where
+  pub last : session ≡ record { table = table; session = new_session client }
+  pub before : AreNewSessions table client others
+
+pub last_session : (table : TableId) (count client : ℕ) (sessions new : List SessionShown) (session : SessionShown) → AreNewSessions table count sessions
+    → sessions ≡ new ++ session ∷ [] → length new ≡ client → IsLast table client session new
+last_session table count client sessions new session all popped number =
+    let longer : length sessions ≡ suc client = ap length popped ∙ length-append new (session ∷ []) ∙ add-one (length new) ∙ ap suc number in
+    let same : count ≡ suc client = sym all.0 ∙ longer in
+    let here : slice_get sessions client ≡ Some session =
+    ap (λ (l : List SessionShown). slice_get l client) popped ∙ ap (λ (n : ℕ). slice_get (new ++ session ∷ []) n) (sym number) ∙ get_last new session in
+    let below : (c : ℕ) → c < client → slice_get new c ≡ Some (record { table = table; session = new_session c }) = λ c low.
+    let found = entry_at new c (omega (arith, low, number)) in
+    let in_all : slice_get sessions c ≡ Some found.0 = ap (λ (l : List SessionShown). slice_get l c) popped ∙ get_pushed new session c found.0 found.1 in
+    found.1 ∙ sym in_all ∙ all.1 c (omega (arith, low, same)) in
+    record {
+      last = same_Some session (record { table = table; session = new_session client }) (sym here ∙ all.1 client (omega (arith, same)));
+      before = (number, below);
+    }

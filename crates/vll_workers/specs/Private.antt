@@ -1,2 +1,3 @@
--- What private contracts cite: no contract of an exported item does.
+-- What private contracts and what types keep cite: no contract of an exported item does.
 pub mod Begin
+pub mod Settled

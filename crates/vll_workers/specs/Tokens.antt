@@ -1,15 +1,32 @@
 -- The tokens that a run is handed, and those that come back.
-use Rattle.std.specs.Prelude.{◌≡◌, ◌<◌, ◌≤◌, ℕ, List, All, length, map, Some, slice_get, IsPermutation}
+use Rattle.std.specs.Prelude.{◌≡◌, ◌≤◌, ℕ, ◌-◌, List, ◌++◌, All, drop, length, map, take, Some, slice_get, IsPermutation}
 use Rattle.std.specs.List.Sorted.{IsStrictlyIncreasing}
+use Rattle.vll_proc.specs.declared.call.Call.{Call}
 use Rattle.vll_check.specs.Calls.{Fits}
-use Rattle.vll_check.specs.Catalog.{Catalog}
+use Rattle.vll_counters.specs.declared.views.SessionView.{SessionView}
+use Rattle.vll_counters.specs.Views.{Begins, calls_by}
+use Rattle.vll_engine.specs.Shown.{Named, library_of}
 use Rattle.vll_workers.specs.Shown.{TokenShown}
 
--- each token's client is one of so many, and the library fits each of its calls
-abbrev pub AreFit : Catalog → ℕ → List TokenShown → Type 0
-AreFit library clients tokens = All (λ (t : TokenShown). (t.client < clients) × All (Fits library) t.script) tokens
+-- a token's session is one of the engine's, and the engine's library fits each of its calls
+pub record IsFit (e : Named) (t : TokenShown) : Type 0 where
+  pub session : t.session.table ≡ e.table
+  pub fits : All (Fits (library_of e)) t.script
 
--- a token of those that were handed in: its client's, with its script, and no fewer calls have entered
+abbrev pub AreFit : Named → List TokenShown → Type 0
+AreFit e tokens = All (IsFit e) tokens
+
+-- the calls of a script from one index up to another
+abbrev pub calls_between : ℕ → ℕ → List Call → List Call
+calls_between from to script = take (to - from) (drop from script)
+
+-- of its client's calls, a session has seen just these enter since it was that one
+pub record Gained (old new : SessionView) (calls : List Call) : Type 0 where
+  pub begins : Begins old.seen new.seen
+  pub own : calls_by old.client new.seen ≡ calls_by old.client old.seen ++ calls
+
+-- a token of those that were handed in: its client's, with its script; the calls of its client that have entered since are those of the
+-- script from the old next one to the new one, in order
 pub record IsOf (handed : List TokenShown) (t : TokenShown) : Type 0 where
   pub index : ℕ
   pub old : TokenShown
@@ -17,6 +34,9 @@ pub record IsOf (handed : List TokenShown) (t : TokenShown) : Type 0 where
   pub client : t.client ≡ old.client
   pub script : t.script ≡ old.script
   pub on : old.next ≤ t.next
+  pub table : t.session.table ≡ old.session.table
+  pub whose : t.session.session.client ≡ old.session.session.client
+  pub gained : Gained old.session.session t.session.session (calls_between old.next t.next old.script)
 
 -- whose tokens they are
 abbrev pub clients_of : List TokenShown → List ℕ
@@ -31,3 +51,11 @@ pub record AreBack (handed back : List TokenShown) : Type 0 where
 -- every call of the token's script has entered
 abbrev pub IsThrough : TokenShown → Type 0
 IsThrough t = t.next ≡ length t.script
+
+-- one of the tokens has calls left, and its session has seen as many calls enter as the engine takes
+pub record OneIsSpent (limit : ℕ) (tokens : List TokenShown) : Type 0 where
+  pub index : ℕ
+  pub token : TokenShown
+  pub at : slice_get tokens index ≡ Some token
+  pub left : ¬ IsThrough token
+  pub full : length token.session.session.seen ≡ limit

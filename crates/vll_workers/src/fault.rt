@@ -15,7 +15,7 @@ pub enum RunFault {
     /// The engine took no more calls, so that some have not entered. All tokens are back.
     #[error("spent")]
     Spent,
-    /// A pass was lost, or a client's token is missing at the end.
+    /// A client's token is missing at the end.
     #[error("lost")]
     Lost,
 }

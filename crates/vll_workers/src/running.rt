@@ -1,6 +1,6 @@
 ghost use Rattle.std.specs.Prelude.{◌≡◌, ◌≤◌, All, IfOk, IfErr, length, nat_eq};
 ghost use Rattle.std.specs.List.{IsDistinct};
-ghost use Rattle.vll_workers.specs.Tokens.{AreFit, AreBack, IsThrough, clients_of};
+ghost use Rattle.vll_workers.specs.Tokens.{AreFit, AreBack, IsThrough, OneIsSpent, clients_of};
 ghost use Rattle.vll_workers.specs.declared.fault.RunFault.TheVariants as RunFault;
 
 use crate::fault::RunError;
@@ -10,7 +10,7 @@ use std::alloc::Global;
 use std::marker::Brand;
 use std::sync::Wait;
 use std::thread::Threads;
-use vll_queue::{Engine, Name};
+use vll_engine::{Engine, Name};
 use vll_sca::Place;
 
 mod ending;
@@ -26,13 +26,15 @@ pub const MOST_WORKERS: u32 = 64;
 /// workers have ended. Calls that were in the engine before and wait are brought on too; one whose pass is kept
 /// elsewhere is left, with those that wait for it.
 ///
-/// The tokens come back in rising order of their clients, each with `next` the length of its script. The memory that
-/// is needed is taken before the first thread is started. If some threads cannot be started the others do the work;
-/// if there are no tokens none is started.
+/// The tokens come back in rising order of their clients, each with `next` the length of its script. Of its client's
+/// calls, each token's session has seen just those of its script enter, from the old `next` to the new one, in order.
+/// The memory that is needed is taken before the first thread is started. If some threads cannot be started the others
+/// do the work; if there are no tokens none is started.
 ///
 /// `NoMemory`, and `Spawn` if no thread could be started, hand the tokens back as they came. `Spent` is returned
-/// after all has ended if the engine took no more calls, and hands all tokens back in rising order. `Lost`, with the
-/// tokens that were found, is returned before it, if a pass was lost or a client's token is missing at the end.
+/// after all has ended if the engine took no more calls, and hands all tokens back in rising order: one of them has
+/// calls left, and its session has seen as many calls enter as the limit. `Lost`, with the tokens that were found, is
+/// returned before it, if a client's token is missing at the end.
 pub fn run<
     N: Name + Send + Sync,
     H: Place + Send + Sync + Drop,
@@ -49,13 +51,12 @@ pub fn run<
     gate: &G,
 ) -> Result<Vec<Token>, RunError>
     requires workers { (1 ≤ workers) × (workers ≤ MOST_WORKERS) }
-    requires fit { AreFit N.library N.clients tokens.items }
+    requires fit { AreFit N.engine tokens.items }
     requires distinct { IsDistinct nat_eq (clients_of tokens.items) }
     ensures ok { IfOk result (λ back. AreBack tokens.items back.items × All IsThrough back.items) }
     ensures no_memory { IfErr result (λ e. e.fault ≡ RunFault.NoMemory → e.tokens ≡ tokens) }
     ensures spawn { IfErr result (λ e. e.fault ≡ RunFault.Spawn → e.tokens ≡ tokens) }
-    ensures spent { IfErr result (λ e. e.fault ≡ RunFault.Spent → AreBack tokens.items e.tokens.items × (¬
-        All IsThrough e.tokens.items)) }
+    ensures spent { IfErr result (λ e. e.fault ≡ RunFault.Spent → AreBack tokens.items e.tokens.items × OneIsSpent N.engine.config.limit e.tokens.items) }
 {
     if tokens.is_empty() {
         return Ok(tokens);

@@ -1,13 +1,15 @@
 ghost use Rattle.std.specs.Prelude.{◌≡◌, ◌<◌, ◌≤◌, ◌==◌, ◌^◌, All, IfSome, IfNone, Some, length, slice_get};
 ghost use Rattle.vll_check.specs.Calls.{Fits};
+ghost use Rattle.vll_engine.specs.Begin.{Begins};
+ghost use Rattle.vll_engine.specs.Shown.{library_of};
 ghost use Rattle.vll_workers.specs.Shown.{token};
 ghost use Rattle.vll_workers.specs.Private.Begin.{begun_token};
 ghost use Rattle.vll_workers.specs.Tokens.{IsThrough};
 
 use std::marker::Model;
 use std::sync::Wait;
+use vll_engine::{Begun, Engine, Name, Session};
 use vll_proc::Call;
-use vll_queue::{Begun, Engine, Name, Session};
 use vll_sca::Place;
 
 /// A client's turn in a run: its session, its script, and how many calls of the script have entered. Whoever holds
@@ -26,18 +28,18 @@ impl Model for Token {
 
     ghost Value = { TokenShown };
 
-    ghost view = { λ t. record { client = t.client; script = t.script.items; next = t.next } };
+    ghost view = { λ t. record { client = t.client; script = t.script.items; next = t.next; session = t.session } };
 
-    ghost invariant = { λ t. (t.session.client ≡ t.client) × (t.next ≤ length t.script.items) × (length
+    ghost invariant = { λ t. (t.session.session.client ≡ t.client) × (t.next ≤ length t.script.items) × (length
         t.script.items < 2 ^ 32) };
 }
 
 impl Token {
     /// A token of which no call has entered. The session is the client's, and the script has fewer than 2^32 calls.
     pub fn new(client: u32, session: Session, script: Vec<Call>) -> Token
-        requires session { session.client ≡ client }
+        requires session { session.session.client ≡ client }
         requires few { length script.items < 2 ^ 32 }
-        ensures { result ≡ token client script.items 0 }
+        ensures { result ≡ token client script.items 0 session }
     {
         Token {
             client,
@@ -72,7 +74,7 @@ impl Token {
 
     /// The client's session.
     pub fn into_session(self) -> Session
-        ensures { result.client ≡ self.client }
+        ensures { result ≡ self.session }
     {
         self.session
     }
@@ -92,10 +94,13 @@ impl Token {
         engine: &Engine<N, H>,
         call: Call,
     ) -> Begun
-        requires client { self.old.client < N.clients }
-        requires fits { Fits N.library call }
+        requires session { self.old.session.table ≡ N.engine.table }
+        requires fits { Fits (library_of N.engine) call }
         requires call { slice_get self.old.script self.old.next ≡ Some call }
-        ensures { self.new ≡ begun_token self.old result }
+        ensures token { self.new ≡ begun_token self.old self.new.session result }
+        ensures answer { Begins N.engine self.old.session.session self.new.session.session call result }
+        ensures given { self.new.session.session.given ≡ self.old.session.session.given }
+        ensures session { self.new.session.table ≡ self.old.session.table }
     {
         let begun = engine.begin(wait, &mut self.session, call);
         if !matches!(&begun, Begun::Refused(_)) {

@@ -1,4 +1,5 @@
-ghost use Rattle.std.specs.Prelude.{IfSome};
+ghost use Rattle.std.specs.Prelude.{◌≡◌, IfSome};
+ghost use Rattle.vll_engine.specs.Pass.{IsFresh};
 ghost use Rattle.vll_workers.specs.Tokens.{AreFit, IsOf};
 
 use crate::gate::Gate;
@@ -7,7 +8,7 @@ use crate::roster::Roster;
 use crate::token::Token;
 use crate::worker::Worker;
 use std::sync::{Mutex, Wait};
-use vll_queue::{BeginRefusal, Begun, Engine, Lost, Name, Pass};
+use vll_engine::{BeginRefusal, Begun, Engine, Name, Pass};
 use vll_sca::Place;
 
 // What the workers of a run share.
@@ -22,7 +23,8 @@ pub(crate) struct Work<'a, N: Name, H: Place + Send + Drop, T: Roster, W: Wait, 
 impl<'a, N: Name, H: Place + Send + Drop, T: Roster, W: Wait, G: Gate> Work<'a, N, H, T, W, G> {
     // Works until a round finds nothing to do.
     pub(crate) fn run(self, worker: Worker<T>) -> Worker<T>
-        requires fit { AreFit N.library N.clients T.tokens }
+        requires fit { AreFit N.engine T.tokens }
+        requires limit { T.limit ≡ N.engine.config.limit }
     {
         let mut worker = worker;
         for _ in self.wait.forever() {
@@ -35,7 +37,8 @@ impl<'a, N: Name, H: Place + Send + Drop, T: Roster, W: Wait, G: Gate> Work<'a, 
 
     // Works on while the pool holds a token.
     pub(crate) fn run_until_empty(self, worker: Worker<T>) -> Worker<T>
-        requires fit { AreFit N.library N.clients T.tokens }
+        requires fit { AreFit N.engine T.tokens }
+        requires limit { T.limit ≡ N.engine.config.limit }
     {
         let mut worker = worker;
         for _ in self.wait.forever() {
@@ -50,17 +53,18 @@ impl<'a, N: Name, H: Place + Send + Drop, T: Roster, W: Wait, G: Gate> Work<'a, 
     // Finishes the call at the front if it waits. Else a token's next call begins, and is finished if it is free; if
     // it is not, or there is no token, a call is looked for that the scan finds. Answers whether there was anything.
     fn round(self, worker: &mut Worker<T>) -> bool
-        requires fit { AreFit N.library N.clients T.tokens }
+        requires fit { AreFit N.engine T.tokens }
+        requires limit { T.limit ≡ N.engine.config.limit }
     {
         if let Some(pass) = self.engine.next_front(self.wait) {
-            self.finish_call(worker, pass);
+            self.finish_call(pass);
             return true;
         }
         let token = self.pool.lock(self.wait).take();
         let had_token = token.is_some();
         match self.begun_or_found(worker, token) {
             Some(pass) => {
-                self.finish_call(worker, pass);
+                self.finish_call(pass);
                 true
             }
             None => had_token,
@@ -69,8 +73,10 @@ impl<'a, N: Name, H: Place + Send + Drop, T: Roster, W: Wait, G: Gate> Work<'a, 
 
     // The pass of the token's next call, if that is free; else that of a call that the scan finds, if any.
     fn begun_or_found(self, worker: &mut Worker<T>, token: Option<Token>) -> Option<Pass>
-        requires fit { AreFit N.library N.clients T.tokens }
+        requires fit { AreFit N.engine T.tokens }
+        requires limit { T.limit ≡ N.engine.config.limit }
         requires own { IfSome token (IsOf T.tokens) }
+        ensures { IfSome result (IsFresh N.engine) }
     {
         let begun = match token {
             Some(token) => self.begin_next(worker, token),
@@ -85,8 +91,10 @@ impl<'a, N: Name, H: Place + Send + Drop, T: Roster, W: Wait, G: Gate> Work<'a, 
     // Begins the token's next call, and answers its pass if it is free. The token goes back to the pool, or stays
     // with the worker if no call is left or the engine takes no more.
     fn begin_next(self, worker: &mut Worker<T>, token: Token) -> Option<Pass>
-        requires fit { AreFit N.library N.clients T.tokens }
+        requires fit { AreFit N.engine T.tokens }
+        requires limit { T.limit ≡ N.engine.config.limit }
         requires own { IsOf T.tokens token }
+        ensures { IfSome result (IsFresh N.engine) }
     {
         let mut token = token;
         let Some(call) = token.next_call() else {
@@ -110,17 +118,12 @@ impl<'a, N: Name, H: Place + Send + Drop, T: Roster, W: Wait, G: Gate> Work<'a, 
     }
 
     // Executes a call that may run, up to its reply.
-    fn finish_call(self, worker: &mut Worker<T>, pass: Pass) {
-        if let Err(Lost { .. }) = self.spend(pass) {
-            worker.lose();
-        }
-    }
-
-    fn spend(self, pass: Pass) -> Result<(), Lost> {
+    fn finish_call(self, pass: Pass)
+        requires { IsFresh N.engine pass }
+    {
         self.gate.before(pass.ticket());
-        let done = self.engine.execute(self.wait, pass)?;
-        let (ticket, _) = self.engine.finish(self.wait, self.engine.release(done))?;
+        let done = self.engine.execute(pass);
+        let (ticket, _) = self.engine.finish(self.wait, self.engine.release(done));
         self.gate.after(ticket);
-        Ok(())
     }
 }

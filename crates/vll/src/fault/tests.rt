@@ -65,7 +65,6 @@ fn failed_run_ends_with_1(rt: HostRuntime) -> Result<(), Fail> {
         (unfinished, "vll: run: unfinished 1 23"),
         (ServeFault::NoMemory, "vll: run: no memory"),
         (ServeFault::Write, "vll: run: write"),
-        (ServeFault::Order, "vll: run: order"),
     ] {
         assert!(rt; tells(rt.alloc(), Fault::Run(fault), line, 1)?, "{line}");
     }

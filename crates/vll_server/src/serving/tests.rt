@@ -1,7 +1,7 @@
 use super::serve;
 use crate::fault::{ScenarioFault, ServeFault};
 use crate::plain::Plain;
-use crate::read::read_scenario;
+use crate::reading::read_scenario;
 use crate::scenario::Scenario;
 use crate::stream::Sink;
 use std::alloc::{AllocError, Global};

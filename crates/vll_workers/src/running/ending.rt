@@ -1,6 +1,6 @@
 ghost use Rattle.std.specs.Prelude.{◌≡◌, All, IfOk, IfErr, IsTrue, IsPermutation, MatchBool};
 ghost use Rattle.std.specs.List.Sorted.{IsStrictlyIncreasing};
-ghost use Rattle.vll_workers.specs.Tokens.{AreBack, IsThrough, clients_of};
+ghost use Rattle.vll_workers.specs.Tokens.{AreBack, IsThrough, OneIsSpent, clients_of};
 ghost use Rattle.vll_workers.specs.declared.fault.RunFault.TheVariants as RunFault;
 
 use crate::fault::{RunError, RunFault};
@@ -16,13 +16,12 @@ pub(super) fn outcome_of<T: Roster>(
     requires same { IsPermutation (clients_of T.tokens) clients.now }
     requires rising { IsStrictlyIncreasing clients.now }
     ensures ok { IfOk result (λ back. AreBack T.tokens back.items × All IsThrough back.items) }
-    ensures spent { IfErr result (λ e. e.fault ≡ RunFault.Spent → AreBack T.tokens e.tokens.items × (¬
-        All IsThrough e.tokens.items)) }
+    ensures spent { IfErr result (λ e. e.fault ≡ RunFault.Spent → AreBack T.tokens e.tokens.items × OneIsSpent T.limit e.tokens.items) }
     ensures not_begun { IfErr result (λ e. (¬ (e.fault ≡ RunFault.NoMemory)) × (¬ (e.fault ≡ RunFault.Spawn))) }
 {
-    let (mut tokens, has_lost) = worker.into_parts();
+    let mut tokens = worker.into_tokens();
     tokens.sort_unstable_by_key(|token| token.client());
-    if has_lost || !are_of(tokens.as_slice(), clients) {
+    if !are_of(tokens.as_slice(), clients) {
         return Err(RunError::new(RunFault::Lost, tokens));
     }
     if !are_through(tokens.as_slice()) {

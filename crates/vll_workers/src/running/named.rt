@@ -1,6 +1,6 @@
 ghost use Rattle.std.specs.Prelude.{◌≡◌, All, IfOk, IfErr, nat_eq};
 ghost use Rattle.std.specs.List.{IsDistinct};
-ghost use Rattle.vll_workers.specs.Tokens.{AreFit, AreBack, IsThrough, clients_of};
+ghost use Rattle.vll_workers.specs.Tokens.{AreFit, AreBack, IsThrough, OneIsSpent, clients_of};
 ghost use Rattle.vll_workers.specs.declared.fault.RunFault.TheVariants as RunFault;
 
 use super::ending::outcome_of;
@@ -17,7 +17,7 @@ use std::alloc::{AllocError, Global};
 use std::sync::{Mutex, Wait};
 use std::thread;
 use std::thread::Threads;
-use vll_queue::{Engine, Name};
+use vll_engine::{Engine, Name};
 use vll_sca::Place;
 
 // The run of tokens that have a name.
@@ -39,13 +39,13 @@ pub(super) fn run_named<
     gate: &'a G,
 ) -> Result<Vec<Token>, RunError>
     requires roster { T.tokens ≡ tokens.items }
-    requires fit { AreFit N.library N.clients tokens.items }
+    requires limit { T.limit ≡ N.engine.config.limit }
+    requires fit { AreFit N.engine tokens.items }
     requires distinct { IsDistinct nat_eq (clients_of tokens.items) }
     ensures ok { IfOk result (λ back. AreBack tokens.items back.items × All IsThrough back.items) }
     ensures no_memory { IfErr result (λ e. e.fault ≡ RunFault.NoMemory → e.tokens ≡ tokens) }
     ensures spawn { IfErr result (λ e. e.fault ≡ RunFault.Spawn → e.tokens ≡ tokens) }
-    ensures spent { IfErr result (λ e. e.fault ≡ RunFault.Spent → AreBack tokens.items e.tokens.items × (¬
-        All IsThrough e.tokens.items)) }
+    ensures spent { IfErr result (λ e. e.fault ≡ RunFault.Spent → AreBack tokens.items e.tokens.items × OneIsSpent N.engine.config.limit e.tokens.items) }
 {
     let room = match room_for::<T>(alloc, tokens.as_slice(), workers) {
         Ok(room) => room,
@@ -86,7 +86,8 @@ fn work_through<
     G: Gate + Sync,
 >(rt: &R, work: Work<'a, N, H, T, W, G>, ready: Ready<T>) -> Result<Worker<T>, Vec<Token>>
     requires roster { T.tokens ≡ ready.tokens.items }
-    requires fit { AreFit N.library N.clients T.tokens }
+    requires fit { AreFit N.engine T.tokens }
+    requires limit { T.limit ≡ N.engine.config.limit }
     ensures { IfErr result (λ t. t ≡ ready.tokens) }
 {
     // The workers find the pool locked until all of them are started.
@@ -96,7 +97,8 @@ fn work_through<
         rt,
         move |scope| -> Result<Worker<T>, Vec<Token>>
             requires roster { T.tokens ≡ ready.tokens.items }
-            requires fit { AreFit N.library N.clients T.tokens }
+            requires fit { AreFit N.engine T.tokens }
+            requires limit { T.limit ≡ N.engine.config.limit }
             ensures { IfErr result (λ t. t ≡ ready.tokens) }
         { start(scope, rt, work, closed, ready, false) },
     )?;

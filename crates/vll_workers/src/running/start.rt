@@ -9,7 +9,7 @@ use crate::work::Work;
 use crate::worker::Worker;
 use std::sync::{MutexGuard, Wait};
 use std::thread::{Scope, Threads};
-use vll_queue::Name;
+use vll_engine::Name;
 use vll_sca::Place;
 
 // What stands ready before the workers start: the workers, the calling thread's own, and the tokens.
@@ -40,7 +40,8 @@ pub(super) fn start<
     is_started: bool,
 ) -> Result<Worker<T>, Vec<Token>>
     requires roster { T.tokens ≡ ready.tokens.items }
-    requires fit { AreFit N.library N.clients T.tokens }
+    requires fit { AreFit N.engine T.tokens }
+    requires limit { T.limit ≡ N.engine.config.limit }
     ensures tokens { IfErr result (λ t. t ≡ ready.tokens) }
     ensures none { IfErr result (λ _. is_started ≡ false) }
 {
@@ -72,7 +73,8 @@ pub(super) fn start<
     } = work;
     let thread = scope.spawn(
         move ||
-            requires { AreFit N.library N.clients T.tokens }
+            requires fit { AreFit N.engine T.tokens }
+            requires limit { T.limit ≡ N.engine.config.limit }
         {
             let work = Work {
                 wait,

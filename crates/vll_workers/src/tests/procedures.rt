@@ -6,8 +6,8 @@ use std::alloc::{AllocError, Global};
 use std::test::Fail;
 use vll_check::{Library, check};
 use vll_core::Config;
+use vll_engine::Opening;
 use vll_proc::{Expr, KeyAt, KeyDecl, Proc, Stmt, Text};
-use vll_queue::Opening;
 use vll_record::Mode;
 use vll_sca::Placing;
 

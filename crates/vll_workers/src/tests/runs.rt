@@ -1,10 +1,11 @@
-ghost use Rattle.std.specs.Prelude.{◌≡◌, ◌<◌, All};
-ghost use Rattle.vll_queue.specs.Shown.{IsNamed};
+ghost use Rattle.std.specs.Prelude.{◌≡◌, All};
+ghost use Rattle.vll_engine.specs.Pass.{IsFresh};
+ghost use Rattle.vll_engine.specs.Shown.{name_of};
 ghost use Rattle.vll_sca.specs.Placing.{placing};
 
 use super::gates::{Meeting, Tally};
 use super::procedures::opening;
-use super::tokens::{all_bumping, are_home, bump_of, bumping, closes, output_of};
+use super::tokens::{all_bumping, are_home, bump_of, bumping, closes, output_of, sessions_of};
 use crate::fault::{RunError, RunFault};
 use crate::gate::OpenGate;
 use crate::running::run;
@@ -16,7 +17,7 @@ use std::sync::atomic::Ordering;
 use std::test::*;
 use std::thread::Threads;
 use vll_core::Ticket;
-use vll_queue::{Begun, Engine, Name, Opening, Pass, Session};
+use vll_engine::{Begun, Engine, Name, Opening, Pass, Session};
 use vll_sca::Placing;
 
 // 4 clients of 1,000 calls on one record, by 8 workers: each call finds what the one before it has left.
@@ -25,19 +26,22 @@ fn counts<N: Name + Send + Sync, R: Wait + Threads + Abort + Sync>(
     alloc: Global,
     opening: Opening<Placing>,
 ) -> Result<(), Fail>
-    requires { IsNamed placing N.library N.records N.config N.places N.clients opening }
+    requires { N.engine ≡ name_of placing opening }
 {
     let (engine, sessions) = opening.start::<N>();
     let tokens = all_bumping::<N>(rt, alloc, engine.library(), sessions, 1, 1_000)?;
-    match run(rt, rt, alloc, &engine, tokens, 8, &OpenGate) {
-        Ok(tokens) => are_home(rt, tokens.as_slice(), 4, 1_000),
+    let sessions = match run(rt, rt, alloc, &engine, tokens, 8, &OpenGate) {
+        Ok(tokens) => {
+            are_home(rt, tokens.as_slice(), 4, 1_000);
+            sessions_of::<N>(alloc, tokens)?
+        }
         Err(_) => panic!(rt; "the run has a fault"),
-    }
+    };
     let mut outputs = Vec::with_capacity(alloc, 4_000)?;
     for output in 1..=4_000u64 {
         outputs.push(output)?;
     }
-    closes(rt, alloc, engine, &[4_000], outputs.as_slice());
+    closes(rt, engine, sessions, &[4_000], outputs.as_slice());
     Ok(())
 }
 
@@ -53,7 +57,7 @@ fn meet<N: Name + Send + Sync, R: Wait + Threads + Abort + Sync>(
     alloc: Global,
     opening: Opening<Placing>,
 ) -> Result<(), Fail>
-    requires { IsNamed placing N.library N.records N.config N.places N.clients opening }
+    requires { N.engine ≡ name_of placing opening }
 {
     let (engine, sessions) = opening.start::<N>();
     let tokens = all_bumping::<N>(rt, alloc, engine.library(), sessions, 2, 1)?;
@@ -64,7 +68,7 @@ fn meet<N: Name + Send + Sync, R: Wait + Threads + Abort + Sync>(
     }
     assert_eq!(rt; gate.has_begun.load(Ordering::SeqCst), 1);
     assert!(rt; gate.turns.load(Ordering::SeqCst) < 100_000_000);
-    closes(rt, alloc, engine, &[1, 1], &[1, 1]);
+    closes(rt, engine, Vec::new(alloc), &[1, 1], &[1, 1]);
     Ok(())
 }
 
@@ -80,7 +84,7 @@ fn is_spent<N: Name + Send + Sync, R: Wait + Threads + Abort + Sync>(
     alloc: Global,
     opening: Opening<Placing>,
 ) -> Result<(), Fail>
-    requires { IsNamed placing N.library N.records N.config N.places N.clients opening }
+    requires { N.engine ≡ name_of placing opening }
 {
     let (engine, sessions) = opening.start::<N>();
     let tokens = all_bumping::<N>(rt, alloc, engine.library(), sessions, 1, 2)?;
@@ -91,7 +95,7 @@ fn is_spent<N: Name + Send + Sync, R: Wait + Threads + Abort + Sync>(
             are_home(rt, tokens.as_slice(), 1, 1);
         }
     }
-    closes(rt, alloc, engine, &[1], &[1]);
+    closes(rt, engine, Vec::new(alloc), &[1], &[1]);
     Ok(())
 }
 
@@ -108,7 +112,7 @@ fn enters_up_to_the_limit<N: Name + Send + Sync, R: Wait + Threads + Abort + Syn
     opening: Opening<Placing>,
     entered: usize,
 ) -> Result<(), Fail>
-    requires { IsNamed placing N.library N.records N.config N.places N.clients opening }
+    requires { N.engine ≡ name_of placing opening }
 {
     let (engine, sessions) = opening.start::<N>();
     let tokens = all_bumping::<N>(rt, alloc, engine.library(), sessions, 2, 2)?;
@@ -144,7 +148,7 @@ fn has_none<N: Name + Send + Sync, R: Wait + Threads + Abort + Sync>(
     alloc: Global,
     opening: Opening<Placing>,
 )
-    requires { IsNamed placing N.library N.records N.config N.places N.clients opening }
+    requires { N.engine ≡ name_of placing opening }
 {
     let (engine, _) = opening.start::<N>();
     let tokens = Vec::new(alloc);
@@ -152,7 +156,7 @@ fn has_none<N: Name + Send + Sync, R: Wait + Threads + Abort + Sync>(
         Ok(tokens) => assert!(rt; tokens.is_empty()),
         Err(_) => panic!(rt; "the run has a fault"),
     }
-    closes(rt, alloc, engine, &[0], &[]);
+    closes(rt, engine, Vec::new(alloc), &[0], &[]);
 }
 
 #[test]
@@ -169,8 +173,9 @@ fn begins<N: Name, R: Wait + Abort>(
     session: &mut Session,
     record: u64,
 ) -> Pass
-    requires { session.old.client < N.clients }
-    ensures { session.new ≡ session.old }
+    requires { session.old.table ≡ N.engine.table }
+    ensures pass { IsFresh N.engine result }
+    ensures session { session.new.table ≡ session.old.table }
 {
     let call = bump_of(rt, engine.library(), record);
     match engine.begin(rt, session, call) {
@@ -188,8 +193,8 @@ fn waits<N: Name, R: Wait + Abort>(
     record: u64,
     ticket: Ticket,
 )
-    requires { session.old.client < N.clients }
-    ensures { session.new ≡ session.old }
+    requires { session.old.table ≡ N.engine.table }
+    ensures { session.new.table ≡ session.old.table }
 {
     let call = bump_of(rt, engine.library(), record);
     match engine.begin(rt, session, call) {
@@ -203,21 +208,18 @@ fn waits<N: Name, R: Wait + Abort>(
 }
 
 // A pass is spent to its end.
-fn ends<N: Name, R: Wait + Abort>(rt: &R, engine: &Engine<N, Placing>, pass: Pass) {
-    match engine.execute(rt, pass) {
-        Ok(done) => match engine.finish(rt, engine.release(done)) {
-            Ok(_) => {}
-            Err(_) => panic!(rt; "the pass is lost"),
-        },
-        Err(_) => panic!(rt; "the pass is lost"),
-    }
+fn ends<N: Name>(wait: &impl Wait, engine: &Engine<N, Placing>, pass: Pass)
+    requires { IsFresh N.engine pass }
+{
+    let released = engine.release(engine.execute(pass));
+    let _ = engine.finish(wait, released);
 }
 
 // The last session of a list.
 fn last_of<N: Name>(rt: &impl Abort, sessions: &mut Vec<Session>) -> Session
-    requires { All (λ s. s.client < N.clients) sessions.old.items }
-    ensures session { result.client < N.clients }
-    ensures others { All (λ s. s.client < N.clients) sessions.new.items }
+    requires { All (λ s. s.table ≡ N.engine.table) sessions.old.items }
+    ensures session { result.table ≡ N.engine.table }
+    ensures others { All (λ s. s.table ≡ N.engine.table) sessions.new.items }
 {
     match sessions.pop() {
         Some(session) => session,
@@ -232,7 +234,7 @@ fn leaves_a_kept_pass<N: Name + Send + Sync, R: Wait + Threads + Abort + Sync>(
     alloc: Global,
     opening: Opening<Placing>,
 ) -> Result<(), Fail>
-    requires { IsNamed placing N.library N.records N.config N.places N.clients opening }
+    requires { N.engine ≡ name_of placing opening }
 {
     let (engine, mut sessions) = opening.start::<N>();
     let idle = last_of::<N>(rt, &mut sessions);
@@ -246,7 +248,7 @@ fn leaves_a_kept_pass<N: Name + Send + Sync, R: Wait + Threads + Abort + Sync>(
     let reply = engine.reply(rt, &mut second, Ticket(2));
     ends(rt, &engine, kept);
     assert_eq!(rt; output_of(&reply), Some(2));
-    closes(rt, alloc, engine, &[1, 2], &[1, 1, 2]);
+    closes(rt, engine, Vec::new(alloc), &[1, 2], &[1, 1, 2]);
     ran
 }
 
@@ -257,7 +259,7 @@ fn runs_the_waiting_call<N: Name + Send + Sync, R: Wait + Threads + Abort + Sync
     engine: &Engine<N, Placing>,
     session: Session,
 ) -> Result<(), Fail>
-    requires { session.client < N.clients }
+    requires { session.table ≡ N.engine.table }
 {
     let gate = Tally::new();
     let mut tokens = Vec::new(alloc);

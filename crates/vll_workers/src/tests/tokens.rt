@@ -2,16 +2,17 @@
 ghost use Rattle.std.specs.Prelude.{◌≡◌, ◌<◌, ◌^◌, All, IfOk, length, nat_eq};
 ghost use Rattle.std.specs.List.{IsDistinct};
 ghost use Rattle.vll_check.specs.Calls.{Fits};
-ghost use Rattle.vll_queue.specs.Opened.{sessions_of};
-ghost use Rattle.vll_workers.specs.Tokens.{AreFit, clients_of};
+ghost use Rattle.vll_counters.specs.Shown.{AreNewSessions};
+ghost use Rattle.vll_engine.specs.Shown.{library_of};
+ghost use Rattle.vll_workers.specs.Tokens.{AreFit, IsFit, clients_of};
 
 use crate::token::Token;
 use std::alloc::Global;
 use std::process::Abort;
 use std::test::*;
 use vll_check::Library;
+use vll_engine::{Engine, Name, Session};
 use vll_proc::{Call, Reply};
-use vll_queue::{Engine, Name, Session};
 use vll_sca::Placing;
 
 // The bump of a record.
@@ -51,10 +52,10 @@ pub(super) fn bumping<N: Name>(
     record: u64,
     times: u32,
 ) -> Result<Token, Fail>
-    requires library { library.now ≡ N.library }
-    requires client { session.client < N.clients }
-    ensures fit { IfOk result (λ t. (t.client < N.clients) × All (Fits N.library) t.script) }
-    ensures client { IfOk result (λ t. t.client ≡ session.client) }
+    requires library { library.now ≡ library_of N.engine }
+    requires session { session.table ≡ N.engine.table }
+    ensures fit { IfOk result (IsFit N.engine) }
+    ensures client { IfOk result (λ t. t.client ≡ session.session.client) }
 {
     let script = script(rt, alloc, library, record, times)?;
     Ok(Token::new(session.client(), session, script))
@@ -69,10 +70,10 @@ pub(super) fn all_bumping<N: Name>(
     records: u32,
     times: u32,
 ) -> Result<Vec<Token>, Fail>
-    requires library { library.now ≡ N.library }
-    requires sessions { sessions.items ≡ sessions_of N.clients }
+    requires library { library.now ≡ library_of N.engine }
+    requires sessions { AreNewSessions N.engine.table N.engine.clients sessions.items }
     requires records { 0 < records }
-    ensures fit { IfOk result (λ t. AreFit N.library N.clients t.items) }
+    ensures fit { IfOk result (λ t. AreFit N.engine t.items) }
     ensures distinct { IfOk result (λ t. IsDistinct nat_eq (clients_of t.items)) }
 {
     let mut sessions = sessions;
@@ -101,15 +102,30 @@ pub(super) fn output_of(reply: &Option<Reply>) -> Option<u64> {
     }
 }
 
+// The sessions of tokens.
+pub(super) fn sessions_of<N: Name>(alloc: Global, tokens: Vec<Token>) -> Result<Vec<Session>, Fail>
+    requires { All (λ t. t.session.table ≡ N.engine.table) tokens.items }
+    ensures { IfOk result (λ s. All (λ s. s.table ≡ N.engine.table) s.items) }
+{
+    let mut tokens = tokens;
+    let mut sessions = Vec::new(alloc);
+    while let Some(token) = tokens.pop() {
+        sessions.push(token.into_session())?;
+    }
+    Ok(sessions)
+}
+
 // The engine closes with these records, no open claim, and these outputs in order of entry.
 pub(super) fn closes<N: Name>(
     rt: &impl Abort,
-    alloc: Global,
     engine: Engine<N, Placing>,
+    sessions: Vec<Session>,
     records: &[u64],
     outputs: &[u64],
-) {
-    match engine.close(Vec::new(alloc)) {
+)
+    requires { All (λ s. s.table ≡ N.engine.table) sessions.items }
+{
+    match engine.close(sessions) {
         Ok(closed) => {
             assert_eq!(rt; closed.records.as_slice(), records);
             for pair in closed.pairs.as_slice() {

@@ -1,5 +1,6 @@
 use Rattle.vll_sca.specs.Placing.{placing}
+use Rattle.vll_engine.specs.Shown.{name_of}
 use Rattle.vll_bench.proofs.runs.measure_runs.Given as goal
 
 abbrev pub ghosts-time_of : goal.ghosts-time_of
-ghosts-time_of g a = record { library = a.opening.library; records = a.opening.records; config = a.opening.config; places = placing a.opening.hash; clients = a.opening.clients }
+ghosts-time_of g a = record { engine = name_of placing a.opening }

@@ -1,12 +1,16 @@
-use Rattle.std.proofs.Common.{◌≡◌, List, IfOk, sym, subst}
+use Rattle.std.proofs.Common.{IfOk, sym, ap, subst}
 use Rattle.std.specs.Global.{Vec}
 use Rattle.std.specs.List.{All}
 use Rattle.vll_proc.specs.declared.call.Call.{Call}
 use Rattle.vll_check.specs.Calls.{Fits}
 use Rattle.vll_check.specs.Catalog.{Catalog}
-use Rattle.vll_queue.specs.declared.closed.Closed.{Closed}
-use Rattle.vll_queue.specs.Closed.{IsSerial, calls_in}
-use Rattle.vll_server.specs.Kept.{lists_of}
+use Rattle.vll_sca.specs.declared.place.Placing.{Placing}
+use Rattle.vll_sca.specs.Placing.{placing}
+use Rattle.vll_counters.specs.Views.{calls_in}
+use Rattle.vll_engine.specs.declared.closed.Closed.{Closed}
+use Rattle.vll_engine.specs.Closed.{IsSerial}
+use Rattle.vll_engine.specs.Shown.{Named, OpeningShown, library_of, name_of}
+use Rattle.vll_server.specs.Setup.{lists_of}
 use Rattle.vll_server.specs.Merge.{IsMerge}
 use Rattle.vll_server.proofs.Served.{serves_closed}
 use Rattle.vll_server.proofs.serving.run.Goals as goal
@@ -15,12 +19,15 @@ use Rattle.vll_server.proofs.serving.run.Goals as goal
 pub returns-clause-closed : goal.returns-clause-closed
 returns-clause-closed g c =
     let opening = c.in_ok-opening.opening in
+    let engine : Named = name_of placing opening in
+    let opened = c.in_ok-opening.ensures.opened in
     let scripts = lists_of c.in_ok-opening.scripts.items in
-    let serial : IfOk c.run_named.result (IsSerial opening.library opening.records) = c.run_named.ensures.serial in
+    let serial : IfOk c.run_named.result (IsSerial engine) = c.run_named.ensures.serial in
     let merge : IfOk c.run_named.result (λ (closed : Closed). IsMerge (calls_in closed.journal.items) scripts) = c.run_named.ensures.merge in
-    serves_closed c.args.scenario opening.library opening.records scripts c.run_named.result c.in_ok-opening.ensures.library c.in_ok-opening.ensures.records c.in_ok-opening.ensures.scripts serial merge
+    serves_closed c.args.scenario engine scripts c.run_named.result (ap (λ (o : OpeningShown Placing). library_of (name_of placing o)) opened) (ap (λ (o : OpeningShown Placing). o.records) opened) c.in_ok-opening.ensures.scripts serial merge
 
 -- its library makes the calls
 pub run_named-requires-clause-fits : goal.run_named-requires-clause-fits
 run_named-requires-clause-fits g c κs within =
-    subst (λ (library : Catalog). All (λ (script : Vec Call). All (Fits library) script.items) c.in_ok-opening.scripts.items) (sym c.in_ok-opening.ensures.library) c.in_ok-opening.ensures.fits
+    let library = ap (λ (o : OpeningShown Placing). library_of (name_of placing o)) c.in_ok-opening.ensures.opened in
+    subst (λ (library : Catalog). All (λ (script : Vec Call). All (Fits library) script.items) c.in_ok-opening.scripts.items) (sym library) c.in_ok-opening.ensures.fits

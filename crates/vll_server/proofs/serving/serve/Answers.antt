@@ -1,4 +1,4 @@
-use Rattle.std.proofs.Common.{◌≡◌, ◌∙◌, Err, sym, subst, ap}
+use Rattle.std.proofs.Common.{◌∙◌, Err, subst, ap}
 use Rattle.vll_server.specs.Streams.{AppendsBeginning}
 use Rattle.vll_server.proofs.serving.serve.Goals as goal
 

@@ -1,7 +1,7 @@
 use Rattle.std.proofs.Common.{ℕ, sym, subst}
 use Rattle.std.specs.List.{All}
 use Rattle.vll_check.specs.Calls.{Fits}
-use Rattle.vll_server.specs.Kept.{lists_of}
+use Rattle.vll_server.specs.Setup.{lists_of}
 use Rattle.vll_server.proofs.Fitting.{in_lists}
 use Rattle.vll_server.proofs.scenario.Scenario.into_parts.Goals as goal
 

@@ -7,7 +7,7 @@ use Rattle.vll_workers.proofs.tests.runs.runs_the_waiting_call.Goals as goal
 
 pub run-requires-clause-fit : goal.run-requires-clause-fit
 run-requires-clause-fit g c κs within =
-    fit_push g.N.Name.library g.N.Name.clients [] c.push.new.self.items c.in_ok-bumping.field-0
+    fit_push g.N.Name.engine [] c.push.new.self.items c.in_ok-bumping.field-0
     (c.in_ok-push.ensures.items ∙ ap (λ (ts : List TokenShown). ts ++ c.in_ok-bumping.field-0 ∷ []) c.new-tokens.ensures.items) (All-nil _) c.in_ok-bumping.ensures.fit
 
 pub run-requires-clause-distinct : goal.run-requires-clause-distinct

@@ -1,0 +1,129 @@
+use crate::fault::Fault;
+use std::alloc::Global;
+use std::time::CpuClock;
+use vll_core::{Config, MOST_CALLS, MOST_WAITING, Queue, Ticket};
+use vll_proc::{Call, MOST_ARGS, Reason, Reply};
+use vll_record::{Claim, Claims, MOST_CLAIMS, Mode, RecordId};
+use vll_sca::{MOST_BITS, Placing, Status};
+
+// How many calls wait behind as many that run.
+const WAITING: [u32; 4] = [1_000, 4_000, 16_000, 32_768];
+
+// How many calls are gone between the front and the ten that wait.
+const GONE: [u32; 3] = [0, 1_000, 60_000];
+
+// How many bits records share.
+const BITS: [u32; 3] = [64, 4_096, MOST_BITS];
+
+// How often each is measured. The fastest counts, since other work disturbs the others.
+const REPEATS: u32 = 5;
+
+// About how many entries are walked over in a measurement.
+const ENTRIES: u32 = 4_000_000;
+
+/// Prints what a scan of the queue costs that finds no call.
+pub(crate) fn measure_scans(rt: &(impl CpuClock + Print + AllocGlobal)) -> Result<(), Fault> {
+    for waiting in WAITING {
+        let mut queue = crowd(rt.alloc(), waiting)?;
+        let nanos = time_of_scan(rt, &mut queue, waiting.saturating_mul(2))?;
+        println!(rt; "{waiting} waiting calls behind {waiting} running ones: {nanos} ns")?;
+    }
+    for gone in GONE {
+        let mut queue = behind_front(rt.alloc(), gone, 4_096)?;
+        let nanos = time_of_scan(rt, &mut queue, 11)?;
+        println!(rt; "10 waiting calls behind the front, {gone} gone between: {nanos} ns")?;
+    }
+    for bits in BITS {
+        let mut queue = behind_front(rt.alloc(), 0, bits)?;
+        let nanos = time_of_scan(rt, &mut queue, 11)?;
+        println!(rt; "10 waiting calls behind the front, {bits} bits: {nanos} ns")?;
+    }
+    Ok(())
+}
+
+// The nanoseconds of processor time that a scan takes, which walks over so many entries and finds no call.
+fn time_of_scan(
+    rt: &impl CpuClock,
+    queue: &mut Queue<Placing>,
+    entries: u32,
+) -> Result<u128, Fault> {
+    let scans = ENTRIES / entries.max(1);
+    let mut fastest = u128::MAX;
+    for _ in 0..REPEATS {
+        let start = rt.thread_cpu_time()?;
+        for _ in 0..scans {
+            if queue.scan().is_some() {
+                return Err(Fault::Found);
+            }
+        }
+        let end = rt.thread_cpu_time()?;
+        fastest = fastest.min(end.saturating_sub(start).as_nanos());
+    }
+    Ok(fastest / u128::from(scans.max(1)))
+}
+
+// A queue in which so many calls run, each on a record of its own, and as many wait for the last of these records.
+fn crowd(alloc: Global, waiting: u32) -> Result<Queue<Placing>, Fault> {
+    let mut queue = queue(alloc, 65_536)?;
+    for record in 0..waiting {
+        enter(&mut queue, record, true)?;
+    }
+    for _ in 0..waiting {
+        enter(&mut queue, waiting.saturating_sub(1), false)?;
+    }
+    Ok(queue)
+}
+
+// A queue whose front runs, so many calls behind it are gone, and then ten wait for the front's record.
+fn behind_front(alloc: Global, gone: u32, bits: u32) -> Result<Queue<Placing>, Fault> {
+    let mut queue = queue(alloc, bits)?;
+    enter(&mut queue, 0, true)?;
+    for _ in 0..gone {
+        let ticket = enter(&mut queue, 1, true)?;
+        finish(&mut queue, ticket)?;
+    }
+    for _ in 0..10 {
+        enter(&mut queue, 0, false)?;
+    }
+    Ok(queue)
+}
+
+fn queue(alloc: Global, bits: u32) -> Result<Queue<Placing>, Fault> {
+    let config = Config {
+        cap: MOST_WAITING,
+        limit: MOST_CALLS,
+        bits,
+    };
+    Ok(Queue::open(alloc, config, Placing::Modulo)?)
+}
+
+// A call that writes one record enters.
+fn enter(queue: &mut Queue<Placing>, record: u32, free: bool) -> Result<Ticket, Fault> {
+    if queue.is_spent() || queue.is_busy() {
+        return Err(Fault::Refused);
+    }
+    let mut claims = Claims::new();
+    claims.add(Claim {
+        id: RecordId(record),
+        mode: Mode::Write,
+    });
+    let call = Call {
+        number: 0,
+        arg_count: 0,
+        args: [0; MOST_ARGS],
+        claims,
+        cells: [0; MOST_CLAIMS],
+    };
+    Ok(queue.admit(0, call, free))
+}
+
+// A running call is gone.
+fn finish(queue: &mut Queue<Placing>, ticket: Ticket) -> Result<(), Fault> {
+    match queue.status(ticket) {
+        Some(Status::Running) => {
+            queue.remove(ticket, Reply::Aborted(Reason::Code(0)));
+            Ok(())
+        }
+        _ => Err(Fault::Refused),
+    }
+}

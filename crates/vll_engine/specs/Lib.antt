@@ -1,0 +1,6 @@
+pub mod Shown
+pub mod Sessions
+pub mod Pass
+pub mod Begin
+pub mod Closed
+pub mod Private

@@ -1,0 +1,124 @@
+// What a running call does outside the lock: its loads, its body, its stores and its releases.
+ghost use Rattle.std.specs.Prelude.{◌≡◌, ◌<◌, ◌≤◌, All, false, length, true};
+ghost use Rattle.vll_record.specs.declared.claim.Claim.{Claim};
+ghost use Rattle.vll_proc.specs.Cells.{Holds};
+ghost use Rattle.vll_proc.specs.Serial.{apply};
+ghost use Rattle.vll_check.specs.Catalog.{IsCatalog};
+ghost use Rattle.vll_core.specs.State.{is_aborted, writes};
+ghost use Rattle.vll_counters.specs.Shown.{passed};
+ghost use Rattle.vll_counters.specs.Steps.{records_before_pass, reply_of_pass};
+ghost use Rattle.vll_counters.specs.Told.{has_stored_pass};
+ghost use Rattle.vll_engine.specs.Pass.{IsDone, IsFresh, IsReleased, StaysOf};
+ghost use Rattle.vll_engine.specs.Private.Worked.{all_loaded, all_released, all_stored};
+ghost use Rattle.vll_engine.specs.Shown.{library_of, words_of};
+
+use crate::name::Name;
+use crate::pass::{Done, Pass, Released};
+use vll_check::Library;
+use vll_counters::{PassSeat, Words};
+use vll_proc::{Frame, Reply};
+use vll_record::{Claims, MOST_CLAIMS, Mode};
+
+// The call of a pass makes all its loads, runs its body, and makes all its stores unless it aborts.
+pub(crate) fn execute<N: Name>(words: &Words, library: &Library, pass: Pass) -> Done
+    requires words { words.now ≡ words_of N.engine }
+    requires library { library.now ≡ library_of N.engine }
+    requires pass { IsFresh N.engine pass }
+    ensures done { IsDone N.engine result }
+    ensures same { StaysOf pass.pass result.pass }
+{
+    let Pass {
+        mut seat,
+        ticket,
+        call,
+    } = pass;
+    let procedure = library.proc(call.number).unwrap();
+    let mut frame = load_all(words, &mut seat, &call.claims);
+    let reply = frame.run(procedure, &call);
+    if let Reply::Committed(_) = reply {
+        store_all(words, &mut seat, &call.claims, &frame);
+    }
+    Done {
+        seat,
+        ticket,
+        call,
+        reply,
+    }
+}
+
+// The pass loads the record of each claim into the claim's cell.
+fn load_all(words: &Words, seat: &mut PassSeat, claims: &Claims) -> Frame
+    requires same { seat.old.table ≡ words.now.table }
+    requires claims { seat.old.pass.call.claims ≡ claims.now }
+    requires few { length claims.now ≤ MOST_CLAIMS }
+    requires there { All (λ (c : Claim). c.id < length words.now.base.records) claims.now }
+    requires fresh { seat.old.pass.loads ≡ 0 }
+    ensures pass { seat.new ≡ passed seat.old (all_loaded seat.new.pass.loaded seat.old.pass) }
+    ensures frame { Holds result claims.now (records_before_pass words.now.base seat.old.pass) }
+{
+    let mut frame = Frame::new();
+    let mut cell = 0;
+    for claim in claims.iter() {
+        frame.put(cell, words.load(seat, claim.id));
+        cell += 1;
+    }
+    frame
+}
+
+// The pass stores each Write claim's cell into its record.
+fn store_all(words: &Words, seat: &mut PassSeat, claims: &Claims, frame: &Frame)
+    requires same { seat.old.table ≡ words.now.table }
+    requires claims { seat.old.pass.call.claims ≡ claims.now }
+    requires few { length claims.now ≤ MOST_CLAIMS }
+    requires there { All (λ (c : Claim). c.id < length words.now.base.records) claims.now }
+    requires loaded { seat.old.pass.loads ≡ length claims.now }
+    requires fresh { seat.old.pass.stores ≡ 0 }
+    requires commits { is_aborted (reply_of_pass words.now.base seat.old.pass) ≡ false }
+    requires frame { Holds frame.now claims.now (apply words.now.base.procs seat.old.pass.call (records_before_pass words.now.base seat.old.pass)).records }
+    ensures pass { seat.new ≡ passed seat.old (all_stored seat.old.pass) }
+{
+    let mut cell = 0;
+    for claim in claims.iter() {
+        if let Mode::Write = claim.mode {
+            words.store(seat, claim.id, frame.get(cell));
+        }
+        cell += 1;
+    }
+}
+
+// The call of a pass releases each of its claims.
+pub(crate) fn release<N: Name>(words: &Words, done: Done) -> Released
+    requires words { words.now ≡ words_of N.engine }
+    requires catalog { IsCatalog (library_of N.engine) }
+    requires done { IsDone N.engine done }
+    ensures released { IsReleased N.engine result }
+    ensures same { StaysOf done.pass result.pass }
+    ensures reply { result.reply ≡ done.reply }
+{
+    let Done {
+        mut seat,
+        ticket,
+        call,
+        reply,
+    } = done;
+    release_all(words, &mut seat, &call.claims);
+    Released {
+        seat,
+        ticket,
+        reply,
+    }
+}
+
+// The pass releases each claim.
+fn release_all(words: &Words, seat: &mut PassSeat, claims: &Claims)
+    requires same { seat.old.table ≡ words.now.table }
+    requires claims { seat.old.pass.call.claims ≡ claims.now }
+    requires there { All (λ (c : Claim). c.id < length words.now.base.records) claims.now }
+    requires stored { has_stored_pass words.now.base seat.old.pass ≡ true }
+    requires fresh { seat.old.pass.releases ≡ 0 }
+    ensures pass { seat.new ≡ passed seat.old (all_released seat.old.pass) }
+{
+    for claim in claims.iter() {
+        words.release(seat, claim);
+    }
+}

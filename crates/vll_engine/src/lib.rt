@@ -1,0 +1,25 @@
+//! The engine: it takes calls from many sessions, tells which may run, and brings each to its reply, so that the
+//! replies and records are those of the calls made one at a time, in the order of their tickets. The queue of entered
+//! calls is behind one lock; records are loaded and stored, and claims released, outside it.
+#![tactic(auto)]
+
+mod begun;
+mod closed;
+mod engine;
+mod execution;
+mod locked;
+mod name;
+mod opening;
+mod pass;
+mod room;
+mod session;
+#[cfg(test)]
+mod tests;
+
+pub use begun::{BeginRefusal, Begun};
+pub use closed::{Closed, NotClosed};
+pub use engine::Engine;
+pub use name::Name;
+pub use opening::Opening;
+pub use pass::{Done, Pass, Released};
+pub use session::Session;

@@ -1,0 +1,51 @@
+ghost use Rattle.std.specs.Prelude.{◌≡◌};
+ghost use Rattle.vll_engine.specs.Private.Kept.{IsKept};
+
+use crate::name::Name;
+use std::marker::{Model, PhantomData};
+use vll_core::Queue;
+use vll_counters::QueueSeat;
+use vll_sca::Place;
+
+mod begin;
+mod close;
+mod finish;
+mod next;
+mod reply;
+
+// What lies behind the lock: the queue, and its seat of the words. To a contract it is the queue. What the methods
+// answer is said exactly of that queue.
+#[derive(Drop)]
+pub(crate) struct Locked<N: Name, H: Place> {
+    queue: Queue<H>,
+    seat: QueueSeat,
+    of: PhantomData<N>,
+}
+
+impl<N: Name, H: Place> Model for Locked<N, H> {
+    ghost use Rattle.std.specs.Coded.{codes};
+    ghost use Rattle.vll_core.specs.Queue.{Queued};
+    ghost use Rattle.vll_engine.specs.Private.Kept.{IsKept};
+
+    ghost Value = { Queued H };
+
+    ghost coded = { Prim.hlevel (codes, H.code) };
+
+    ghost view = { λ s. s.queue };
+
+    ghost invariant = { λ s. IsKept N.engine H.place_of s.seat s.queue };
+}
+
+impl<N: Name, H: Place> Locked<N, H> {
+    // A queue with its seat, while no turn is open and no session is there.
+    pub(crate) fn new(queue: Queue<H>, seat: QueueSeat) -> Locked<N, H>
+        requires { IsKept N.engine H.place_of seat queue }
+        ensures { result ≡ queue }
+    {
+        Locked {
+            queue,
+            seat,
+            of: PhantomData,
+        }
+    }
+}

@@ -1,0 +1,114 @@
+ghost use Rattle.std.specs.Prelude.{◌≡◌, ◌+◌, ◌*◌, ◌<◌, All, IfErr, IfOk, None, count_by, length};
+ghost use Rattle.vll_core.specs.Queue.{lines, statuses};
+ghost use Rattle.vll_counters.specs.Told.{IsAtEnd};
+ghost use Rattle.vll_counters.specs.Views.{calls_in};
+ghost use Rattle.vll_sca.specs.Status.{is_running, is_waiting};
+ghost use Rattle.vll_engine.specs.Closed.{IsSerial};
+ghost use Rattle.vll_engine.specs.Private.Divided.{AreDivided};
+ghost use Rattle.vll_engine.specs.Sessions.{HasItsCalls};
+ghost use Rattle.vll_engine.specs.Shown.{library_of, words_of};
+
+use super::Locked;
+use crate::closed::{Closed, NotClosed};
+use crate::engine::Engine;
+use crate::name::Name;
+use crate::room::Room;
+use crate::session::Session;
+use vll_check::Library;
+use vll_core::Line;
+use vll_counters::{QueueSeat, SessionSeat, Words};
+use vll_record::{RecordId, pair_word, value_word};
+use vll_sca::Place;
+
+impl<N: Name, H: Place + Send + Drop> Locked<N, H> {
+    // What is left where no call runs or waits. Where one does, exactly as many run and wait as is told, and the
+    // engine goes on.
+    pub(crate) fn close(
+        self,
+        library: Library,
+        words: Words,
+        room: Room,
+        sessions: Vec<Session>,
+    ) -> Result<Closed, NotClosed<N, H>>
+        requires library { library ≡ library_of N.engine }
+        requires words { words ≡ words_of N.engine }
+        requires room { room ≡ length N.engine.base.records }
+        requires sessions { All (λ s. s.table ≡ N.engine.table) sessions.items }
+        ensures serial { IfOk result (λ c. IsSerial N.engine c) }
+        ensures journal { IfOk result (λ c. calls_in c.journal.items ≡ calls_in (lines self)) }
+        ensures sessions { IfOk result (λ c. All (λ s. HasItsCalls (calls_in c.journal.items) s.session) sessions.items) }
+        ensures back { IfErr result (λ n. n.sessions ≡ sessions) }
+        ensures running { IfErr result (λ n. n.running ≡ count_by is_running (statuses self)) }
+        ensures waiting { IfErr result (λ n. n.waiting ≡ count_by is_waiting (statuses self)) }
+        ensures left { IfErr result (λ n. 0 < n.running + n.waiting) }
+    {
+        let running = self.queue.running();
+        let waiting = self.queue.waiting();
+        if running > 0 || waiting > 0 {
+            return Err(NotClosed {
+                engine: Engine::new(library, words, self, room),
+                sessions,
+                running,
+                waiting,
+            });
+        }
+        let Locked {
+            queue,
+            mut seat,
+            of: _,
+        } = self;
+        visit_all(&words, &mut seat, sessions);
+        let ends = words.close(seat);
+        Ok(divided(ends.as_slice(), queue.into_journal(), room))
+    }
+}
+
+// Each session comes and leaves: it has seen the beginning of the calls that have entered, with all of its client.
+fn visit_all(words: &Words, queue: &mut QueueSeat, sessions: Vec<Session>)
+    requires same { queue.old.table ≡ words.now.table }
+    requires sessions { All (λ s. s.table ≡ words.now.table) sessions.items }
+    requires closed { queue.old.turn ≡ None }
+    requires alone { queue.old.session ≡ None }
+    ensures same { queue.new ≡ queue.old }
+    ensures sessions { All (λ s. HasItsCalls (calls_in queue.old.lines) s.session) sessions.items }
+{
+    for session in sessions {
+        let Session { client: _, seat } = session;
+        let Some(seat) = seat else { unreachable!() };
+        visit(words, queue, seat);
+    }
+}
+
+// A session comes and leaves.
+fn visit(words: &Words, queue: &mut QueueSeat, session: SessionSeat)
+    requires same { (queue.old.table ≡ words.now.table) × (session.table ≡ words.now.table) }
+    requires closed { queue.old.turn ≡ None }
+    requires alone { queue.old.session ≡ None }
+    ensures same { queue.new ≡ queue.old }
+    ensures session { HasItsCalls (calls_in queue.old.lines) session.session }
+{
+    words.join_session(queue, session, None);
+    let _ = words.give_session(queue, None);
+}
+
+// The words divided into the records' values and their pairs, with the journal.
+fn divided(words: &[u64], journal: Vec<Line>, room: Room) -> Closed
+    requires long { length words.now ≡ 1 + 2 * room }
+    ensures words { AreDivided room words.now result.records.items result.pairs.items }
+    ensures journal { result.journal.items ≡ journal.items }
+{
+    let Room {
+        count,
+        mut records,
+        mut pairs,
+    } = room;
+    for r in 0..count {
+        records.push_reserved(words[value_word(RecordId(r))]);
+        pairs.push_reserved(words[pair_word(RecordId(r))]);
+    }
+    Closed {
+        records,
+        pairs,
+        journal,
+    }
+}

@@ -1,0 +1,33 @@
+ghost use Rattle.std.specs.Prelude.{◌≡◌};
+ghost use Rattle.vll_core.specs.Queue.{finished};
+ghost use Rattle.vll_engine.specs.Pass.{IsReleased};
+ghost use Rattle.vll_engine.specs.Shown.{words_of};
+
+use super::Locked;
+use crate::name::Name;
+use crate::pass::Released;
+use vll_core::Ticket;
+use vll_counters::Words;
+use vll_proc::Reply;
+use vll_sca::Place;
+
+impl<N: Name, H: Place> Locked<N, H> {
+    // The call of a pass that has made all its steps is gone, and its line gets the reply.
+    pub(crate) fn finish(&mut self, words: &Words, released: Released) -> (Ticket, Reply)
+        requires words { words.now ≡ words_of N.engine }
+        requires released { IsReleased N.engine released }
+        ensures ticket { result.0 ≡ released.pass.ticket }
+        ensures reply { result.1 ≡ released.reply }
+        ensures queue { self.new ≡ finished self.old released.pass.ticket released.reply }
+    {
+        let Released {
+            seat,
+            ticket,
+            reply,
+        } = released;
+        words.join_pass(&mut self.seat, seat);
+        let told = &reply;
+        self.queue.remove(ticket, *told);
+        (ticket, *told)
+    }
+}

@@ -1,0 +1,121 @@
+ghost use Rattle.std.specs.Prelude.{◌≡◌, ◌<◌, IfOk, length};
+ghost use Rattle.vll_core.specs.Faults.{Refuses, open_fault};
+ghost use Rattle.vll_counters.specs.Shown.{AreNewSessions};
+ghost use Rattle.vll_engine.specs.Private.Seats.{AreClients};
+ghost use Rattle.vll_engine.specs.Shown.{name_of, opening};
+
+use crate::engine::Engine;
+use crate::locked::Locked;
+use crate::name::Name;
+use crate::room::Room;
+use crate::session::Session;
+use std::alloc::{AllocError, Global};
+use std::marker::Model;
+use vll_check::Library;
+use vll_core::{Config, OpenFault, Queue, open_fault};
+use vll_counters::{QueueSeat, SessionSeat, Words};
+use vll_sca::Place;
+
+/// An engine that has no name yet. Contracts see which words it has, and what it was opened with.
+#[derive(Drop)]
+pub struct Opening<H: Place> {
+    words: Words,
+    seat: QueueSeat,
+    queue: Queue<H>,
+    library: Library,
+    sessions: Vec<Session>,
+    room: Room,
+}
+
+impl<H: Place> Model for Opening<H> {
+    ghost use Rattle.vll_proc.specs.contracts.syntax.Expr as expr;
+    ghost use Rattle.vll_proc.specs.contracts.syntax.Stmt as stmt;
+    ghost use Rattle.std.specs.Coded.{codes};
+    ghost use Rattle.vll_engine.specs.Shown.{OpeningShown};
+
+    ghost Value = { OpeningShown H };
+
+    ghost coded = { Prim.hlevel (codes, expr.the_row.coded, stmt.the_row.coded, H.code) };
+
+    ghost use Rattle.vll_engine.specs.Private.Opened.{shown, IsOpening};
+
+    ghost view = { shown };
+
+    ghost invariant = { IsOpening };
+}
+
+impl<H: Place + Drop> Opening<H> {
+    /// An engine over these records in which nothing is entered, with so many clients. The lowest fault that stands
+    /// is answered, as `open_fault` of `vll_core` tells it: `Records`, `Limit`, `Cap` or `Bits`; where none stands,
+    /// `NoMemory` is the only one. All memory of the engine is taken here.
+    pub fn new(
+        alloc: Global,
+        records: Vec<u64>,
+        library: Library,
+        config: Config,
+        hash: H,
+        clients: u32,
+    ) -> Result<Opening<H>, OpenFault>
+        requires records { library.records ≡ length records.items }
+        ensures refused { Refuses (open_fault (length records.items) config) result }
+        ensures opened { IfOk result (λ o. o ≡ opening o.table library records.items config hash clients) }
+    {
+        if let Some(fault) = open_fault(records.len(), config) {
+            return Err(fault);
+        }
+        let queue = Queue::open(alloc, config, hash)?;
+        let room = Room::new(alloc, records.len() as u32)?;
+        let Ok((words, seat, seats)) = Words::open(alloc, records.as_slice(), &library, clients)
+        else {
+            return Err(OpenFault::NoMemory);
+        };
+        let sessions = sessions(alloc, seats)?;
+        Ok(Opening {
+            words,
+            seat,
+            queue,
+            library,
+            sessions,
+            room,
+        })
+    }
+}
+
+impl<H: Place + Send + Drop> Opening<H> {
+    /// The engine, and a session for each client, in order. The name is one that names this opening.
+    pub fn start<N: Name>(self) -> (Engine<N, H>, Vec<Session>)
+        requires named { N.engine ≡ name_of H.place_of self }
+        ensures sessions { AreNewSessions N.engine.table N.engine.clients result.1.items }
+    {
+        let Opening {
+            words,
+            seat,
+            queue,
+            library,
+            sessions,
+            room,
+        } = self;
+        (
+            Engine::new(library, words, Locked::new(queue, seat), room),
+            sessions,
+        )
+    }
+}
+
+// The sessions of these seats, each for the client whose seat it has, in order.
+fn sessions(alloc: Global, seats: Vec<SessionSeat>) -> Result<Vec<Session>, AllocError>
+    requires few { length seats.items < 4294967296 }
+    requires clients { AreClients seats.items }
+    ensures { IfOk result (λ s. s.items ≡ seats.items) }
+{
+    let mut sessions = Vec::with_capacity(alloc, seats.len())?;
+    let mut client = 0;
+    for seat in seats {
+        sessions.push_reserved(Session {
+            client,
+            seat: Some(seat),
+        });
+        client += 1;
+    }
+    Ok(sessions)
+}

@@ -1,0 +1,91 @@
+ghost use Rattle.std.specs.Prelude.{◌≡◌};
+
+use std::marker::Model;
+use vll_core::Ticket;
+use vll_counters::PassSeat;
+use vll_proc::{Call, Reply};
+
+/// The right to execute the call of a ticket, which runs. It is spent by `Engine::execute`, and cannot be dropped
+/// nor used twice. Contracts see what the pass knows.
+pub struct Pass {
+    pub(crate) seat: PassSeat,
+    pub(crate) ticket: Ticket,
+    pub(crate) call: Call,
+}
+
+impl Model for Pass {
+    ghost use Rattle.std.specs.Prelude.{◌≡◌};
+    ghost use Rattle.vll_counters.specs.Shown.{PassShown};
+
+    ghost Value = { PassShown };
+
+    ghost view = { λ p. p.seat };
+
+    ghost invariant = { λ p. (p.seat.pass.ticket ≡ p.ticket) × (p.seat.pass.call ≡ p.call) };
+}
+
+/// A call that was executed and has its claims still. It is spent by `Engine::release`. Contracts see what its pass
+/// knows, and its reply.
+pub struct Done {
+    pub(crate) seat: PassSeat,
+    pub(crate) ticket: Ticket,
+    pub(crate) call: Call,
+    pub(crate) reply: Reply,
+}
+
+impl Model for Done {
+    ghost use Rattle.std.specs.Prelude.{◌≡◌};
+    ghost use Rattle.vll_engine.specs.Pass.{DoneShown};
+
+    ghost Value = { DoneShown };
+
+    ghost view = { λ d. record { table = d.seat.table; pass = d.seat.pass; reply = d.reply } };
+
+    ghost invariant = { λ d. (d.seat.pass.ticket ≡ d.ticket) × (d.seat.pass.call ≡ d.call) };
+}
+
+/// A call that was executed and has released its claims. It is spent by `Engine::finish`. Contracts see what its pass
+/// knows, and its reply.
+pub struct Released {
+    pub(crate) seat: PassSeat,
+    pub(crate) ticket: Ticket,
+    pub(crate) reply: Reply,
+}
+
+impl Model for Released {
+    ghost use Rattle.std.specs.Prelude.{◌≡◌};
+    ghost use Rattle.vll_engine.specs.Pass.{DoneShown};
+
+    ghost Value = { DoneShown };
+
+    ghost view = { λ d. record { table = d.seat.table; pass = d.seat.pass; reply = d.reply } };
+
+    ghost invariant = { λ d. d.seat.pass.ticket ≡ d.ticket };
+}
+
+impl Pass {
+    /// The number of the call in the order of entry, from 0.
+    pub fn ticket(&self) -> Ticket
+        ensures { result ≡ self.now.pass.ticket }
+    {
+        self.ticket
+    }
+}
+
+impl Done {
+    /// The number of the call in the order of entry, from 0.
+    pub fn ticket(&self) -> Ticket
+        ensures { result ≡ self.now.pass.ticket }
+    {
+        self.ticket
+    }
+}
+
+impl Released {
+    /// The number of the call in the order of entry, from 0.
+    pub fn ticket(&self) -> Ticket
+        ensures { result ≡ self.now.pass.ticket }
+    {
+        self.ticket
+    }
+}

@@ -1,0 +1,63 @@
+// What a session is told of its calls.
+ghost use Rattle.std.specs.Prelude.{◌≡◌};
+ghost use Rattle.vll_engine.specs.Shown.{name_of};
+ghost use Rattle.vll_sca.specs.Placing.{placing};
+
+use super::playing::{
+    begins_blocked, begins_free, begins_refused, closes, finishes, is_given, last_of, replies,
+    started,
+};
+use super::procedures::opening;
+use crate::begun::BeginRefusal;
+use crate::name::Name;
+use crate::opening::Opening;
+use std::marker::Brand;
+use std::process::Abort;
+use std::sync::Wait;
+use std::test::*;
+use vll_sca::Placing;
+
+fn reply_comes<N: Name, R: Wait + Abort>(rt: &R, opening: Opening<Placing>)
+    requires { N.engine ≡ name_of placing opening }
+{
+    let (engine, mut sessions) = started::<N>(opening);
+    let mut session = last_of::<N>(rt, &mut sessions);
+    let pass = begins_free(rt, &engine, &mut session, 0, 0);
+    replies(rt, &engine, &mut session, 0, None);
+    finishes(rt, &engine, pass, 1);
+    replies(rt, &engine, &mut session, 0, Some(1));
+    replies(rt, &engine, &mut session, 1, None);
+    closes(rt, engine, sessions, &[1], &[0]);
+}
+
+#[test]
+fn reply_comes_when_the_call_is_finished(rt: HostRuntime) -> Result<(), Fail> {
+    let opening = opening(rt.alloc(), 1, 1, 8, 1)?;
+    reply_comes::<Brand, HostRuntime>(&rt, opening);
+    Ok(())
+}
+
+fn refuses_by_cap_and_limit<N: Name, R: Wait + Abort>(rt: &R, opening: Opening<Placing>)
+    requires { N.engine ≡ name_of placing opening }
+{
+    let (engine, mut sessions) = started::<N>(opening);
+    let mut session = last_of::<N>(rt, &mut sessions);
+    let first = begins_free(rt, &engine, &mut session, 0, 0);
+    begins_blocked(rt, &engine, &mut session, 0, 1);
+    begins_refused(rt, &engine, &mut session, 0, BeginRefusal::Busy);
+    finishes(rt, &engine, first, 1);
+    let second = is_given::<N, R>(rt, engine.next_front(rt), 1);
+    begins_blocked(rt, &engine, &mut session, 0, 2);
+    begins_refused(rt, &engine, &mut session, 0, BeginRefusal::Spent);
+    finishes(rt, &engine, second, 2);
+    let third = is_given::<N, R>(rt, engine.next_front(rt), 2);
+    finishes(rt, &engine, third, 3);
+    closes(rt, engine, sessions, &[3], &[0, 0, 0]);
+}
+
+#[test]
+fn cap_is_busy_and_limit_is_spent(rt: HostRuntime) -> Result<(), Fail> {
+    let opening = opening(rt.alloc(), 1, 3, 1, 1)?;
+    refuses_by_cap_and_limit::<Brand, HostRuntime>(&rt, opening);
+    Ok(())
+}

@@ -1,5 +1,0 @@
-use Rattle.vll_sca.specs.Placing.{placing}
-use Rattle.vll_queue.proofs.tests.schedules.scan_finds_an_unhindered_call.Given as goal
-
-abbrev pub ghosts-runs_past_the_front : goal.ghosts-runs_past_the_front
-ghosts-runs_past_the_front g a = record { library = a.opening.library; records = a.opening.records; config = a.opening.config; places = placing a.opening.hash; clients = a.opening.clients }

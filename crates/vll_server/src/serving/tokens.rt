@@ -1,0 +1,48 @@
+//! The tokens that the workers are handed, and the sessions of those that come back.
+ghost use Rattle.std.specs.Prelude.{◌≡◌, ◌≤◌, ◌<◌, ◌^◌, [], All, IfOk, length, vec_capacity};
+ghost use Rattle.vll_counters.specs.Shown.{AreNewSessions};
+ghost use Rattle.vll_server.specs.Setup.{lists_of};
+ghost use Rattle.vll_server.specs.Private.Serving.{sessions_in, tokens_from};
+
+use crate::limits::MOST_CLIENTS;
+use std::alloc::{AllocError, Global};
+use vll_engine::{Name, Session};
+use vll_proc::Call;
+use vll_workers::Token;
+
+// A token for each client, in order, with its session and its script. The sessions are those with which an engine of
+// this name starts, one for each script, in order.
+pub(crate) fn tokens_of<N: Name>(
+    alloc: Global,
+    sessions: Vec<Session>,
+    scripts: Vec<Vec<Call>>,
+) -> Result<Vec<Token>, AllocError>
+    requires sessions { AreNewSessions N.engine.table (length scripts.items) sessions.items }
+    requires few { length scripts.items ≤ MOST_CLIENTS }
+    requires short { All (λ script. length script.items < 2 ^ 32) scripts.items }
+    ensures { IfOk result (λ tokens. tokens.items ≡ tokens_from N.engine.table 0 (lists_of scripts.items)) }
+{
+    let mut sessions = sessions;
+    let mut scripts = scripts;
+    let mut tokens = Vec::new(alloc);
+    while let Some(script) = scripts.pop() {
+        let client = scripts.len() as u32;
+        let session = sessions.pop().unwrap();
+        tokens.push(Token::new(client, session, script))?;
+    }
+    tokens.reverse();
+    Ok(tokens)
+}
+
+// The tokens' sessions, in the same order, in a list that is empty and has room for them.
+pub(crate) fn into_sessions(tokens: Vec<Token>, room: Vec<Session>) -> Vec<Session>
+    requires empty { room.items ≡ [] }
+    requires room { length tokens.items ≤ vec_capacity room }
+    ensures { result.items ≡ sessions_in tokens.items }
+{
+    let mut sessions = room;
+    for token in tokens {
+        sessions.push_reserved(token.into_session());
+    }
+    sessions
+}

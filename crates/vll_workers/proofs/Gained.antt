@@ -1,0 +1,152 @@
+-- What a token's session gains as its client's calls enter.
+use Rattle.std.proofs.Common.{◌≡◌, ◌≤◌, ℕ, zero, suc, ◌+◌, ◌-◌, ◌==◌, List, [], ◌∷◌, ◌++◌, map, take, drop, get_or, All, Some, slice_get, refl, sym, ap, ◌∙◌, subst, arith, append_assoc, cond}
+use Rattle.std.specs.Prelude.{filter}
+use Rattle.std.proofs.lemmas.Bool.{eq-eqb}
+use Rattle.std.proofs.lemmas.List.{append-nil, map-append}
+use Rattle.std.proofs.lemmas.List.Elements.{filter-append}
+use Rattle.std.proofs.lemmas.Option.{slice_get-get_or}
+use Rattle.vll_proc.specs.declared.call.Call.{Call}
+use Rattle.vll_proc.specs.Serial.{Made}
+use Rattle.vll_core.proofs.Places.{take_next}
+use Rattle.vll_counters.specs.declared.views.SessionView.{SessionView}
+use Rattle.vll_counters.specs.Shown.{SessionShown}
+use Rattle.vll_counters.specs.Views.{Begins, calls_by}
+use Rattle.vll_engine.specs.declared.begun.Begun.{Begun}
+use Rattle.vll_engine.specs.declared.begun.Begun.TheVariants.{Free, Blocked, Refused}
+use Rattle.vll_engine.specs.Begin.{Begins as BeginsWith}
+use Rattle.vll_engine.specs.Sessions.{SawOthers, SawOwn}
+use Rattle.vll_engine.specs.Shown.{Named}
+use Rattle.vll_workers.specs.Private.Begin.{begun_token}
+use Rattle.vll_workers.specs.Shown.{TokenShown}
+use Rattle.vll_workers.specs.Tokens.{Gained, IsOf, calls_between}
+
+-- ---- the calls of one client
+
+calls_by-append : (client : ℕ) (xs ys : List Made) → calls_by client (xs ++ ys) ≡ calls_by client xs ++ calls_by client ys
+calls_by-append client xs ys =
+    ap (λ (l : List Made). map (λ (m : Made). m.1) l) (filter-append (λ (m : Made). m.0 == client) xs ys)
+    ∙ map-append (λ (m : Made). m.1) (filter (λ (m : Made). m.0 == client) xs) (filter (λ (m : Made). m.0 == client) ys)
+
+own_call : (client : ℕ) (call : Call) → calls_by client ((client, call) ∷ []) ≡ call ∷ []
+own_call client call = ap (λ b. map (λ (m : Made). m.1) (cond b ((client, call) ∷ []) [])) (eq-eqb client client refl)
+
+-- ---- the calls of a script between two places
+
+get_drop : {A : Type 0} (xs : List A) (from to : ℕ) (x : A) → from ≤ to → slice_get xs to ≡ Some x → slice_get (drop from xs) (to - from) ≡ Some x
+get_drop xs zero to x le at =
+    let all : to - 0 ≡ to = omega arith in
+    ap (λ (n : ℕ). slice_get xs n) all ∙ at
+get_drop [] (suc from) to x le at = absurd (cc at)
+get_drop (y ∷ ys) (suc from) zero x le at = absurd (omega (arith, le))
+get_drop (y ∷ ys) (suc from) (suc to) x le at =
+    let less : suc to - suc from ≡ to - from = omega arith in
+    ap (λ (n : ℕ). slice_get (drop from ys) n) less ∙ get_drop ys from to x (omega (arith, le)) at
+
+-- one more call of the script has entered
+between_next : (from to : ℕ) (script : List Call) (call : Call) → from ≤ to → slice_get script to ≡ Some call → calls_between from (suc to) script ≡ calls_between from to script ++ call ∷ []
+between_next from to script call le at =
+    let next : suc to - from ≡ (to - from) + 1 = omega (arith, le) in
+    ap (λ (n : ℕ). take n (drop from script)) next ∙ take_next (drop from script) (to - from) call (get_drop script from to call le at)
+
+between_none : (at : ℕ) (script : List Call) → calls_between at at script ≡ []
+between_none at script =
+    let none : at - at ≡ 0 = omega arith in
+    ap (λ (n : ℕ). take n (drop at script)) none
+
+-- ---- what a session has gained
+
+-- a session has gained nothing since it was the same
+gained_none : (g : SessionView) → Gained g g []
+gained_none g = record {
+  begins = ([], sym (append-nil g.seen));
+  own = sym (append-nil (calls_by g.client g.seen));
+}
+
+begins_later : (old now more : List Made) → Begins old now → Begins old (now ++ more)
+begins_later old now more b = (b.0 ++ more, ap (λ (l : List Made). l ++ more) b.1 ∙ append_assoc old b.0 more)
+
+-- calls of others gain it nothing
+gained_others : (old now new : SessionView) (calls : List Call) → Gained old now calls → now.client ≡ old.client → SawOthers now new → Gained old new calls
+gained_others old now new calls gained whose saw = record {
+  begins = subst (Begins old.seen) (sym saw.seen) (begins_later old.seen now.seen saw.others gained.begins);
+  own =
+      ap (calls_by old.client) saw.seen
+      ∙ calls_by-append old.client now.seen saw.others
+      ∙ ap (λ (l : List Call). calls_by old.client now.seen ++ l) (ap (λ (n : ℕ). calls_by n saw.others) (sym whose) ∙ saw.not_own)
+      ∙ append-nil (calls_by old.client now.seen)
+      ∙ gained.own;
+}
+
+-- a call of its own is gained
+gained_own : (old now new : SessionView) (calls : List Call) (call : Call) (ticket : ℕ) → Gained old now calls → now.client ≡ old.client → SawOwn now new call ticket → Gained old new (calls ++ call ∷ [])
+gained_own old now new calls call ticket gained whose saw =
+    let mid : SessionView = record now { seen = now.seen ++ saw.others } in
+    let others : Gained old mid calls = gained_others old now mid calls gained whose (record { client = refl; others = saw.others; not_own = saw.not_own; seen = refl }) in
+    record {
+      begins = subst (Begins old.seen) (sym saw.seen) (begins_later old.seen mid.seen ((now.client, call) ∷ []) others.begins);
+      own =
+          ap (calls_by old.client) saw.seen
+          ∙ calls_by-append old.client mid.seen ((now.client, call) ∷ [])
+          ∙ (λ i. others.own i ++ calls_by old.client ((whose i, call) ∷ []))
+          ∙ ap (λ (l : List Call). (calls_by old.client old.seen ++ calls) ++ l) (own_call old.client call)
+          ∙ append_assoc (calls_by old.client old.seen) calls (call ∷ []);
+    }
+
+-- ---- a token of those that were handed in
+
+same_of : (handed : List TokenShown) (i : ℕ) (t : TokenShown) → slice_get handed i ≡ Some t → IsOf handed t
+same_of handed i t at = record {
+  index = i;
+  old = t;
+  at = at;
+  client = refl;
+  script = refl;
+  on = omega arith;
+  table = refl;
+  whose = refl;
+  gained = subst (Gained t.session.session t.session.session) (sym (between_none t.next t.script)) (gained_none t.session.session);
+}
+
+-- those that were handed in are themselves such
+pub all_of : (handed : List TokenShown) → All (IsOf handed) handed
+all_of handed i d within = same_of handed i (get_or handed i d) (slice_get-get_or handed i d within)
+
+-- its session has seen calls of others enter
+of_others : (handed : List TokenShown) (t : TokenShown) (s : SessionShown) → IsOf handed t → s.table ≡ t.session.table → SawOthers t.session.session s.session → IsOf handed (record t { session = s })
+of_others handed t s of table saw = record {
+  index = of.index;
+  old = of.old;
+  at = of.at;
+  client = of.client;
+  script = of.script;
+  on = of.on;
+  table = table ∙ of.table;
+  whose = saw.client ∙ of.whose;
+  gained = gained_others of.old.session.session t.session.session s.session (calls_between of.old.next t.next of.old.script) of.gained of.whose saw;
+}
+
+-- its next call has entered
+of_own : (handed : List TokenShown) (t : TokenShown) (s : SessionShown) (call : Call) (ticket : ℕ) → IsOf handed t → slice_get t.script t.next ≡ Some call → s.table ≡ t.session.table
+    → SawOwn t.session.session s.session call ticket → IsOf handed (record t { next = suc t.next; session = s })
+of_own handed t s call ticket of next table saw =
+    let at : slice_get of.old.script t.next ≡ Some call = ap (λ (calls : List Call). slice_get calls t.next) (sym of.script) ∙ next in
+    let on : of.old.next ≤ t.next = of.on in
+    record {
+      index = of.index;
+      old = of.old;
+      at = of.at;
+      client = of.client;
+      script = of.script;
+      on = omega (arith, on);
+      table = table ∙ of.table;
+      whose = saw.client ∙ of.whose;
+      gained = subst (Gained of.old.session.session s.session) (sym (between_next of.old.next t.next of.old.script call on at))
+          (gained_own of.old.session.session t.session.session s.session (calls_between of.old.next t.next of.old.script) call ticket of.gained of.whose saw);
+    }
+
+-- its next call has begun, or was refused
+pub of_begun : (e : Named) (handed : List TokenShown) (t new : TokenShown) (call : Call) (begun : Begun) → IsOf handed t → slice_get t.script t.next ≡ Some call
+    → new ≡ begun_token t new.session begun → BeginsWith e t.session.session new.session.session call begun → new.session.table ≡ t.session.table → IsOf handed new
+of_begun e handed t new call (Free pass) of next is begins table = subst (IsOf handed) (sym is) (of_own handed t new.session call pass.pass.ticket of next table begins.0)
+of_begun e handed t new call (Blocked ticket) of next is begins table = subst (IsOf handed) (sym is) (of_own handed t new.session call ticket of next table begins)
+of_begun e handed t new call (Refused why) of next is begins table = subst (IsOf handed) (sym is) (of_others handed t new.session of table begins.0)
