@@ -6,8 +6,8 @@ use vll_proc::{Call, MOST_ARGS, Reason, Reply};
 use vll_record::{Claim, Claims, MOST_CLAIMS, Mode, RecordId};
 use vll_sca::{MOST_BITS, Placing, Status};
 
-// How many calls wait behind as many that run.
-const WAITING: [u32; 4] = [1_000, 4_000, 16_000, 32_768];
+// How many calls wait behind as many that run. Tickets are left for the calls that come and go.
+const WAITING: [u32; 4] = [1_000, 4_000, 16_000, 32_000];
 
 // How many calls are gone between the front and the ten that wait.
 const GONE: [u32; 3] = [0, 1_000, 60_000];
@@ -21,7 +21,14 @@ const REPEATS: u32 = 5;
 // About how many entries are walked over in a measurement.
 const ENTRIES: u32 = 4_000_000;
 
-/// Prints what a scan of the queue costs that finds no call.
+// The most scans of a measurement, since each takes a ticket.
+const SCANS: u32 = 1_000;
+
+// The record of the calls that come and go. No other call claims it.
+const OTHER: u32 = 65_535;
+
+/// Prints what a scan of the queue costs that finds no call. Before each one a call comes and goes, since the queue
+/// would else answer by the scan before; this is in the time.
 pub(crate) fn measure_scans(rt: &(impl CpuClock + Print + AllocGlobal)) -> Result<(), Fault> {
     for waiting in WAITING {
         let mut queue = crowd(rt.alloc(), waiting)?;
@@ -41,17 +48,20 @@ pub(crate) fn measure_scans(rt: &(impl CpuClock + Print + AllocGlobal)) -> Resul
     Ok(())
 }
 
-// The nanoseconds of processor time that a scan takes, which walks over so many entries and finds no call.
+// The nanoseconds of processor time that a scan takes, which walks over so many entries and finds no call, and the call
+// that comes and goes before it.
 fn time_of_scan(
     rt: &impl CpuClock,
     queue: &mut Queue<Placing>,
     entries: u32,
 ) -> Result<u128, Fault> {
-    let scans = ENTRIES / entries.max(1);
+    let scans = SCANS.min(ENTRIES / entries.max(1));
     let mut fastest = u128::MAX;
     for _ in 0..REPEATS {
         let start = rt.thread_cpu_time()?;
         for _ in 0..scans {
+            let ticket = enter(queue, OTHER, true)?;
+            finish(queue, ticket)?;
             if queue.scan().is_some() {
                 return Err(Fault::Found);
             }

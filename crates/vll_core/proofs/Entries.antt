@@ -126,13 +126,13 @@ one_more_waits ss s = by_test (is_waiting s) (sum_by_push (λ (r : Status). cond
     by_test false sum = omega (arith, sum)
 
 -- what a queue shows of its fields
-pub shown_statuses : {H : Type 0} (a : Inside H) (q : Queued H) → IsKept a → kept a ≡ q → statuses q ≡ a.statuses.items
+pub shown_statuses : {H : Type 0} {place : H → ℕ → ℕ} (a : Inside H) (q : Queued H) → IsKept place a → kept a ≡ q → statuses q ≡ a.statuses.items
 shown_statuses a q h is = ap statuses (sym is) ∙ statuses_paired a.journal.items a.statuses.items h.as_many
 
-pub shown_lines : {H : Type 0} (a : Inside H) (q : Queued H) → IsKept a → kept a ≡ q → lines q ≡ a.journal.items
+pub shown_lines : {H : Type 0} {place : H → ℕ → ℕ} (a : Inside H) (q : Queued H) → IsKept place a → kept a ≡ q → lines q ≡ a.journal.items
 shown_lines a q h is = ap lines (sym is) ∙ lines_paired a.journal.items a.statuses.items h.as_many
 
-pub shown_length : {H : Type 0} (a : Inside H) (q : Queued H) → IsKept a → kept a ≡ q → length q.entries ≡ length a.statuses.items
+pub shown_length : {H : Type 0} {place : H → ℕ → ℕ} (a : Inside H) (q : Queued H) → IsKept place a → kept a ≡ q → length q.entries ≡ length a.statuses.items
 shown_length {H} a q h is =
     ap (λ (p : Queued H). length p.entries) (sym is) ∙ length_paired a.journal.items a.statuses.items h.as_many
 
@@ -143,19 +143,19 @@ pub shown_cap : {H : Type 0} (a : Inside H) (q : Queued H) → kept a ≡ q → 
 shown_cap {H} a q is = ap (λ (p : Queued H). p.cap) (sym is)
 
 -- a queue that is not spent has room
-pub shown_room : {H : Type 0} (a : Inside H) (q : Queued H) → IsKept a → kept a ≡ q → length q.entries < q.limit → length a.statuses.items < a.limit
+pub shown_room : {H : Type 0} {place : H → ℕ → ℕ} (a : Inside H) (q : Queued H) → IsKept place a → kept a ≡ q → length q.entries < q.limit → length a.statuses.items < a.limit
 shown_room a q h is unspent = omega (arith, unspent, shown_length a q h is, shown_limit a q is)
 
-pub shown_waiting : {H : Type 0} (a : Inside H) (q : Queued H) → IsKept a → kept a ≡ q → count_by is_waiting (statuses q) ≡ count_by is_waiting a.statuses.items
+pub shown_waiting : {H : Type 0} {place : H → ℕ → ℕ} (a : Inside H) (q : Queued H) → IsKept place a → kept a ≡ q → count_by is_waiting (statuses q) ≡ count_by is_waiting a.statuses.items
 shown_waiting a q h is = ap (count_by is_waiting) (shown_statuses a q h is)
 
 -- a queue that is not busy lets one more wait
-pub shown_idle : {H : Type 0} (a : Inside H) (q : Queued H) → IsKept a → kept a ≡ q → count_by is_waiting (statuses q) < q.cap
+pub shown_idle : {H : Type 0} {place : H → ℕ → ℕ} (a : Inside H) (q : Queued H) → IsKept place a → kept a ≡ q → count_by is_waiting (statuses q) < q.cap
     → count_by is_waiting a.statuses.items < a.cap
 shown_idle a q h is idle = omega (arith, idle, shown_waiting a q h is, shown_cap a q is)
 
 -- each queue that is kept is one
-pub shown_queued : {H : Type 0} (a : Inside H) (q : Queued H) → IsKept a → kept a ≡ q → IsQueued q
+pub shown_queued : {H : Type 0} {place : H → ℕ → ℕ} (a : Inside H) (q : Queued H) → IsKept place a → kept a ≡ q → IsQueued q
 shown_queued {H} a q h is =
     let limit : q.limit ≡ a.limit = shown_limit a q is in
     let cap : q.cap ≡ a.cap = shown_cap a q is in
@@ -184,13 +184,13 @@ lent_item {X} xs ys i r o same lookup is =
     ap (λ (zs : List X). slice_get zs i) (sym same) ∙ (sym (copied_item ys i r lookup) ∙ ap (λ (x : Option (Bor X)). option_copied x) is)
 
 -- the status of what `get` lends at a ticket
-pub shown_item : {H : Type 0} (a : Inside H) (q : Queued H) (ss : List Status) (t u : ℕ) (r : Option (Bor Status)) → IsKept a → kept a ≡ q → ss ≡ a.statuses.items → t ≡ u → IsItemAt ss t r
+pub shown_item : {H : Type 0} {place : H → ℕ → ℕ} (a : Inside H) (q : Queued H) (ss : List Status) (t u : ℕ) (r : Option (Bor Status)) → IsKept place a → kept a ≡ q → ss ≡ a.statuses.items → t ≡ u → IsItemAt ss t r
     → option_copied r ≡ slice_get (statuses q) u
 shown_item a q ss t u r h is same at lookup =
     copied_item ss t r lookup
     ∙ (ap (λ (rs : List Status). slice_get rs t) (same ∙ sym (shown_statuses a q h is)) ∙ ap (slice_get (statuses q)) at)
 
-pub shown_status : {H : Type 0} (a : Inside H) (q : Queued H) (t u : ℕ) (s : Option Status) → IsKept a → kept a ≡ q → t ≡ u → slice_get (statuses q) u ≡ s → slice_get a.statuses.items t ≡ s
+pub shown_status : {H : Type 0} {place : H → ℕ → ℕ} (a : Inside H) (q : Queued H) (t u : ℕ) (s : Option Status) → IsKept place a → kept a ≡ q → t ≡ u → slice_get (statuses q) u ≡ s → slice_get a.statuses.items t ≡ s
 shown_status a q t u s h is same at =
     ap (λ (ss : List Status). slice_get ss t) (sym (shown_statuses a q h is)) ∙ (ap (λ (k : ℕ). slice_get (statuses q) k) same ∙ at)
 

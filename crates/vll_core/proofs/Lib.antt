@@ -23,8 +23,9 @@ pub mod Searching
 pub mod Entries
 pub mod WindowChanges
 pub mod Analysed
-pub mod QueueChanges
 pub mod QueueScan
+pub mod QueueFruitless
+pub mod QueueChanges
 pub mod Proper
 pub mod Fitted
 pub mod FirstWords

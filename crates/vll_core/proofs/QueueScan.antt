@@ -1,5 +1,5 @@
 -- A scan of the window finds what the contention analysis of the whole queue finds, and the window's front is the queue's.
-use Rattle.std.proofs.Common.{◌≡◌, ℕ, ◌+◌, ◌<◌, true, List, [], ◌∷◌, length, map, refl, sym, ap, ◌∙◌, arith, slice_get, get_or, Option, Some, None, suc, zero, zero-add}
+use Rattle.std.proofs.Common.{◌≡◌, ℕ, ◌+◌, ◌<◌, true, List, [], ◌∷◌, length, map, refl, sym, ap, ◌∙◌, arith, slice_get, get_or, Option, Some, None, suc, zero, zero-add, Bool, subst}
 use Rattle.std.specs.List.{position_or_len, enumerate_from}
 use Rattle.std.specs.Option.{option_map}
 use Rattle.std.proofs.lemmas.Bool.{true≢false}
@@ -30,7 +30,7 @@ place_numbered k (e ∷ es) zero within = ap Some (let same : k ≡ k + 0 = omeg
 place_numbered k (e ∷ es) (suc i) within = place_numbered (k + 1) es i (omega (arith, within)) ∙ ap Some (let same : (k + 1) + i ≡ k + suc i = omega arith in same)
 
 -- beside their places, the scan finds the place
-scan_by_place : (place : ℕ → ℕ) (bits : ℕ) (es : List Entry) → scan_numbered place bits (enumerate_from 0 es) ≡ scan place bits es
+pub scan_by_place : (place : ℕ → ℕ) (bits : ℕ) (es : List Entry) → scan_numbered place bits (enumerate_from 0 es) ≡ scan place bits es
 scan_by_place place bits es =
     ap (λ (ds : List Entry). number_of (scan place bits ds)) (entries_numbered 0 es) ∙ by_found (scan place bits es) refl
   where
@@ -42,7 +42,7 @@ scan_by_place place bits es =
     by_found (Some i) is = place_numbered 0 es i (scanned_within place bits es i is) ∙ ap Some (zero-add i)
 
 -- what the contention analysis finds is what a scan of the window finds
-pub found_shown : {H : Type 0} (place : H → ℕ → ℕ) (a : Inside H) (q : Queued H) (o : Option ℕ) → IsKept a → kept a ≡ q
+pub found_shown : {H : Type 0} (place : H → ℕ → ℕ) (a : Inside H) (q : Queued H) (o : Option ℕ) → IsKept place a → kept a ≡ q
     → o ≡ scan_numbered (place a.hash) a.bits a.window.left → found_by place q ≡ o
 found_shown place a q o h is found =
     let es : List Entry = seen a.journal.items a.statuses.items in
@@ -56,7 +56,7 @@ waits_alone Waiting is = refl
 waits_alone Gone is = absurd (true≢false (sym is))
 
 -- the call that is found waits
-pub found_waits : {H : Type 0} (place : H → ℕ → ℕ) (a : Inside H) (q : Queued H) (t : ℕ) → IsKept a → kept a ≡ q
+pub found_waits : {H : Type 0} (place : H → ℕ → ℕ) (a : Inside H) (q : Queued H) (t : ℕ) → IsKept place a → kept a ≡ q
     → found_by place q ≡ Some t → slice_get (statuses q) t ≡ Some Waiting
 found_waits place a q t h is found =
     let es : List Entry = seen a.journal.items a.statuses.items in
@@ -72,17 +72,42 @@ found_waits place a q t h is found =
 pub shown_bits : {H : Type 0} (a : Inside H) (q : Queued H) (bits : ℕ) → kept a ≡ q → bits ≡ a.bits → kept (record a { bits = bits }) ≡ q
 shown_bits a q bits is same = ap (λ (n : ℕ). kept (record a { bits = n })) same ∙ is
 
-statuses_seen : {H : Type 0} (a : Inside H) (q : Queued H) → IsKept a → kept a ≡ q → statuses_of (seen a.journal.items a.statuses.items) ≡ statuses q
+-- a queue stays kept that remembers whether the scan found nothing
+pub kept_scanned : {H : Type 0} {place : H → ℕ → ℕ} (a : Inside H) (q : Queued H) (bits : ℕ) (fruitless : Bool) → IsKept place a → kept a ≡ q → bits ≡ a.bits → found_by place q ≡ None
+    → IsKept place (record a { bits = bits; is_fruitless = fruitless })
+kept_scanned {H} {place} a q bits fruitless h is same none =
+    subst (λ (n : ℕ). IsKept place (record a { bits = n; is_fruitless = fruitless })) (sym same) (record {
+      some_calls = h.some_calls;
+      few_calls = h.few_calls;
+      some_wait = h.some_wait;
+      few_wait = h.few_wait;
+      some_bits = h.some_bits;
+      few_bits = h.few_bits;
+      capped = h.capped;
+      within = h.within;
+      as_many = h.as_many;
+      room = h.room;
+      room_for_lines = h.room_for_lines;
+      room_in_window = h.room_in_window;
+      answered = h.answered;
+      next = h.next;
+      left = h.left;
+      waiting = h.waiting;
+      running = h.running;
+      fruitless = λ _. ap (found_by place) is ∙ none;
+    })
+
+statuses_seen : {H : Type 0} {place : H → ℕ → ℕ} (a : Inside H) (q : Queued H) → IsKept place a → kept a ≡ q → statuses_of (seen a.journal.items a.statuses.items) ≡ statuses q
 statuses_seen a q h is = seen_statuses a.journal.items a.statuses.items h.as_many ∙ sym (shown_statuses a q h is)
 
 -- the window's front is the lowest ticket that is left
-pub shown_front : {H : Type 0} (a : Inside H) (q : Queued H) (o : Option ℕ) (t : ℕ) → IsKept a → kept a ≡ q
+pub shown_front : {H : Type 0} {place : H → ℕ → ℕ} (a : Inside H) (q : Queued H) (o : Option ℕ) (t : ℕ) → IsKept place a → kept a ≡ q
     → o ≡ slice_get (tickets_of a.window.left) 0 → o ≡ Some t → t ≡ position_or_len is_left (statuses q)
 shown_front a q o t h is front some =
     lowest_left 0 (seen a.journal.items a.statuses.items) t (sym (front ∙ ap (λ xs. slice_get (tickets_of xs) 0) h.left) ∙ some)
     ∙ (zero-add _ ∙ ap (λ (ss : List Status). position_or_len is_left ss) (statuses_seen a q h is))
 
-pub shown_no_front : {H : Type 0} (a : Inside H) (q : Queued H) (o : Option ℕ) → IsKept a → kept a ≡ q
+pub shown_no_front : {H : Type 0} {place : H → ℕ → ℕ} (a : Inside H) (q : Queued H) (o : Option ℕ) → IsKept place a → kept a ≡ q
     → o ≡ slice_get (tickets_of a.window.left) 0 → o ≡ None → front_among (statuses q) ≡ None
 shown_no_front a q o h is front none =
     ap front_among (sym (statuses_seen a q h is))

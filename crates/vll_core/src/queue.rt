@@ -29,6 +29,9 @@ pub struct Queue<H: Place> {
     window: Window,
     waiting: u32,
     running: u32,
+    // The last scan found none, and since then no call was removed and none entered that waits. So the next scan would
+    // find none.
+    is_fruitless: bool,
 }
 
 impl<H: Place> Model for Queue<H> {
@@ -43,7 +46,7 @@ impl<H: Place> Model for Queue<H> {
 
     ghost view = { kept };
 
-    ghost invariant = { IsKept };
+    ghost invariant = { IsKept H.place_of };
 }
 
 impl<H: Place + Drop> Queue<H> {
@@ -79,6 +82,7 @@ impl<H: Place + Drop> Queue<H> {
             window,
             waiting: 0,
             running: 0,
+            is_fruitless: false,
         })
     }
 
@@ -165,6 +169,7 @@ impl<H: Place> Queue<H> {
             Status::Running
         } else {
             self.waiting += 1;
+            self.is_fruitless = false;
             Status::Waiting
         };
         self.statuses.push_reserved(status);
@@ -188,12 +193,18 @@ impl<H: Place> Queue<H> {
 
     /// Where the contention analysis finds a waiting call that is in hash conflict with no earlier one that runs or
     /// waits, the first such call begins to run, and its ticket is answered. Else the answer is `None`, and nothing
-    /// changes. It walks over the calls that run or wait, and over no more that are gone. No memory is taken.
+    /// changes. It walks over the calls that run or wait, and over no more that are gone; and over none, where the last
+    /// scan found none and since then no call was removed and none entered that waits. No memory is taken.
     pub fn scan(&mut self) -> Option<Ticket>
         ensures ticket { result ≡ found_by H.place_of self.old }
         ensures scanned { self.new ≡ scanned H.place_of self.old }
     {
-        let ticket = Ticket(self.window.scan(&mut self.bits, &self.hash)?);
+        if self.is_fruitless {
+            return None;
+        }
+        let found = self.window.scan(&mut self.bits, &self.hash);
+        self.is_fruitless = found.is_none();
+        let ticket = Ticket(found?);
         self.start(ticket);
         Some(ticket)
     }
@@ -219,6 +230,7 @@ impl<H: Place> Queue<H> {
         let line = &mut self.journal[index];
         line.reply = Some(reply);
         self.running -= 1;
+        self.is_fruitless = false;
         self.window.remove(ticket.0);
         let left = self.waiting as usize + self.running as usize;
         self.window.shrink(2 * left);

@@ -17,7 +17,7 @@ module _ (place : ℕ → ℕ) (bits : ℕ) where
   may_run_past held entries (i, e) = is_waiting e.status && not (held e || list_any (λ d. holds_back place bits d e) (take i entries))
 
   -- who is held back once an entry is passed
-  abbrev past : (Entry → Bool) → Entry → Entry → Bool
+  abbrev pub past : (Entry → Bool) → Entry → Entry → Bool
   past held e d = held d || holds_back place bits e d
 
   abbrev entries_of : List (ℕ × Entry) → List Entry
@@ -27,7 +27,7 @@ module _ (place : ℕ → ℕ) (bits : ℕ) where
   left_of xs = filter (λ x. not (is_gone x.1.status)) xs
 
   -- the number of the first entry that may run, by recursion
-  abbrev first_number : (Entry → Bool) → List (ℕ × Entry) → Option ℕ
+  abbrev pub first_number : (Entry → Bool) → List (ℕ × Entry) → Option ℕ
   first_number held [] = None
   first_number held ((n, e) ∷ xs) = cond (is_waiting e.status && not (held e || false)) (Some n) (first_number (past held e) xs)
 
@@ -44,7 +44,7 @@ module _ (place : ℕ → ℕ) (bits : ℕ) where
       ap (λ (b : Bool). is_waiting d.status && not b) (or_joined (held d) (holds_back place bits e d) (list_any (λ c. holds_back place bits c d) (take i es)))
 
   -- the recursion finds the number of what a scan finds
-  first_is_scanned : (held : Entry → Bool) (xs : List (ℕ × Entry))
+  pub first_is_scanned : (held : Entry → Bool) (xs : List (ℕ × Entry))
       → number_at xs (position (may_run_past held (entries_of xs)) (enumerate_from 0 (entries_of xs))) ≡ first_number held xs
   first_is_scanned held [] = refl
   first_is_scanned held ((n, e) ∷ xs) = step (first_is_scanned (past held e) xs) (may_run_past held (entries_of ((n, e) ∷ xs)) (0, e)) refl
@@ -62,7 +62,7 @@ module _ (place : ℕ → ℕ) (bits : ℕ) where
           ∙ (rest ∙ sym (ap (λ (b : Bool). cond b (Some n) (first_number (past held e) xs)) is)))
 
   -- who is held back counts by who it is alone
-  held_alike : (h k : Entry → Bool) (xs : List (ℕ × Entry)) → ((d : Entry) → h d ≡ k d) → first_number h xs ≡ first_number k xs
+  pub held_alike : (h k : Entry → Bool) (xs : List (ℕ × Entry)) → ((d : Entry) → h d ≡ k d) → first_number h xs ≡ first_number k xs
   held_alike h k [] same = refl
   held_alike h k ((n, e) ∷ xs) same =
       ap₂ (λ (b : Bool) (o : Option ℕ). cond (is_waiting e.status && not (b || false)) (Some n) o) (same e)

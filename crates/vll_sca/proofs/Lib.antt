@@ -1,5 +1,6 @@
 pub mod Scanning
 pub mod Leaving
+pub mod Fruitless
 pub mod Steps
 pub mod Rows
 pub mod Words

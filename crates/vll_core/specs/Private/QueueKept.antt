@@ -1,5 +1,5 @@
 -- How the queue keeps its entries: lines and statuses by ticket lie in two lists, whose room is taken at the opening, and the window has the entries that are left.
-use Rattle.std.specs.Prelude.{◌≡◌, ◌≤◌, List, [], ◌∷◌, map, length, count_by, vec_capacity}
+use Rattle.std.specs.Prelude.{◌≡◌, ℕ, ◌≤◌, true, List, [], ◌∷◌, map, length, count_by, None, vec_capacity}
 use Rattle.std.specs.List.{enumerate_from}
 use Rattle.vll_sca.specs.declared.status.Status.{Status}
 use Rattle.vll_sca.specs.declared.entry.Entry.{Entry}
@@ -8,7 +8,7 @@ use Rattle.vll_sca.specs.declared.bits.TheConstants.{MOST_BITS}
 use Rattle.vll_core.specs.declared.config.TheConstants.{MOST_CALLS, MOST_WAITING}
 use Rattle.vll_core.specs.declared.line.Line.{Line}
 use Rattle.vll_core.specs.declared.queue.Queue.TheInside.{Inside}
-use Rattle.vll_core.specs.Queue.{QueueEntry, Queued, has_reply, analysed}
+use Rattle.vll_core.specs.Queue.{QueueEntry, Queued, has_reply, analysed, found_by}
 use Rattle.vll_core.specs.Private.Window.{left_of}
 
 -- each line beside its status
@@ -25,8 +25,9 @@ seen ls ss = map analysed (paired ls ss)
 abbrev pub kept : {H : Type 0} → Inside H → Queued H
 kept a = record { cap = a.cap; limit = a.limit; bits = a.bits; hash = a.hash; entries = paired a.journal.items a.statuses.items }
 
--- the window has the entries that are left, the counts are those of the statuses, and there is room up to the limit
-pub record IsKept {H : Type 0} (a : Inside H) : Type 0 where
+-- the window has the entries that are left, the counts are those of the statuses, there is room up to the limit, and the
+-- analysis, by the places that the hash gives to records, finds nothing where the queue remembers a scan that found nothing
+pub record IsKept {H : Type 0} (place : H → ℕ → ℕ) (a : Inside H) : Type 0 where
   pub some_calls : 1 ≤ a.limit
   pub few_calls : a.limit ≤ MOST_CALLS
   pub some_wait : 1 ≤ a.cap
@@ -44,3 +45,4 @@ pub record IsKept {H : Type 0} (a : Inside H) : Type 0 where
   pub left : a.window.left ≡ left_of (enumerate_from 0 (seen a.journal.items a.statuses.items))
   pub waiting : a.waiting ≡ count_by is_waiting a.statuses.items
   pub running : a.running ≡ count_by is_running a.statuses.items
+  pub fruitless : a.is_fruitless ≡ true → found_by place (kept a) ≡ None

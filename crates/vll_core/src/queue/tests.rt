@@ -295,6 +295,86 @@ fn scan_passes_calls_that_are_gone(rt: HostRuntime) -> Result<(), Fail> {
     Ok(())
 }
 
+#[test]
+fn removal_lets_a_scan_find_again(rt: HostRuntime) -> Result<(), Fail> {
+    run(
+        &rt,
+        config(3, 4, 4),
+        &[Steps(&[
+            (Free(0, 0, 0), Some(0)),
+            (Free(0, 0, 1), Some(1)),
+            (Blocked(0, 0, 0), Some(2)),
+            (Blocked(0, 0, 1), Some(3)),
+            (Scan, None),
+            (Scan, None),
+            (Finish(1, 0), Some(1)),
+            (Scan, Some(3)),
+            (Scan, None),
+            (Scan, None),
+            (Finish(3, 0), Some(3)),
+            (Scan, None),
+            (Finish(0, 0), Some(0)),
+            (Scan, Some(2)),
+            (Scan, None),
+        ])],
+    )?;
+    Ok(())
+}
+
+#[test]
+fn blocked_call_lets_a_scan_find_again(rt: HostRuntime) -> Result<(), Fail> {
+    run(
+        &rt,
+        config(4, 5, 4),
+        &[Steps(&[
+            (Free(0, 0, 0), Some(0)),
+            (Blocked(0, 0, 0), Some(1)),
+            (Scan, None),
+            (Blocked(0, 0, 1), Some(2)),
+            (Scan, Some(2)),
+            (Scan, None),
+            (Blocked(0, 0, 0), Some(3)),
+            (Scan, None),
+            (Blocked(0, 0, 2), Some(4)),
+            (Scan, Some(4)),
+            (Scan, None),
+        ])],
+    )?;
+    Ok(())
+}
+
+#[test]
+fn neither_the_front_nor_a_free_call_lets_a_scan_find_again(rt: HostRuntime) -> Result<(), Fail> {
+    run(
+        &rt,
+        config(3, 6, 4),
+        &[
+            Steps(&[
+                (Scan, None),
+                (Free(0, 0, 0), Some(0)),
+                (Scan, None),
+                (Blocked(0, 0, 0), Some(1)),
+                (Blocked(0, 0, 0), Some(2)),
+                (Scan, None),
+                (Front, None),
+                (Scan, None),
+                (Free(0, 0, 3), Some(3)),
+                (Scan, None),
+                (Finish(0, 0), Some(0)),
+                (Front, Some(1)),
+                (Scan, None),
+                (Free(0, 0, 2), Some(4)),
+                (Front, None),
+                (Scan, None),
+            ]),
+            Counts(3, 1),
+            Steps(&[(Finish(1, 0), Some(1)), (Scan, Some(2)), (Scan, None)]),
+            Counts(3, 0),
+        ],
+    )?;
+    Ok(())
+}
+
 // Of the calls behind the running front so many are gone, and then four enter: two that want the front's record, one
 // that runs on another, and one that wants that.
 fn behind_many_that_are_gone(rt: &(impl AllocGlobal + Abort), gone: u16) -> Result<(), OpenFault> {

@@ -1,5 +1,6 @@
 use Rattle.std.proofs.Common.{◌∙◌, ap, sym, Bool, refl, arith, if◌then◌else◌}
-use Rattle.vll_sca.specs.Status.{is_gone}
+use Rattle.std.proofs.lemmas.Bool.{true≢false}
+use Rattle.vll_sca.specs.Status.{is_waiting, is_gone}
 use Rattle.vll_sca.specs.declared.status.Status.TheVariants.{Running, Waiting}
 use Rattle.vll_core.specs.Queue.{is_left}
 use Rattle.vll_core.proofs.Entries.{shown_length, shown_room, shown_idle}
@@ -36,15 +37,15 @@ pub invariant_of-self : goal.invariant_of-self
 invariant_of-self g c =
     elim c.if-free.branch [
       | then-free w ↦
-          kept_counted c.self.inside c.if-free.self-inside c.push_reserved-2.new.self c.push_reserved.new.self c.push.new.self _ _ _ _
+          kept_counted c.self.inside c.if-free.self-inside c.push_reserved-2.new.self c.push_reserved.new.self c.push.new.self _ _ _ _ _
           c.self.invariant (shown_room _ _ c.self.invariant c.self.view_is c.requires.unspent) (shown_idle _ _ c.self.invariant c.self.view_is c.requires.idle)
           w.self-inside-is c.push_reserved-2.ensures.items c.push_reserved-2.ensures.capacity
-          c.push_reserved.ensures.items c.push_reserved.ensures.capacity c.push.ensures refl (ap is_gone w.status-is) (rw w.status-is (omega arith)) (rw w.status-is refl)
+          c.push_reserved.ensures.items c.push_reserved.ensures.capacity c.push.ensures refl (ap is_gone w.status-is) (rw w.status-is (omega arith)) (rw w.status-is refl) (λ is_set. is_set) (λ _. ap is_waiting w.status-is)
       | else-free w ↦
-          kept_counted c.self.inside c.if-free.self-inside c.push_reserved-2.new.self c.push_reserved.new.self c.push.new.self _ _ _ _
+          kept_counted c.self.inside c.if-free.self-inside c.push_reserved-2.new.self c.push_reserved.new.self c.push.new.self _ _ _ _ _
           c.self.invariant (shown_room _ _ c.self.invariant c.self.view_is c.requires.unspent) (shown_idle _ _ c.self.invariant c.self.view_is c.requires.idle)
           w.self-inside-is c.push_reserved-2.ensures.items c.push_reserved-2.ensures.capacity
-          c.push_reserved.ensures.items c.push_reserved.ensures.capacity c.push.ensures refl (ap is_gone w.status-is) (rw w.status-is refl) (rw w.status-is (omega arith))
+          c.push_reserved.ensures.items c.push_reserved.ensures.capacity c.push.ensures refl (ap is_gone w.status-is) (rw w.status-is refl) (rw w.status-is (omega arith)) (λ is_set. absurd (true≢false (sym is_set))) (λ is_set. absurd (true≢false (sym is_set)))
     ]
 
 pub returns-clause-ticket : goal.returns-clause-ticket
@@ -55,11 +56,11 @@ pub returns-clause-entered : goal.returns-clause-entered
 returns-clause-entered g c =
     elim c.if-free.branch [
       | then-free w ↦
-          shown_entered c.self.inside c.if-free.self-inside _ c.push_reserved-2.new.self c.push_reserved.new.self c.push.new.self _ _ _ _ _
+          shown_entered c.self.inside c.if-free.self-inside _ c.push_reserved-2.new.self c.push_reserved.new.self c.push.new.self _ _ _ _ _ _
           c.self.invariant c.self.view_is w.self-inside-is c.push_reserved.ensures.items c.push_reserved-2.ensures.items
           (w.status-is ∙ ap (λ (b : Bool). if b then Running else Waiting) (sym w.if-free.true))
       | else-free w ↦
-          shown_entered c.self.inside c.if-free.self-inside _ c.push_reserved-2.new.self c.push_reserved.new.self c.push.new.self _ _ _ _ _
+          shown_entered c.self.inside c.if-free.self-inside _ c.push_reserved-2.new.self c.push_reserved.new.self c.push.new.self _ _ _ _ _ _
           c.self.invariant c.self.view_is w.self-inside-is c.push_reserved.ensures.items c.push_reserved-2.ensures.items
           (w.status-is ∙ ap (λ (b : Bool). if b then Running else Waiting) (sym w.if-free.false))
     ]
