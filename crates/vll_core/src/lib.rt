@@ -10,6 +10,7 @@ mod machine;
 mod opening;
 mod queue;
 mod refusal;
+mod room;
 mod seen;
 mod ticket;
 mod work;

@@ -1,4 +1,7 @@
-use vll_proc::{Call, Reply};
+ghost use Rattle.std.specs.Prelude.{◌≡◌, [], None};
+
+use vll_proc::{Call, MOST_ARGS, Reply};
+use vll_record::{Claims, MOST_CLAIMS};
 
 /// A call in the order of entry, with the client that entered it, and its reply once it is finished.
 #[derive(Clone, Copy)]
@@ -6,4 +9,25 @@ pub struct Line {
     pub client: u32,
     pub call: Call,
     pub reply: Option<Reply>,
+}
+
+impl Line {
+    /// A line of a call that claims nothing, without a reply. Room for lines is filled with it.
+    pub(crate) fn blank() -> Line
+        ensures claims { result.call.claims ≡ [] }
+        ensures reply { result.reply ≡ None }
+    {
+        let call = Call {
+            number: 0,
+            arg_count: 0,
+            args: [0; MOST_ARGS],
+            claims: Claims::new(),
+            cells: [0; MOST_CLAIMS],
+        };
+        Line {
+            client: 0,
+            call,
+            reply: None,
+        }
+    }
 }

@@ -15,6 +15,7 @@ use crate::line::Line;
 use crate::opening::open_fault;
 use crate::queue::Queue;
 use crate::refusal::Refusal;
+use crate::room::list_with_room;
 use crate::seen::Seen;
 use crate::ticket::Ticket;
 use crate::work::Work;
@@ -117,7 +118,7 @@ impl<H: Place + Drop> Machine<H> {
     {
         let queue = Queue::with_room(alloc, config, hash)?;
         let words = words_of(alloc, records)?;
-        let work = Vec::with_capacity(alloc, config.limit as usize)?;
+        let work = list_with_room(alloc, config.limit as usize, Work::blank())?;
         let next = vec![in alloc; 0; scripts.len()].map_err(|_| AllocError)?;
         Ok(Machine {
             library: Snapshot::of(library),

@@ -9,6 +9,7 @@ use crate::config::{Config, OpenFault};
 use crate::line::Line;
 use crate::opening::config_fault;
 use crate::queue::window::Window;
+use crate::room::list_with_room;
 use crate::ticket::Ticket;
 use std::alloc::{AllocError, Global};
 use std::marker::Model;
@@ -50,8 +51,9 @@ impl<H: Place> Model for Queue<H> {
 }
 
 impl<H: Place + Drop> Queue<H> {
-    /// A queue in which nothing is entered, with room for `limit` calls. The lowest fault that stands is answered:
-    /// `Limit`, `Cap` or `Bits`, before any memory is asked for; where none stands, `NoMemory` is the only one.
+    /// A queue in which nothing is entered, with room for `limit` calls, each place of which is written once, so that
+    /// the system has mapped it before the first call. The lowest fault that stands is answered: `Limit`, `Cap` or
+    /// `Bits`, before any memory is asked for; where none stands, `NoMemory` is the only one.
     pub fn open(alloc: Global, config: Config, hash: H) -> Result<Queue<H>, OpenFault>
         ensures refused { Refuses (config_fault config) result }
         ensures opened { IfOk result (λ q. q ≡ empty config hash) }
@@ -69,8 +71,8 @@ impl<H: Place + Drop> Queue<H> {
     {
         let bits = Bits::new(alloc, config.bits).map_err(|_| AllocError)?;
         let room = config.limit as usize;
-        let journal = Vec::with_capacity(alloc, room)?;
-        let statuses = Vec::with_capacity(alloc, room)?;
+        let journal = list_with_room(alloc, room, Line::blank())?;
+        let statuses = list_with_room(alloc, room, Status::Gone)?;
         let window = Window::with_room(alloc, config.limit)?;
         Ok(Queue {
             cap: config.cap,

@@ -1,4 +1,4 @@
-ghost use Rattle.std.specs.Prelude.{◌≡◌, ◌+◌, ◌<◌, ◌==◌, ◌&&◌, ◌||◌, ℕ, List, All, Option, Some, None, false, IfSome, length, filter, option_map, option_and_then, slice_get, slice_index};
+ghost use Rattle.std.specs.Prelude.{◌≡◌, ◌+◌, ◌<◌, ◌==◌, ◌&&◌, ◌||◌, ℕ, List, All, Option, Some, None, false, IfSome, length, filter, replicate, option_map, option_and_then, slice_get, slice_index};
 ghost use Rattle.std.specs.Option.{option_map_or};
 ghost use Rattle.vll_record.specs.declared.claim.Claim.{Claim};
 ghost use Rattle.vll_record.specs.Claim.{is_write as writes_record};
@@ -37,15 +37,26 @@ impl Work {
             → All (λ (d : Claim). d.id < length records) call.now.claims
             → IsAtWork procs call.now records result }
     {
-        let mut work = Work {
+        let mut work = Work::blank();
+        work.run_if_loaded(call, procedure);
+        work
+    }
+
+    /// The work of a call of which nothing is done. Room for works is filled with it.
+    pub(crate) fn blank() -> Work
+        ensures loads { result.loads ≡ 0 }
+        ensures stores { result.stores ≡ 0 }
+        ensures releases { result.releases ≡ 0 }
+        ensures frame { result.frame ≡ replicate MOST_CLAIMS 0 }
+        ensures reply { result.reply ≡ None }
+    {
+        Work {
             loads: 0,
             stores: 0,
             releases: 0,
             frame: Frame::new(),
             reply: None,
-        };
-        work.run_if_loaded(call, procedure);
-        work
+        }
     }
 
     /// The claim whose record is to be loaded next. `None` exactly where all loads are made.

@@ -7,8 +7,10 @@ ghost use Rattle.vll_sca.specs.declared.status.Status.TheVariants as Status;
 ghost use Rattle.vll_core.specs.Queue.{is_left};
 ghost use Rattle.vll_core.specs.Private.Window.{no_entries, with_entry, with_status, has_ticket, contains, tickets_of, left_of, statuses_of};
 
+use crate::room::list_with_room;
 use std::alloc::{AllocError, Global};
 use std::marker::Model;
+use vll_record::Claims;
 use vll_sca::{Bits, Entry, Place, Status};
 
 /// The entries that are left, those that run or wait, in order of entry and each with its ticket. A call that is
@@ -43,11 +45,15 @@ impl Window {
     pub(crate) fn with_room(alloc: Global, room: u32) -> Result<Window, AllocError>
         ensures { IfOk result (λ w. w ≡ no_entries room) }
     {
+        let blank = Entry {
+            claims: Claims::new(),
+            status: Status::Gone,
+        };
         Ok(Window {
             room,
             next: 0,
-            tickets: Vec::with_capacity(alloc, room as usize)?,
-            entries: Vec::with_capacity(alloc, room as usize)?,
+            tickets: list_with_room(alloc, room as usize, 0)?,
+            entries: list_with_room(alloc, room as usize, blank)?,
             first: 0,
         })
     }

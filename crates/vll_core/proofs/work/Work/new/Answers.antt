@@ -1,7 +1,6 @@
-use Rattle.std.proofs.Common.{refl}
 use Rattle.vll_core.proofs.AtWork.{loading_first}
 use Rattle.vll_core.proofs.work.Work.new.Goals as goal
 
 pub returns-clause-at_work : goal.returns-clause-at_work
 returns-clause-at_work c = λ procs records is known.
-    c.run_if_loaded.ensures.at_work procs records is known (loading_first c.args.call.now.claims records _ refl c.new.ensures refl)
+    c.run_if_loaded.ensures.at_work procs records is known (loading_first c.args.call.now.claims records _ c.blank-work.ensures.loads c.blank-work.ensures.frame c.blank-work.ensures.reply)
