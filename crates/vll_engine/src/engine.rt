@@ -12,6 +12,7 @@ ghost use Rattle.vll_engine.specs.Shown.{library_of, words_of};
 use crate::begun::Begun;
 use crate::closed::{Closed, NotClosed};
 use crate::execution;
+use crate::hold::Hold;
 use crate::locked::Locked;
 use crate::name::Name;
 use crate::pass::{Done, Pass, Released};
@@ -25,6 +26,7 @@ use vll_proc::{Call, Reply};
 use vll_sca::Place;
 
 /// The engine. Many threads may share it; each call that takes `wait` holds the lock once, and no other call takes it.
+/// `hold` keeps the lock for several calls.
 #[derive(Drop)]
 pub struct Engine<N: Name, H: Place + Send + Drop> {
     library: Library,
@@ -66,6 +68,12 @@ impl<N: Name, H: Place + Send + Drop> Engine<N, H> {
         &self.library
     }
 
+    /// The lock, kept until the hold is dropped: what is called on the hold needs no lock of its own, and no call of
+    /// another thread that needs one comes between.
+    pub fn hold(&self, wait: &impl Wait) -> Hold<'_, N, H> {
+        Hold::new(self.locked.lock(wait), &self.words)
+    }
+
     /// A session's client enters a call, which requests all its claims and gets the next ticket. `Free` with a pass
     /// if every claim was granted, and else `Blocked`; a blocked call keeps its claims. A refusal enters nothing and
     /// takes no claim: `Spent` if as many calls as the limit have entered, `Busy` if that is not so and as many as the
@@ -78,22 +86,14 @@ impl<N: Name, H: Place + Send + Drop> Engine<N, H> {
         ensures given { session.new.session.given ≡ session.old.session.given }
         ensures session { session.new.table ≡ session.old.table }
     {
-        let Some(seat) = session.seat.take() else {
-            unreachable!()
-        };
-        let (begun, seat) = self
-            .locked
-            .lock(wait)
-            .begin(&self.words, seat, session.client, call);
-        session.seat = Some(seat);
-        begun
+        self.hold(wait).begin(session, call)
     }
 
     /// A pass for the lowest ticket that is not gone, if it waits: all before it are gone.
     pub fn next_front(&self, wait: &impl Wait) -> Option<Pass>
         ensures { IfSome result (IsFresh N.engine) }
     {
-        self.locked.lock(wait).next_front(&self.words)
+        self.hold(wait).next_front()
     }
 
     /// A pass for the first waiting ticket that is in hash conflict with no earlier one that runs or waits, by the
@@ -101,7 +101,7 @@ impl<N: Name, H: Place + Send + Drop> Engine<N, H> {
     pub fn next_scan(&self, wait: &impl Wait) -> Option<Pass>
         ensures { IfSome result (IsFresh N.engine) }
     {
-        self.locked.lock(wait).next_scan(&self.words)
+        self.hold(wait).next_scan()
     }
 
     /// Loads each claim's record, runs the body, and stores each Write claim's record unless the call aborts. It takes
@@ -130,7 +130,7 @@ impl<N: Name, H: Place + Send + Drop> Engine<N, H> {
         ensures ticket { result.0 ≡ released.pass.ticket }
         ensures reply { result.1 ≡ released.reply }
     {
-        self.locked.lock(wait).finish(&self.words, released)
+        self.hold(wait).finish(released)
     }
 
     /// The reply in the ticket's line; `None` if there is no such line or it has no reply yet. The session sees all
@@ -143,12 +143,7 @@ impl<N: Name, H: Place + Send + Drop> Engine<N, H> {
         ensures ever { (k : _) → slice_get session.old.session.given k ≡ Some ticket → IsSome result }
         ensures session { (session.new.table ≡ session.old.table) × SawOthers session.old.session session.new.session }
     {
-        let Some(seat) = session.seat.take() else {
-            unreachable!()
-        };
-        let (reply, seat) = self.locked.lock(wait).reply(&self.words, seat, ticket);
-        session.seat = Some(seat);
-        reply
+        self.hold(wait).reply(session, ticket)
     }
 
     /// The records, their pair words and the journal, if no call runs or waits: each line has its reply, the

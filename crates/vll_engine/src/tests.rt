@@ -1,4 +1,5 @@
 mod closing;
+mod holding;
 mod opening;
 mod playing;
 mod procedures;

@@ -52,7 +52,7 @@ pub(super) fn put_back<N: Name>(rt: &impl Abort, sessions: &mut Vec<Session>, se
 }
 
 // The bump of a record.
-fn bump_of(rt: &impl Abort, library: &Library, record: u64) -> Call
+pub(super) fn bump_of(rt: &impl Abort, library: &Library, record: u64) -> Call
     ensures { Fits library.now result }
 {
     match library.call("bump", &[record]) {
@@ -205,7 +205,7 @@ pub(super) fn finishes<N: Name, R: Wait + Abort>(
 }
 
 // The output of a committed call that has one.
-fn output_of(reply: &Reply) -> Option<u64> {
+pub(super) fn output_of(reply: &Reply) -> Option<u64> {
     match reply {
         Reply::Committed(outputs) if outputs.len() == 1 => outputs.get(0),
         _ => None,

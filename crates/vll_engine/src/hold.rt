@@ -1,0 +1,98 @@
+ghost use Rattle.std.specs.Prelude.{◌≡◌, ◌++◌, ◌∷◌, [], IfNone, IfSome, IsSome, Some, slice_get};
+ghost use Rattle.vll_check.specs.Calls.{Fits};
+ghost use Rattle.vll_check.specs.Catalog.{IsCatalog};
+ghost use Rattle.vll_proc.specs.Serial.{answer};
+ghost use Rattle.vll_engine.specs.Begin.{Begins};
+ghost use Rattle.vll_engine.specs.Pass.{IsFresh, IsReleased};
+ghost use Rattle.vll_engine.specs.Sessions.{SawOthers};
+ghost use Rattle.vll_engine.specs.Shown.{library_of, words_of};
+
+use crate::begun::Begun;
+use crate::locked::Locked;
+use crate::name::Name;
+use crate::pass::{Pass, Released};
+use crate::session::Session;
+use std::sync::MutexGuard;
+use vll_core::Ticket;
+use vll_counters::Words;
+use vll_proc::{Call, Reply};
+use vll_sca::Place;
+
+/// An engine's lock, kept for as many calls as a program makes under it: it can finish a call, look for the next that
+/// may run, and begin others, and takes the lock once. The lock is let go when the hold is dropped. Until then each
+/// other thread waits that asks for a hold or makes a call of the engine that takes `wait`, and a thread that does so
+/// under a hold of its own waits forever. `Engine::execute` and `Engine::release` need no hold, and are best called
+/// outside one.
+#[derive(Drop)]
+pub struct Hold<'a, N: Name, H: Place + Send + Drop> {
+    guard: MutexGuard<'a, Locked<N, H>>,
+    words: &'a Words,
+    ghost words_are: { words.now ≡ words_of N.engine },
+    ghost catalog: { IsCatalog (library_of N.engine) },
+}
+
+impl<'a, N: Name, H: Place + Send + Drop> Hold<'a, N, H> {
+    // The hold of a lock that was taken.
+    pub(crate) fn new(guard: MutexGuard<'a, Locked<N, H>>, words: &'a Words) -> Hold<'a, N, H>
+        requires words { words.now ≡ words_of N.engine }
+        requires catalog { IsCatalog (library_of N.engine) }
+    {
+        Hold { guard, words }
+    }
+
+    /// A session's client enters a call, or is refused, as by `Engine::begin`.
+    pub fn begin(&mut self, session: &mut Session, call: Call) -> Begun
+        requires session { session.old.table ≡ N.engine.table }
+        requires fits { Fits (library_of N.engine) call }
+        ensures answer { Begins N.engine session.old.session session.new.session call result }
+        ensures given { session.new.session.given ≡ session.old.session.given }
+        ensures session { session.new.table ≡ session.old.table }
+    {
+        let Some(seat) = session.seat.take() else {
+            unreachable!()
+        };
+        let (begun, seat) = self.guard.begin(self.words, seat, session.client, call);
+        session.seat = Some(seat);
+        begun
+    }
+
+    /// A pass for the lowest ticket that is not gone, if it waits, as by `Engine::next_front`.
+    pub fn next_front(&mut self) -> Option<Pass>
+        ensures { IfSome result (IsFresh N.engine) }
+    {
+        self.guard.next_front(self.words)
+    }
+
+    /// A pass for the ticket that the contention analysis finds, if any, as by `Engine::next_scan`.
+    pub fn next_scan(&mut self) -> Option<Pass>
+        ensures { IfSome result (IsFresh N.engine) }
+    {
+        self.guard.next_scan(self.words)
+    }
+
+    /// The call is gone, and its line gets the reply, as by `Engine::finish`.
+    pub fn finish(&mut self, released: Released) -> (Ticket, Reply)
+        requires released { IsReleased N.engine released }
+        ensures ticket { result.0 ≡ released.pass.ticket }
+        ensures reply { result.1 ≡ released.reply }
+    {
+        self.guard.finish(self.words, released)
+    }
+
+    /// The reply in the ticket's line, if there is one yet, as by `Engine::reply`.
+    pub fn reply(&mut self, session: &mut Session, ticket: Ticket) -> Option<Reply>
+        requires session { session.old.table ≡ N.engine.table }
+        ensures reply { IfSome result (λ reply. answer N.engine.base.procs session.new.session.seen N.engine.base.records ticket ≡ Some reply) }
+        ensures given { IfSome result (λ _. session.new.session.given ≡ session.old.session.given ++ ticket ∷ []) }
+        ensures none { IfNone result (session.new.session.given ≡ session.old.session.given) }
+        ensures ever { (k : _) → slice_get session.old.session.given k ≡ Some ticket → IsSome result }
+        ensures session { (session.new.table ≡ session.old.table) × SawOthers session.old.session session.new.session }
+    {
+        let Some(seat) = session.seat.take() else {
+            unreachable!()
+        };
+        let (reply, seat) = self.guard.reply(self.words, seat, ticket);
+        session.seat = Some(seat);
+        reply
+    }
+}
