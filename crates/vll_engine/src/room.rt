@@ -1,4 +1,4 @@
-ghost use Rattle.std.specs.Prelude.{◌≡◌, IfOk, length};
+ghost use Rattle.std.specs.Prelude.{◌≡◌, ◌≤◌, [], IfOk, vec_capacity};
 
 use std::alloc::{AllocError, Global};
 use std::marker::Model;
@@ -29,8 +29,22 @@ impl Room {
     {
         Ok(Room {
             count,
-            records: Vec::with_capacity(alloc, count as usize)?,
-            pairs: Vec::with_capacity(alloc, count as usize)?,
+            records: touched(alloc, count as usize)?,
+            pairs: touched(alloc, count as usize)?,
         })
     }
+}
+
+// An empty list with room for so many words. Each is written once, since a system may promise memory and look for it
+// only when it is first used.
+fn touched(alloc: Global, count: usize) -> Result<Vec<u64>, AllocError>
+    ensures empty { IfOk result (λ v. v.items ≡ []) }
+    ensures room { IfOk result (λ v. count ≤ vec_capacity v) }
+{
+    let mut words = Vec::with_capacity(alloc, count)?;
+    for _ in 0..count {
+        words.push_reserved(0);
+    }
+    words.clear();
+    Ok(words)
 }
