@@ -1,22 +1,32 @@
 -- Clients of which none stands twice.
-use Rattle.std.proofs.Common.{◌≡◌, ◌<◌, ◌≤◌, ℕ, suc, List, [], ◌∷◌, ◌++◌, false, refl, sym, subst, ◌∙◌, ap, arith, nat_eq}
+use Rattle.std.proofs.Common.{◌≡◌, ◌<◌, ◌≤◌, ℕ, suc, List, [], ◌∷◌, ◌++◌, false, refl, sym, subst, ◌∙◌, ap, arith, nat_eq, length}
 use Rattle.std.specs.Prelude.{All, IsPermutation}
 use Rattle.std.specs.Cmp.{nat_eq_equiv}
 use Rattle.std.specs.List.{IsDistinct, list_any}
-use Rattle.std.specs.List.Sorted.{IsSorted, IsStrictlyIncreasing}
-use Rattle.std.specs.Ordering.{nat_cmp}
+use Rattle.std.specs.List.Sorted.{IsNonDecreasing, IsNonDecreasingBy, IsStrictlyIncreasing}
 use Rattle.std.proofs.lemmas.Bool.Decides.{nat_tests}
-use Rattle.std.proofs.lemmas.List.{map-append}
+use Rattle.std.proofs.lemmas.List.{get_or-map, length-map, map-append}
 use Rattle.std.proofs.lemmas.List.Elements.{All-head, All-push, All-tail, All-weaker}
-use Rattle.std.proofs.lemmas.List.Sorted.{IsNonDecreasingBy-from_sort}
 use Rattle.std.proofs.lemmas.Map.Keys.{IsDistinct-IsPermutation, IsDistinct-from_apart, IsDistinct-push, IsStrictlyIncreasing-from_distinct}
 use Rattle.vll_workers.specs.Shown.{TokenShown}
 use Rattle.vll_workers.specs.Tokens.{clients_of}
 
+-- the clients of tokens in order of their clients
+in_order : (back : List TokenShown) → IsNonDecreasingBy (λ (t : TokenShown). t.client) back → IsNonDecreasing (clients_of back)
+in_order [] up i j d before within = absurd (omega (arith, within))
+in_order (t ∷ ts) up i j d before within =
+    let client = λ (u : TokenShown). u.client in
+    let many : length (clients_of (t ∷ ts)) ≡ length (t ∷ ts) = length-map (t ∷ ts) client in
+    let a = get_or-map client (t ∷ ts) i t d (omega (arith, before, within, many)) in
+    let b = get_or-map client (t ∷ ts) j t d (omega (arith, within, many)) in
+    let u = up i j t before (omega (arith, within, many)) in
+    omega (arith, a, b, u)
+
 -- put in order, they rise
-pub rising : (clients sorted : List ℕ) → IsDistinct nat_eq clients → IsPermutation clients sorted → IsSorted nat_cmp sorted → IsStrictlyIncreasing sorted
-rising clients sorted distinct moved up =
-    IsStrictlyIncreasing-from_distinct sorted (IsNonDecreasingBy-from_sort (λ n. n) sorted up) (IsDistinct-IsPermutation nat_eq nat_eq_equiv.symm clients sorted moved distinct)
+pub rising : (clients : List ℕ) (back : List TokenShown) → IsDistinct nat_eq clients → IsPermutation clients (clients_of back)
+    → IsNonDecreasingBy (λ (t : TokenShown). t.client) back → IsStrictlyIncreasing (clients_of back)
+rising clients back distinct moved up =
+    IsStrictlyIncreasing-from_distinct (clients_of back) (in_order back up) (IsDistinct-IsPermutation nat_eq nat_eq_equiv.symm clients (clients_of back) moved distinct)
 
 other : (n m : ℕ) → n < m → nat_eq n m ≡ false
 other n m less = grind (arith, nat_tests)

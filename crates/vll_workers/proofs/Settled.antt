@@ -1,22 +1,28 @@
 -- The tokens that are found at the end are those that were handed in, and one that has calls left is spent.
-use Rattle.std.proofs.Common.{◌≡◌, List, [], ◌∷◌, ℕ, suc, length, sym, subst, ◌∙◌, ap, ◌⊎◌, inl, inr, ⊎_elim, refl, true, false, ◌==◌}
+use Rattle.std.proofs.Common.{◌≡◌, List, [], ◌∷◌, ℕ, suc, length, nat_eq, ◌⊎◌, inl, inr, ⊎_elim, refl, true, false, ◌==◌}
 use Rattle.std.specs.Prelude.{All, IsPermutation}
-use Rattle.std.specs.List.Sorted.{IsStrictlyIncreasing}
+use Rattle.std.specs.List.{IsDistinct}
+use Rattle.std.specs.List.Sorted.{IsNonDecreasingBy}
 use Rattle.std.proofs.lemmas.Bool.Decides.{eqb_tells}
 use Rattle.std.proofs.lemmas.List.Elements.{All-cons, All-head, All-nil, All-tail}
-use Rattle.std.proofs.lemmas.List.Sorted.{All-permutation}
+use Rattle.std.proofs.lemmas.List.Sorted.{All-permutation, IsPermutation-map, IsPermutation-trans}
+use Rattle.vll_workers.specs.Private.Pool.{AreSame}
 use Rattle.vll_workers.specs.Private.Settled.{IsSettled}
 use Rattle.vll_workers.specs.Shown.{TokenShown}
 use Rattle.vll_workers.specs.Tokens.{AreBack, IsOf, IsThrough, OneIsSpent, clients_of}
+use Rattle.vll_workers.proofs.Distinct.{rising}
+use Rattle.vll_workers.proofs.Same.{permutation}
 
-pub are_back : (handed kept back seen : List TokenShown) (clients : List ℕ) → IsPermutation (clients_of handed) clients → All (IsOf handed) kept → IsPermutation kept back
-    → seen ≡ back → clients_of seen ≡ clients → IsStrictlyIncreasing clients → AreBack handed back
-are_back handed kept back seen clients same own moved is found rising =
-    let of : clients_of back ≡ clients = sym (ap clients_of is) ∙ found in
+-- tokens that have the clients of all, in order of their clients, are those that were handed in
+pub are_back : (handed kept back : List TokenShown) → IsDistinct nat_eq (clients_of handed) → AreSame (clients_of handed) (clients_of kept) → All (IsOf handed) kept
+    → IsPermutation kept back → IsNonDecreasingBy (λ (t : TokenShown). t.client) back → AreBack handed back
+are_back handed kept back distinct same own moved up =
+    let all : IsPermutation (clients_of handed) (clients_of back) =
+    IsPermutation-trans (clients_of handed) (clients_of kept) (clients_of back) (permutation (clients_of handed) (clients_of kept) same) (IsPermutation-map (λ (t : TokenShown). t.client) kept back moved) in
     record {
-      rising = subst IsStrictlyIncreasing (sym of) rising;
-      same = subst (IsPermutation (clients_of handed)) (sym of) same;
-      own = All-permutation (IsOf handed) _ _ moved own;
+      rising = rising (clients_of handed) back distinct all up;
+      same = all;
+      own = All-permutation (IsOf handed) kept back moved own;
     }
 
 -- all are through, or one is spent

@@ -15,12 +15,9 @@ pub enum RunFault {
     /// The engine took no more calls, so that some have not entered. All tokens are back.
     #[error("spent")]
     Spent,
-    /// A client's token is missing at the end.
-    #[error("lost")]
-    Lost,
 }
 
-/// A run that did not end well, and the tokens that were found at its end.
+/// A run that did not end well, and the tokens.
 #[derive(Drop)]
 pub struct RunError {
     pub fault: RunFault,

@@ -33,8 +33,7 @@ pub const MOST_WORKERS: u32 = 64;
 ///
 /// `NoMemory`, and `Spawn` if no thread could be started, hand the tokens back as they came. `Spent` is returned
 /// after all has ended if the engine took no more calls, and hands all tokens back in rising order: one of them has
-/// calls left, and its session has seen as many calls enter as the limit. `Lost`, with the tokens that were found, is
-/// returned before it, if a client's token is missing at the end.
+/// calls left, and its session has seen as many calls enter as the limit.
 pub fn run<
     N: Name + Send + Sync,
     H: Place + Send + Sync + Drop,

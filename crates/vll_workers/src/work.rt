@@ -1,6 +1,8 @@
-ghost use Rattle.std.specs.Prelude.{◌≡◌, IfSome};
+ghost use Rattle.std.specs.Prelude.{◌≡◌, ◌<◌, ◌∷◌, [], IfNone, IfSome};
+ghost use Rattle.crossbeam_queue.specs.Passes.{view};
 ghost use Rattle.vll_engine.specs.Pass.{IsFresh};
-ghost use Rattle.vll_workers.specs.Tokens.{AreFit, IsOf};
+ghost use Rattle.vll_workers.specs.Private.Pool.{AreSame, HasInHand, all_parts};
+ghost use Rattle.vll_workers.specs.Tokens.{AreFit, IsOf, clients_of};
 
 use crate::gate::Gate;
 use crate::pool::Pool;
@@ -16,15 +18,34 @@ use vll_sca::Place;
 pub(crate) struct Work<'a, N: Name, H: Place + Send + Drop, T: Roster, W: Wait, G: Gate> {
     pub(crate) wait: &'a W,
     pub(crate) engine: &'a Engine<N, H>,
-    pub(crate) pool: &'a Mutex<Pool<T>>,
+    pub(crate) pool: &'a Pool<T>,
+    // It is locked until the tokens lie in the pool.
+    pub(crate) door: &'a Mutex<()>,
     pub(crate) gate: &'a G,
 }
 
 impl<'a, N: Name, H: Place + Send + Drop, T: Roster, W: Wait, G: Gate> Work<'a, N, H, T, W, G> {
-    // Works until a round finds nothing to do.
-    pub(crate) fn run(self, worker: Worker<T>) -> Worker<T>
+    // Waits until the tokens lie in the pool, and works until a round finds nothing to do.
+    pub(crate) fn come_and_run(self, worker: Worker<T>) -> Worker<T>
         requires fit { AreFit N.engine T.tokens }
         requires limit { T.limit ≡ N.engine.config.limit }
+        requires hand { HasInHand self.pool.now worker.pass worker.kept }
+        requires part { 0 < (view worker.pass).parts }
+        ensures hand { HasInHand self.entry.pool.now result.pass result.kept }
+        ensures parts { (view result.pass).parts ≡ (view worker.pass).parts }
+    {
+        drop(self.door.lock(self.wait));
+        self.run(worker)
+    }
+
+    // Works until a round finds nothing to do.
+    fn run(self, worker: Worker<T>) -> Worker<T>
+        requires fit { AreFit N.engine T.tokens }
+        requires limit { T.limit ≡ N.engine.config.limit }
+        requires hand { HasInHand self.pool.now worker.pass worker.kept }
+        requires part { 0 < (view worker.pass).parts }
+        ensures hand { HasInHand self.entry.pool.now result.pass result.kept }
+        ensures parts { (view result.pass).parts ≡ (view worker.pass).parts }
     {
         let mut worker = worker;
         for _ in self.wait.forever() {
@@ -35,19 +56,23 @@ impl<'a, N: Name, H: Place + Send + Drop, T: Roster, W: Wait, G: Gate> Work<'a, 
         worker
     }
 
-    // Works on while the pool holds a token.
-    pub(crate) fn run_until_empty(self, worker: Worker<T>) -> Worker<T>
+    // The worker that has all parts works until it keeps all tokens.
+    pub(crate) fn run_to_the_end(self, worker: Worker<T>) -> Worker<T>
         requires fit { AreFit N.engine T.tokens }
         requires limit { T.limit ≡ N.engine.config.limit }
+        requires hand { HasInHand self.pool.now worker.pass worker.kept }
+        requires parts { (view worker.pass).parts ≡ all_parts }
+        ensures { AreSame (clients_of T.tokens) (clients_of result.kept) }
     {
         let mut worker = worker;
         for _ in self.wait.forever() {
-            if self.pool.lock(self.wait).is_empty() {
-                break;
-            }
+            let Some(token) = worker.take_last(self.wait, self.pool) else {
+                return worker;
+            };
+            self.go_on(&mut worker, token);
             worker = self.run(worker);
         }
-        worker
+        unreachable!()
     }
 
     // Finishes the call at the front if it waits. Else a token's next call begins, and is finished if it is free; if
@@ -55,36 +80,40 @@ impl<'a, N: Name, H: Place + Send + Drop, T: Roster, W: Wait, G: Gate> Work<'a, 
     fn round(self, worker: &mut Worker<T>) -> bool
         requires fit { AreFit N.engine T.tokens }
         requires limit { T.limit ≡ N.engine.config.limit }
+        requires hand { HasInHand self.pool.now worker.old.pass worker.old.kept }
+        requires part { 0 < (view worker.old.pass).parts }
+        ensures hand { HasInHand self.entry.pool.now worker.new.pass worker.new.kept }
+        ensures parts { (view worker.new.pass).parts ≡ (view worker.old.pass).parts }
     {
         if let Some(pass) = self.engine.next_front(self.wait) {
             self.finish_call(pass);
             return true;
         }
-        let token = self.pool.lock(self.wait).take();
-        let had_token = token.is_some();
-        match self.begun_or_found(worker, token) {
-            Some(pass) => {
-                self.finish_call(pass);
+        match worker.take(self.wait, self.pool) {
+            Some(token) => {
+                self.go_on(worker, token);
                 true
             }
-            None => had_token,
+            None => self.finish_found(),
         }
     }
 
-    // The pass of the token's next call, if that is free; else that of a call that the scan finds, if any.
-    fn begun_or_found(self, worker: &mut Worker<T>, token: Option<Token>) -> Option<Pass>
+    // Goes on with a token that the worker has in hand: its next call begins, and is finished if it is free; if it is
+    // not, a call is looked for that the scan finds.
+    fn go_on(self, worker: &mut Worker<T>, token: Token)
         requires fit { AreFit N.engine T.tokens }
         requires limit { T.limit ≡ N.engine.config.limit }
-        requires own { IfSome token (IsOf T.tokens) }
-        ensures { IfSome result (IsFresh N.engine) }
+        requires own { IsOf T.tokens token }
+        requires hand { HasInHand self.pool.now worker.old.pass (token ∷ worker.old.kept) }
+        requires part { 0 < (view worker.old.pass).parts }
+        ensures hand { HasInHand self.entry.pool.now worker.new.pass worker.new.kept }
+        ensures parts { (view worker.new.pass).parts ≡ (view worker.old.pass).parts }
     {
-        let begun = match token {
-            Some(token) => self.begin_next(worker, token),
-            None => None,
-        };
-        match begun {
-            Some(pass) => Some(pass),
-            None => self.engine.next_scan(self.wait),
+        match self.begin_next(worker, token) {
+            Some(pass) => self.finish_call(pass),
+            None => {
+                self.finish_found();
+            }
         }
     }
 
@@ -94,26 +123,41 @@ impl<'a, N: Name, H: Place + Send + Drop, T: Roster, W: Wait, G: Gate> Work<'a, 
         requires fit { AreFit N.engine T.tokens }
         requires limit { T.limit ≡ N.engine.config.limit }
         requires own { IsOf T.tokens token }
-        ensures { IfSome result (IsFresh N.engine) }
+        requires hand { HasInHand self.pool.now worker.old.pass (token ∷ worker.old.kept) }
+        requires part { 0 < (view worker.old.pass).parts }
+        ensures pass { IfSome result (IsFresh N.engine) }
+        ensures hand { HasInHand self.entry.pool.now worker.new.pass worker.new.kept }
+        ensures parts { (view worker.new.pass).parts ≡ (view worker.old.pass).parts }
     {
         let mut token = token;
         let Some(call) = token.next_call() else {
-            worker.keep(token);
+            worker.keep(self.pool, token);
             return None;
         };
         match token.begin(self.wait, self.engine, call) {
             Begun::Free(pass) => {
-                self.pool.lock(self.wait).put(token);
+                worker.put(self.wait, self.pool, token);
                 Some(pass)
             }
             Begun::Blocked(_) | Begun::Refused(BeginRefusal::Busy) => {
-                self.pool.lock(self.wait).put(token);
+                worker.put(self.wait, self.pool, token);
                 None
             }
             Begun::Refused(BeginRefusal::Spent) => {
-                worker.keep(token);
+                worker.keep(self.pool, token);
                 None
             }
+        }
+    }
+
+    // Finishes a call that the scan finds. Answers whether there was one.
+    fn finish_found(self) -> bool {
+        match self.engine.next_scan(self.wait) {
+            Some(pass) => {
+                self.finish_call(pass);
+                true
+            }
+            None => false,
         }
     }
 

@@ -61,7 +61,6 @@ fn failed_run_ends_with_1(rt: HostRuntime) -> Result<(), Fail> {
         (ServeFault::Run(RunFault::NoMemory), "vll: run: no memory"),
         (ServeFault::Run(RunFault::Spawn), "vll: run: spawn"),
         (ServeFault::Run(RunFault::Spent), "vll: run: spent"),
-        (ServeFault::Run(RunFault::Lost), "vll: run: lost"),
         (unfinished, "vll: run: unfinished 1 23"),
         (ServeFault::NoMemory, "vll: run: no memory"),
         (ServeFault::Write, "vll: run: write"),

@@ -1,14 +1,16 @@
-ghost use Rattle.std.specs.Prelude.{◌≡◌, All, IfOk, IfErr, nat_eq};
+ghost use Rattle.std.specs.Prelude.{◌≡◌, ◌≤◌, ◌<◌, [], All, IfOk, IfErr, length, nat_eq};
 ghost use Rattle.std.specs.List.{IsDistinct};
+ghost use Rattle.crossbeam_queue.specs.Passes.{view};
+ghost use Rattle.vll_workers.specs.Private.Pool.{AreSame, HasInHand, all_parts};
 ghost use Rattle.vll_workers.specs.Tokens.{AreFit, AreBack, IsThrough, OneIsSpent, clients_of};
 ghost use Rattle.vll_workers.specs.declared.fault.RunFault.TheVariants as RunFault;
 
+use super::MOST_WORKERS;
 use super::ending::outcome_of;
 use super::room::{Room, room_for};
 use super::start::{Ready, start};
 use crate::fault::{RunError, RunFault};
 use crate::gate::Gate;
-use crate::pool::Pool;
 use crate::roster::Roster;
 use crate::token::Token;
 use crate::work::Work;
@@ -25,7 +27,7 @@ pub(super) fn run_named<
     'a,
     N: Name + Send + Sync,
     H: Place + Send + Sync + Drop,
-    T: Roster + Send,
+    T: Roster + Send + Sync,
     R: Threads + Wait + Sync,
     W: Wait + Sync,
     G: Gate + Sync,
@@ -40,6 +42,8 @@ pub(super) fn run_named<
 ) -> Result<Vec<Token>, RunError>
     requires roster { T.tokens ≡ tokens.items }
     requires limit { T.limit ≡ N.engine.config.limit }
+    requires some { 0 < length tokens.items }
+    requires workers { workers ≤ MOST_WORKERS }
     requires fit { AreFit N.engine tokens.items }
     requires distinct { IsDistinct nat_eq (clients_of tokens.items) }
     ensures ok { IfOk result (λ back. AreBack tokens.items back.items × All IsThrough back.items) }
@@ -47,29 +51,26 @@ pub(super) fn run_named<
     ensures spawn { IfErr result (λ e. e.fault ≡ RunFault.Spawn → e.tokens ≡ tokens) }
     ensures spent { IfErr result (λ e. e.fault ≡ RunFault.Spent → AreBack tokens.items e.tokens.items × OneIsSpent N.engine.config.limit e.tokens.items) }
 {
-    let room = match room_for::<T>(alloc, tokens.as_slice(), workers) {
+    let room = match room_for::<T>(alloc, tokens.len(), workers) {
         Ok(room) => room,
         Err(AllocError) => return Err(RunError::new(RunFault::NoMemory, tokens)),
     };
-    let Room {
-        workers,
-        own,
-        clients,
-    } = room;
-    let pool: Mutex<Pool<T>> = Mutex::new(Pool::new(alloc));
-    let ready = Ready {
-        workers,
-        own,
-        tokens,
-    };
+    let Room { pool, own, shelves } = room;
+    let door = Mutex::new(());
     let work = Work {
         wait,
         engine,
         pool: &pool,
+        door: &door,
         gate,
     };
+    let ready = Ready {
+        shelves,
+        own,
+        tokens,
+    };
     match work_through(rt, work, ready) {
-        Ok(worker) => outcome_of(worker, clients.as_slice()),
+        Ok(worker) => outcome_of(worker),
         Err(tokens) => Err(RunError::new(RunFault::Spawn, tokens)),
     }
 }
@@ -80,7 +81,7 @@ fn work_through<
     'a,
     N: Name + Send + Sync,
     H: Place + Send + Sync + Drop,
-    T: Roster + Send,
+    T: Roster + Send + Sync,
     R: Threads + Wait + Sync,
     W: Wait + Sync,
     G: Gate + Sync,
@@ -88,10 +89,15 @@ fn work_through<
     requires roster { T.tokens ≡ ready.tokens.items }
     requires fit { AreFit N.engine T.tokens }
     requires limit { T.limit ≡ N.engine.config.limit }
-    ensures { IfErr result (λ t. t ≡ ready.tokens) }
+    requires kept { ready.own.kept ≡ [] }
+    requires hand { HasInHand work.pool.now ready.own.pass ready.tokens.items }
+    requires workers { length ready.shelves.items ≤ MOST_WORKERS }
+    requires parts { (view ready.own.pass).parts ≡ all_parts }
+    ensures tokens { IfErr result (λ t. t ≡ ready.tokens) }
+    ensures all { IfOk result (λ w. AreSame (clients_of T.tokens) (clients_of w.kept)) }
 {
-    // The workers find the pool locked until all of them are started.
-    let closed = work.pool.lock(work.wait);
+    // The workers find the door locked until all of them are started.
+    let closed = work.door.lock(work.wait);
     let worker = thread::scope(
         thread::scope_env(),
         rt,
@@ -99,8 +105,14 @@ fn work_through<
             requires roster { T.tokens ≡ ready.tokens.items }
             requires fit { AreFit N.engine T.tokens }
             requires limit { T.limit ≡ N.engine.config.limit }
-            ensures { IfErr result (λ t. t ≡ ready.tokens) }
+            requires kept { ready.own.kept ≡ [] }
+            requires hand { HasInHand work.pool.now ready.own.pass ready.tokens.items }
+            requires workers { length ready.shelves.items ≤ MOST_WORKERS }
+            requires parts { (view ready.own.pass).parts ≡ all_parts }
+            ensures tokens { IfErr result (λ t. t ≡ ready.tokens) }
+            ensures hand { IfOk result (λ w. HasInHand work.entry.pool.now w.pass w.kept) }
+            ensures parts { IfOk result (λ w. (view w.pass).parts ≡ all_parts) }
         { start(scope, rt, work, closed, ready, false) },
     )?;
-    Ok(work.run_until_empty(worker))
+    Ok(work.run_to_the_end(worker))
 }

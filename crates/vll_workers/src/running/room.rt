@@ -1,52 +1,38 @@
-ghost use Rattle.std.specs.Prelude.{IfOk, IsPermutation, nat_eq};
-ghost use Rattle.std.specs.List.{IsDistinct};
-ghost use Rattle.std.specs.List.Sorted.{IsStrictlyIncreasing};
-ghost use Rattle.vll_workers.specs.Tokens.{clients_of};
+ghost use Rattle.std.specs.Prelude.{◌≡◌, ◌<◌, [], IfOk, length};
+ghost use Rattle.crossbeam_queue.specs.Passes.{view};
+ghost use Rattle.vll_workers.specs.Private.Pool.{HasInHand, all_parts};
 
+use crate::pool::Pool;
 use crate::roster::Roster;
-use crate::token::Token;
-use crate::worker::Worker;
+use crate::worker::{Shelf, Worker};
 use std::alloc::{AllocError, Global};
 
-// What a run needs memory for: a worker for each thread, one for the calling thread, and the tokens' clients in
-// rising order.
+// What a run needs memory for: the pool, the calling thread's own worker, which has all tokens in hand, and what each
+// other worker keeps.
 pub(super) struct Room<T: Roster> {
-    pub(super) workers: Vec<Worker<T>>,
+    pub(super) pool: Pool<T>,
     pub(super) own: Worker<T>,
-    pub(super) clients: Vec<u32>,
+    pub(super) shelves: Vec<Shelf<T>>,
 }
 
-// The room for the run of these tokens by so many workers.
+// The room for the run of so many tokens by so many workers.
 pub(super) fn room_for<T: Roster>(
     alloc: Global,
-    tokens: &[Token],
+    count: usize,
     workers: u32,
 ) -> Result<Room<T>, AllocError>
-    requires { IsDistinct nat_eq (clients_of tokens.now) }
-    ensures same { IfOk result (λ r. IsPermutation (clients_of tokens.now) r.clients.items) }
-    ensures rising { IfOk result (λ r. IsStrictlyIncreasing r.clients.items) }
+    requires some { 0 < count }
+    requires count { count ≡ length T.tokens }
+    ensures workers { IfOk result (λ r. length r.shelves.items ≡ workers) }
+    ensures kept { IfOk result (λ r. r.own.kept ≡ []) }
+    ensures hand { IfOk result (λ r. HasInHand r.pool r.own.pass T.tokens) }
+    ensures parts { IfOk result (λ r. (view r.own.pass).parts ≡ all_parts) }
 {
-    let mut ready = Vec::with_capacity(alloc, workers as usize)?;
+    let mut shelves = Vec::with_capacity(alloc, workers as usize)?;
     for _ in 0..workers {
-        ready.push_reserved(Worker::new(alloc, tokens.len())?);
+        shelves.push_reserved(Shelf::new(alloc, count)?);
     }
-    Ok(Room {
-        workers: ready,
-        own: Worker::new(alloc, tokens.len())?,
-        clients: clients_in_order(alloc, tokens)?,
-    })
-}
-
-// The tokens' clients, in rising order.
-fn clients_in_order(alloc: Global, tokens: &[Token]) -> Result<Vec<u32>, AllocError>
-    requires { IsDistinct nat_eq (clients_of tokens.now) }
-    ensures same { IfOk result (λ c. IsPermutation (clients_of tokens.now) c.items) }
-    ensures rising { IfOk result (λ c. IsStrictlyIncreasing c.items) }
-{
-    let mut clients = Vec::with_capacity(alloc, tokens.len())?;
-    for token in tokens {
-        clients.push_reserved(token.client());
-    }
-    clients.sort_unstable();
-    Ok(clients)
+    let (pool, pass) = Pool::new(alloc, count)?;
+    let own = Worker::new(Shelf::new(alloc, count)?, pass);
+    Ok(Room { pool, own, shelves })
 }

@@ -1,4 +1,4 @@
-ghost use Rattle.std.specs.Prelude.{◌≡◌, All};
+ghost use Rattle.std.specs.Prelude.{◌≡◌, ◌≤◌, All};
 ghost use Rattle.vll_engine.specs.Pass.{IsFresh};
 ghost use Rattle.vll_engine.specs.Shown.{name_of};
 ghost use Rattle.vll_sca.specs.Placing.{placing};
@@ -8,7 +8,7 @@ use super::procedures::opening;
 use super::tokens::{all_bumping, are_home, bump_of, bumping, closes, output_of, sessions_of};
 use crate::fault::{RunError, RunFault};
 use crate::gate::OpenGate;
-use crate::running::run;
+use crate::running::{MOST_WORKERS, run};
 use std::alloc::Global;
 use std::marker::Brand;
 use std::process::Abort;
@@ -20,35 +20,46 @@ use vll_core::Ticket;
 use vll_engine::{Begun, Engine, Name, Opening, Pass, Session};
 use vll_sca::Placing;
 
-// 4 clients of 1,000 calls on one record, by 8 workers: each call finds what the one before it has left.
+// So many clients of so many calls on one record: each call finds what the one before it has left.
 fn counts<N: Name + Send + Sync, R: Wait + Threads + Abort + Sync>(
     rt: &R,
     alloc: Global,
     opening: Opening<Placing>,
+    clients: u16,
+    times: u16,
+    workers: u32,
 ) -> Result<(), Fail>
-    requires { N.engine ≡ name_of placing opening }
+    requires name { N.engine ≡ name_of placing opening }
+    requires workers { (1 ≤ workers) × (workers ≤ MOST_WORKERS) }
 {
     let (engine, sessions) = opening.start::<N>();
-    let tokens = all_bumping::<N>(rt, alloc, engine.library(), sessions, 1, 1_000)?;
-    let sessions = match run(rt, rt, alloc, &engine, tokens, 8, &OpenGate) {
+    let tokens = all_bumping::<N>(rt, alloc, engine.library(), sessions, 1, u32::from(times))?;
+    let sessions = match run(rt, rt, alloc, &engine, tokens, workers, &OpenGate) {
         Ok(tokens) => {
-            are_home(rt, tokens.as_slice(), 4, 1_000);
+            are_home(rt, tokens.as_slice(), usize::from(clients), u32::from(times));
             sessions_of::<N>(alloc, tokens)?
         }
         Err(_) => panic!(rt; "the run has a fault"),
     };
-    let mut outputs = Vec::with_capacity(alloc, 4_000)?;
-    for output in 1..=4_000u64 {
+    let total = u64::from(clients) * u64::from(times);
+    let mut outputs = Vec::new(alloc);
+    for output in 1..=total {
         outputs.push(output)?;
     }
-    closes(rt, engine, sessions, &[4_000], outputs.as_slice());
+    closes(rt, engine, sessions, &[total], outputs.as_slice());
     Ok(())
 }
 
 #[test]
 fn eight_workers_lose_no_bump(rt: HostRuntime) -> Result<(), Fail> {
     let opening = opening(rt.alloc(), 1, 4_000, 4)?;
-    counts::<Brand, HostRuntime>(&rt, rt.alloc(), opening)
+    counts::<Brand, HostRuntime>(&rt, rt.alloc(), opening, 4, 1_000, 8)
+}
+
+#[test]
+fn many_workers_hand_one_token_on(rt: HostRuntime) -> Result<(), Fail> {
+    let opening = opening(rt.alloc(), 1, 100, 1)?;
+    counts::<Brand, HostRuntime>(&rt, rt.alloc(), opening, 1, 100, 64)
 }
 
 // The first call is held back until the second has its reply, so two threads are at work.

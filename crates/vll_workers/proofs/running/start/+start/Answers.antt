@@ -5,5 +5,5 @@ use Rattle.vll_workers.specs.Tokens.{IsOf}
 use Rattle.vll_workers.proofs.Gained.{all_of}
 use Rattle.vll_workers.proofs.running.start.+start.Goals as goal
 
-pub fill-requires : goal.fill-requires
-fill-requires g t c = subst (λ (tokens : List TokenShown). All (IsOf g.T.Roster.tokens) tokens) c.requires.roster (all_of g.T.Roster.tokens)
+pub put_all-requires-clause-own : goal.put_all-requires-clause-own
+put_all-requires-clause-own g t c = subst (λ (tokens : List TokenShown). All (IsOf g.T.Roster.tokens) tokens) c.requires.roster (all_of g.T.Roster.tokens)

@@ -1,0 +1,5 @@
+use Rattle.vll_workers.proofs.Fair.{begins}
+use Rattle.vll_workers.proofs.pool.Pool.new.Goals as goal
+
+pub ruled-requires-clause-rule : goal.ruled-requires-clause-rule
+ruled-requires-clause-rule g c = begins g.T.Roster.tokens
