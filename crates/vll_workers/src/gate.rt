@@ -1,7 +1,7 @@
 use vll_core::Ticket;
 
-/// What is told of each call that a run executes. Its functions are called outside the engine's lock and outside
-/// the pool's, by the thread that executes the call, so that a call waits as long as they take.
+/// What is told of each call that a run executes. Its functions are called outside the engine's lock, by the thread that
+/// executes the call, so that a call waits as long as they take.
 pub trait Gate {
     /// A call is about to be executed.
     fn before(&self, ticket: Ticket);

@@ -7,8 +7,7 @@ ghost use Rattle.vll_workers.specs.Private.Begin.{begun_token};
 ghost use Rattle.vll_workers.specs.Tokens.{IsThrough};
 
 use std::marker::Model;
-use std::sync::Wait;
-use vll_engine::{Begun, Engine, Name, Session};
+use vll_engine::{Begun, Hold, Name, Session};
 use vll_proc::Call;
 use vll_sca::Place;
 
@@ -90,8 +89,7 @@ impl Token {
     // The next call begins, and counts as entered unless it is refused.
     pub(crate) fn begin<N: Name, H: Place + Send + Drop>(
         &mut self,
-        wait: &impl Wait,
-        engine: &Engine<N, H>,
+        hold: &mut Hold<'_, N, H>,
         call: Call,
     ) -> Begun
         requires session { self.old.session.table ≡ N.engine.table }
@@ -102,7 +100,7 @@ impl Token {
         ensures given { self.new.session.session.given ≡ self.old.session.session.given }
         ensures session { self.new.session.table ≡ self.old.session.table }
     {
-        let begun = engine.begin(wait, &mut self.session, call);
+        let begun = hold.begin(&mut self.session, call);
         if !matches!(&begun, Begun::Refused(_)) {
             self.next += 1;
         }

@@ -1,6 +1,6 @@
 ghost use Rattle.std.specs.Prelude.{◌≡◌, ◌<◌, ◌∷◌, [], IfNone, IfSome};
 ghost use Rattle.crossbeam_queue.specs.Passes.{view};
-ghost use Rattle.vll_engine.specs.Pass.{IsFresh};
+ghost use Rattle.vll_engine.specs.Pass.{IsFresh, IsReleased};
 ghost use Rattle.vll_workers.specs.Private.Pool.{AreSame, HasInHand, all_parts};
 ghost use Rattle.vll_workers.specs.Tokens.{AreFit, IsOf, clients_of};
 
@@ -10,7 +10,7 @@ use crate::roster::Roster;
 use crate::token::Token;
 use crate::worker::Worker;
 use std::sync::{Mutex, Wait};
-use vll_engine::{BeginRefusal, Begun, Engine, Name, Pass};
+use vll_engine::{BeginRefusal, Begun, Engine, Hold, Name, Pass, Released};
 use vll_sca::Place;
 
 // What the workers of a run share.
@@ -24,6 +24,12 @@ pub(crate) struct Work<'a, N: Name, H: Place + Send + Drop, T: Roster, W: Wait, 
     pub(crate) gate: &'a G,
 }
 
+// What a worker has found in a round: a call that may run, if any, and whether there was a token.
+struct Found {
+    pass: Option<Pass>,
+    had_token: bool,
+}
+
 impl<'a, N: Name, H: Place + Send + Drop, T: Roster, W: Wait, G: Gate> Work<'a, N, H, T, W, G> {
     // Waits until the tokens lie in the pool, and works until a round finds nothing to do.
     pub(crate) fn come_and_run(self, worker: Worker<T>) -> Worker<T>
@@ -35,24 +41,32 @@ impl<'a, N: Name, H: Place + Send + Drop, T: Roster, W: Wait, G: Gate> Work<'a, 
         ensures parts { (view result.pass).parts ≡ (view worker.pass).parts }
     {
         drop(self.door.lock(self.wait));
-        self.run(worker)
+        self.run(worker, None)
     }
 
-    // Works until a round finds nothing to do.
-    fn run(self, worker: Worker<T>) -> Worker<T>
+    // Finishes the call that was executed last, if any, and works until a round finds nothing to do.
+    fn run(self, worker: Worker<T>, released: Option<Released>) -> Worker<T>
         requires fit { AreFit N.engine T.tokens }
         requires limit { T.limit ≡ N.engine.config.limit }
+        requires released { IfSome released (IsReleased N.engine) }
         requires hand { HasInHand self.pool.now worker.pass worker.kept }
         requires part { 0 < (view worker.pass).parts }
         ensures hand { HasInHand self.entry.pool.now result.pass result.kept }
         ensures parts { (view result.pass).parts ≡ (view worker.pass).parts }
     {
         let mut worker = worker;
+        let mut released = released;
         for _ in self.wait.forever() {
-            if !self.round(&mut worker) {
+            let Found { pass, had_token } = self.round(&mut worker, released);
+            released = match pass {
+                Some(pass) => Some(self.execute(pass)),
+                None => None,
+            };
+            if released.is_none() && !had_token {
                 break;
             }
         }
+        self.finish(released);
         worker
     }
 
@@ -69,57 +83,82 @@ impl<'a, N: Name, H: Place + Send + Drop, T: Roster, W: Wait, G: Gate> Work<'a, 
             let Some(token) = worker.take_last(self.wait, self.pool) else {
                 return worker;
             };
-            self.go_on(&mut worker, token);
-            worker = self.run(worker);
+            let pass = self.begin_next(&mut worker, &mut self.engine.hold(self.wait), token);
+            let released = match pass {
+                Some(pass) => Some(self.execute(pass)),
+                None => None,
+            };
+            worker = self.run(worker, released);
         }
         unreachable!()
     }
 
-    // Finishes the call at the front if it waits. Else a token's next call begins, and is finished if it is free; if
-    // it is not, or there is no token, a call is looked for that the scan finds. Answers whether there was anything.
-    fn round(self, worker: &mut Worker<T>) -> bool
+    // Under one hold of the engine's lock, the call that was executed last is finished, and one is looked for that may
+    // run.
+    fn round(self, worker: &mut Worker<T>, released: Option<Released>) -> Found
+        requires fit { AreFit N.engine T.tokens }
+        requires limit { T.limit ≡ N.engine.config.limit }
+        requires released { IfSome released (IsReleased N.engine) }
+        requires hand { HasInHand self.pool.now worker.old.pass worker.old.kept }
+        requires part { 0 < (view worker.old.pass).parts }
+        ensures pass { IfSome result.pass (IsFresh N.engine) }
+        ensures hand { HasInHand self.entry.pool.now worker.new.pass worker.new.kept }
+        ensures parts { (view worker.new.pass).parts ≡ (view worker.old.pass).parts }
+    {
+        let mut hold = self.engine.hold(self.wait);
+        let finished = match released {
+            Some(released) => Some(hold.finish(released).0),
+            None => None,
+        };
+        let found = self.find(worker, &mut hold);
+        drop(hold);
+        if let Some(ticket) = finished {
+            self.gate.after(ticket);
+        }
+        found
+    }
+
+    // The call at the front, if it waits. Else a token's next call begins, and it is that one if it is free; if it is
+    // not, or there is no token, it is the one that the scan finds.
+    fn find(self, worker: &mut Worker<T>, hold: &mut Hold<'_, N, H>) -> Found
         requires fit { AreFit N.engine T.tokens }
         requires limit { T.limit ≡ N.engine.config.limit }
         requires hand { HasInHand self.pool.now worker.old.pass worker.old.kept }
         requires part { 0 < (view worker.old.pass).parts }
+        ensures pass { IfSome result.pass (IsFresh N.engine) }
         ensures hand { HasInHand self.entry.pool.now worker.new.pass worker.new.kept }
         ensures parts { (view worker.new.pass).parts ≡ (view worker.old.pass).parts }
     {
-        if let Some(pass) = self.engine.next_front(self.wait) {
-            self.finish_call(pass);
-            return true;
+        if let Some(pass) = hold.next_front() {
+            return Found {
+                pass: Some(pass),
+                had_token: false,
+            };
         }
-        match worker.take(self.wait, self.pool) {
-            Some(token) => {
-                self.go_on(worker, token);
-                true
-            }
-            None => self.finish_found(),
-        }
-    }
-
-    // Goes on with a token that the worker has in hand: its next call begins, and is finished if it is free; if it is
-    // not, a call is looked for that the scan finds.
-    fn go_on(self, worker: &mut Worker<T>, token: Token)
-        requires fit { AreFit N.engine T.tokens }
-        requires limit { T.limit ≡ N.engine.config.limit }
-        requires own { IsOf T.tokens token }
-        requires hand { HasInHand self.pool.now worker.old.pass (token ∷ worker.old.kept) }
-        requires part { 0 < (view worker.old.pass).parts }
-        ensures hand { HasInHand self.entry.pool.now worker.new.pass worker.new.kept }
-        ensures parts { (view worker.new.pass).parts ≡ (view worker.old.pass).parts }
-    {
-        match self.begin_next(worker, token) {
-            Some(pass) => self.finish_call(pass),
-            None => {
-                self.finish_found();
-            }
+        let Some(token) = worker.take(self.wait, self.pool) else {
+            return Found {
+                pass: hold.next_scan(),
+                had_token: false,
+            };
+        };
+        let pass = match self.begin_next(worker, hold, token) {
+            Some(pass) => Some(pass),
+            None => hold.next_scan(),
+        };
+        Found {
+            pass,
+            had_token: true,
         }
     }
 
     // Begins the token's next call, and answers its pass if it is free. The token goes back to the pool, or stays
     // with the worker if no call is left or the engine takes no more.
-    fn begin_next(self, worker: &mut Worker<T>, token: Token) -> Option<Pass>
+    fn begin_next(
+        self,
+        worker: &mut Worker<T>,
+        hold: &mut Hold<'_, N, H>,
+        token: Token,
+    ) -> Option<Pass>
         requires fit { AreFit N.engine T.tokens }
         requires limit { T.limit ≡ N.engine.config.limit }
         requires own { IsOf T.tokens token }
@@ -134,7 +173,7 @@ impl<'a, N: Name, H: Place + Send + Drop, T: Roster, W: Wait, G: Gate> Work<'a, 
             worker.keep(self.pool, token);
             return None;
         };
-        match token.begin(self.wait, self.engine, call) {
+        match token.begin(hold, call) {
             Begun::Free(pass) => {
                 worker.put(self.wait, self.pool, token);
                 Some(pass)
@@ -150,24 +189,22 @@ impl<'a, N: Name, H: Place + Send + Drop, T: Roster, W: Wait, G: Gate> Work<'a, 
         }
     }
 
-    // Finishes a call that the scan finds. Answers whether there was one.
-    fn finish_found(self) -> bool {
-        match self.engine.next_scan(self.wait) {
-            Some(pass) => {
-                self.finish_call(pass);
-                true
-            }
-            None => false,
+    // Finishes a call, if there is one.
+    fn finish(self, released: Option<Released>)
+        requires { IfSome released (IsReleased N.engine) }
+    {
+        if let Some(released) = released {
+            let (ticket, _) = self.engine.finish(self.wait, released);
+            self.gate.after(ticket);
         }
     }
 
-    // Executes a call that may run, up to its reply.
-    fn finish_call(self, pass: Pass)
+    // Executes a call that may run, and releases its claims.
+    fn execute(self, pass: Pass) -> Released
         requires { IsFresh N.engine pass }
+        ensures { IsReleased N.engine result }
     {
         self.gate.before(pass.ticket());
-        let done = self.engine.execute(pass);
-        let (ticket, _) = self.engine.finish(self.wait, self.engine.release(done));
-        self.gate.after(ticket);
+        self.engine.release(self.engine.execute(pass))
     }
 }

@@ -38,7 +38,6 @@ impl<T: Roster> Shelf<T> {
 pub(crate) struct Worker<T: Roster> {
     kept: Vec<Token>,
     pass: PoolPass<T>,
-    of: PhantomData<T>,
 }
 
 impl<T: Roster> Model for Worker<T> {
@@ -64,7 +63,6 @@ impl<T: Roster> Worker<T> {
         Worker {
             kept: shelf.tokens,
             pass,
-            of: PhantomData,
         }
     }
 
@@ -155,7 +153,7 @@ impl<T: Roster> Worker<T> {
         ensures hand { HasInHand pool.now self.new.pass self.new.kept }
         ensures parts { (view self.new.pass).parts ≡ (view self.old.pass).parts + (view other.pass).parts }
     {
-        let Worker { kept, pass, of: _ } = other;
+        let Worker { kept, pass } = other;
         pool.absorb(&mut self.pass, pass);
         for token in kept {
             self.keep(pool, token);

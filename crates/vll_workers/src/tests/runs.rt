@@ -36,7 +36,12 @@ fn counts<N: Name + Send + Sync, R: Wait + Threads + Abort + Sync>(
     let tokens = all_bumping::<N>(rt, alloc, engine.library(), sessions, 1, u32::from(times))?;
     let sessions = match run(rt, rt, alloc, &engine, tokens, workers, &OpenGate) {
         Ok(tokens) => {
-            are_home(rt, tokens.as_slice(), usize::from(clients), u32::from(times));
+            are_home(
+                rt,
+                tokens.as_slice(),
+                usize::from(clients),
+                u32::from(times),
+            );
             sessions_of::<N>(alloc, tokens)?
         }
         Err(_) => panic!(rt; "the run has a fault"),
