@@ -1,0 +1,216 @@
+#!/usr/bin/env python3
+"""Makes random scenarios, the same ones for the same kind, seed and size.
+
+    python3 tools/generate.py replay SEED [--size N]
+    python3 tools/generate.py run SEED [--size N] [--options]
+    python3 tools/generate.py KIND FROM --statistics COUNT [--size N]
+
+The first prints a scenario with a schedule of up to N events, mostly ones that can be taken, the second one with
+up to N calls; with --options it prints the options of 'vll run' that go with the seed instead. With --statistics
+it prints what occurs in the scenarios of COUNT seeds from FROM on, and in what comes of them, and how often.
+"""
+import argparse
+import json
+import random
+import sys
+
+from judging import DEEPEST
+from occurrences import counts_of
+from random_procedures import MOST_KEYS, any_call, any_number, any_procedures
+from replay_model import Machine
+
+SIZES = {'replay': 240, 'run': 60}
+TICKET_WORDS = ['load', 'store', 'release', 'finish']
+LARGEST = 4294967295
+# Enough draws to find an event that can be taken, if there is one.
+TRIES = 20
+
+# Weights of entering (enter, claim and admit), starting (front, scan) and the steps of calls that run: a schedule
+# is made of phases, each with one of these rows.
+PHASES = [
+    {'enter': 4, 'claim': 8, 'admit': 8, 'front': 1, 'scan': 1, 'step': 4},
+    {'enter': 8, 'claim': 8, 'admit': 8, 'front': 0, 'scan': 0, 'step': 1},
+    {'enter': 2, 'claim': 4, 'admit': 4, 'front': 0, 'scan': 2, 'step': 12},
+    {'enter': 0, 'claim': 1, 'admit': 1, 'front': 2, 'scan': 0, 'step': 8},
+    {'enter': 4, 'claim': 6, 'admit': 6, 'front': 0, 'scan': 3, 'step': 2},
+]
+
+# What a refused event is drawn for: each of the reasons of each event, those that seldom hold more often.
+REFUSALS = [
+    ('enter', 'turn open'), ('enter', 'no call'), ('enter', 'spent'), ('enter', 'busy'),
+    ('claim', 'no turn'), ('claim', 'out of step'), ('admit', 'no turn'), ('admit', 'out of step'),
+    ('front', 'turn open'), ('front', 'idle'), ('scan', 'turn open'), ('scan', 'idle'), ('finish', 'turn open'),
+    *((word, 'not running') for word in TICKET_WORDS),
+    *((word, 'out of step') for word in TICKET_WORDS * 4),
+]
+
+
+def any_event(rng, machine, word):
+    """An event of this word, with the number of a client or a ticket where it needs one."""
+    if word == 'enter':
+        clients = len(machine.scripts)
+        return [word, rng.randrange(clients) if clients and rng.random() < 0.9 else rng.choice([clients, LARGEST])]
+    if word in TICKET_WORDS:
+        tickets = len(machine.calls)
+        recent = range(max(0, tickets - 8), tickets)
+        numbers = [*machine.unfinished(), *recent] if rng.random() < 0.9 else [tickets, tickets + 1, LARGEST]
+        return [word, rng.choice(numbers or [0])]
+    return [word]
+
+
+def next_step(machine, ticket):
+    """The event that a running call takes next."""
+    return next(([word, ticket] for word in TICKET_WORDS if machine.refusal([word, ticket]) is None), None)
+
+
+def lawful_event(rng, machine, phase):
+    """An event that can be taken, if one is found."""
+    words = ['claim', 'admit', 'step'] if machine.turn else ['enter', 'front', 'scan', 'step']
+    for word in rng.choices(words, [phase[word] for word in words], k=TRIES):
+        if word == 'step':
+            running = [ticket for ticket in machine.unfinished() if machine.is_running(ticket)]
+            event = next_step(machine, rng.choice(running)) if running else None
+        else:
+            event = any_event(rng, machine, word)
+        if event and machine.refusal(event) is None:
+            return event
+    return None
+
+
+def refused_event(rng, machine):
+    """An event that is refused, for any of the reasons that hold now."""
+    for word, reason in rng.choices(REFUSALS, k=TRIES):
+        for _ in range(3):
+            event = any_event(rng, machine, word)
+            if machine.refusal(event) == reason:
+                return event
+    return ['load', LARGEST]
+
+
+def next_event(rng, machine, phase, refused):
+    """An event that can be taken, if one is found; at times one that is refused, or that may be."""
+    if rng.random() < refused:
+        return refused_event(rng, machine)
+    if machine.waiting() and machine.turn is None and rng.random() < 0.2:
+        return any_event(rng, machine, rng.choice(['scan', 'enter']))
+    return lawful_event(rng, machine, phase)
+
+
+def any_schedule(rng, scenario, size):
+    """A schedule of up to so many events, made along a machine that takes them."""
+    machine = Machine(scenario)
+    refused = rng.choice([0.0, 0.02, 0.05, 0.1, 0.3])
+    schedule = []
+    phase = rng.choice(PHASES[:2])
+    for _ in range(rng.randint(size // 4, size)):
+        if rng.random() < 0.03:
+            phase = rng.choice(PHASES)
+        schedule.append(next_event(rng, machine, phase, refused))
+        if schedule[-1] is None:
+            phase = rng.choice(PHASES)
+            schedule[-1] = next_event(rng, machine, phase, refused) or refused_event(rng, machine)
+        machine.step(schedule[-1])
+    return schedule
+
+
+def add_choices(rng, scenario, calls):
+    """Adds the members that may be absent, but the schedule."""
+    choices = {
+        'cap': [1, 2, 3, 4, 8, 1024, 65536],
+        'bits': [1, 2, 2, 3, 3, 4, 5, 7, rng.randint(8, 4096), 1048576],
+        'limit': [1, rng.randint(1, calls + 1), max(1, calls - 1), calls + 2, 65536],
+        'hash': ['modulo', 'spread', 'spread'],
+    }
+    for member, values in choices.items():
+        if rng.random() < (0.3 if member == 'limit' else 0.7):
+            scenario[member] = rng.choice(values)
+    if rng.random() < 0.15:
+        # the limit and the cap may be reached together
+        scenario['cap'] = rng.randint(1, 4)
+        scenario['limit'] = scenario['cap'] + 1
+
+
+def any_scenario(rng, calls, clients):
+    """A scenario without a schedule, with up to so many calls of up to so many clients."""
+    records = rng.choice([1, 2, 3, 4, 5, 6, 8, 20]) if rng.random() < 0.995 else 4200
+    is_tame = rng.random() < 0.8
+    scenario = {
+        'version': 1,
+        'records': [any_number(rng, is_tame) for _ in range(records)],
+        'procs': any_procedures(rng, records, most_keys=rng.choice([1, 1, 2, 3, MOST_KEYS])),
+        'clients': [[] for _ in range(rng.randint(1, clients) if rng.random() < 0.96 else 0)],
+    }
+    for _ in range(rng.randint(calls // 4, calls) if scenario['clients'] else 0):
+        rng.choice(scenario['clients']).append(any_call(rng, rng.choice(scenario['procs']), records))
+    if rng.random() < 0.1:
+        scenario['clients'].insert(rng.randint(0, len(scenario['clients'])), [])
+    return scenario
+
+
+def replay_scenario(seed, size=SIZES['replay']):
+    """The scenario of a replay, with its schedule."""
+    rng = random.Random(f'replay {seed} {size}')
+    scenario = any_scenario(rng, calls=max(2, size // 4), clients=5)
+    add_choices(rng, scenario, sum(map(len, scenario['clients'])))
+    if rng.random() < 0.96:
+        scenario['schedule'] = any_schedule(rng, scenario, size)
+    return scenario
+
+
+def run_scenario(seed, size=SIZES['run']):
+    """The scenario of a run, and the options that go with it."""
+    rng = random.Random(f'run {seed} {size}')
+    scenario = any_scenario(rng, calls=size, clients=12)
+    add_choices(rng, scenario, sum(map(len, scenario['clients'])))
+    if rng.random() < 0.1:
+        scenario['schedule'] = [['enter', 0], ['scan']]
+    choices = {
+        '--workers': [1, 2, 3, 8, 64],
+        '--cap': [1, 2, 5, 65536],
+        '--bits': [1, 2, 7, 1048576],
+    }
+    options = []
+    for option, values in choices.items():
+        if rng.random() < 0.5:
+            value = rng.choice(values)
+            options += [f'{option}={value}'] if rng.random() < 0.5 else [option, str(value)]
+    return scenario, options
+
+
+def text_of(scenario, seed):
+    """A scenario as JSON text: its members in any order, each on a line of its own, laid out in one of several ways."""
+    rng = random.Random(f'text {seed}')
+    separators = rng.choice([(',', ':'), (', ', ': '), ('\t,', ' :\r\n')])
+    is_escaped = rng.random() < 0.5
+    members = [f'"{name}":{json.dumps(value, separators=separators, ensure_ascii=is_escaped)}'
+               for name, value in scenario.items()]
+    rng.shuffle(members)
+    return '{' + ',\n '.join(members) + '}'
+
+
+def scenario_of(kind, seed, size):
+    """The scenario of a seed, and the options of its run; a replay has none."""
+    return (replay_scenario(seed, size), []) if kind == 'replay' else run_scenario(seed, size)
+
+
+def main():
+    parser = argparse.ArgumentParser(description='Makes random scenarios.')
+    parser.add_argument('kind', choices=SIZES)
+    parser.add_argument('seed', type=int)
+    parser.add_argument('--size', type=int)
+    parser.add_argument('--options', action='store_true')
+    parser.add_argument('--statistics', type=int, metavar='COUNT')
+    words = parser.parse_args()
+    sys.setrecursionlimit(DEEPEST)
+    size = words.size or SIZES[words.kind]
+    if words.statistics is not None:
+        seeds = range(words.seed, words.seed + words.statistics)
+        for name, count in counts_of(words.kind, (scenario_of(words.kind, seed, size) for seed in seeds)).items():
+            print(f'{count:9} {name}')
+    else:
+        scenario, options = scenario_of(words.kind, words.seed, size)
+        print(' '.join(options) if words.options else text_of(scenario, words.seed))
+
+
+if __name__ == '__main__':
+    main()

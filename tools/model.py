@@ -1,0 +1,119 @@
+"""The language of procedures, and what a call does, as docs/SCENARIO.md has it; nothing of the program is used.
+
+A procedure and a call are the objects of the scenario's JSON tree. The judges of runs and of replays, and the
+generator of random scenarios, all take the language's meaning from here.
+"""
+MOST = (1 << 64) - 1
+LOCALS = 8
+
+
+class Aborted(Exception):
+    """A call has met a reason that ends it; the text is the reason."""
+
+
+def at_most(value):
+    if value > MOST:
+        raise Aborted('overflow')
+    return value
+
+
+def difference(left, right):
+    if right > left:
+        raise Aborted('underflow')
+    return left - right
+
+
+def divisor(right):
+    if right == 0:
+        raise Aborted('zero divisor')
+    return right
+
+
+OPERATORS = {
+    'add': lambda left, right: at_most(left + right),
+    'sub': difference,
+    'mul': lambda left, right: at_most(left * right),
+    'div': lambda left, right: left // divisor(right),
+    'rem': lambda left, right: left % divisor(right),
+    'min': min,
+    'max': max,
+    'equal': lambda left, right: int(left == right),
+    'less': lambda left, right: int(left < right),
+}
+
+
+def records_of(procedure, args):
+    """The record of each key of a call, by the key's index."""
+    return [place if at == 'fixed' else args[place] for _, at, place in procedure['keys']]
+
+
+def claims_of(procedure, args):
+    """The claims of a call in rising order of the records: each is a record, and whether it is for writing."""
+    is_for_writing = {}
+    for (mode, _, _), record in zip(procedure['keys'], records_of(procedure, args)):
+        is_for_writing[record] = is_for_writing.get(record, False) or mode == 'write'
+    return sorted(is_for_writing.items())
+
+
+class Body:
+    """Runs the body of one call over the values of its records."""
+
+    def __init__(self, procedure, args, values):
+        self.args = args
+        self.records = records_of(procedure, args)
+        self.held = dict(values)
+        self.locals = [0] * LOCALS
+        self.replies = []
+
+    def value(self, expression):
+        """The value of an expression; operands are evaluated from left to right."""
+        if isinstance(expression, int):
+            return expression
+        word, *parts = expression
+        if word == 'arg':
+            return self.args[parts[0]]
+        if word == 'key':
+            return self.held[self.records[parts[0]]]
+        if word == 'local':
+            return self.locals[parts[0]]
+        if word == 'not':
+            return int(self.value(parts[0]) == 0)
+        left = self.value(parts[0])
+        right = self.value(parts[1])
+        return OPERATORS[word](left, right)
+
+    def run(self, statements):
+        for word, *parts in statements:
+            if word == 'let':
+                self.locals[parts[0]] = self.value(parts[1])
+            elif word == 'set':
+                self.held[self.records[parts[0]]] = self.value(parts[1])
+            elif word == 'if':
+                self.run(parts[1] if self.value(parts[0]) != 0 else parts[2])
+            elif word == 'abort':
+                raise Aborted(f'code {parts[0]}')
+            elif word == 'reply':
+                self.replies.append(self.value(parts[0]))
+            else:
+                raise ValueError(f'there is no statement {word}')
+
+
+def make(procedure, args, values):
+    """Runs a call's body on the values of its records, which are a map from records.
+
+    Answers its reply as it is printed, and the values as they are behind it: an aborted call changes none.
+    """
+    body = Body(procedure, args, values)
+    try:
+        body.run(procedure['body'])
+    except Aborted as reason:
+        return f'aborted {reason}', values
+    return ' '.join(['committed', *map(str, body.replies)]), body.held
+
+
+def make_on(records, procedure, args):
+    """Makes a call on the list of all records, which it changes, and answers its reply as it is printed."""
+    reply, values = make(procedure, args, {record: records[record] for record in records_of(procedure, args)})
+    for record, value in values.items():
+        records[record] = value
+    return reply

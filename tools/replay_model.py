@@ -1,0 +1,250 @@
+#!/usr/bin/env python3
+"""The machine of a replay: takes the steps of a schedule, and tells what 'vll replay' has to print.
+
+    python3 tools/replay_model.py SCENARIO
+
+prints that text. It is written from docs/SCENARIO.md and docs/DEFINITIONS.md, and uses nothing of the program.
+tools/judge_replay.py compares what was printed with it.
+"""
+import sys
+
+from judging import DEEPEST, read_scenario
+from model import claims_of, make
+
+FOR_WRITING = 1 << 32
+SPREAD = 11400714819323198485
+DEFAULTS = {'cap': 1024, 'bits': 4096, 'hash': 'modulo', 'schedule': []}
+
+
+class Call:
+    """A call that is entering or has entered, and how far it is."""
+
+    def __init__(self, client, procedure, args):
+        self.client = client
+        self.procedure = procedure
+        self.args = args
+        self.claims = claims_of(procedure, args)
+        self.written = [record for record, is_for_writing in self.claims if is_for_writing]
+        self.status = 'entering'
+        self.requested = 0
+        self.is_granted = True
+        self.loaded = {}
+        self.stored = 0
+        self.released = 0
+        self.reply = None
+        self.values = None
+
+    def start(self):
+        self.status = 'running'
+        self.run_if_loaded()
+
+    def run_if_loaded(self):
+        """Runs the body once no load is left."""
+        if len(self.loaded) == len(self.claims):
+            self.reply, self.values = make(self.procedure, self.args, self.loaded)
+
+    def has_aborted(self):
+        return self.reply is not None and self.reply.startswith('aborted')
+
+    def has_loads_left(self):
+        return len(self.loaded) < len(self.claims)
+
+    def has_stores_left(self):
+        return not self.has_aborted() and self.stored < len(self.written)
+
+    def has_releases_left(self):
+        return self.released < len(self.claims)
+
+
+class Machine:
+    """Takes events one by one: refusal tells why one cannot be taken where it stands, and take takes it."""
+
+    def __init__(self, scenario):
+        self.scenario = scenario
+        self.procedures = {procedure['name']: procedure for procedure in scenario['procs']}
+        self.scripts = scenario['clients']
+        chosen = DEFAULTS | scenario
+        self.cap = chosen['cap']
+        self.bits = chosen['bits']
+        self.hash = chosen['hash']
+        self.limit = scenario.get('limit', max(1, sum(map(len, self.scripts))))
+        self.values = list(scenario['records'])
+        self.pairs = [0] * len(self.values)
+        self.entered = [0] * len(self.scripts)
+        self.calls = []
+        self.turn = None
+
+    def has_call_left(self, client):
+        return client < len(self.scripts) and self.entered[client] < len(self.scripts[client])
+
+    def is_running(self, ticket):
+        return ticket < len(self.calls) and self.calls[ticket].status == 'running'
+
+    def waiting(self):
+        return sum(call.status == 'waiting' for call in self.calls)
+
+    def unfinished(self):
+        """The tickets of the calls that have not finished, the lowest first."""
+        return [ticket for ticket, call in enumerate(self.calls) if call.status != 'finished']
+
+    def place(self, record):
+        if self.hash == 'spread':
+            record = (record * SPREAD) % (1 << 64) // (1 << 32)
+        return record % self.bits
+
+    def meets(self, one, other):
+        """Whether a claim of the one and a claim of the other have the same place, and one is for writing."""
+        return any(self.place(left) == self.place(right) and (left_writes or right_writes)
+                   for left, left_writes in one.claims for right, right_writes in other.claims)
+
+    def front(self):
+        """The ticket that front starts, if there is one."""
+        for ticket in self.unfinished():
+            return ticket if self.calls[ticket].status == 'waiting' else None
+        return None
+
+    def scan(self):
+        """The ticket that the contention analysis finds, if it finds one."""
+        earlier = []
+        for ticket in self.unfinished():
+            call = self.calls[ticket]
+            if call.status == 'waiting' and not any(self.meets(call, other) for other in earlier):
+                return ticket
+            earlier.append(call)
+        return None
+
+    def refusals(self, word, number):
+        """The reasons for which an event is refused, in their order, each with whether it holds now."""
+        if word in ('enter', 'front', 'scan', 'finish'):
+            yield 'turn open', self.turn is not None
+        if word in ('claim', 'admit'):
+            yield 'no turn', self.turn is None
+        if word in ('load', 'store', 'release', 'finish'):
+            yield 'not running', not self.is_running(number)
+        if word == 'enter':
+            yield 'no call', not self.has_call_left(number)
+            yield 'spent', len(self.calls) == self.limit
+            yield 'busy', self.waiting() == self.cap
+        elif word == 'claim':
+            yield 'out of step', self.turn.requested == len(self.turn.claims)
+        elif word == 'admit':
+            yield 'out of step', self.turn.requested < len(self.turn.claims)
+        elif word == 'front':
+            yield 'idle', self.front() is None
+        elif word == 'scan':
+            yield 'idle', self.scan() is None
+        else:
+            yield 'out of step', self.is_out_of_step(word, self.calls[number])
+
+    def is_out_of_step(self, word, call):
+        """Whether a running call has something else to do than a load, a store, a release or to finish."""
+        if word == 'load':
+            return not call.has_loads_left()
+        if word == 'store':
+            return call.has_loads_left() or not call.has_stores_left()
+        if word == 'release':
+            return call.has_loads_left() or call.has_stores_left() or not call.has_releases_left()
+        return call.has_loads_left() or call.has_stores_left() or call.has_releases_left()
+
+    def refusal(self, event):
+        """The first reason for which an event is refused, if there is one."""
+        word, number = event[0], event[-1]
+        return next((reason for reason, holds in self.refusals(word, number) if holds), None)
+
+    def take(self, event):
+        """Takes an event that is not refused, and answers what is printed of it."""
+        return getattr(self, f'take_{event[0]}')(*event[1:])
+
+    def take_enter(self, client):
+        asked = self.scripts[client][self.entered[client]]
+        self.entered[client] += 1
+        self.turn = Call(client, self.procedures[asked['proc']], asked['args'])
+        return 'opened'
+
+    def take_claim(self):
+        record, is_for_writing = self.turn.claims[self.turn.requested]
+        old = self.pairs[record]
+        is_granted = old == 0 if is_for_writing else old < FOR_WRITING
+        self.pairs[record] += FOR_WRITING if is_for_writing else 1
+        self.turn.requested += 1
+        self.turn.is_granted = self.turn.is_granted and is_granted
+        return f'claimed {old} {"granted" if is_granted else "denied"}'
+
+    def take_admit(self):
+        call, self.turn = self.turn, None
+        ticket = len(self.calls)
+        self.calls.append(call)
+        if call.is_granted:
+            call.start()
+            return f'free {ticket}'
+        call.status = 'waiting'
+        return f'blocked {ticket}'
+
+    def take_front(self):
+        return self.started(self.front())
+
+    def take_scan(self):
+        return self.started(self.scan())
+
+    def started(self, ticket):
+        self.calls[ticket].start()
+        return f'run {ticket}'
+
+    def take_load(self, ticket):
+        call = self.calls[ticket]
+        record, _ = call.claims[len(call.loaded)]
+        value = call.loaded[record] = self.values[record]
+        call.run_if_loaded()
+        return f'loaded {value}'
+
+    def take_store(self, ticket):
+        call = self.calls[ticket]
+        record = call.written[call.stored]
+        self.values[record] = call.values[record]
+        call.stored += 1
+        return 'stored'
+
+    def take_release(self, ticket):
+        call = self.calls[ticket]
+        record, is_for_writing = call.claims[call.released]
+        old = self.pairs[record]
+        self.pairs[record] -= FOR_WRITING if is_for_writing else 1
+        call.released += 1
+        return f'released {old}'
+
+    def take_finish(self, ticket):
+        self.calls[ticket].status = 'finished'
+        return f'replied {self.calls[ticket].reply}'
+
+    def step(self, event):
+        """Takes an event or refuses it, and answers what is printed of it."""
+        reason = self.refusal(event)
+        return self.take(event) if reason is None else f'refused {reason}'
+
+    def outcome(self):
+        """The lines of what stands: the calls that have entered, and the records."""
+        for ticket, call in enumerate(self.calls):
+            told = call.reply if call.status == 'finished' else call.status
+            yield f'call {ticket} client {call.client} {told}'
+        for record, (value, pair) in enumerate(zip(self.values, self.pairs)):
+            yield f'record {record} value {value} pair {pair}'
+
+
+def replay_text(scenario, machine=Machine):
+    """What a replay of a scenario prints."""
+    running = machine(scenario)
+    lines = [f'{number} {running.step(event)}' for number, event in enumerate(scenario.get('schedule', []))]
+    return ''.join(f'{line}\n' for line in [*lines, *running.outcome()])
+
+
+def main(words):
+    if len(words) != 1:
+        print('usage: python3 tools/replay_model.py SCENARIO')
+        return 2
+    sys.setrecursionlimit(DEEPEST)
+    sys.stdout.write(replay_text(read_scenario(words[0])))
+    return 0
+
+
+if __name__ == '__main__':
+    sys.exit(main(sys.argv[1:]))
