@@ -1,4 +1,4 @@
-ghost use Rattle.std.specs.Prelude.{◌≡◌, ◌+◌, ◌*◌, ◌≤◌, ◌∷◌, length, take, slice_index, count_by, vec_capacity, vec_len, IfOk, None, []};
+ghost use Rattle.std.specs.Prelude.{◌≡◌, ◌+◌, ◌*◌, ◌<◌, ◌≤◌, ◌∷◌, length, take, slice_index, count_by, vec_capacity, vec_len, IfOk, None, []};
 ghost use Rattle.std.specs.Mem.Slots.{slots_items, slots_len, IsFull};
 ghost use Rattle.vll_sca.specs.Status.{is_waiting, is_running};
 ghost use Rattle.vll_counters.specs.Laid.{AreLaid};
@@ -17,6 +17,7 @@ use std::alloc::{AllocError, Global};
 use std::marker::Model;
 use std::snapshot::Snapshot;
 use vll_check::Library;
+use vll_record::{RecordId, pair_word};
 
 /// The words: the turn word 0, and each record's value word and pair word. Threads change them in single atomic steps,
 /// each by a seat, and the rule holds between any two steps. Contracts see which words they are, and the procedures
@@ -127,6 +128,14 @@ impl Words {
         let (table, seat) = Table::of_words(alloc, room.as_slice(), &key)?;
         room.clear();
         Ok((Words { table, room }, QueueSeat { seat }))
+    }
+
+    /// A load of the record's pair word, which tells nothing and changes nothing: the word is near when a request comes
+    /// to it soon after.
+    pub fn look(&self, id: RecordId)
+        requires { id < length self.now.base.records }
+    {
+        let _ = self.table.shared.peek(pair_word(id));
     }
 
     /// The words once no turn is open and no call waits or runs: each value is what the entered calls make of the

@@ -1,31 +1,23 @@
 -- What the lock's type keeps where a call begins to run and where one ends.
-use Rattle.std.proofs.Common.{◌≡◌, ℕ, zero, suc, ◌+◌, ◌<◌, Bool, true, false, List, [], ◌∷◌, ◌++◌, map, length, set, take, All, Option, Some, None, slice_get, slice_set, refl, sym, ap, ◌∙◌, subst, arith, ◌⊎◌, inl, inr, ⊎_elim}
-use Rattle.std.specs.List.{position_or_len}
-use Rattle.std.specs.Option.{option_map}
+use Rattle.std.proofs.Common.{◌≡◌, ℕ, zero, suc, ◌<◌, List, [], ◌∷◌, map, Option, Some, None, slice_get, slice_set, refl, sym, ap, ◌∙◌, subst}
 use Rattle.std.proofs.lemmas.List.Elements.{All-set}
-use Rattle.std.proofs.lemmas.Option.{slice_get-map}
-use Rattle.vll_record.specs.Claim.{conflict}
-use Rattle.vll_proc.specs.declared.call.Call.{Call}
 use Rattle.vll_proc.specs.declared.call.Reply.{Reply}
-use Rattle.vll_proc.specs.Serial.{Made, answer, apply, before}
+use Rattle.vll_proc.specs.Serial.{Made, apply, before}
 use Rattle.vll_check.specs.Calls.{Fits}
 use Rattle.vll_sca.specs.declared.status.Status.{Status}
-use Rattle.vll_sca.specs.declared.status.Status.TheVariants.{Running, Waiting, Gone}
-use Rattle.vll_sca.specs.Status.{is_waiting, is_gone}
+use Rattle.vll_sca.specs.declared.status.Status.TheVariants.{Running, Gone}
 use Rattle.vll_core.specs.declared.line.Line.{Line}
-use Rattle.vll_core.specs.State.{Base}
-use Rattle.vll_core.specs.Queue.{QueueEntry, Queued, lines, statuses, changed_at, started, finished}
+use Rattle.vll_core.specs.Queue.{QueueEntry, Queued, lines, changed_at, started, finished}
 use Rattle.vll_core.proofs.Places.{all_at}
 use Rattle.vll_core.proofs.QueueLaws.{lines_started, statuses_started, statuses_finished}
 use Rattle.vll_core.proofs.Entries.{changed_later}
 use Rattle.vll_counters.specs.declared.views.PassView.{PassView}
-use Rattle.vll_counters.specs.Views.{calls_in}
-use Rattle.vll_counters.specs.Shown.{QueueShown, PassShown, after, queue_view, with_pass_given}
+use Rattle.vll_counters.specs.Shown.{QueueShown, after, queue_view, with_pass_given}
 use Rattle.vll_counters.specs.declared.views.TurnView.{TurnView}
-use Rattle.vll_counters.specs.Steps.{finished as ended, reply_of_pass, records_before_pass, new_pass, answered, pass_given}
+use Rattle.vll_counters.specs.Steps.{finished as ended, reply_of_pass, answered, pass_given}
 use Rattle.vll_counters.specs.Told.{KnowsPass}
 use Rattle.vll_engine.specs.Shown.{Named, library_of}
-use Rattle.vll_engine.specs.Pass.{DoneShown, IsOf, IsFresh, IsReleased, IsReply}
+use Rattle.vll_engine.specs.Pass.{DoneShown, IsOf, IsReply}
 use Rattle.vll_engine.specs.Private.Kept.{AreOwn, IsKept}
 
 same_some : {A : Type 0} (a b : A) → ◌≡◌ {A = Option A} (Some a) (Some b) → a ≡ b

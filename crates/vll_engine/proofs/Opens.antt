@@ -1,5 +1,5 @@
 -- The seats of new sessions are those of the clients, in order, and all of the same words.
-use Rattle.std.proofs.Common.{◌≡◌, ℕ, ◌<◌, List, length, Some, All, slice_get, get_or, sym, ap, ◌∙◌, arith}
+use Rattle.std.proofs.Common.{◌≡◌, ℕ, ◌<◌, List, All, get_or, sym, ap, ◌∙◌, arith}
 use Rattle.std.proofs.lemmas.Option.{same_Some, slice_get_within, slice_get-get_or}
 use Rattle.atomic_table.specs.Seated.{TableId}
 use Rattle.vll_counters.specs.Shown.{SessionShown, AreNewSessions}

@@ -1,18 +1,15 @@
 -- The front and the scan find a call that may begin to run, and its pass is a fresh one.
-use Rattle.std.proofs.Common.{◌≡◌, ℕ, zero, suc, ◌+◌, ◌<◌, Bool, true, false, true≢false, not, cond, List, [], ◌∷◌, ◌++◌, map, length, take, All, Option, Some, None, slice_get, refl, sym, ap, ◌∙◌, subst, arith}
+use Rattle.std.proofs.Common.{◌≡◌, ℕ, zero, suc, ◌<◌, Bool, true, false, true≢false, cond, List, [], ◌∷◌, map, length, take, Option, Some, None, slice_get, refl, sym, ap, ◌∙◌, subst, arith}
 use Rattle.std.specs.List.{position}
 use Rattle.std.specs.Option.{option_map}
 use Rattle.std.proofs.lemmas.List.{length-map}
 use Rattle.std.proofs.lemmas.Option.{same_Some, slice_get-map}
 use Rattle.atomic_table.specs.Seated.{TableId}
-use Rattle.vll_record.specs.declared.claim.Claim.{Claim}
 use Rattle.vll_record.specs.Claim.{conflict}
-use Rattle.vll_proc.specs.Serial.{Made}
 use Rattle.vll_check.specs.Calls.{Fits}
 use Rattle.vll_sca.specs.declared.status.Status.{Status}
 use Rattle.vll_sca.specs.declared.status.Status.TheVariants.{Running, Waiting, Gone}
 use Rattle.vll_sca.specs.Status.{is_waiting, is_gone}
-use Rattle.vll_sca.specs.Scan.{scan}
 use Rattle.vll_sca.proofs.Scanning.{position-first, position-next, scanned_within, scanned_waits, scanned_is_clear}
 use Rattle.vll_core.specs.declared.line.Line.{Line}
 use Rattle.vll_core.specs.Queue.{QueueEntry, Queued, lines, statuses, is_left, waiting_ticket, front_among, found_by, analysed, started, started_if}
@@ -23,7 +20,7 @@ use Rattle.vll_counters.specs.Shown.{QueueShown, PassShown, WordsShown}
 use Rattle.vll_counters.specs.Steps.{new_pass}
 use Rattle.vll_counters.specs.Told.{MayStart}
 use Rattle.vll_engine.specs.Shown.{Named, library_of, words_of}
-use Rattle.vll_engine.specs.Pass.{IsOf, IsFresh}
+use Rattle.vll_engine.specs.Pass.{IsFresh}
 use Rattle.vll_engine.specs.Private.Kept.{AreOwn, IsKept}
 
 waits_alone : (s : Status) → is_waiting s ≡ true → s ≡ Waiting

@@ -1,12 +1,11 @@
 -- A pass of an engine, from the moment at which its call may run to its end.
-use Rattle.std.specs.Prelude.{◌≡◌, ℕ, true, length, [], Some, slice_get}
+use Rattle.std.specs.Prelude.{◌≡◌, ℕ, true, length, Some, slice_get}
 use Rattle.atomic_table.specs.Seated.{TableId}
 use Rattle.vll_proc.specs.declared.call.Reply.{Reply}
 use Rattle.vll_proc.specs.Serial.{answer}
 use Rattle.vll_check.specs.Calls.{Fits}
 use Rattle.vll_counters.specs.declared.views.PassView.{PassView}
 use Rattle.vll_counters.specs.Shown.{PassShown}
-use Rattle.vll_counters.specs.Steps.{reply_of_pass}
 use Rattle.vll_counters.specs.Told.{has_stored_pass}
 use Rattle.vll_engine.specs.Shown.{Named, library_of}
 

@@ -13,6 +13,7 @@ use crate::begun::Begun;
 use crate::closed::{Closed, NotClosed};
 use crate::execution;
 use crate::hold::Hold;
+use crate::latch::Latch;
 use crate::locked::Locked;
 use crate::name::Name;
 use crate::pass::{Done, Pass, Released};
@@ -33,6 +34,7 @@ pub struct Engine<N: Name, H: Place + Send + Drop> {
     words: Words,
     locked: Mutex<Locked<N, H>>,
     room: Room,
+    latch: Latch,
     ghost library_is: { library ≡ library_of N.engine },
     ghost catalog: { IsCatalog library },
     ghost words_are: { words ≡ words_of N.engine },
@@ -58,6 +60,7 @@ impl<N: Name, H: Place + Send + Drop> Engine<N, H> {
             words,
             locked: Mutex::new(locked),
             room,
+            latch: Latch::new(),
         }
     }
 
@@ -71,7 +74,16 @@ impl<N: Name, H: Place + Send + Drop> Engine<N, H> {
     /// The lock, kept until the hold is dropped: what is called on the hold needs no lock of its own, and no call of
     /// another thread that needs one comes between.
     pub fn hold(&self, wait: &impl Wait) -> Hold<'_, N, H> {
-        Hold::new(self.locked.lock(wait), &self.words)
+        let latch = self.latch.enter().then_some(&self.latch);
+        Hold::new(self.locked.lock(wait), &self.words, latch)
+    }
+
+    /// A load of the pair word of each record that the call claims, which tells nothing and changes nothing: a call that
+    /// begins soon after finds the words near. It takes no lock.
+    pub fn look(&self, call: &Call)
+        requires { Fits (library_of N.engine) call.now }
+    {
+        execution::look::<N>(&self.words, call);
     }
 
     /// A session's client enters a call, which requests all its claims and gets the next ticket. `Free` with a pass
@@ -162,6 +174,7 @@ impl<N: Name, H: Place + Send + Drop> Engine<N, H> {
             words,
             locked,
             room,
+            latch: _,
         } = self;
         locked.into_inner().close(library, words, room, sessions)
     }

@@ -3,6 +3,7 @@ ghost use Rattle.std.specs.Prelude.{◌≡◌, ◌<◌, ◌≤◌, All, false, l
 ghost use Rattle.vll_record.specs.declared.claim.Claim.{Claim};
 ghost use Rattle.vll_proc.specs.Cells.{Holds};
 ghost use Rattle.vll_proc.specs.Serial.{apply};
+ghost use Rattle.vll_check.specs.Calls.{Fits};
 ghost use Rattle.vll_check.specs.Catalog.{IsCatalog};
 ghost use Rattle.vll_core.specs.State.{is_aborted, writes};
 ghost use Rattle.vll_counters.specs.Shown.{passed};
@@ -16,8 +17,26 @@ use crate::name::Name;
 use crate::pass::{Done, Pass, Released};
 use vll_check::Library;
 use vll_counters::{PassSeat, Words};
-use vll_proc::{Frame, Reply};
+use vll_proc::{Call, Frame, Reply};
 use vll_record::{Claims, MOST_CLAIMS, Mode};
+
+// Looks at the pair word of each record that the call claims.
+pub(crate) fn look<N: Name>(words: &Words, call: &Call)
+    requires words { words.now ≡ words_of N.engine }
+    requires catalog { IsCatalog (library_of N.engine) }
+    requires fits { Fits (library_of N.engine) call.now }
+{
+    look_all(words, &call.claims);
+}
+
+// Looks at the pair word of each claim.
+fn look_all(words: &Words, claims: &Claims)
+    requires there { All (λ (c : Claim). c.id < length words.now.base.records) claims.now }
+{
+    for claim in claims.iter() {
+        words.look(claim.id);
+    }
+}
 
 // The call of a pass makes all its loads, runs its body, and makes all its stores unless it aborts.
 pub(crate) fn execute<N: Name>(words: &Words, library: &Library, pass: Pass) -> Done

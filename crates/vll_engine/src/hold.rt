@@ -8,6 +8,7 @@ ghost use Rattle.vll_engine.specs.Sessions.{SawOthers};
 ghost use Rattle.vll_engine.specs.Shown.{library_of, words_of};
 
 use crate::begun::Begun;
+use crate::latch::Latch;
 use crate::locked::Locked;
 use crate::name::Name;
 use crate::pass::{Pass, Released};
@@ -23,21 +24,30 @@ use vll_sca::Place;
 /// other thread waits that asks for a hold or makes a call of the engine that takes `wait`, and a thread that does so
 /// under a hold of its own waits forever. `Engine::execute` and `Engine::release` need no hold, and are best called
 /// outside one.
-#[derive(Drop)]
 pub struct Hold<'a, N: Name, H: Place + Send + Drop> {
     guard: MutexGuard<'a, Locked<N, H>>,
     words: &'a Words,
+    // The latch, if this hold has taken it: only then it opens it.
+    latch: Option<&'a Latch>,
     ghost words_are: { words.now ≡ words_of N.engine },
     ghost catalog: { IsCatalog (library_of N.engine) },
 }
 
 impl<'a, N: Name, H: Place + Send + Drop> Hold<'a, N, H> {
-    // The hold of a lock that was taken.
-    pub(crate) fn new(guard: MutexGuard<'a, Locked<N, H>>, words: &'a Words) -> Hold<'a, N, H>
+    // The hold of a lock that was taken, and of the latch in front of it if that was taken too.
+    pub(crate) fn new(
+        guard: MutexGuard<'a, Locked<N, H>>,
+        words: &'a Words,
+        latch: Option<&'a Latch>,
+    ) -> Hold<'a, N, H>
         requires words { words.now ≡ words_of N.engine }
         requires catalog { IsCatalog (library_of N.engine) }
     {
-        Hold { guard, words }
+        Hold {
+            guard,
+            words,
+            latch,
+        }
     }
 
     /// A session's client enters a call, or is refused, as by `Engine::begin`.
@@ -94,5 +104,20 @@ impl<'a, N: Name, H: Place + Send + Drop> Hold<'a, N, H> {
         let (reply, seat) = self.guard.reply(self.words, seat, ticket);
         session.seat = Some(seat);
         reply
+    }
+}
+
+impl<N: Name, H: Place + Send + Drop> Drop for Hold<'_, N, H> {
+    // The latch is opened once the lock is free, so that who takes it next finds the lock free too.
+    fn drop(self) {
+        let Hold {
+            guard,
+            words: _,
+            latch,
+        } = self;
+        drop(guard);
+        if let Some(latch) = latch {
+            latch.leave();
+        }
     }
 }

@@ -8,6 +8,7 @@ mod closed;
 mod engine;
 mod execution;
 mod hold;
+mod latch;
 mod locked;
 mod name;
 mod opening;

@@ -3,6 +3,7 @@ pub mod Same
 pub mod Fair
 pub mod Hands
 pub mod Owned
+pub mod AtWork
 pub mod Distinct
 pub mod Settled
 pub mod Fit

@@ -2,3 +2,4 @@
 pub mod Begin
 pub mod Pool
 pub mod Settled
+pub mod Work

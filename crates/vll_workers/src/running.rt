@@ -1,4 +1,4 @@
-ghost use Rattle.std.specs.Prelude.{◌≡◌, ◌≤◌, All, IfOk, IfErr, length, nat_eq};
+ghost use Rattle.std.specs.Prelude.{◌≡◌, ◌<◌, ◌≤◌, All, IfOk, IfErr, length, nat_eq};
 ghost use Rattle.std.specs.List.{IsDistinct};
 ghost use Rattle.vll_workers.specs.Tokens.{AreFit, AreBack, IsThrough, OneIsSpent, clients_of};
 ghost use Rattle.vll_workers.specs.declared.fault.RunFault.TheVariants as RunFault;
@@ -17,6 +17,7 @@ mod ending;
 mod named;
 mod room;
 mod start;
+mod workplace;
 
 /// The most worker threads of a run.
 pub const MOST_WORKERS: u32 = 64;
@@ -57,8 +58,46 @@ pub fn run<
     ensures spawn { IfErr result (λ e. e.fault ≡ RunFault.Spawn → e.tokens ≡ tokens) }
     ensures spent { IfErr result (λ e. e.fault ≡ RunFault.Spent → AreBack tokens.items e.tokens.items × OneIsSpent N.engine.config.limit e.tokens.items) }
 {
+    run_limited(rt, wait, alloc, engine, tokens, workers, workers, gate)
+}
+
+/// As `run`, with at most so many starts of a thread tried: the workers beyond these count as refused, and the calling
+/// thread does their work. So at most one thread more than `starts` is at work at once, however many workers there are.
+/// It is for a service that has to bound its threads, and for tests of what a run does whose threads are refused.
+///
+/// If `starts` is 0, tokens are handed back as they came, by `Spawn` or `NoMemory`, and no call enters. Without tokens a
+/// run is well, and starts none.
+pub fn run_limited<
+    N: Name + Send + Sync,
+    H: Place + Send + Sync + Drop,
+    R: Threads + Wait + Sync,
+    W: Wait + Sync,
+    G: Gate + Sync,
+>(
+    rt: &R,
+    wait: &W,
+    alloc: Global,
+    engine: &Engine<N, H>,
+    tokens: Vec<Token>,
+    workers: u32,
+    starts: u32,
+    gate: &G,
+) -> Result<Vec<Token>, RunError>
+    requires workers { (1 ≤ workers) × (workers ≤ MOST_WORKERS) }
+    requires fit { AreFit N.engine tokens.items }
+    requires distinct { IsDistinct nat_eq (clients_of tokens.items) }
+    ensures ok { IfOk result (λ back. AreBack tokens.items back.items × All IsThrough back.items) }
+    ensures no_memory { IfErr result (λ e. e.fault ≡ RunFault.NoMemory → e.tokens ≡ tokens) }
+    ensures spawn { IfErr result (λ e. e.fault ≡ RunFault.Spawn → e.tokens ≡ tokens) }
+    ensures spent { IfErr result (λ e. e.fault ≡ RunFault.Spent → AreBack tokens.items e.tokens.items × OneIsSpent N.engine.config.limit e.tokens.items) }
+    ensures started { IfOk result (λ _. 0 < length tokens.items → 0 < starts) }
+    ensures spent_started { IfErr result (λ e. e.fault ≡ RunFault.Spent → 0 < starts) }
+    ensures some { IfErr result (λ _. 0 < length tokens.items) }
+{
     if tokens.is_empty() {
         return Ok(tokens);
     }
-    named::run_named::<N, H, Brand, R, W, G>(rt, wait, alloc, engine, tokens, workers, gate)
+    named::run_named::<N, H, Engine<N, H>, Brand, R, W, G>(
+        rt, wait, alloc, engine, tokens, workers, starts, gate,
+    )
 }

@@ -1,5 +1,6 @@
-// Runs of an engine over bump, each through `run` as a caller of this crate sees it.
+// Runs of an engine over bump, each through `run` or `run_limited` as a caller of this crate sees it.
 mod gates;
+mod limited;
 mod procedures;
 mod runs;
 mod tokens;

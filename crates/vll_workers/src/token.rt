@@ -1,4 +1,5 @@
 ghost use Rattle.std.specs.Prelude.{◌≡◌, ◌<◌, ◌≤◌, ◌==◌, ◌^◌, All, IfSome, IfNone, Some, length, slice_get};
+ghost use Rattle.std.specs.Option.{option_map};
 ghost use Rattle.vll_check.specs.Calls.{Fits};
 ghost use Rattle.vll_engine.specs.Begin.{Begins};
 ghost use Rattle.vll_engine.specs.Shown.{library_of};
@@ -78,12 +79,20 @@ impl Token {
         self.session
     }
 
+    // The next call as it lies in the script, where one is left.
+    pub(crate) fn upcoming(&self) -> Option<&Call>
+        ensures call { option_map (λ c. c.now) result ≡ slice_get self.now.script self.now.next }
+        ensures through { IfNone result (IsThrough self.now) }
+    {
+        self.script.get(self.next as usize)
+    }
+
     // The next call, where one is left.
     pub(crate) fn next_call(&self) -> Option<Call>
         ensures call { result ≡ slice_get self.now.script self.now.next }
         ensures through { IfNone result (IsThrough self.now) }
     {
-        self.script.get(self.next as usize).copied()
+        self.upcoming().copied()
     }
 
     // The next call begins, and counts as entered unless it is refused.

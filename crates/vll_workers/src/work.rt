@@ -1,15 +1,20 @@
-ghost use Rattle.std.specs.Prelude.{◌≡◌, ◌<◌, ◌∷◌, [], IfNone, IfSome};
+ghost use Rattle.std.specs.Prelude.{◌≡◌, ◌<◌, ◌≤◌, ◌+◌, ◌∷◌, [], All, IfSome, length, suc};
 ghost use Rattle.crossbeam_queue.specs.Passes.{view};
 ghost use Rattle.vll_engine.specs.Pass.{IsFresh, IsReleased};
 ghost use Rattle.vll_workers.specs.Private.Pool.{AreSame, HasInHand, all_parts};
-ghost use Rattle.vll_workers.specs.Tokens.{AreFit, IsOf, clients_of};
+ghost use Rattle.vll_workers.specs.Private.Work.{IsAtWork};
+ghost use Rattle.vll_workers.specs.Tokens.{AreFit, clients_of};
 
+use crate::batch::{Batch, BatchRoom};
 use crate::gate::Gate;
+use crate::pace::Pace;
 use crate::pool::Pool;
 use crate::roster::Roster;
+use crate::stack::{MOST_BATCH, Stack};
 use crate::token::Token;
 use crate::worker::Worker;
 use std::sync::{Mutex, Wait};
+use vll_core::Ticket;
 use vll_engine::{BeginRefusal, Begun, Engine, Hold, Name, Pass, Released};
 use vll_sca::Place;
 
@@ -24,54 +29,26 @@ pub(crate) struct Work<'a, N: Name, H: Place + Send + Drop, T: Roster, W: Wait, 
     pub(crate) gate: &'a G,
 }
 
-// What a worker has found in a round: a call that may run, if any, and whether there was a token.
-struct Found {
-    pass: Option<Pass>,
-    had_token: bool,
-}
-
 impl<'a, N: Name, H: Place + Send + Drop, T: Roster, W: Wait, G: Gate> Work<'a, N, H, T, W, G> {
-    // Waits until the tokens lie in the pool, and works until a round finds nothing to do.
-    pub(crate) fn come_and_run(self, worker: Worker<T>) -> Worker<T>
+    // Waits until the tokens lie in the pool, and works until there is nothing to do.
+    pub(crate) fn come_and_run(self, worker: Worker<T>, room: BatchRoom) -> Worker<T>
         requires fit { AreFit N.engine T.tokens }
         requires limit { T.limit ≡ N.engine.config.limit }
-        requires hand { HasInHand self.pool.now worker.pass worker.kept }
-        requires part { 0 < (view worker.pass).parts }
-        ensures hand { HasInHand self.entry.pool.now result.pass result.kept }
-        ensures parts { (view result.pass).parts ≡ (view worker.pass).parts }
-    {
-        drop(self.door.lock(self.wait));
-        self.run(worker, None)
-    }
-
-    // Finishes the call that was executed last, if any, and works until a round finds nothing to do.
-    fn run(self, worker: Worker<T>, released: Option<Released>) -> Worker<T>
-        requires fit { AreFit N.engine T.tokens }
-        requires limit { T.limit ≡ N.engine.config.limit }
-        requires released { IfSome released (IsReleased N.engine) }
         requires hand { HasInHand self.pool.now worker.pass worker.kept }
         requires part { 0 < (view worker.pass).parts }
         ensures hand { HasInHand self.entry.pool.now result.pass result.kept }
         ensures parts { (view result.pass).parts ≡ (view worker.pass).parts }
     {
         let mut worker = worker;
-        let mut released = released;
-        for _ in self.wait.forever() {
-            let Found { pass, had_token } = self.round(&mut worker, released);
-            released = match pass {
-                Some(pass) => Some(self.execute(pass)),
-                None => None,
-            };
-            if released.is_none() && !had_token {
-                break;
-            }
-        }
-        self.finish(released);
+        let mut batch = room.open();
+        drop(self.door.lock(self.wait));
+        self.run(&mut worker, &mut batch);
+        batch.end();
         worker
     }
 
     // The worker that has all parts works until it keeps all tokens.
-    pub(crate) fn run_to_the_end(self, worker: Worker<T>) -> Worker<T>
+    pub(crate) fn run_to_the_end(self, worker: Worker<T>, room: BatchRoom) -> Worker<T>
         requires fit { AreFit N.engine T.tokens }
         requires limit { T.limit ≡ N.engine.config.limit }
         requires hand { HasInHand self.pool.now worker.pass worker.kept }
@@ -79,96 +56,189 @@ impl<'a, N: Name, H: Place + Send + Drop, T: Roster, W: Wait, G: Gate> Work<'a, 
         ensures { AreSame (clients_of T.tokens) (clients_of result.kept) }
     {
         let mut worker = worker;
+        let mut batch = room.open();
         for _ in self.wait.forever() {
             let Some(token) = worker.take_last(self.wait, self.pool) else {
+                batch.end();
                 return worker;
             };
-            let pass = self.begin_next(&mut worker, &mut self.engine.hold(self.wait), token);
-            let released = match pass {
-                Some(pass) => Some(self.execute(pass)),
-                None => None,
-            };
-            worker = self.run(worker, released);
+            batch.tokens.push(token);
+            self.run(&mut worker, &mut batch);
         }
         unreachable!()
     }
 
-    // Under one hold of the engine's lock, the call that was executed last is finished, and one is looked for that may
-    // run.
-    fn round(self, worker: &mut Worker<T>, released: Option<Released>) -> Found
+    // Works until there is nothing to do: begins with the tokens of the batch, and leaves nothing under way.
+    fn run(self, worker: &mut Worker<T>, batch: &mut Batch)
         requires fit { AreFit N.engine T.tokens }
         requires limit { T.limit ≡ N.engine.config.limit }
-        requires released { IfSome released (IsReleased N.engine) }
-        requires hand { HasInHand self.pool.now worker.old.pass worker.old.kept }
-        requires part { 0 < (view worker.old.pass).parts }
-        ensures pass { IfSome result.pass (IsFresh N.engine) }
-        ensures hand { HasInHand self.entry.pool.now worker.new.pass worker.new.kept }
+        requires old { IsAtWork T.tokens self.pool.now worker.old batch.old.tokens }
+        requires passes { batch.old.passes ≡ [] }
+        requires released { batch.old.released ≡ [] }
+        requires finished { batch.old.finished ≡ [] }
+        ensures new { IsAtWork T.tokens self.entry.pool.now worker.new [] }
         ensures parts { (view worker.new.pass).parts ≡ (view worker.old.pass).parts }
+        ensures tokens { batch.new.tokens ≡ [] }
+        ensures passes { batch.new.passes ≡ [] }
+        ensures released { batch.new.released ≡ [] }
+        ensures finished { batch.new.finished ≡ [] }
     {
-        let mut hold = self.engine.hold(self.wait);
-        let finished = match released {
-            Some(released) => Some(hold.finish(released).0),
-            None => None,
-        };
-        let found = self.find(worker, &mut hold);
-        drop(hold);
-        if let Some(ticket) = finished {
-            self.gate.after(ticket);
+        for _ in self.wait.forever() {
+            let had_token = self.round(worker, batch);
+            if !batch.passes.is_empty() {
+                batch.pace.went_well();
+                self.execute_all(&mut batch.passes, &mut batch.released);
+            } else if !batch.pace.rest(had_token) {
+                return;
+            }
         }
-        found
+        unreachable!()
     }
 
-    // The call at the front, if it waits. Else a token's next call begins, and it is that one if it is free; if it is
-    // not, or there is no token, it is the one that the scan finds.
-    fn find(self, worker: &mut Worker<T>, hold: &mut Hold<'_, N, H>) -> Found
+    // Under one hold of the engine's lock, the calls that were executed are finished, and calls are looked for that may
+    // run. Tells whether there was a token. No token stays with the worker but those that it keeps.
+    fn round(self, worker: &mut Worker<T>, batch: &mut Batch) -> bool
         requires fit { AreFit N.engine T.tokens }
         requires limit { T.limit ≡ N.engine.config.limit }
-        requires hand { HasInHand self.pool.now worker.old.pass worker.old.kept }
-        requires part { 0 < (view worker.old.pass).parts }
-        ensures pass { IfSome result.pass (IsFresh N.engine) }
-        ensures hand { HasInHand self.entry.pool.now worker.new.pass worker.new.kept }
+        requires old { IsAtWork T.tokens self.pool.now worker.old batch.old.tokens }
+        requires passes { batch.old.passes ≡ [] }
+        requires released { All (IsReleased N.engine) batch.old.released }
+        requires few { length batch.old.released ≤ MOST_BATCH }
+        requires finished { batch.old.finished ≡ [] }
+        ensures new { IsAtWork T.tokens self.entry.pool.now worker.new [] }
         ensures parts { (view worker.new.pass).parts ≡ (view worker.old.pass).parts }
+        ensures tokens { batch.new.tokens ≡ [] }
+        ensures passes { All (IsFresh N.engine) batch.new.passes }
+        ensures released { batch.new.released ≡ [] }
+        ensures finished { batch.new.finished ≡ [] }
+    {
+        self.take_some(worker, &mut batch.tokens, batch.pace.tokens());
+        let mut hold = self.engine.hold(self.wait);
+        self.finish_all(&mut hold, &mut batch.released, &mut batch.finished);
+        let had_token = self.find(
+            worker,
+            &mut hold,
+            &mut batch.tokens,
+            &mut batch.passes,
+            &mut batch.pace,
+        );
+        drop(hold);
+        self.tell_all(&mut batch.finished);
+        self.put_back(worker, &mut batch.tokens);
+        had_token
+    }
+
+    // Takes a token from the pool, if there is one, and looks at the words that its next call claims.
+    fn take_one(self, worker: &mut Worker<T>, tokens: &mut Stack<Token>) -> bool
+        requires fit { AreFit N.engine T.tokens }
+        requires old { IsAtWork T.tokens self.pool.now worker.old tokens.old }
+        requires room { length tokens.old < MOST_BATCH }
+        ensures new { IsAtWork T.tokens self.entry.pool.now worker.new tokens.new }
+        ensures parts { (view worker.new.pass).parts ≡ (view worker.old.pass).parts }
+    {
+        let Some(token) = worker.take(self.wait, self.pool) else {
+            return false;
+        };
+        if let Some(call) = token.upcoming() {
+            self.engine.look(call);
+        }
+        tokens.push(token);
+        true
+    }
+
+    // Takes so many tokens from the pool, or fewer if there are not as many or no room.
+    fn take_some(self, worker: &mut Worker<T>, tokens: &mut Stack<Token>, count: usize)
+        requires fit { AreFit N.engine T.tokens }
+        requires old { IsAtWork T.tokens self.pool.now worker.old tokens.old }
+        ensures new { IsAtWork T.tokens self.entry.pool.now worker.new tokens.new }
+        ensures parts { (view worker.new.pass).parts ≡ (view worker.old.pass).parts }
+    {
+        for _ in 0..count {
+            if tokens.len() == MOST_BATCH || !self.take_one(worker, tokens) {
+                return;
+            }
+        }
+    }
+
+    // The call at the front, if it waits. Else the tokens' next calls begin, and it is those that are free; if there is
+    // none, it is the one that the scan finds. Tells whether there was a token.
+    fn find(
+        self,
+        worker: &mut Worker<T>,
+        hold: &mut Hold<'_, N, H>,
+        tokens: &mut Stack<Token>,
+        passes: &mut Stack<Pass>,
+        pace: &mut Pace,
+    ) -> bool
+        requires fit { AreFit N.engine T.tokens }
+        requires limit { T.limit ≡ N.engine.config.limit }
+        requires old { IsAtWork T.tokens self.pool.now worker.old tokens.old }
+        requires passes { passes.old ≡ [] }
+        ensures new { IsAtWork T.tokens self.entry.pool.now worker.new tokens.new }
+        ensures parts { (view worker.new.pass).parts ≡ (view worker.old.pass).parts }
+        ensures passes { All (IsFresh N.engine) passes.new }
     {
         if let Some(pass) = hold.next_front() {
-            return Found {
-                pass: Some(pass),
-                had_token: false,
-            };
+            passes.push(pass);
+            return true;
         }
-        let Some(token) = worker.take(self.wait, self.pool) else {
-            return Found {
-                pass: hold.next_scan(),
-                had_token: false,
+        if tokens.is_empty() {
+            self.take_one(worker, tokens);
+        }
+        let had_token = !tokens.is_empty();
+        self.begin_all(worker, hold, tokens, passes, pace);
+        if passes.is_empty()
+            && let Some(pass) = hold.next_scan()
+        {
+            passes.push(pass);
+        }
+        had_token
+    }
+
+    // Begins the tokens' next calls, up to the first that is not free.
+    fn begin_all(
+        self,
+        worker: &mut Worker<T>,
+        hold: &mut Hold<'_, N, H>,
+        tokens: &mut Stack<Token>,
+        passes: &mut Stack<Pass>,
+        pace: &mut Pace,
+    )
+        requires fit { AreFit N.engine T.tokens }
+        requires limit { T.limit ≡ N.engine.config.limit }
+        requires old { IsAtWork T.tokens self.pool.now worker.old tokens.old }
+        requires passes { passes.old ≡ [] }
+        ensures new { IsAtWork T.tokens self.entry.pool.now worker.new tokens.new }
+        ensures parts { (view worker.new.pass).parts ≡ (view worker.old.pass).parts }
+        ensures passes { All (IsFresh N.engine) passes.new }
+    {
+        for _ in 0..tokens.len() {
+            let Some(pass) = self.begin_next(worker, hold, tokens) else {
+                pace.slacken();
+                return;
             };
-        };
-        let pass = match self.begin_next(worker, hold, token) {
-            Some(pass) => Some(pass),
-            None => hold.next_scan(),
-        };
-        Found {
-            pass,
-            had_token: true,
+            passes.push(pass);
+            pace.quicken();
         }
     }
 
-    // Begins the token's next call, and answers its pass if it is free. The token goes back to the pool, or stays
-    // with the worker if no call is left or the engine takes no more.
+    // Begins the next call of the last token, and answers its pass if it is free. The token goes back to the pool, or
+    // stays with the worker if no call is left or the engine takes no more.
     fn begin_next(
         self,
         worker: &mut Worker<T>,
         hold: &mut Hold<'_, N, H>,
-        token: Token,
+        tokens: &mut Stack<Token>,
     ) -> Option<Pass>
         requires fit { AreFit N.engine T.tokens }
         requires limit { T.limit ≡ N.engine.config.limit }
-        requires own { IsOf T.tokens token }
-        requires hand { HasInHand self.pool.now worker.old.pass (token ∷ worker.old.kept) }
-        requires part { 0 < (view worker.old.pass).parts }
-        ensures pass { IfSome result (IsFresh N.engine) }
-        ensures hand { HasInHand self.entry.pool.now worker.new.pass worker.new.kept }
+        requires old { IsAtWork T.tokens self.pool.now worker.old tokens.old }
+        ensures new { IsAtWork T.tokens self.entry.pool.now worker.new tokens.new }
         ensures parts { (view worker.new.pass).parts ≡ (view worker.old.pass).parts }
+        ensures pass { IfSome result (IsFresh N.engine) }
+        ensures one { IfSome result (λ _. suc (length tokens.new) ≡ length tokens.old) }
     {
-        let mut token = token;
+        let mut token = tokens.pop()?;
         let Some(call) = token.next_call() else {
             worker.keep(self.pool, token);
             return None;
@@ -189,22 +259,56 @@ impl<'a, N: Name, H: Place + Send + Drop, T: Roster, W: Wait, G: Gate> Work<'a, 
         }
     }
 
-    // Finishes a call, if there is one.
-    fn finish(self, released: Option<Released>)
-        requires { IfSome released (IsReleased N.engine) }
+    // Puts the tokens back into the pool.
+    fn put_back(self, worker: &mut Worker<T>, tokens: &mut Stack<Token>)
+        requires old { IsAtWork T.tokens self.pool.now worker.old tokens.old }
+        ensures new { IsAtWork T.tokens self.entry.pool.now worker.new [] }
+        ensures parts { (view worker.new.pass).parts ≡ (view worker.old.pass).parts }
+        ensures none { tokens.new ≡ [] }
     {
-        if let Some(released) = released {
-            let (ticket, _) = self.engine.finish(self.wait, released);
-            self.gate.after(ticket);
+        while let Some(token) = tokens.pop() {
+            worker.put(self.wait, self.pool, token);
         }
     }
 
-    // Executes a call that may run, and releases its claims.
-    fn execute(self, pass: Pass) -> Released
-        requires { IsFresh N.engine pass }
-        ensures { IsReleased N.engine result }
+    // Executes the calls, and releases the claims of each right after it.
+    fn execute_all(self, passes: &mut Stack<Pass>, released: &mut Stack<Released>)
+        requires passes { All (IsFresh N.engine) passes.old }
+        requires few { length passes.old ≤ MOST_BATCH }
+        requires released { released.old ≡ [] }
+        ensures passes { passes.new ≡ [] }
+        ensures released { All (IsReleased N.engine) released.new }
+        ensures few { length released.new ≤ MOST_BATCH }
     {
-        self.gate.before(pass.ticket());
-        self.engine.release(self.engine.execute(pass))
+        while let Some(pass) = passes.pop() {
+            self.gate.before(pass.ticket());
+            released.push(self.engine.release(self.engine.execute(pass)));
+        }
+    }
+
+    // Finishes the calls that were executed.
+    fn finish_all(
+        self,
+        hold: &mut Hold<'_, N, H>,
+        released: &mut Stack<Released>,
+        finished: &mut Stack<Ticket>,
+    )
+        requires released { All (IsReleased N.engine) released.old }
+        requires few { length released.old ≤ MOST_BATCH }
+        requires finished { finished.old ≡ [] }
+        ensures { released.new ≡ [] }
+    {
+        while let Some(done) = released.pop() {
+            finished.push(hold.finish(done).0);
+        }
+    }
+
+    // Tells that the calls are finished.
+    fn tell_all(self, finished: &mut Stack<Ticket>)
+        ensures { finished.new ≡ [] }
+    {
+        while let Some(ticket) = finished.pop() {
+            self.gate.after(ticket);
+        }
     }
 }

@@ -1,6 +1,6 @@
 ghost use Rattle.std.specs.Prelude.{◌≡◌, ◌<◌, ◌≤◌, ◌+◌, ◌∷◌, ◌++◌, [], All, IfNone, IfSome, length, vec_capacity};
 ghost use Rattle.crossbeam_queue.specs.Passes.{IsSamePass, view};
-ghost use Rattle.vll_workers.specs.Private.Pool.{AreSame, HasInHand, HoldsMore, HoldsOne, IsPassIn, IsPut, all_parts, hired, new_hand};
+ghost use Rattle.vll_workers.specs.Private.Pool.{AreSame, HasInHand, HoldsMore, HoldsOne, IsPassIn, IsPut, IsTaken, all_parts, hired, new_hand};
 ghost use Rattle.vll_workers.specs.Private.Settled.{IsSettled};
 ghost use Rattle.vll_workers.specs.Tokens.{IsOf, clients_of};
 
@@ -81,18 +81,18 @@ impl<T: Roster> Worker<T> {
 
     // Takes a token from the pool.
     pub(crate) fn take(&mut self, wait: &impl Wait, pool: &Pool<T>) -> Option<Token>
-        requires hand { HasInHand pool.now self.old.pass self.old.kept }
+        requires pass { IsPassIn pool.now self.old.pass }
         requires part { 0 < (view self.old.pass).parts }
-        ensures parts { (view self.new.pass).parts ≡ (view self.old.pass).parts }
         ensures kept { self.new.kept ≡ self.old.kept }
+        ensures pass { IsSamePass self.old.pass self.new.pass }
         ensures own { IfSome result (IsOf T.tokens) }
-        ensures some { IfSome result (λ t. HasInHand pool.now self.new.pass (t ∷ self.new.kept)) }
-        ensures none { IfNone result (HasInHand pool.now self.new.pass self.new.kept) }
+        ensures some { IfSome result (λ t. IsTaken t.client (view self.old.pass) (view self.new.pass)) }
+        ensures none { IfNone result (view self.new.pass ≡ view self.old.pass) }
     {
         pool.take(wait, &mut self.pass)
     }
 
-    // The same by the worker that has all parts. Where the pool is empty, it keeps all tokens.
+    // Takes a token from the pool, by the worker that has all parts. Where the pool is empty, it keeps all tokens.
     pub(crate) fn take_last(&mut self, wait: &impl Wait, pool: &Pool<T>) -> Option<Token>
         requires hand { HasInHand pool.now self.old.pass self.old.kept }
         requires parts { (view self.old.pass).parts ≡ all_parts }

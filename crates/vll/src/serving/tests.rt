@@ -14,7 +14,7 @@ const SIX_CLIENTS: &str = r#"{"version":1,"records":[0,0,0,0,0,0],
  "clients":[[{"proc":"bump","args":[0]}],[{"proc":"bump","args":[1]}],[{"proc":"bump","args":[2]}],
   [{"proc":"bump","args":[3]}],[{"proc":"bump","args":[4]}],[{"proc":"bump","args":[5]}]]}"#;
 
-// Holds each call back until so many are executed at one time, for so many turns at most.
+// Holds each call back until so many are held back at one time, for so many turns at most.
 #[derive(Drop)]
 struct Together {
     wanted: u64,
@@ -31,18 +31,18 @@ impl Gate for Together {
                 self.met.store(1, Ordering::SeqCst);
             }
             if self.met.load(Ordering::SeqCst) == 1 {
-                return;
+                break;
             }
             hint::spin_loop();
         }
-    }
-
-    fn after(&self, _ticket: Ticket) {
         self.inside.fetch_sub(1, Ordering::SeqCst);
     }
+
+    fn after(&self, _ticket: Ticket) {}
 }
 
-// As many calls are executed at one time as there are workers, and no more.
+// As many calls are held back at one time as there are workers, and no more: a worker that begins several calls executes
+// one after the other.
 #[test]
 fn as_many_workers_run_as_the_options_say(rt: HostRuntime) -> Result<(), Fail> {
     for (workers, wanted, turns, meets) in [(6, 6, 100_000_000, 1), (1, 2, 100_000, 0)] {

@@ -1,5 +1,5 @@
 -- What the type of an opening shows and keeps.
-use Rattle.std.specs.Prelude.{◌≡◌, ℕ, length}
+use Rattle.std.specs.Prelude.{◌≡◌, length}
 use Rattle.vll_core.specs.Queue.{empty}
 use Rattle.vll_counters.specs.Shown.{shown_queue, AreNewSessions}
 use Rattle.vll_counters.specs.Steps.{first_queue}

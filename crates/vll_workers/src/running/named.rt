@@ -9,24 +9,27 @@ use super::MOST_WORKERS;
 use super::ending::outcome_of;
 use super::room::{Room, room_for};
 use super::start::{Ready, start};
+use super::workplace::{Workplace, work_at};
+use crate::batch::BatchRoom;
 use crate::fault::{RunError, RunFault};
 use crate::gate::Gate;
 use crate::roster::Roster;
+use crate::shared::Shared;
 use crate::token::Token;
-use crate::work::Work;
 use crate::worker::Worker;
 use std::alloc::{AllocError, Global};
 use std::sync::{Mutex, Wait};
 use std::thread;
 use std::thread::Threads;
-use vll_engine::{Engine, Name};
+use vll_engine::Name;
 use vll_sca::Place;
 
-// The run of tokens that have a name.
+// The run of tokens that have a name, with at most so many starts tried.
 pub(super) fn run_named<
     'a,
-    N: Name + Send + Sync,
-    H: Place + Send + Sync + Drop,
+    N: Name + Send + Sync + 'a,
+    H: Place + Send + Sync + Drop + 'a,
+    X: Shared<N, H> + Sync,
     T: Roster + Send + Sync,
     R: Threads + Wait + Sync,
     W: Wait + Sync,
@@ -35,9 +38,10 @@ pub(super) fn run_named<
     rt: &R,
     wait: &'a W,
     alloc: Global,
-    engine: &'a Engine<N, H>,
+    shared: &'a X,
     tokens: Vec<Token>,
     workers: u32,
+    starts: u32,
     gate: &'a G,
 ) -> Result<Vec<Token>, RunError>
     requires roster { T.tokens ≡ tokens.items }
@@ -50,26 +54,34 @@ pub(super) fn run_named<
     ensures no_memory { IfErr result (λ e. e.fault ≡ RunFault.NoMemory → e.tokens ≡ tokens) }
     ensures spawn { IfErr result (λ e. e.fault ≡ RunFault.Spawn → e.tokens ≡ tokens) }
     ensures spent { IfErr result (λ e. e.fault ≡ RunFault.Spent → AreBack tokens.items e.tokens.items × OneIsSpent N.engine.config.limit e.tokens.items) }
+    ensures started { IfOk result (λ _. 0 < starts) }
+    ensures spent_started { IfErr result (λ e. e.fault ≡ RunFault.Spent → 0 < starts) }
 {
     let room = match room_for::<T>(alloc, tokens.len(), workers) {
         Ok(room) => room,
         Err(AllocError) => return Err(RunError::new(RunFault::NoMemory, tokens)),
     };
-    let Room { pool, own, shelves } = room;
+    let Room {
+        pool,
+        own,
+        own_room,
+        desks,
+    } = room;
     let door = Mutex::new(());
-    let work = Work {
+    let workplace = Workplace {
         wait,
-        engine,
+        shared,
         pool: &pool,
         door: &door,
         gate,
     };
     let ready = Ready {
-        shelves,
+        desks,
         own,
         tokens,
+        starts,
     };
-    match work_through(rt, work, ready) {
+    match work_through::<N, H, X, T, R, W, G>(rt, workplace, ready, own_room) {
         Ok(worker) => outcome_of(worker),
         Err(tokens) => Err(RunError::new(RunFault::Spawn, tokens)),
     }
@@ -79,25 +91,32 @@ pub(super) fn run_named<
 // handed back.
 fn work_through<
     'a,
-    N: Name + Send + Sync,
-    H: Place + Send + Sync + Drop,
+    N: Name + Send + Sync + 'a,
+    H: Place + Send + Sync + Drop + 'a,
+    X: Shared<N, H> + Sync,
     T: Roster + Send + Sync,
     R: Threads + Wait + Sync,
     W: Wait + Sync,
     G: Gate + Sync,
->(rt: &R, work: Work<'a, N, H, T, W, G>, ready: Ready<T>) -> Result<Worker<T>, Vec<Token>>
+>(
+    rt: &R,
+    workplace: Workplace<'a, X, T, W, G>,
+    ready: Ready<T>,
+    own_room: BatchRoom,
+) -> Result<Worker<T>, Vec<Token>>
     requires roster { T.tokens ≡ ready.tokens.items }
     requires fit { AreFit N.engine T.tokens }
     requires limit { T.limit ≡ N.engine.config.limit }
     requires kept { ready.own.kept ≡ [] }
-    requires hand { HasInHand work.pool.now ready.own.pass ready.tokens.items }
-    requires workers { length ready.shelves.items ≤ MOST_WORKERS }
+    requires hand { HasInHand workplace.pool.now ready.own.pass ready.tokens.items }
+    requires workers { length ready.desks.items ≤ MOST_WORKERS }
     requires parts { (view ready.own.pass).parts ≡ all_parts }
     ensures tokens { IfErr result (λ t. t ≡ ready.tokens) }
+    ensures started { IfOk result (λ _. 0 < ready.starts) }
     ensures all { IfOk result (λ w. AreSame (clients_of T.tokens) (clients_of w.kept)) }
 {
     // The workers find the door locked until all of them are started.
-    let closed = work.door.lock(work.wait);
+    let closed = workplace.door.lock(workplace.wait);
     let worker = thread::scope(
         thread::scope_env(),
         rt,
@@ -106,13 +125,14 @@ fn work_through<
             requires fit { AreFit N.engine T.tokens }
             requires limit { T.limit ≡ N.engine.config.limit }
             requires kept { ready.own.kept ≡ [] }
-            requires hand { HasInHand work.pool.now ready.own.pass ready.tokens.items }
-            requires workers { length ready.shelves.items ≤ MOST_WORKERS }
+            requires hand { HasInHand workplace.pool.now ready.own.pass ready.tokens.items }
+            requires workers { length ready.desks.items ≤ MOST_WORKERS }
             requires parts { (view ready.own.pass).parts ≡ all_parts }
             ensures tokens { IfErr result (λ t. t ≡ ready.tokens) }
-            ensures hand { IfOk result (λ w. HasInHand work.entry.pool.now w.pass w.kept) }
+            ensures started { IfOk result (λ _. 0 < ready.starts) }
+            ensures hand { IfOk result (λ w. HasInHand workplace.entry.pool.now w.pass w.kept) }
             ensures parts { IfOk result (λ w. (view w.pass).parts ≡ all_parts) }
-        { start(scope, rt, work, closed, ready, false) },
+        { start::<_, N, H, X, T, R, W, G>(scope, rt, workplace, closed, ready, false) },
     )?;
-    Ok(work.run_to_the_end(worker))
+    Ok(work_at::<N, H, X, T, W, G>(workplace).run_to_the_end(worker, own_room))
 }

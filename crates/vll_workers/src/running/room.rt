@@ -2,17 +2,43 @@ ghost use Rattle.std.specs.Prelude.{◌≡◌, ◌<◌, [], IfOk, length};
 ghost use Rattle.crossbeam_queue.specs.Passes.{view};
 ghost use Rattle.vll_workers.specs.Private.Pool.{HasInHand, all_parts};
 
+use crate::batch::BatchRoom;
 use crate::pool::Pool;
 use crate::roster::Roster;
 use crate::worker::{Shelf, Worker};
 use std::alloc::{AllocError, Global};
 
-// What a run needs memory for: the pool, the calling thread's own worker, which has all tokens in hand, and what each
-// other worker keeps.
+// What a worker needs memory for: what it keeps, and what it has under way.
+#[derive(Drop)]
+pub(super) struct Desk<T: Roster> {
+    pub(super) shelf: Shelf<T>,
+    pub(super) room: BatchRoom,
+}
+
+impl<T: Roster> Desk<T> {
+    // The memory of a worker of a run of so many tokens, which takes at most so many of them before a hold.
+    fn new(alloc: Global, count: usize, most: usize) -> Result<Desk<T>, AllocError>
+        requires { count ≡ length T.tokens }
+    {
+        let shelf = Shelf::new(alloc, count)?;
+        let room = BatchRoom::new(alloc, most)?;
+        Ok(Desk { shelf, room })
+    }
+}
+
+// What a run needs memory for: the pool, the calling thread's own worker, which has all tokens in hand, with room for
+// what it has under way, and what each other worker needs.
 pub(super) struct Room<T: Roster> {
     pub(super) pool: Pool<T>,
     pub(super) own: Worker<T>,
-    pub(super) shelves: Vec<Shelf<T>>,
+    pub(super) own_room: BatchRoom,
+    pub(super) desks: Vec<Desk<T>>,
+}
+
+// How many tokens a worker may take before a hold: its share, or none if that is less than two.
+fn share_of(count: usize, workers: u32) -> usize {
+    let share = count / workers.max(1) as usize;
+    if share < 2 { 0 } else { share }
 }
 
 // The room for the run of so many tokens by so many workers.
@@ -23,16 +49,22 @@ pub(super) fn room_for<T: Roster>(
 ) -> Result<Room<T>, AllocError>
     requires some { 0 < count }
     requires count { count ≡ length T.tokens }
-    ensures workers { IfOk result (λ r. length r.shelves.items ≡ workers) }
+    ensures workers { IfOk result (λ r. length r.desks.items ≡ workers) }
     ensures kept { IfOk result (λ r. r.own.kept ≡ []) }
     ensures hand { IfOk result (λ r. HasInHand r.pool r.own.pass T.tokens) }
     ensures parts { IfOk result (λ r. (view r.own.pass).parts ≡ all_parts) }
 {
-    let mut shelves = Vec::with_capacity(alloc, workers as usize)?;
+    let most = share_of(count, workers);
+    let mut desks = Vec::with_capacity(alloc, workers as usize)?;
     for _ in 0..workers {
-        shelves.push_reserved(Shelf::new(alloc, count)?);
+        desks.push_reserved(Desk::new(alloc, count, most)?);
     }
     let (pool, pass) = Pool::new(alloc, count)?;
-    let own = Worker::new(Shelf::new(alloc, count)?, pass);
-    Ok(Room { pool, own, shelves })
+    let Desk { shelf, room } = Desk::new(alloc, count, most)?;
+    Ok(Room {
+        pool,
+        own: Worker::new(shelf, pass),
+        own_room: room,
+        desks,
+    })
 }

@@ -1,25 +1,29 @@
-ghost use Rattle.std.specs.Prelude.{◌≡◌, ◌<◌, ◌++◌, [], false, IfOk, IfErr, length};
+ghost use Rattle.std.specs.Prelude.{◌≡◌, ◌<◌, ◌++◌, [], false, true, IfOk, IfErr, length};
 ghost use Rattle.crossbeam_queue.specs.Passes.{view};
 ghost use Rattle.vll_workers.specs.Private.Pool.{HasInHand, new_hand};
 ghost use Rattle.vll_workers.specs.Tokens.{AreFit};
 
+use super::room::Desk;
+use super::workplace::{Workplace, work_at};
 use crate::gate::Gate;
 use crate::pool::Pool;
 use crate::roster::Roster;
+use crate::shared::Shared;
 use crate::token::Token;
-use crate::work::Work;
-use crate::worker::{Shelf, Worker};
+use crate::worker::Worker;
 use std::sync::{MutexGuard, Wait};
-use std::thread::{Promise, Scope, Threads};
+use std::thread::{Promise, PromisedHandle, Scope, Threads};
 use vll_engine::Name;
 use vll_sca::Place;
 
-// What stands ready before the workers start: what each keeps, the calling thread's own worker, and the tokens.
+// What stands ready before the workers start: what each needs, the calling thread's own worker, the tokens, and how
+// many starts may be tried.
 #[derive(Drop)]
 pub(super) struct Ready<T: Roster> {
-    pub(super) shelves: Vec<Shelf<T>>,
+    pub(super) desks: Vec<Desk<T>>,
     pub(super) own: Worker<T>,
     pub(super) tokens: Vec<Token>,
+    pub(super) starts: u32,
 }
 
 // A worker comes back with its one part, and has in hand just what it keeps.
@@ -39,8 +43,9 @@ impl<'a, T: Roster> Promise<Worker<T>> for ComesBack<'a, T> {
 pub(super) fn start<
     's,
     E,
-    N: Name + Send + Sync,
-    H: Place + Send + Sync + Drop,
+    N: Name + Send + Sync + 's,
+    H: Place + Send + Sync + Drop + 's,
+    X: Shared<N, H> + Sync,
     T: Roster + Send + Sync,
     R: Threads,
     W: Wait + Sync,
@@ -48,7 +53,7 @@ pub(super) fn start<
 >(
     scope: &Scope<'s, E>,
     rt: &R,
-    work: Work<'s, N, H, T, W, G>,
+    workplace: Workplace<'s, X, T, W, G>,
     closed: MutexGuard<'_, ()>,
     ready: Ready<T>,
     is_started: bool,
@@ -57,70 +62,96 @@ pub(super) fn start<
     requires fit { AreFit N.engine T.tokens }
     requires limit { T.limit ≡ N.engine.config.limit }
     requires kept { ready.own.kept ≡ [] }
-    requires hand { HasInHand work.pool.now ready.own.pass ready.tokens.items }
-    requires parts { length ready.shelves.items < (view ready.own.pass).parts }
+    requires hand { HasInHand workplace.pool.now ready.own.pass ready.tokens.items }
+    requires parts { length ready.desks.items < (view ready.own.pass).parts }
     ensures tokens { IfErr result (λ t. t ≡ ready.tokens) }
     ensures none { IfErr result (λ _. is_started ≡ false) }
-    ensures hand { IfOk result (λ w. HasInHand work.entry.pool.now w.pass w.kept) }
+    ensures started { IfOk result (λ _. is_started ≡ false → 0 < ready.starts) }
+    ensures hand { IfOk result (λ w. HasInHand workplace.entry.pool.now w.pass w.kept) }
     ensures parts { IfOk result (λ w. (view w.pass).parts ≡ (view ready.own.pass).parts) }
 {
-    let Ready {
-        mut shelves,
-        mut own,
-        tokens,
-    } = ready;
-    let Some(shelf) = shelves.pop() else {
-        if !is_started {
-            return Err(tokens);
-        }
-        own.put_all(work.wait, work.pool, tokens);
-        return Ok(own);
+    let mut ready = ready;
+    let pool = workplace.pool;
+    let Some(Desk { shelf, room }) = ready.desks.pop() else {
+        return hand_out(workplace.wait, pool, ready, is_started);
     };
-    let next = own.another(work.pool, shelf);
-    let ready = Ready {
-        shelves,
-        own,
-        tokens,
-    };
-    // The thread is handed the references one by one: a reference may go to another thread if what it refers to may
-    // be shared.
-    let Work {
-        wait,
-        engine,
-        pool,
-        door,
-        gate,
-    } = work;
-    let thread = scope.spawn_with(
+    let next = ready.own.another(pool, shelf);
+    let starts = ready.starts;
+    ready.starts = starts.saturating_sub(1);
+    let thread = try_start(
+        scope,
+        starts,
         ComesBack(pool),
         move || -> Worker<T>
             requires fit { AreFit N.engine T.tokens }
             requires limit { T.limit ≡ N.engine.config.limit }
-            requires hand { HasInHand pool.now next.pass next.kept }
+            requires hand { HasInHand workplace.pool.now next.pass next.kept }
             requires new { view next.pass ≡ new_hand }
-            ensures hand { HasInHand pool.entry.now result.pass result.kept }
+            ensures hand { HasInHand workplace.entry.pool.now result.pass result.kept }
             ensures part { (view result.pass).parts ≡ 1 }
-        {
-            let work = Work {
-                wait,
-                engine,
-                pool,
-                door,
-                gate,
-            };
-            work.come_and_run(next)
-        },
+        { work_at::<N, H, X, T, W, G>(workplace).come_and_run(next, room) },
     );
     match thread {
         Ok(thread) => {
-            let mut own = start(scope, rt, work, closed, ready, true)?;
+            let mut own = start(scope, rt, workplace, closed, ready, true)?;
             own.gather(pool, thread.join(rt));
             Ok(own)
         }
         Err(refused) => {
-            let mut own = start(scope, rt, work, closed, ready, is_started)?;
-            own.gather(pool, (refused.value)());
+            let mut own = start(scope, rt, workplace, closed, ready, is_started)?;
+            own.gather(pool, refused());
             Ok(own)
         }
+    }
+}
+
+// Puts the tokens into the pool if a worker is started, and else hands them back.
+fn hand_out<T: Roster>(
+    wait: &impl Wait,
+    pool: &Pool<T>,
+    ready: Ready<T>,
+    is_started: bool,
+) -> Result<Worker<T>, Vec<Token>>
+    requires roster { T.tokens ≡ ready.tokens.items }
+    requires kept { ready.own.kept ≡ [] }
+    requires hand { HasInHand pool.now ready.own.pass ready.tokens.items }
+    requires part { 0 < (view ready.own.pass).parts }
+    ensures tokens { IfErr result (λ t. t ≡ ready.tokens) }
+    ensures none { IfErr result (λ _. is_started ≡ false) }
+    ensures started { IfOk result (λ _. is_started ≡ true) }
+    ensures hand { IfOk result (λ w. HasInHand pool.now w.pass w.kept) }
+    ensures parts { IfOk result (λ w. (view w.pass).parts ≡ (view ready.own.pass).parts) }
+{
+    let Ready {
+        mut own,
+        tokens,
+        ..
+    } = ready;
+    if !is_started {
+        return Err(tokens);
+    }
+    own.put_all(wait, pool, tokens);
+    Ok(own)
+}
+
+// Starts a thread of the scope, if a start is left. What could not be started is handed back.
+fn try_start<'s, E, P: Promise<V> + Drop, F: FnOnce() -> V + Send + 's, V: Send + Drop + 's>(
+    scope: &Scope<'s, E>,
+    starts: u32,
+    promise: P,
+    f: F,
+) -> Result<PromisedHandle<V, P>, F>
+    requires runs { F.pre f }
+    requires keeps { (v : V) → F.post f v → P.kept_by promise v }
+    ensures started { IfOk result (λ _. 0 < starts) }
+    ensures promise { IfOk result (λ h. h.promise ≡ promise) }
+    ensures refused { IfErr result (λ e. e ≡ f) }
+{
+    if starts == 0 {
+        return Err(f);
+    }
+    match scope.spawn_with(promise, f) {
+        Ok(thread) => Ok(thread),
+        Err(refused) => Err(refused.value),
     }
 }

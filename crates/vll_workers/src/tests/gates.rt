@@ -76,3 +76,38 @@ impl Gate for Tally {
         self.after.fetch_add(1, Ordering::SeqCst);
     }
 }
+
+// How long a call is held back for others to come.
+const CROWD_TURNS: u64 = 5_000_000;
+
+// Holds each call back for a while, and remembers whether three were executed at once.
+#[derive(Drop)]
+pub(super) struct Crowd {
+    inside: AtomicU64,
+    pub(super) had_three: AtomicU64,
+}
+
+impl Crowd {
+    pub(super) fn new() -> Crowd {
+        Crowd {
+            inside: AtomicU64::new(0),
+            had_three: AtomicU64::new(0),
+        }
+    }
+}
+
+impl Gate for Crowd {
+    fn before(&self, _ticket: Ticket) {
+        self.inside.fetch_add(1, Ordering::SeqCst);
+        for _ in 0..CROWD_TURNS {
+            if self.inside.load(Ordering::SeqCst) > 2 {
+                self.had_three.store(1, Ordering::SeqCst);
+                return;
+            }
+        }
+    }
+
+    fn after(&self, _ticket: Ticket) {
+        self.inside.fetch_sub(1, Ordering::SeqCst);
+    }
+}

@@ -5,7 +5,7 @@ ghost use Rattle.vll_sca.specs.Placing.{placing};
 
 use super::gates::{Meeting, Tally};
 use super::procedures::opening;
-use super::tokens::{all_bumping, are_home, bump_of, bumping, closes, output_of, sessions_of};
+use super::tokens::{all_bumping, are_counted, are_home, bump_of, bumping, closes, output_of};
 use crate::fault::{RunError, RunFault};
 use crate::gate::OpenGate;
 use crate::running::{MOST_WORKERS, run};
@@ -34,25 +34,10 @@ fn counts<N: Name + Send + Sync, R: Wait + Threads + Abort + Sync>(
 {
     let (engine, sessions) = opening.start::<N>();
     let tokens = all_bumping::<N>(rt, alloc, engine.library(), sessions, 1, u32::from(times))?;
-    let sessions = match run(rt, rt, alloc, &engine, tokens, workers, &OpenGate) {
-        Ok(tokens) => {
-            are_home(
-                rt,
-                tokens.as_slice(),
-                usize::from(clients),
-                u32::from(times),
-            );
-            sessions_of::<N>(alloc, tokens)?
-        }
+    match run(rt, rt, alloc, &engine, tokens, workers, &OpenGate) {
+        Ok(tokens) => are_counted(rt, alloc, engine, tokens, clients, times),
         Err(_) => panic!(rt; "the run has a fault"),
-    };
-    let total = u64::from(clients) * u64::from(times);
-    let mut outputs = Vec::new(alloc);
-    for output in 1..=total {
-        outputs.push(output)?;
     }
-    closes(rt, engine, sessions, &[total], outputs.as_slice());
-    Ok(())
 }
 
 #[test]

@@ -103,7 +103,7 @@ pub(super) fn output_of(reply: &Option<Reply>) -> Option<u64> {
 }
 
 // The sessions of tokens.
-pub(super) fn sessions_of<N: Name>(alloc: Global, tokens: Vec<Token>) -> Result<Vec<Session>, Fail>
+fn sessions_of<N: Name>(alloc: Global, tokens: Vec<Token>) -> Result<Vec<Session>, Fail>
     requires { All (λ t. t.session.table ≡ N.engine.table) tokens.items }
     ensures { IfOk result (λ s. All (λ s. s.table ≡ N.engine.table) s.items) }
 {
@@ -138,4 +138,31 @@ pub(super) fn closes<N: Name>(
         }
         Err(_) => panic!(rt; "calls are left"),
     }
+}
+
+// The tokens are back from so many bumps each of record 0, and each call has found what the one before it has left.
+pub(super) fn are_counted<N: Name>(
+    rt: &impl Abort,
+    alloc: Global,
+    engine: Engine<N, Placing>,
+    tokens: Vec<Token>,
+    clients: u16,
+    times: u16,
+) -> Result<(), Fail>
+    requires { All (λ t. t.session.table ≡ N.engine.table) tokens.items }
+{
+    are_home(
+        rt,
+        tokens.as_slice(),
+        usize::from(clients),
+        u32::from(times),
+    );
+    let sessions = sessions_of::<N>(alloc, tokens)?;
+    let total = u64::from(clients) * u64::from(times);
+    let mut outputs = Vec::new(alloc);
+    for output in 1..=total {
+        outputs.push(output)?;
+    }
+    closes(rt, engine, sessions, &[total], outputs.as_slice());
+    Ok(())
 }

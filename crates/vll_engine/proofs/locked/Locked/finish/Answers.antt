@@ -1,5 +1,4 @@
 use Rattle.std.proofs.Common.{sym, ap, ◌∙◌, subst}
-use Rattle.vll_core.specs.Queue.{Queued}
 use Rattle.vll_counters.specs.Shown.{WordsShown, after, queue_view}
 use Rattle.vll_counters.specs.Steps.{finished as ended}
 use Rattle.vll_engine.specs.Pass.{DoneShown, IsReleased}

@@ -3,7 +3,7 @@ use Rattle.std.specs.Prelude.{All}
 use Rattle.vll_workers.specs.Shown.{TokenShown}
 use Rattle.vll_workers.specs.Tokens.{IsOf}
 use Rattle.vll_workers.proofs.Gained.{all_of}
-use Rattle.vll_workers.proofs.running.start.+start.Goals as goal
+use Rattle.vll_workers.proofs.running.start.hand_out.Goals as goal
 
 pub put_all-requires-clause-own : goal.put_all-requires-clause-own
-put_all-requires-clause-own g t c = subst (λ (tokens : List TokenShown). All (IsOf g.T.Roster.tokens) tokens) c.requires.roster (all_of g.T.Roster.tokens)
+put_all-requires-clause-own g c = subst (λ (tokens : List TokenShown). All (IsOf g.T.Roster.tokens) tokens) c.requires.roster (all_of g.T.Roster.tokens)

@@ -1,0 +1,72 @@
+-- What a worker has in hand while it works, step by step.
+use Rattle.std.proofs.Common.{◌≡◌, ◌<◌, List, [], ◌∷◌, ◌++◌, sym, subst}
+use Rattle.std.proofs.lemmas.List.Elements.{All-cons, All-head, All-tail}
+use Rattle.atomic_table.specs.Seated.{TableId}
+use Rattle.crossbeam_queue.specs.Passes.{IsSamePass, view}
+use Rattle.vll_counters.specs.Shown.{SessionShown}
+use Rattle.vll_engine.specs.declared.begun.Begun.{Begun}
+use Rattle.vll_workers.specs.declared.pool.Hand.{Hand}
+use Rattle.vll_workers.specs.Private.Begin.{begun_token}
+use Rattle.vll_workers.specs.Private.Pool.{HasInHand, HoldsMore, HoldsOne, IsPut, IsTaken, Working}
+use Rattle.vll_workers.specs.Private.Work.{IsAtWork}
+use Rattle.vll_workers.specs.Shown.{TokenShown}
+use Rattle.vll_workers.specs.Tokens.{IsOf, clients_of}
+use Rattle.vll_workers.proofs.Hands.{begun_hand, given, more_held, one_held, put_by, still, taken}
+
+-- a token more is taken
+pub one_more : (handed : List TokenShown) (table : TableId) (old new : Working) (ts : List TokenShown) (t : TokenShown) → IsAtWork handed table old ts → new.kept ≡ old.kept → IsSamePass old.pass new.pass
+    → IsOf handed t → IsTaken t.client (view old.pass) (view new.pass) → IsAtWork handed table new (t ∷ ts)
+one_more handed table old new ts t at kept same own is = record {
+  hand = subst (λ (k : List TokenShown). HasInHand table new.pass (t ∷ (ts ++ k))) (sym kept) (taken table old.pass new.pass t (ts ++ old.kept) at.hand same is);
+  own = All-cons (IsOf handed) t ts own at.own;
+  part = subst (λ n. 0 < n) (sym is.parts) at.part;
+}
+
+-- none is
+pub as_before : (handed : List TokenShown) (table : TableId) (old new : Working) (ts : List TokenShown) → IsAtWork handed table old ts → new.kept ≡ old.kept → IsSamePass old.pass new.pass
+    → view new.pass ≡ view old.pass → IsAtWork handed table new ts
+as_before handed table old new ts at kept same is = record {
+  hand = subst (λ (k : List TokenShown). HasInHand table new.pass (ts ++ k)) (sym kept) (still table old.pass new.pass (ts ++ old.kept) at.hand same is);
+  own = at.own;
+  part = subst (λ (v : Hand). 0 < v.parts) (sym is) at.part;
+}
+
+-- one of them leaves the stack
+pub popped : (handed : List TokenShown) (table : TableId) (w : Working) (before ts : List TokenShown) (t : TokenShown) → IsAtWork handed table w before → before ≡ t ∷ ts → IsAtWork handed table w (t ∷ ts)
+popped handed table w before ts t at is = subst (IsAtWork handed table w) is at
+
+pub own_of : (handed : List TokenShown) (table : TableId) (w : Working) (ts : List TokenShown) (t : TokenShown) → IsAtWork handed table w (t ∷ ts) → IsOf handed t
+own_of handed table w ts t at = All-head (IsOf handed) t ts at.own
+
+pub held : (handed : List TokenShown) (table : TableId) (w : Working) (ts : List TokenShown) (t : TokenShown) → IsAtWork handed table w (t ∷ ts) → HoldsOne (view w.pass).holds t.client
+held handed table w ts t at = one_held table w.pass t (ts ++ w.kept) at.hand
+
+pub held_more : (handed : List TokenShown) (table : TableId) (w : Working) (ts : List TokenShown) (t : TokenShown) → IsAtWork handed table w (t ∷ ts) → HoldsMore (view w.pass).holds t.client (clients_of w.kept)
+held_more handed table w ts t at = more_held table w.pass t ts w.kept at.hand
+
+-- a call of it began
+pub begun : (handed : List TokenShown) (table : TableId) (w : Working) (ts : List TokenShown) (t new : TokenShown) (s : SessionShown) (b : Begun) → IsAtWork handed table w (t ∷ ts) → new ≡ begun_token t s b
+    → IsOf handed new → IsAtWork handed table w (new ∷ ts)
+begun handed table w ts t new s b at is own = record {
+  hand = begun_hand table w.pass t new s b (ts ++ w.kept) at.hand is;
+  own = All-cons (IsOf handed) new ts own (All-tail (IsOf handed) t ts at.own);
+  part = at.part;
+}
+
+-- it goes back to the pool
+pub one_put : (handed : List TokenShown) (table : TableId) (old new : Working) (ts : List TokenShown) (t : TokenShown) → IsAtWork handed table old (t ∷ ts) → new.kept ≡ old.kept → IsSamePass old.pass new.pass
+    → IsPut t.client (view old.pass) (view new.pass) → IsAtWork handed table new ts
+one_put handed table old new ts t at kept same is = record {
+  hand = subst (λ (k : List TokenShown). HasInHand table new.pass (ts ++ k)) (sym kept) (given table old.pass new.pass t (ts ++ old.kept) at.hand same is);
+  own = All-tail (IsOf handed) t ts at.own;
+  part = subst (λ n. 0 < n) (sym is.parts) at.part;
+}
+
+-- the worker keeps it
+pub one_kept : (handed : List TokenShown) (table : TableId) (old new : Working) (ts : List TokenShown) (t : TokenShown) → IsAtWork handed table old (t ∷ ts) → new.kept ≡ old.kept ++ t ∷ [] → IsSamePass old.pass new.pass
+    → view new.pass ≡ view old.pass → IsAtWork handed table new ts
+one_kept handed table old new ts t at kept same is = record {
+  hand = put_by table old.pass new.pass t ts old.kept new.kept at.hand same is kept;
+  own = All-tail (IsOf handed) t ts at.own;
+  part = subst (λ (v : Hand). 0 < v.parts) (sym is) at.part;
+}

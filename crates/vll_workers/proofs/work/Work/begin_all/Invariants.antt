@@ -1,0 +1,12 @@
+-- The tokens that are left are in hand, and each call that began may run.
+use Rattle.std.proofs.Common.{◌≡◌, ◌≤◌, ◌+◌, All, length}
+use Rattle.vll_engine.specs.Pass.{IsFresh}
+use Rattle.vll_workers.specs.declared.stack.TheConstants.{MOST_BATCH}
+use Rattle.crossbeam_queue.specs.Passes.{view}
+use Rattle.vll_workers.specs.Private.Work.{IsAtWork}
+use Rattle.vll_workers.proofs.work.Work.begin_all.Given as goal
+
+abbrev pub invariant-loop : goal.invariant-loop
+invariant-loop g l =
+    IsAtWork g.T.Roster.tokens l.self.pool.now l.worker l.tokens × ((view l.worker.pass).parts ≡ (view l.initial.worker.pass).parts)
+    × All (IsFresh g.N.Name.engine) l.passes × (length l.passes + length l.tokens ≤ MOST_BATCH)

@@ -1,0 +1,49 @@
+ghost use Rattle.std.specs.Prelude.{◌≡◌};
+
+use crate::gate::Gate;
+use crate::pool::Pool;
+use crate::roster::Roster;
+use crate::shared::Shared;
+use crate::work::Work;
+use std::sync::{Mutex, Wait};
+use vll_engine::Name;
+use vll_sca::Place;
+
+// What the workers of a run share, as their threads are handed it.
+#[derive_where(Clone, Copy)]
+pub(super) struct Workplace<'a, X, T: Roster, W, G> {
+    pub(super) wait: &'a W,
+    pub(super) shared: &'a X,
+    pub(super) pool: &'a Pool<T>,
+    // It is locked until the tokens lie in the pool.
+    pub(super) door: &'a Mutex<()>,
+    pub(super) gate: &'a G,
+}
+
+// The same with its engine.
+pub(super) fn work_at<
+    'a,
+    N: Name,
+    H: Place + Send + Drop,
+    X: Shared<N, H>,
+    T: Roster,
+    W: Wait,
+    G: Gate,
+>(workplace: Workplace<'a, X, T, W, G>) -> Work<'a, N, H, T, W, G>
+    ensures { result.pool.now ≡ workplace.entry.pool.now }
+{
+    let Workplace {
+        wait,
+        shared,
+        pool,
+        door,
+        gate,
+    } = workplace;
+    Work {
+        wait,
+        engine: shared.engine(),
+        pool,
+        door,
+        gate,
+    }
+}

@@ -1,0 +1,71 @@
+ghost use Rattle.std.specs.Prelude.{◌≡◌, ◌<◌, ◌≤◌, ◌∷◌, [], IfNone, IfOk, IfSome, MatchBool, length};
+
+use std::alloc::{AllocError, Global};
+use std::marker::Model;
+
+// The most calls that a worker begins under one hold.
+pub(crate) const MOST_BATCH: usize = 8;
+
+// A few values, up to MOST_BATCH, of which the last one comes out first. All room is taken when it is made. To a
+// contract it is the list of its values, the last one first.
+#[derive(Drop)]
+pub(crate) struct Stack<X> {
+    items: Vec<X>,
+}
+
+impl<X> Model for Stack<X> {
+    ghost use Rattle.std.specs.Prelude.{◌≤◌, List, length, reverse, vec_capacity};
+    ghost use Rattle.std.specs.Coded.{codes};
+    ghost use Rattle.vll_workers.specs.declared.stack.TheConstants.{MOST_BATCH};
+
+    ghost Value = { List X };
+
+    ghost view = { λ s. reverse s.items.items };
+
+    ghost invariant = { λ s. (length s.items.items ≤ MOST_BATCH) × (MOST_BATCH ≤ vec_capacity s.items) };
+}
+
+impl<X> Stack<X> {
+    pub(crate) fn new(alloc: Global) -> Result<Stack<X>, AllocError>
+        ensures { IfOk result (λ s. s ≡ []) }
+    {
+        Ok(Stack {
+            items: Vec::with_capacity(alloc, MOST_BATCH)?,
+        })
+    }
+
+    pub(crate) fn len(&self) -> usize
+        ensures count { result ≡ length self.now }
+        ensures few { result ≤ MOST_BATCH }
+    {
+        self.items.len()
+    }
+
+    pub(crate) fn is_empty(&self) -> bool
+        ensures empty { MatchBool result (self.now ≡ []) (¬ self.now ≡ []) }
+        ensures few { length self.now ≤ MOST_BATCH }
+    {
+        self.items.is_empty()
+    }
+
+    pub(crate) fn push(&mut self, value: X)
+        requires { length self.old < MOST_BATCH }
+        ensures { self.new ≡ value ∷ self.old }
+    {
+        self.items.push_reserved(value);
+    }
+
+    pub(crate) fn pop(&mut self) -> Option<X>
+        ensures some { IfSome result (λ value. self.old ≡ value ∷ self.new) }
+        ensures none { IfNone result ((self.old ≡ []) × (self.new ≡ [])) }
+    {
+        self.items.pop()
+    }
+
+    // The end of an empty stack of values that may not be dropped.
+    pub(crate) fn destroy(self)
+        requires { self ≡ [] }
+    {
+        self.items.destroy_empty();
+    }
+}
