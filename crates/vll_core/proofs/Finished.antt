@@ -5,7 +5,7 @@ use Rattle.std.proofs.lemmas.Bool.{and_left, and_right, false_from_ne_true}
 use Rattle.std.proofs.lemmas.List.{length-map}
 use Rattle.std.proofs.lemmas.List.Sums.{count_by-le-length, count_by_more_yes, length-filter, sum_by-take-le}
 use Rattle.std.proofs.lemmas.Map.Views.{exact_unsigned_eq}
-use Rattle.std.proofs.lemmas.Option.{slice_get_within, get_or_from_slice_get}
+use Rattle.std.proofs.lemmas.Option.{slice_get_within, slice_get-get_or, get_or_from_slice_get}
 use Rattle.std.specs.List.{list_any, flat_map}
 use Rattle.vll_record.specs.declared.claim.Claim.{Claim}
 use Rattle.vll_record.specs.Claim.{is_write}
@@ -14,6 +14,8 @@ use Rattle.vll_proc.specs.Serial.{Made, end}
 use Rattle.vll_sca.specs.declared.status.Status.{Status}
 use Rattle.vll_sca.specs.declared.status.Status.TheVariants.{Running, Waiting, Gone}
 use Rattle.vll_sca.specs.Status.{is_waiting, is_running, is_gone}
+use Rattle.vll_core.specs.Drain.{IsAtEnd}
+use Rattle.vll_core.specs.Moves.{IsReached}
 use Rattle.vll_core.specs.Laws.{FinishedMachinesHaveTheSerialEnd}
 use Rattle.vll_core.specs.State.{Base, Opening, Entered, State, Turn, made, entered, writes, open_of, requested_of, records_before, counter, will_store, unstored, value, has_aborted}
 use Rattle.vll_core.proofs.Tests.{both_true, or_rest, none_pos, at_least}
@@ -75,6 +77,15 @@ finished_counter o s r kept closed gone =
     ∙ none_open s.entries (length s.entries) (λ v e low at. drop_none e.releases e.call.claims ((kept.entries v e at).gone (gone v e at))) in
     ap (λ (x : Option Turn). pair_word_of (claims_on r (flat_map open_of s.entries ++ requested_of x))) closed
     ∙ ap (λ (xs : List Claim). pair_word_of (claims_on r (xs ++ []))) none
+
+-- and so the machine is at its end
+pub at_end : (o : Opening) (s : State) → IsReached o s → s.turn ≡ None → ((t : ℕ) (e : Entered) → slice_get s.entries t ≡ Some e → is_gone e.status ≡ true) → IsAtEnd o.base s
+at_end o s reached closed gone = record {
+  closed = closed;
+  gone = λ k d within. gone k _ (slice_get-get_or s.entries k d within);
+  values = λ r. finished_value o s r (kept_reached o s reached) gone;
+  counters = λ r. finished_counter o s r (kept_reached o s reached) closed gone;
+}
 
 pub finished_reached : FinishedMachinesHaveTheSerialEnd
 finished_reached o s reached closed none_wait none_run =

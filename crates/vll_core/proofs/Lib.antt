@@ -18,12 +18,15 @@ pub mod Clients
 pub mod Counters
 pub mod Values
 pub mod Finished
+pub mod Draining
+pub mod Drained
 pub mod Windows
 pub mod Searching
 pub mod Entries
 pub mod WindowChanges
 pub mod Analysed
 pub mod QueueScan
+pub mod Lowest
 pub mod QueueFruitless
 pub mod QueueChanges
 pub mod Proper
@@ -44,6 +47,7 @@ pub mod Waking
 pub mod Admitting
 pub mod RunningCalls
 pub mod RunningWorks
+pub mod Ending
 pub mod Releasing
 pub mod Loading
 pub mod Storing

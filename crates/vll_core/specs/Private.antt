@@ -6,3 +6,4 @@ pub mod Work
 pub mod View
 pub mod FirstWords
 pub mod MachineKept
+pub mod Draining

@@ -20,6 +20,8 @@ use vll_check::Library;
 use vll_proc::Call;
 use vll_sca::{Place, Status};
 
+mod drain;
+
 /// The machine of atomic steps with its library. It takes one event at a time, and keeps a value word and a pair
 /// word for each record, and the entered calls in a queue. Contracts see what was handed in at the opening, and
 /// the state of the plain machine.

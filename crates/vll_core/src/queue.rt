@@ -1,9 +1,9 @@
-ghost use Rattle.std.specs.Prelude.{◌≡◌, ◌<◌, ◌↔◌, Some, length, count_by, slice_get, slice_set, IfOk, IsTrue};
+ghost use Rattle.std.specs.Prelude.{◌≡◌, ◌<◌, ◌↔◌, Some, length, count_by, position, slice_get, slice_set, IfOk, IsTrue};
 ghost use Rattle.std.specs.Option.{option_copied};
 ghost use Rattle.vll_sca.specs.Status.{is_waiting as waiting, is_running as running};
 ghost use Rattle.vll_sca.specs.declared.status.Status.TheVariants as Status;
 ghost use Rattle.vll_core.specs.Faults.{Refuses, config_fault};
-ghost use Rattle.vll_core.specs.Queue.{IsQueued, empty, entry, admitted, lines, statuses, started, finished, front_among, fronted, found_by, scanned};
+ghost use Rattle.vll_core.specs.Queue.{IsQueued, empty, entry, admitted, lines, statuses, is_left, started, finished, front_among, fronted, found_by, scanned};
 
 use crate::config::{Config, OpenFault};
 use crate::line::Line;
@@ -177,6 +177,13 @@ impl<H: Place> Queue<H> {
         self.statuses.push_reserved(status);
         self.window.push(Entry { claims, status });
         ticket
+    }
+
+    // The lowest ticket that is not gone.
+    pub(crate) fn lowest(&self) -> Option<Ticket>
+        ensures { result ≡ position is_left (statuses self.now) }
+    {
+        Some(Ticket(self.window.front()?))
     }
 
     /// Where the lowest ticket that is not gone waits, its call begins to run, and the ticket is answered.

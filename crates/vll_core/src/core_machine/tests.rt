@@ -1,9 +1,12 @@
 mod acts;
 mod blocking;
+mod crowd;
+mod draining;
 mod handing;
 mod opening;
 mod procedures;
 mod refusals;
+mod refused_before_each_step;
 mod running;
 mod turns;
 mod words;

@@ -12,6 +12,9 @@ use vll_sca::Placing;
 // The scripts of clients, client 0's first. A call is a name and its arguments.
 pub(super) type Scripts<'a> = &'a [&'a [(&'a str, &'a [u64])]];
 
+// Events that are refused, each group in the same words.
+pub(super) type Refusals<'a> = &'a [(&'a [Step], &'a str)];
+
 // An event, in which a ticket is its number.
 #[derive(Clone, Copy, Debug)]
 pub(super) enum Step {
@@ -46,6 +49,10 @@ pub(super) enum Act<'a> {
     Play(&'a [(Step, &'a str)]),
     // Each of these events is refused in these words, and leaves the calls, their statuses and the words.
     Refuse(&'a [(Step, &'a str)]),
+    // The same for each of the events that have the same words.
+    RefuseAll(Refusals<'a>),
+    // The core is drained, by so many events.
+    Drain(u64),
     // The core has these words.
     Words(&'a [u64]),
     // This stands in the core.
@@ -57,7 +64,7 @@ fn answer(alloc: Global, core: &mut Core<Placing>, step: Step) -> Result<String,
     said(alloc, core.step(event(step)))
 }
 
-fn play(
+pub(super) fn play(
     rt: &(impl AllocGlobal + Abort),
     core: &mut Core<Placing>,
     steps: &[(Step, &str)],
@@ -93,6 +100,33 @@ fn refuse(
     Ok(())
 }
 
+fn refuse_each(
+    rt: &(impl AllocGlobal + Abort),
+    core: &mut Core<Placing>,
+    steps: &[Step],
+    words: &str,
+) -> Result<(), Fail> {
+    for step in steps {
+        refuse(rt, core, &[(*step, words)])?;
+    }
+    Ok(())
+}
+
+fn refuse_all(
+    rt: &(impl AllocGlobal + Abort),
+    core: &mut Core<Placing>,
+    refusals: Refusals,
+) -> Result<(), Fail> {
+    for (steps, words) in refusals {
+        refuse_each(rt, core, steps, words)?;
+    }
+    Ok(())
+}
+
+fn check_drain(rt: &impl Abort, core: &mut Core<Placing>, made: u64) {
+    assert_eq!(rt; core.drain(), made);
+}
+
 fn check_words(rt: &impl Abort, core: &Core<Placing>, words: &[u64]) {
     assert_eq!(rt; core.words(), words);
 }
@@ -105,6 +139,11 @@ fn perform(
     match act {
         Act::Play(steps) => play(rt, core, steps),
         Act::Refuse(steps) => refuse(rt, core, steps),
+        Act::RefuseAll(refusals) => refuse_all(rt, core, refusals),
+        Act::Drain(made) => {
+            check_drain(rt, core, made);
+            Ok(())
+        }
         Act::Words(words) => {
             check_words(rt, core, words);
             Ok(())

@@ -1,0 +1,43 @@
+-- Draining a machine: the open turn is closed and each call brought to its end, by events other than Enter and Scan.
+use Rattle.std.specs.Prelude.{◌≡◌, ℕ, ◌+◌, ◌*◌, Bool, true, false, List, length, Option, Some, None, All, is_ok, slice_index, if◌then◌else◌}
+use Rattle.std.specs.List.{sum_by}
+use Rattle.vll_proc.specs.Serial.{end}
+use Rattle.vll_sca.specs.Status.{is_gone}
+use Rattle.vll_core.specs.declared.event.Event.{Event}
+use Rattle.vll_core.specs.declared.event.Event.TheVariants as event
+use Rattle.vll_core.specs.State.{Base, Opening, Entered, Turn, State, entered, counter, value}
+use Rattle.vll_core.specs.Machine.{answers, run}
+
+-- an event is Enter or Scan
+abbrev pub is_enter_or_scan : Event → Bool
+is_enter_or_scan (event.Enter client) = true
+is_enter_or_scan event.Scan = true
+is_enter_or_scan other = false
+
+-- so many events lead from a state to another: none of them is Enter or Scan, and none is refused
+pub record IsDrained (o : Opening) (s next : State) (made : ℕ) : Type 0 where
+  pub events : List Event
+  pub number : length events ≡ made
+  pub others : All (λ e. is_enter_or_scan e ≡ false) events
+  pub taken : All (λ answer. is_ok answer ≡ true) (answers o s events)
+  pub leads : run o s events ≡ next
+
+-- every call is gone and no turn is open: each record is what the calls make of it one at a time in order of entry, and each counter is 0
+pub record IsAtEnd (o : Base) (s : State) : Type 0 where
+  pub closed : s.turn ≡ None
+  pub gone : All (λ (e : Entered). is_gone e.status ≡ true) s.entries
+  pub values : (r : ℕ) → value o s r ≡ slice_index (end o.procs (entered s) o.records) r
+  pub counters : (r : ℕ) → counter s r ≡ 0
+
+-- the most events that bring a call to its end: three for each of its claims, and two
+abbrev pub most_of : Entered → ℕ
+most_of e = if is_gone e.status then 0 else 3 * length e.call.claims + 2
+
+-- and that close a turn and bring its call to its end: four for each of its claims, and three
+abbrev pub most_of_turn : Option Turn → ℕ
+most_of_turn None = 0
+most_of_turn (Some turn) = 4 * length turn.call.claims + 3
+
+-- the most events that bring a machine to its end
+abbrev pub most_events : State → ℕ
+most_events s = sum_by most_of s.entries + most_of_turn s.turn
