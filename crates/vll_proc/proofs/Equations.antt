@@ -1,55 +1,47 @@
 -- What the definitions say at each form of an expression, as it is built.
-use Rattle.std.proofs.Common.{◌≡◌, ℕ, suc, ◌+◌, max, Bool, ◌==◌, ◌&&◌, refl, Result, Ok, Err}
+use Rattle.std.proofs.Common.{◌≡◌, ℕ, suc, ◌+◌, max, Bool, ◌==◌, ◌&&◌, refl, Ok}
 use denote.Hole.Carrier.{hidden}
-use Rattle.vll_proc.specs.declared.call.Reason.{Reason}
 use Rattle.vll_proc.specs.declared.syntax.Expr.{Expr, Add, Sub, Mul, Div, Rem, Min, Max, Equal, Less, Not}
 use Rattle.vll_proc.specs.declared.syntax.Expr.TheBlock.{hidden-the_row-Expr-0}
 use Rattle.vll_proc.specs.Meaning.{Scene, and_then, value_of, truth, sum, difference, product, quotient, remainder, lesser, greater, equality, order}
-use Rattle.vll_proc.specs.Private.Running.{both_values}
+use Rattle.vll_proc.specs.Private.Running.{operation_of}
 use Rattle.vll_proc.specs.WellFormed.{all_leaves, depth, nodes}
 
--- both operands at once, and then the operator
-pair_then : (f : ℕ → ℕ → Result ℕ Reason) (r q : Result ℕ Reason)
-    → and_then r (λ x. and_then q (λ y. f x y)) ≡ and_then (and_then r (λ x. and_then {B = ℕ × ℕ} q (λ y. Ok (x, y)))) (λ p. f p.0 p.1)
-pair_then f (Ok x) (Ok y) = refl
-pair_then f (Ok x) (Err why) = refl
-pair_then f (Err why) q = refl
-
-pub value_of_add : (a b : Expr) (s : Scene) → value_of (Add a b) s ≡ and_then (both_values a b s) (λ p. sum p.0 p.1)
+pub value_of_add : (a b : Expr) (s : Scene) → value_of (Add a b) s ≡ and_then (value_of a s) (λ x. and_then (value_of b s) (λ y. sum x y))
 unfolding hidden hidden-the_row-Expr-0
-value_of_add a b s = pair_then sum (value_of a s) (value_of b s)
+value_of_add a b s = refl
 
-pub value_of_sub : (a b : Expr) (s : Scene) → value_of (Sub a b) s ≡ and_then (both_values a b s) (λ p. difference p.0 p.1)
+pub value_of_sub : (a b : Expr) (s : Scene) → value_of (Sub a b) s ≡ and_then (value_of a s) (λ x. and_then (value_of b s) (λ y. difference x y))
 unfolding hidden hidden-the_row-Expr-0
-value_of_sub a b s = pair_then difference (value_of a s) (value_of b s)
+value_of_sub a b s = refl
 
-pub value_of_mul : (a b : Expr) (s : Scene) → value_of (Mul a b) s ≡ and_then (both_values a b s) (λ p. product p.0 p.1)
+pub value_of_mul : (a b : Expr) (s : Scene) → value_of (Mul a b) s ≡ and_then (value_of a s) (λ x. and_then (value_of b s) (λ y. product x y))
 unfolding hidden hidden-the_row-Expr-0
-value_of_mul a b s = pair_then product (value_of a s) (value_of b s)
+value_of_mul a b s = refl
 
-pub value_of_div : (a b : Expr) (s : Scene) → value_of (Div a b) s ≡ and_then (both_values a b s) (λ p. quotient p.0 p.1)
+pub value_of_div : (a b : Expr) (s : Scene) → value_of (Div a b) s ≡ and_then (value_of a s) (λ x. and_then (value_of b s) (λ y. quotient x y))
 unfolding hidden hidden-the_row-Expr-0
-value_of_div a b s = pair_then quotient (value_of a s) (value_of b s)
+value_of_div a b s = refl
 
-pub value_of_rem : (a b : Expr) (s : Scene) → value_of (Rem a b) s ≡ and_then (both_values a b s) (λ p. remainder p.0 p.1)
+pub value_of_rem : (a b : Expr) (s : Scene) → value_of (Rem a b) s ≡ and_then (value_of a s) (λ x. and_then (value_of b s) (λ y. remainder x y))
 unfolding hidden hidden-the_row-Expr-0
-value_of_rem a b s = pair_then remainder (value_of a s) (value_of b s)
+value_of_rem a b s = refl
 
-pub value_of_min : (a b : Expr) (s : Scene) → value_of (Min a b) s ≡ and_then (both_values a b s) (λ p. lesser p.0 p.1)
+pub value_of_min : (a b : Expr) (s : Scene) → value_of (Min a b) s ≡ and_then (value_of a s) (λ x. and_then (value_of b s) (λ y. lesser x y))
 unfolding hidden hidden-the_row-Expr-0
-value_of_min a b s = pair_then lesser (value_of a s) (value_of b s)
+value_of_min a b s = refl
 
-pub value_of_max : (a b : Expr) (s : Scene) → value_of (Max a b) s ≡ and_then (both_values a b s) (λ p. greater p.0 p.1)
+pub value_of_max : (a b : Expr) (s : Scene) → value_of (Max a b) s ≡ and_then (value_of a s) (λ x. and_then (value_of b s) (λ y. greater x y))
 unfolding hidden hidden-the_row-Expr-0
-value_of_max a b s = pair_then greater (value_of a s) (value_of b s)
+value_of_max a b s = refl
 
-pub value_of_equal : (a b : Expr) (s : Scene) → value_of (Equal a b) s ≡ and_then (both_values a b s) (λ p. equality p.0 p.1)
+pub value_of_equal : (a b : Expr) (s : Scene) → value_of (Equal a b) s ≡ and_then (value_of a s) (λ x. and_then (value_of b s) (λ y. equality x y))
 unfolding hidden hidden-the_row-Expr-0
-value_of_equal a b s = pair_then equality (value_of a s) (value_of b s)
+value_of_equal a b s = refl
 
-pub value_of_less : (a b : Expr) (s : Scene) → value_of (Less a b) s ≡ and_then (both_values a b s) (λ p. order p.0 p.1)
+pub value_of_less : (a b : Expr) (s : Scene) → value_of (Less a b) s ≡ and_then (value_of a s) (λ x. and_then (value_of b s) (λ y. order x y))
 unfolding hidden hidden-the_row-Expr-0
-value_of_less a b s = pair_then order (value_of a s) (value_of b s)
+value_of_less a b s = refl
 
 pub value_of_not : (a : Expr) (s : Scene) → value_of (Not a) s ≡ and_then (value_of a s) (λ x. Ok (truth (x == 0)))
 unfolding hidden hidden-the_row-Expr-0
@@ -175,4 +167,46 @@ pub nodes_not : (a : Expr) → nodes (Not a) ≡ suc (nodes a)
 unfolding hidden hidden-the_row-Expr-0
 nodes_not a = refl
 
+pub operation_of_add : (a b : Expr) (x y : ℕ) → operation_of (Add a b) x y ≡ sum x y
+unfolding hidden hidden-the_row-Expr-0
+operation_of_add a b x y = refl
+
+pub operation_of_sub : (a b : Expr) (x y : ℕ) → operation_of (Sub a b) x y ≡ difference x y
+unfolding hidden hidden-the_row-Expr-0
+operation_of_sub a b x y = refl
+
+pub operation_of_mul : (a b : Expr) (x y : ℕ) → operation_of (Mul a b) x y ≡ product x y
+unfolding hidden hidden-the_row-Expr-0
+operation_of_mul a b x y = refl
+
+pub operation_of_div : (a b : Expr) (x y : ℕ) → operation_of (Div a b) x y ≡ quotient x y
+unfolding hidden hidden-the_row-Expr-0
+operation_of_div a b x y = refl
+
+pub operation_of_rem : (a b : Expr) (x y : ℕ) → operation_of (Rem a b) x y ≡ remainder x y
+unfolding hidden hidden-the_row-Expr-0
+operation_of_rem a b x y = refl
+
+pub operation_of_min : (a b : Expr) (x y : ℕ) → operation_of (Min a b) x y ≡ lesser x y
+unfolding hidden hidden-the_row-Expr-0
+operation_of_min a b x y = refl
+
+pub operation_of_max : (a b : Expr) (x y : ℕ) → operation_of (Max a b) x y ≡ greater x y
+unfolding hidden hidden-the_row-Expr-0
+operation_of_max a b x y = refl
+
+pub operation_of_equal : (a b : Expr) (x y : ℕ) → operation_of (Equal a b) x y ≡ equality x y
+unfolding hidden hidden-the_row-Expr-0
+operation_of_equal a b x y = refl
+
+pub operation_of_less : (a b : Expr) (x y : ℕ) → operation_of (Less a b) x y ≡ order x y
+unfolding hidden hidden-the_row-Expr-0
+operation_of_less a b x y = refl
+
+pub operation_of_not : (a : Expr) (x y : ℕ) → operation_of (Not a) x y ≡ Ok 0
+unfolding hidden hidden-the_row-Expr-0
+operation_of_not a x y = refl
+
 pub ruleset forms = (value_of_add, value_of_sub, value_of_mul, value_of_div, value_of_rem, value_of_min, value_of_max, value_of_equal, value_of_less, value_of_not, all_leaves_add, all_leaves_sub, all_leaves_mul, all_leaves_div, all_leaves_rem, all_leaves_min, all_leaves_max, all_leaves_equal, all_leaves_less, all_leaves_not, depth_add, depth_sub, depth_mul, depth_div, depth_rem, depth_min, depth_max, depth_equal, depth_less, depth_not, nodes_add, nodes_sub, nodes_mul, nodes_div, nodes_rem, nodes_min, nodes_max, nodes_equal, nodes_less, nodes_not)
+
+pub ruleset operators = (operation_of_add, operation_of_sub, operation_of_mul, operation_of_div, operation_of_rem, operation_of_min, operation_of_max, operation_of_equal, operation_of_less, operation_of_not)

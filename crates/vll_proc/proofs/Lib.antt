@@ -1,4 +1,5 @@
 pub mod Equations
+pub mod Noted
 pub mod Lists
 pub mod Copy
 pub mod Called

@@ -1,7 +1,7 @@
-ghost use Rattle.std.specs.Prelude.{◌≡◌, ◌+◌, ◌<◌, ◌≤◌, ◌&&◌, ◌^◌, ◌==◌, true, length, map, sum_by, nat_lt, OnOk};
+ghost use Rattle.std.specs.Prelude.{◌≡◌, ◌+◌, ◌<◌, ◌≤◌, ◌&&◌, ◌^◌, ◌==◌, ℕ, true, length, map, sum_by, nat_lt, OnOk, slice_index};
 ghost use Rattle.std.specs.List.{list_all};
 ghost use Rattle.vll_proc.specs.Meaning.{sum, difference, product, quotient, remainder, value_of, effect, in_turn};
-ghost use Rattle.vll_proc.specs.Private.Running.{scene_of, HasCells, ended, both_values};
+ghost use Rattle.vll_proc.specs.Private.Running.{scene_of, HasCells, ended, noted, behind, operation_of};
 ghost use Rattle.vll_proc.specs.WellFormed.{all_leaves, throughout, key_is_below, arg_is_below, local_is_known, set_is_below, let_is_known, any_stmt, replies};
 
 use crate::call::{Call, Reason};
@@ -80,9 +80,8 @@ impl Progress {
         }
     }
 
-    // The value of an expression.
-    #[cycle(expression)]
-    #[tactic(auto, using(crate::proofs::Equations::forms))]
+    // The value of an expression, or the first reason on the way to it.
+    #[inline(always)]
     fn value(&self, expr: &Expr, call: &Call) -> Result<u64, Reason>
         requires cells { HasCells call.now }
         requires keys { all_leaves (key_is_below MOST_CLAIMS) expr.now ≡ true }
@@ -90,66 +89,119 @@ impl Progress {
         requires locals { all_leaves local_is_known expr.now ≡ true }
         ensures { result ≡ value_of expr.now (scene_of call.now self.now) }
     {
+        let mut why = None;
+        let number = self.operand(expr, call, &mut why);
+        match why {
+            None => Ok(number),
+            Some(reason) => Err(reason),
+        }
+    }
+
+    // The value in the cell that a key position names.
+    #[inline(always)]
+    fn key(&self, i: u8, call: &Call) -> u64
+        requires cells { HasCells call.now }
+        requires known { i < MOST_CLAIMS }
+        ensures { result ≡ slice_index self.now.cells (slice_index call.now.cells i) }
+    {
+        self.cells.get(call.cells[i as usize] as usize)
+    }
+
+    // The number that an expression gives. The first reason is noted, and what is computed behind it means nothing: so
+    // no result but a number is handed up from one operator to the next.
+    #[cycle(expression)]
+    #[tactic(auto, using(crate::proofs::Equations::forms))]
+    fn number(&self, expr: &Expr, call: &Call, why: &mut Option<Reason>) -> u64
+        requires cells { HasCells call.now }
+        requires keys { all_leaves (key_is_below MOST_CLAIMS) expr.now ≡ true }
+        requires args { all_leaves (arg_is_below MOST_ARGS) expr.now ≡ true }
+        requires locals { all_leaves local_is_known expr.now ≡ true }
+        ensures { noted why.new result ≡ behind why.old (value_of expr.now (scene_of call.now self.now)) }
+    {
         match expr {
-            Expr::Num(n) => Ok(*n),
-            Expr::Arg(i) => Ok(call.args[*i as usize]),
-            Expr::Key(i) => Ok(self.cells.get(call.cells[*i as usize] as usize)),
-            Expr::Local(i) => Ok(self.locals[*i as usize]),
-            Expr::Add(a, b) => {
-                let (x, y) = self.values(a.get(), b.get(), call)?;
-                sum(x, y)
-            }
-            Expr::Sub(a, b) => {
-                let (x, y) = self.values(a.get(), b.get(), call)?;
-                difference(x, y)
-            }
-            Expr::Mul(a, b) => {
-                let (x, y) = self.values(a.get(), b.get(), call)?;
-                product(x, y)
-            }
-            Expr::Div(a, b) => {
-                let (x, y) = self.values(a.get(), b.get(), call)?;
-                quotient(x, y)
-            }
-            Expr::Rem(a, b) => {
-                let (x, y) = self.values(a.get(), b.get(), call)?;
-                remainder(x, y)
-            }
-            Expr::Min(a, b) => {
-                let (x, y) = self.values(a.get(), b.get(), call)?;
-                Ok(x.min(y))
-            }
-            Expr::Max(a, b) => {
-                let (x, y) = self.values(a.get(), b.get(), call)?;
-                Ok(x.max(y))
-            }
-            Expr::Equal(a, b) => {
-                let (x, y) = self.values(a.get(), b.get(), call)?;
-                Ok(u64::from(x == y))
-            }
-            Expr::Less(a, b) => {
-                let (x, y) = self.values(a.get(), b.get(), call)?;
-                Ok(u64::from(x < y))
-            }
-            Expr::Not(a) => {
-                let x = self.value(a.get(), call)?;
-                Ok(u64::from(x == 0))
+            Expr::Num(n) => *n,
+            Expr::Arg(i) => call.args[*i as usize],
+            Expr::Key(i) => self.key(*i, call),
+            Expr::Local(i) => self.locals[*i as usize],
+            Expr::Not(a) => u64::from(self.operand(a.get(), call, why) == 0),
+            Expr::Add(a, b)
+            | Expr::Sub(a, b)
+            | Expr::Mul(a, b)
+            | Expr::Div(a, b)
+            | Expr::Rem(a, b)
+            | Expr::Min(a, b)
+            | Expr::Max(a, b)
+            | Expr::Equal(a, b)
+            | Expr::Less(a, b) => {
+                let x = self.operand(a.get(), call, why);
+                let y = self.operand(b.get(), call, why);
+                number_or_reason(operation(expr, x, y), why)
             }
         }
     }
 
-    // The values of two operands, the left one first.
+    // The same of an operand. A leaf is answered without a call.
     #[cycle(expression)]
-    fn values(&self, left: &Expr, right: &Expr, call: &Call) -> Result<(u64, u64), Reason>
+    #[inline(always)]
+    fn operand(&self, expr: &Expr, call: &Call, why: &mut Option<Reason>) -> u64
         requires cells { HasCells call.now }
-        requires keys { (all_leaves (key_is_below MOST_CLAIMS) left.now && all_leaves (key_is_below MOST_CLAIMS) right.now) ≡ true }
-        requires args { (all_leaves (arg_is_below MOST_ARGS) left.now && all_leaves (arg_is_below MOST_ARGS) right.now) ≡ true }
-        requires locals { (all_leaves local_is_known left.now && all_leaves local_is_known right.now) ≡ true }
-        ensures { result ≡ both_values left.now right.now (scene_of call.now self.now) }
+        requires keys { all_leaves (key_is_below MOST_CLAIMS) expr.now ≡ true }
+        requires args { all_leaves (arg_is_below MOST_ARGS) expr.now ≡ true }
+        requires locals { all_leaves local_is_known expr.now ≡ true }
+        ensures { noted why.new result ≡ behind why.old (value_of expr.now (scene_of call.now self.now)) }
     {
-        let x = self.value(left, call)?;
-        let y = self.value(right, call)?;
-        Ok((x, y))
+        match expr {
+            Expr::Num(n) => *n,
+            Expr::Arg(i) => call.args[*i as usize],
+            Expr::Key(i) => self.key(*i, call),
+            Expr::Local(i) => self.locals[*i as usize],
+            _ => self.number(expr, call, why),
+        }
+    }
+}
+
+// What the operator of an expression makes of two operands, and 0 if it has no two.
+#[inline(always)]
+#[tactic(auto, using(crate::proofs::Equations::operators))]
+fn operation(expr: &Expr, x: u64, y: u64) -> Result<u64, Reason>
+    ensures { result ≡ operation_of expr.now x y }
+{
+    match expr {
+        Expr::Add(_, _) => sum(x, y),
+        Expr::Sub(_, _) => difference(x, y),
+        Expr::Mul(_, _) => product(x, y),
+        Expr::Div(_, _) => quotient(x, y),
+        Expr::Rem(_, _) => remainder(x, y),
+        Expr::Min(_, _) => Ok(x.min(y)),
+        Expr::Max(_, _) => Ok(x.max(y)),
+        Expr::Equal(_, _) => Ok(u64::from(x == y)),
+        Expr::Less(_, _) => Ok(u64::from(x < y)),
+        Expr::Num(_) | Expr::Arg(_) | Expr::Key(_) | Expr::Local(_) | Expr::Not(_) => Ok(0),
+    }
+}
+
+// The number of a result. A reason is noted, if it is the first.
+#[inline(always)]
+fn number_or_reason(result_of: Result<u64, Reason>, why: &mut Option<Reason>) -> u64
+    ensures { noted why.new result ≡ behind why.old result_of }
+{
+    match result_of {
+        Ok(number) => number,
+        Err(reason) => {
+            note(reason, why);
+            0
+        }
+    }
+}
+
+// Notes a reason, if it is the first. Bodies seldom get here.
+#[cold]
+#[inline(never)]
+fn note(reason: Reason, why: &mut Option<Reason>)
+    ensures { (number : ℕ) → noted why.new number ≡ behind why.old (Err reason) }
+{
+    if why.is_none() {
+        *why = Some(reason);
     }
 }
 

@@ -1,11 +1,11 @@
 -- Where a body stands while it runs on a call's cells, as a scene of its meaning.
-use Rattle.std.specs.Prelude.{ℕ, ◌<◌, Result, Ok, Err, slice_index}
+use Rattle.std.specs.Prelude.{ℕ, ◌<◌, Result, Ok, Err, Option, Some, None, slice_index}
 use Rattle.vll_record.specs.declared.claims.TheConstants.{MOST_CLAIMS}
 use Rattle.vll_proc.specs.declared.call.Call.{Call}
 use Rattle.vll_proc.specs.declared.call.Reason.{Reason}
 use Rattle.vll_proc.specs.declared.run.Progress.{Progress}
-use Rattle.vll_proc.specs.declared.syntax.Expr.{Expr}
-use Rattle.vll_proc.specs.Meaning.{Scene, and_then, value_of}
+use Rattle.vll_proc.specs.declared.syntax.Expr.{Expr, Add', Sub', Mul', Div', Rem', Min', Max', Equal', Less'}
+use Rattle.vll_proc.specs.Meaning.{Scene, sum, difference, product, quotient, remainder, lesser, greater, equality, order}
 
 -- the scene whose records are the cells: each key position names its claim's cell
 abbrev pub scene_of : Call → Progress → Scene
@@ -15,9 +15,28 @@ scene_of c p = record { named = c.cells; args = c.args; locals = p.locals; recor
 abbrev pub HasCells : Call → Type 0
 HasCells c = (k : ℕ) → k < MOST_CLAIMS → slice_index c.cells k < MOST_CLAIMS
 
--- the values of two operands, the left one first
-abbrev pub both_values : Expr → Expr → Scene → Result (ℕ × ℕ) Reason
-both_values a b s = and_then (value_of a s) (λ x. and_then (value_of b s) (λ y. Ok (x, y)))
+-- what the operator of an expression makes of two operands, and 0 if it has no two
+abbrev pub operation_of : Expr → ℕ → ℕ → Result ℕ Reason
+operation_of (Add' p a q b) x y = sum x y
+operation_of (Sub' p a q b) x y = difference x y
+operation_of (Mul' p a q b) x y = product x y
+operation_of (Div' p a q b) x y = quotient x y
+operation_of (Rem' p a q b) x y = remainder x y
+operation_of (Min' p a q b) x y = lesser x y
+operation_of (Max' p a q b) x y = greater x y
+operation_of (Equal' p a q b) x y = equality x y
+operation_of (Less' p a q b) x y = order x y
+operation_of other x y = Ok 0
+
+-- a number, or the reason that is noted
+abbrev pub noted : Option Reason → ℕ → Result ℕ Reason
+noted None n = Ok n
+noted (Some why) n = Err why
+
+-- a result, or the reason that was noted before it
+abbrev pub behind : Option Reason → Result ℕ Reason → Result ℕ Reason
+behind None r = r
+behind (Some why) r = Err why
 
 -- what comes of a step that ends with a result: the scene then, or the reason
 abbrev pub ended : Result Unit Reason → Scene → Result Scene Reason

@@ -1,10 +1,10 @@
--- An operand is smaller than the expression, and two operands together are.
+-- An operand is smaller than the expression, and is looked at before it is computed.
 use Rattle.std.proofs.Common.{◌+◌, ◌*◌}
 use Rattle.vll_proc.specs.WellFormed.{nodes}
 use Rattle.vll_proc.proofs.run.Progress.+expression.Given as goal
 
-abbrev pub decreases-value : goal.decreases-value
-decreases-value l = 2 * nodes l.expr.now
+abbrev pub decreases-number : goal.decreases-number
+decreases-number l = 2 * nodes l.expr.now
 
-abbrev pub decreases-values : goal.decreases-values
-decreases-values l = 2 * (nodes l.left.now + nodes l.right.now) + 1
+abbrev pub decreases-operand : goal.decreases-operand
+decreases-operand l = 2 * nodes l.expr.now + 1
