@@ -1,6 +1,7 @@
-//! Measures the machine, the engine and whole runs. What it measures is printed, and nothing rests on it.
+//! Measures the machine, the engine, bodies and whole runs. What it measures is printed, and nothing rests on it.
 #![tactic(auto)]
 
+mod bodies;
 mod engine;
 mod events;
 mod fault;
@@ -8,9 +9,11 @@ mod runs;
 mod scans;
 mod scripts;
 mod setup;
+mod shapes;
 mod task;
 mod workload;
 
+use crate::bodies::measure_bodies;
 use crate::engine::measure_engine;
 use crate::events::measure_events;
 use crate::fault::Fault;
@@ -23,11 +26,13 @@ use vll_workers::MOST_WORKERS;
 const USAGE: &str = "usage: vll_bench events
        vll_bench engine
        vll_bench scan
+       vll_bench bodies
        vll_bench WORKERS ROUNDS < scenario
 
 events   what an event of the machine costs, on one thread
 engine   what a call of the engine costs from begin to finish, on one thread
 scan     what a scan of the queue costs that finds no call, on one thread
+bodies   what a body costs, a run and a node, on one thread
 WORKERS  runs the scenario by so many worker threads, 1 to 64, as often as
 ROUNDS   says, and prints the nanoseconds of each run, a line each";
 
@@ -37,6 +42,7 @@ fn main(rt: HostRuntime) -> Result<(), Fault> {
         Task::Events => measure_events(&rt),
         Task::Engine => measure_engine(&rt),
         Task::Scan => measure_scans(&rt),
+        Task::Bodies => measure_bodies(&rt),
         Task::Runs { workers, rounds } if 1 <= workers && workers <= MOST_WORKERS => {
             measure_runs(&rt, workers, rounds)
         }

@@ -6,6 +6,7 @@ pub(crate) enum Task {
     Events,
     Engine,
     Scan,
+    Bodies,
     Runs { workers: u32, rounds: u32 },
 }
 
@@ -15,6 +16,7 @@ pub(crate) fn task_of(words: &[String]) -> Task {
         [_, word] if word.as_str() == "events" => Task::Events,
         [_, word] if word.as_str() == "engine" => Task::Engine,
         [_, word] if word.as_str() == "scan" => Task::Scan,
+        [_, word] if word.as_str() == "bodies" => Task::Bodies,
         [_, workers, rounds] => match (
             workers.as_str().parse::<u32>(),
             rounds.as_str().parse::<u32>(),
