@@ -9,6 +9,8 @@ mod replaying;
 mod scenario;
 mod serving;
 mod stream;
+#[cfg(test)]
+mod tests;
 mod text;
 
 pub use fault::{Part, ReplayFault, ScenarioFault, ServeFault, Spot, WriteFault};

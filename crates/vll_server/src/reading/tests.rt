@@ -1,44 +1,10 @@
 use super::read_scenario;
 use crate::fault::{Part, ScenarioFault, Spot};
 use crate::plain::Plain;
-use crate::stream::Source;
 use std::alloc::{AllocError, Global};
-use std::io;
-use std::io::Read;
 use std::test::Fail;
 use vll_core::Event;
 use vll_sca::Placing;
-
-const NO_CALLS: &str = r#"{"version":1,"records":[7],"procs":[],"clients":[]}"#;
-
-// Gives its text, and then fails.
-#[derive(Drop)]
-struct Broken<'a> {
-    text: &'a [u8],
-}
-
-impl<'a> Read for Broken<'a> {
-    fn read(&mut self, buf: &mut [u8]) -> io::Result<usize> {
-        match (self.text.split_first(), buf.first_mut()) {
-            (Some((byte, rest)), Some(place)) => {
-                *place = *byte;
-                self.text = rest;
-                Ok(1)
-            }
-            _ => Err(io::Error::from(io::ErrorKind::BrokenPipe)),
-        }
-    }
-}
-
-#[test]
-fn reader_that_fails_behind_the_whole_text_is_a_read_fault(rt: HostRuntime) {
-    let mut reader = Plain::new(Broken {
-        text: NO_CALLS.as_bytes(),
-    });
-    let read = read_scenario(rt.alloc(), &mut reader);
-    assert!(rt; matches!(read, Err(ScenarioFault::Read)));
-    assert!(rt; reader.has_failed());
-}
 
 // What is chosen in the scenario that a text is: the cap, the limit and the number of bits.
 fn chosen_in(alloc: Global, text: &str) -> Result<(u32, u32, u32), ScenarioFault> {

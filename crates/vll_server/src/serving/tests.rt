@@ -1,29 +1,15 @@
 use super::serve;
-use crate::fault::{ScenarioFault, ServeFault};
+use crate::fault::ScenarioFault;
 use crate::plain::Plain;
 use crate::reading::read_scenario;
 use crate::scenario::Scenario;
-use crate::stream::Sink;
+use crate::tests::texts::{TRANSFER, TRANSFER_TEXT};
 use std::alloc::{AllocError, Global};
-use std::io::Write;
+use std::hint;
 use std::sync::atomic::{AtomicU64, Ordering};
 use std::test::Fail;
-use std::{hint, io};
 use vll_core::Ticket;
 use vll_workers::{Gate, OpenGate};
-
-// A transfer, and then a read of both records.
-const TRANSFER: &str = r#"{"version":1,"records":[100,50],
- "procs":[
-  {"name":"transfer","args":3,"keys":[["write","arg",0],["write","arg",1]],
-   "body":[["set",0,["sub",["key",0],["arg",2]]],
-           ["set",1,["add",["key",1],["arg",2]]],["reply",["key",0]]]},
-  {"name":"sum2","args":2,"keys":[["read","arg",0],["read","arg",1]],
-   "body":[["reply",["add",["key",0],["key",1]]]]}],
- "clients":[[{"proc":"transfer","args":[0,1,30]},{"proc":"sum2","args":[0,1]}]]}"#;
-
-const TRANSFER_TEXT: &str =
-    "call 0 client 0 committed 70\ncall 1 client 0 committed 150\nrecord 0 value 70 pair 0\nrecord 1 value 80 pair 0\n";
 
 const NO_CLIENTS: &str = r#"{"version":1,"records":[7],"procs":[],"clients":[]}"#;
 
@@ -51,20 +37,6 @@ const MOST_TURNS: u64 = 100_000_000;
 fn scenario(alloc: Global, text: &str) -> Result<Scenario, ScenarioFault> {
     let mut reader = Plain::new(text.as_bytes());
     read_scenario(alloc, &mut reader)
-}
-
-// Takes nothing.
-#[derive(Drop)]
-struct Broken;
-
-impl Write for Broken {
-    fn write(&mut self, _buf: &[u8]) -> io::Result<usize> {
-        Err(io::Error::from(io::ErrorKind::BrokenPipe))
-    }
-
-    fn flush(&mut self) -> io::Result<()> {
-        Ok(())
-    }
 }
 
 // Waits until a counter is as high, for so many turns at most. Answers whether it became so.
@@ -166,16 +138,6 @@ fn calls_of_two_clients_are_made_one_after_the_other(rt: HostRuntime) -> Result<
             || text.as_slice() == SECOND_THEN_FIRST.as_bytes();
         assert!(rt; is_lawful);
     }
-    Ok(())
-}
-
-#[test]
-fn failing_writer_is_a_write_fault(rt: HostRuntime) -> Result<(), Fail> {
-    let scenario = scenario(rt.alloc(), TRANSFER)?;
-    let mut writer = Plain::new(Broken);
-    let served = serve(&rt, &rt, rt.alloc(), scenario, 2, &OpenGate, &mut writer);
-    assert_eq!(rt; served, Err(ServeFault::Write));
-    assert!(rt; writer.has_failed());
     Ok(())
 }
 

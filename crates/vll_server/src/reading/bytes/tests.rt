@@ -1,30 +1,10 @@
 use super::{ReadFault, read_bytes};
 use crate::plain::Plain;
 use crate::stream::Source;
+use crate::tests::streams::Slow;
 use std::io;
 use std::io::Read;
 use std::test::Fail;
-
-// Gives its text a byte at a time, and then ends or fails.
-#[derive(Drop)]
-struct Slow<'a> {
-    text: &'a [u8],
-    breaks: bool,
-}
-
-impl<'a> Read for Slow<'a> {
-    fn read(&mut self, buf: &mut [u8]) -> io::Result<usize> {
-        match (self.text.split_first(), buf.first_mut()) {
-            (Some((byte, rest)), Some(place)) => {
-                *place = *byte;
-                self.text = rest;
-                Ok(1)
-            }
-            _ if self.breaks => Err(io::Error::from(io::ErrorKind::BrokenPipe)),
-            _ => Ok(0),
-        }
-    }
-}
 
 #[test]
 fn slice_is_read_whole(rt: HostRuntime) -> Result<(), Fail> {
@@ -57,14 +37,6 @@ fn source_that_fails_half_way_is_a_read_fault(rt: HostRuntime) {
     let read = read_bytes(rt.alloc(), &mut source);
     assert!(rt; matches!(read, Err(ReadFault::Read)));
     assert!(rt; source.has_failed());
-}
-
-#[test]
-fn endless_source_is_too_large(rt: HostRuntime) {
-    let mut source = Plain::new(io::repeat(b' '));
-    let read = read_bytes(rt.alloc(), &mut source);
-    assert!(rt; matches!(read, Err(ReadFault::Size)));
-    assert!(rt; !source.has_failed());
 }
 
 #[test]

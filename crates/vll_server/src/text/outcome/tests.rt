@@ -2,9 +2,8 @@ use super::write_outcome;
 use crate::fault::WriteFault;
 use crate::plain::Plain;
 use crate::stream::Sink;
+use crate::tests::streams::{Full, Narrow};
 use std::alloc::{AllocError, Global};
-use std::io;
-use std::io::Write;
 use std::test::Fail;
 use vll_core::Line;
 use vll_engine::Closed;
@@ -37,49 +36,6 @@ fn closed(alloc: Global) -> Result<Closed, AllocError> {
         pairs: vec![in alloc; 0, 4294967296]?,
         journal: vec![in alloc; overflow, code, line(1, None)]?,
     })
-}
-
-// What happens once a writer has no room left.
-#[derive(Clone, Copy, PartialEq, Eq, Debug)]
-enum Full {
-    // A write fails.
-    Fails,
-    // A write takes nothing.
-    TakesNothing,
-}
-
-// Takes a byte at a time while there is room.
-#[derive(Drop)]
-struct Narrow {
-    taken: Vec<u8>,
-    room: usize,
-    full: Full,
-    flushes: bool,
-}
-
-impl Write for Narrow {
-    fn write(&mut self, buf: &[u8]) -> io::Result<usize> {
-        let Some(byte) = buf.first() else {
-            return Ok(0);
-        };
-        if self.room > 0 {
-            self.taken.push(*byte)?;
-            self.room -= 1;
-            return Ok(1);
-        }
-        match self.full {
-            Full::Fails => Err(io::Error::from(io::ErrorKind::BrokenPipe)),
-            Full::TakesNothing => Ok(0),
-        }
-    }
-
-    fn flush(&mut self) -> io::Result<()> {
-        if self.flushes {
-            Ok(())
-        } else {
-            Err(io::Error::from(io::ErrorKind::BrokenPipe))
-        }
-    }
 }
 
 #[test]

@@ -1,0 +1,6 @@
+use Rattle.vll_sca.specs.Placing.{placing}
+use Rattle.vll_engine.specs.Shown.{name_of}
+use Rattle.vll_refusals.proofs.runs.run_clients.Given as goal
+
+abbrev pub ghosts-run_named : goal.ghosts-run_named
+ghosts-run_named g a = record { engine = name_of placing a.opening }

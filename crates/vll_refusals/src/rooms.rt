@@ -1,0 +1,106 @@
+//! The calls that take room and make nothing else.
+ghost use Rattle.std.specs.Prelude.{◌≡◌, length};
+
+use crate::answer::Answer;
+use crate::runs::four_clients;
+use crate::unready::Unready;
+use crate::{begin, end};
+use std::alloc::Global;
+use vll_check::Library;
+use vll_core::{Core, OpenFault, Queue};
+use vll_counters::{NoMemory, Words};
+use vll_engine::Opening;
+use vll_sca::{Bits, BitsFault, MOST_BITS};
+use vll_server::ScenarioParts;
+
+pub(crate) fn bits(rt: &(impl Print + AllocGlobal)) -> Result<Answer, Unready> {
+    begin(rt)?;
+    let made = Bits::new(rt.alloc(), MOST_BITS);
+    end(rt)?;
+    Ok(match made {
+        Ok(_) => Answer::Ample,
+        Err(BitsFault::NoMemory) => Answer::NoMemory,
+        Err(BitsFault::Size) => Answer::Wrong,
+    })
+}
+
+pub(crate) fn queue(rt: &(impl Print + AllocGlobal)) -> Result<Answer, Unready> {
+    let ScenarioParts {
+        config,
+        placing,
+        ..
+    } = four_clients(rt.alloc())?.into_parts();
+    begin(rt)?;
+    let made = Queue::open(rt.alloc(), config, placing);
+    end(rt)?;
+    Ok(match made {
+        Ok(queue) => Answer::Ample.only_if(queue.waiting() == 0 && queue.running() == 0),
+        Err(fault) => of_fault(fault),
+    })
+}
+
+pub(crate) fn core(rt: &(impl Print + AllocGlobal)) -> Result<Answer, Unready> {
+    let ScenarioParts {
+        records,
+        library,
+        scripts,
+        config,
+        placing,
+        ..
+    } = four_clients(rt.alloc())?.into_parts();
+    begin(rt)?;
+    let made = Core::open(rt.alloc(), records, library, scripts, config, placing);
+    end(rt)?;
+    Ok(match made {
+        Ok(core) => Answer::Ample.only_if(core.journal().is_empty()),
+        Err(fault) => of_fault(fault),
+    })
+}
+
+pub(crate) fn words(rt: &(impl Print + AllocGlobal)) -> Result<Answer, Unready> {
+    let ScenarioParts {
+        records,
+        library,
+        ..
+    } = four_clients(rt.alloc())?.into_parts();
+    begin(rt)?;
+    let made = number_of_seats(rt.alloc(), records.as_slice(), &library);
+    end(rt)?;
+    Ok(match made {
+        Ok(seats) => Answer::Ample.only_if(seats == 4),
+        Err(NoMemory) => Answer::NoMemory,
+    })
+}
+
+// How many sessions' seats four clients have beside the words of these records.
+fn number_of_seats(alloc: Global, records: &[u64], library: &Library) -> Result<usize, NoMemory>
+    requires { library.now.records ≡ length records.now }
+{
+    let (_words, _queue, seats) = Words::open(alloc, records, library, 4)?;
+    Ok(seats.len())
+}
+
+pub(crate) fn opening(rt: &(impl Print + AllocGlobal)) -> Result<Answer, Unready> {
+    let ScenarioParts {
+        records,
+        library,
+        config,
+        placing,
+        ..
+    } = four_clients(rt.alloc())?.into_parts();
+    begin(rt)?;
+    let made = Opening::new(rt.alloc(), records, library, config, placing, 4);
+    end(rt)?;
+    Ok(match made {
+        Ok(_) => Answer::Ample,
+        Err(fault) => of_fault(fault),
+    })
+}
+
+// The input has the sizes that can be opened.
+fn of_fault(fault: OpenFault) -> Answer {
+    match fault {
+        OpenFault::NoMemory => Answer::NoMemory,
+        _ => Answer::Wrong,
+    }
+}

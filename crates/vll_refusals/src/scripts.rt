@@ -1,0 +1,81 @@
+//! The scripts of a scenario, and the engine and the tokens for them.
+ghost use Rattle.std.specs.Prelude.{◌≡◌, ◌≤◌, ◌<◌, ◌^◌, All, IfOk, length, nat_eq, sum_by};
+ghost use Rattle.std.specs.List.{IsDistinct};
+ghost use Rattle.vll_check.specs.Calls.{Fits};
+ghost use Rattle.vll_counters.specs.Shown.{AreNewSessions};
+ghost use Rattle.vll_engine.specs.Shown.{library_of, name_of};
+ghost use Rattle.vll_sca.specs.Placing.{placing};
+ghost use Rattle.vll_server.specs.Setup.{lists_of};
+ghost use Rattle.vll_workers.specs.Tokens.{AreFit, clients_of};
+
+use crate::unready::Unready;
+use std::alloc::{AllocError, Global};
+use vll_core::{Config, MOST_CALLS};
+use vll_engine::{Name, Opening, Session};
+use vll_proc::Call;
+use vll_sca::Placing;
+use vll_server::{MOST_CLIENTS, Scenario, ScenarioParts};
+use vll_workers::Token;
+
+/// An engine over a scenario's records and procedures, with a client for each script, that takes as many calls as
+/// the scripts have, and the scripts.
+pub(crate) fn opening(
+    alloc: Global,
+    scenario: Scenario,
+) -> Result<(Opening<Placing>, Vec<Vec<Call>>), Unready>
+    ensures clients { IfOk result (λ made. made.0.clients ≡ length made.1.items) }
+    ensures few { IfOk result (λ made. length made.1.items ≤ MOST_CLIENTS) }
+    ensures short { IfOk result (λ made. All (λ script. length script.items < 2 ^ 32) made.1.items) }
+    ensures fits { IfOk result (λ made. All (λ script. All (Fits (library_of (name_of placing made.0))) script.items) made.1.items) }
+{
+    let ScenarioParts {
+        records,
+        library,
+        scripts,
+        config,
+        placing,
+        ..
+    } = scenario.into_parts();
+    let config = Config {
+        limit: number_of_calls(scripts.as_slice()).max(1),
+        ..config
+    };
+    let clients = scripts.len() as u32;
+    let opening = Opening::new(alloc, records, library, config, placing, clients)?;
+    Ok((opening, scripts))
+}
+
+/// A token for each client, the last one's first, with its session and its script.
+pub(crate) fn tokens<N: Name>(
+    alloc: Global,
+    sessions: Vec<Session>,
+    scripts: Vec<Vec<Call>>,
+) -> Result<Vec<Token>, AllocError>
+    requires sessions { AreNewSessions N.engine.table (length scripts.items) sessions.items }
+    requires few { length scripts.items ≤ MOST_CLIENTS }
+    requires short { All (λ script. length script.items < 2 ^ 32) scripts.items }
+    requires fits { All (λ script. All (Fits (library_of N.engine)) script.items) scripts.items }
+    ensures fit { IfOk result (λ tokens. AreFit N.engine tokens.items) }
+    ensures distinct { IfOk result (λ tokens. IsDistinct nat_eq (clients_of tokens.items)) }
+{
+    let mut sessions = sessions;
+    let mut scripts = scripts;
+    let mut tokens = Vec::new(alloc);
+    while let Some(script) = scripts.pop() {
+        let client = scripts.len() as u32;
+        let session = sessions.pop().unwrap();
+        tokens.push(Token::new(client, session, script))?;
+    }
+    Ok(tokens)
+}
+
+// How many calls all scripts have together.
+fn number_of_calls(scripts: &[Vec<Call>]) -> u32
+    requires { sum_by length (lists_of scripts.now) ≤ MOST_CALLS }
+{
+    let mut count = 0;
+    for script in scripts {
+        count += script.len() as u32;
+    }
+    count
+}

@@ -1,0 +1,118 @@
+//! The calls that read or write a text.
+use crate::answer::Answer;
+use crate::unready::Unready;
+use crate::{begin, end};
+use std::alloc::AllocError;
+use std::sync::Wait;
+use std::thread::Threads;
+use vll_server::{
+    Closed, Plain, ReplayFault, ScenarioFault, ServeFault, Sink, Source, WriteFault, read_scenario,
+    replay, serve, write_outcome,
+};
+use vll_workers::{OpenGate, RunFault};
+
+// A transfer, and then a read of both records.
+const TRANSFER: &str = r#"{"version":1,"records":[100,50],
+ "procs":[
+  {"name":"transfer","args":3,"keys":[["write","arg",0],["write","arg",1]],
+   "body":[["set",0,["sub",["key",0],["arg",2]]],
+           ["set",1,["add",["key",1],["arg",2]]],["reply",["key",0]]]},
+  {"name":"sum2","args":2,"keys":[["read","arg",0],["read","arg",1]],
+   "body":[["reply",["add",["key",0],["key",1]]]]}],
+ "clients":[[{"proc":"transfer","args":[0,1,30]},{"proc":"sum2","args":[0,1]}]],
+ "schedule":[["enter",0],["claim"],["front"]]}"#;
+
+const SERVED: &str =
+    "call 0 client 0 committed 70\ncall 1 client 0 committed 150\nrecord 0 value 70 pair 0\nrecord 1 value 80 pair 0\n";
+
+const REPLAYED: &str =
+    "0 opened\n1 claimed 0 granted\n2 refused turn open\nrecord 0 value 100 pair 4294967296\nrecord 1 value 50 pair 0\n";
+
+const WRITTEN: &str = "record 0 value 100 pair 0\nrecord 1 value 50 pair 0\n";
+
+pub(crate) fn read(rt: &(impl Print + AllocGlobal)) -> Result<Answer, Unready> {
+    let mut reader = Plain::new(TRANSFER.as_bytes());
+    begin(rt)?;
+    let read = read_scenario(rt.alloc(), &mut reader);
+    end(rt)?;
+    let answer = match read {
+        Ok(scenario) => {
+            let parts = scenario.into_parts();
+            Answer::Ample.only_if(parts.records.as_slice() == [100, 50].as_slice())
+        }
+        Err(ScenarioFault::NoMemory) => Answer::NoMemory,
+        Err(_) => Answer::Wrong,
+    };
+    Ok(answer.only_if(!reader.has_failed()))
+}
+
+pub(crate) fn write<R: Print + AllocGlobal>(rt: &R) -> Result<Answer, Unready> {
+    let alloc = rt.alloc();
+    let closed = Closed {
+        records: vec![in alloc; 100, 50]?,
+        pairs: vec![in alloc; 0, 0]?,
+        journal: Vec::new(alloc),
+    };
+    let mut taken = vec![in alloc; 0; WRITTEN.len()]?;
+    let mut free = taken.as_mut_slice();
+    let mut writer = Plain::new(&mut free);
+    begin(rt)?;
+    let written = write_outcome(alloc, &mut writer, &closed);
+    end(rt)?;
+    let answer = match written {
+        Ok(()) => Answer::Ample,
+        Err(WriteFault::NoMemory) => Answer::NoMemory,
+        Err(WriteFault::Write) => Answer::Wrong,
+    };
+    let left = free.len();
+    Ok(of_text(answer, taken.as_slice(), left, WRITTEN))
+}
+
+pub(crate) fn served<R: Print + AllocGlobal + Threads + Wait + Sync>(
+    rt: &R,
+) -> Result<Answer, Unready> {
+    let alloc = rt.alloc();
+    let scenario = read_scenario(alloc, &mut Plain::new(TRANSFER.as_bytes()))?;
+    let mut taken = vec![in alloc; 0; SERVED.len()]?;
+    let mut free = taken.as_mut_slice();
+    let mut writer = Plain::new(&mut free);
+    begin(rt)?;
+    let served = serve(rt, rt, alloc, scenario, 3, &OpenGate, &mut writer);
+    end(rt)?;
+    let answer = match served {
+        Ok(()) => Answer::Ample,
+        Err(ServeFault::NoMemory | ServeFault::Run(RunFault::NoMemory)) => Answer::NoMemory,
+        Err(ServeFault::Run(RunFault::Spawn)) => Answer::Spawn,
+        Err(_) => Answer::Wrong,
+    };
+    let left = free.len();
+    Ok(of_text(answer, taken.as_slice(), left, SERVED))
+}
+
+pub(crate) fn replayed<R: Print + AllocGlobal>(rt: &R) -> Result<Answer, Unready> {
+    let alloc = rt.alloc();
+    let mut taken = vec![in alloc; 0; REPLAYED.len()]?;
+    let mut free = taken.as_mut_slice();
+    let mut reader = Plain::new(TRANSFER.as_bytes());
+    let mut writer = Plain::new(&mut free);
+    begin(rt)?;
+    let replayed = replay(alloc, &mut reader, &mut writer);
+    end(rt)?;
+    let answer = match replayed {
+        Ok(()) => Answer::Ample,
+        Err(ReplayFault::NoMemory | ReplayFault::Scenario(ScenarioFault::NoMemory)) => {
+            Answer::NoMemory
+        }
+        Err(_) => Answer::Wrong,
+    };
+    let left = free.len();
+    Ok(of_text(answer, taken.as_slice(), left, REPLAYED))
+}
+
+// The answer, if the whole text was written with ample memory, and nothing without.
+fn of_text(answer: Answer, taken: &[u8], left: usize, text: &str) -> Answer {
+    match answer {
+        Answer::Ample => answer.only_if(left == 0 && taken == text.as_bytes()),
+        _ => answer.only_if(left == text.len()),
+    }
+}

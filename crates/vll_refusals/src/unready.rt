@@ -1,0 +1,38 @@
+use std::alloc::{AllocError, AllocFailed};
+use std::io;
+use vll_core::OpenFault;
+use vll_server::ScenarioFault;
+
+/// The call could not be made: what it needs was not there.
+#[derive(Clone, Copy, Debug, PartialEq, Eq)]
+pub(crate) struct Unready;
+
+impl From<AllocError> for Unready {
+    fn from(_: AllocError) -> Unready {
+        Unready
+    }
+}
+
+impl<T: Drop> From<AllocFailed<T>> for Unready {
+    fn from(_: AllocFailed<T>) -> Unready {
+        Unready
+    }
+}
+
+impl From<io::Error> for Unready {
+    fn from(_: io::Error) -> Unready {
+        Unready
+    }
+}
+
+impl From<ScenarioFault> for Unready {
+    fn from(_: ScenarioFault) -> Unready {
+        Unready
+    }
+}
+
+impl From<OpenFault> for Unready {
+    fn from(_: OpenFault) -> Unready {
+        Unready
+    }
+}
