@@ -1,5 +1,5 @@
 ghost use Rattle.std.specs.Prelude.{◌≡◌, ◌≤◌, false, unwrap_or};
-ghost use Rattle.vll_server.specs.Setup.{Setup};
+ghost use Rattle.vll_scenario.specs.Setup.{Setup};
 
 use crate::options::RunOptions;
 use std::alloc::Global;

@@ -5,7 +5,7 @@ ghost use Rattle.vll_check.specs.Calls.{Fits};
 ghost use Rattle.vll_counters.specs.Shown.{AreNewSessions};
 ghost use Rattle.vll_engine.specs.Shown.{library_of, name_of};
 ghost use Rattle.vll_sca.specs.Placing.{placing};
-ghost use Rattle.vll_server.specs.Setup.{lists_of};
+ghost use Rattle.vll_scenario.specs.Setup.{lists_of};
 ghost use Rattle.vll_workers.specs.Tokens.{AreFit, clients_of};
 
 use crate::fault::Fault;

@@ -28,7 +28,7 @@ use Rattle.vll_engine.specs.Sessions.{HasItsCalls}
 use Rattle.vll_engine.specs.Shown.{Named, library_of}
 use Rattle.vll_workers.specs.Shown.{TokenShown, token}
 use Rattle.vll_workers.specs.Tokens.{AreBack, AreFit, IsFit, IsOf, IsThrough, calls_between, clients_of}
-use Rattle.vll_server.specs.Setup.{lists_of}
+use Rattle.vll_scenario.specs.Setup.{lists_of}
 use Rattle.vll_server.specs.Merge.{IsMerge}
 use Rattle.vll_server.specs.Private.Serving.{sessions_in, tokens_from}
 

@@ -1,15 +1,6 @@
-pub mod Lists
-pub mod Forms
-pub mod Names
 pub mod Texts
 pub mod Standing
 pub mod Written
-pub mod Given
-pub mod Fitting
-pub mod Bounds
-pub mod Checking
-pub mod Sizes
-pub mod Answering
 pub mod Served
 pub mod Handed
 pub mod Rows

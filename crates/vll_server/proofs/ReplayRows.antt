@@ -11,7 +11,7 @@ use Rattle.vll_sca.specs.declared.place.Placing.TheVariants.{Modulo}
 use Rattle.vll_core.specs.declared.event.Event.{Event}
 use Rattle.vll_core.specs.declared.event.Event.TheVariants.{Enter, Claim, Admit, Front, Scan, Load, Store, Release, Finish}
 use Rattle.vll_server.specs.Replay.{text_of_setup}
-use Rattle.vll_server.specs.Setup.{Setup}
+use Rattle.vll_scenario.specs.Setup.{Setup}
 use Rattle.vll_server.specs.Text.{Text}
 
 abbrev bump : Proc

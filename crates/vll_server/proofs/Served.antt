@@ -15,7 +15,7 @@ use Rattle.vll_engine.specs.Shown.{Named, library_of}
 use Rattle.vll_server.specs.declared.fault.ServeFault.{ServeFault}
 use Rattle.vll_server.specs.Merge.{IsMerge}
 use Rattle.vll_server.specs.Serve.{Serves}
-use Rattle.vll_server.specs.Setup.{Setup, catalog_of}
+use Rattle.vll_scenario.specs.Setup.{Setup, catalog_of}
 use Rattle.vll_server.specs.Text.{answer_text, closed_text, line_words, outcome_text, serial_text}
 
 -- the lines from one on tell the replies of the serial run

@@ -1,15 +1,6 @@
-pub mod Tree
-pub mod Syntax
-pub mod Schedule
-pub mod Shape
-pub mod Setup
-pub mod Scenario
-pub mod Reading
 pub mod Merge
 pub mod Text
 pub mod ReplayText
 pub mod Replay
 pub mod Serve
-pub mod Streams
-pub mod Plain
 pub mod Private

@@ -2,11 +2,11 @@
 use Rattle.std.specs.Prelude.{ℕ, List, Option, Result, Ok}
 use Rattle.vll_sca.specs.Placing.{placing}
 use Rattle.vll_core.specs.State.{Opening}
-use Rattle.vll_server.specs.declared.fault.ScenarioFault.{ScenarioFault}
-use Rattle.vll_server.specs.Reading.{Reads, Tells}
+use Rattle.vll_scenario.specs.declared.fault.ScenarioFault.{ScenarioFault}
+use Rattle.vll_scenario.specs.Reading.{Reads, Tells}
 use Rattle.vll_server.specs.ReplayText.{replay_text}
-use Rattle.vll_server.specs.Scenario.{scenario_at}
-use Rattle.vll_server.specs.Setup.{Setup}
+use Rattle.vll_scenario.specs.Scenario.{scenario_at}
+use Rattle.vll_scenario.specs.Setup.{Setup}
 use Rattle.vll_server.specs.Text.{Text}
 
 -- how the plain machine is opened for a scenario

@@ -2,7 +2,7 @@
 use Rattle.std.specs.Prelude.{List}
 use Rattle.vll_proc.specs.Serial.{Made}
 use Rattle.vll_server.specs.Merge.{IsMerge}
-use Rattle.vll_server.specs.Setup.{Setup}
+use Rattle.vll_scenario.specs.Setup.{Setup}
 use Rattle.vll_server.specs.Text.{Text, serial_text}
 
 -- the scripts' calls entered in some order that keeps each script's own, and this holds of the text of running them so, one at a time

@@ -5,24 +5,22 @@ ghost use Rattle.vll_sca.specs.Placing.{placing};
 ghost use Rattle.vll_core.specs.Machine.{opened};
 ghost use Rattle.vll_core.specs.Shown.{opening_of};
 ghost use Rattle.vll_server.specs.Replay.{IsRead, Replays, opening_for, text_of_setup};
-ghost use Rattle.vll_server.specs.Streams.{AppendsBeginning};
-ghost use Rattle.vll_server.specs.declared.fault.ScenarioFault.{ScenarioFault};
-ghost use Rattle.vll_server.specs.declared.fault.ScenarioFault.TheVariants.{Read};
+ghost use Rattle.vll_scenario.specs.Streams.{AppendsBeginning};
+ghost use Rattle.vll_scenario.specs.declared.fault.ScenarioFault.{ScenarioFault};
+ghost use Rattle.vll_scenario.specs.declared.fault.ScenarioFault.TheVariants.{Read};
 ghost use Rattle.vll_server.specs.declared.fault.ReplayFault.TheVariants as fault;
 
 mod event_text;
 mod replay_text;
 
 use crate::fault::ReplayFault;
-use crate::reading::read_scenario;
-use crate::scenario::{Scenario, ScenarioParts};
-use crate::stream::{Sink, Source};
 use crate::text::outcome::write_text;
 use replay_text::{push_event_lines, push_state};
 use sqlite_items::Items;
 use std::alloc::{AllocError, Global};
 use vll_core::{Core, Event, OpenFault};
 use vll_sca::Placing;
+use vll_scenario::{Scenario, ScenarioParts, Sink, Source, read_scenario};
 
 /// Reads a scenario, takes the steps of its schedule one after the other on the machine of atomic steps, and
 /// writes a line for each, refused ones among them, and then the outcome of what stands at the end: a line for

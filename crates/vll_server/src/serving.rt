@@ -6,19 +6,16 @@ ghost use Rattle.vll_counters.specs.Views.{calls_in};
 ghost use Rattle.vll_engine.specs.Closed.{IsSerial};
 ghost use Rattle.vll_engine.specs.Shown.{library_of, name_of, opening};
 ghost use Rattle.vll_sca.specs.Placing.{placing};
-ghost use Rattle.vll_server.specs.Setup.{lists_of, catalog_of};
+ghost use Rattle.vll_scenario.specs.Setup.{lists_of, catalog_of};
 ghost use Rattle.vll_server.specs.Merge.{IsMerge};
 ghost use Rattle.vll_server.specs.Serve.{Serves};
 ghost use Rattle.vll_server.specs.Private.Serving.{config_for};
-ghost use Rattle.vll_server.specs.Streams.{AppendsBeginning};
+ghost use Rattle.vll_scenario.specs.Streams.{AppendsBeginning};
 ghost use Rattle.vll_server.specs.Text.{closed_text};
 
 mod tokens;
 
 use crate::fault::{ServeFault, WriteFault};
-use crate::limits::MOST_CLIENTS;
-use crate::scenario::{Scenario, ScenarioParts};
-use crate::stream::Sink;
 use crate::text::outcome::write_outcome;
 use std::alloc::{AllocError, Global};
 use std::marker::Brand;
@@ -29,6 +26,7 @@ use vll_core::{Config, MOST_CALLS, OpenFault};
 use vll_engine::{Closed, Name, NotClosed, Opening};
 use vll_proc::Call;
 use vll_sca::Placing;
+use vll_scenario::{MOST_CLIENTS, Scenario, ScenarioParts, Sink};
 use vll_workers::{Gate, MOST_WORKERS, RunError};
 
 /// Has a scenario's scripts run by so many worker threads, 1 to `MOST_WORKERS` of `vll_workers`, and writes the text

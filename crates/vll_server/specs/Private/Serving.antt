@@ -6,7 +6,7 @@ use Rattle.vll_core.specs.declared.config.Config.{Config}
 use Rattle.vll_counters.specs.Shown.{SessionShown}
 use Rattle.vll_counters.specs.Steps.{new_session}
 use Rattle.vll_workers.specs.Shown.{TokenShown, token}
-use Rattle.vll_server.specs.Setup.{Setup}
+use Rattle.vll_scenario.specs.Setup.{Setup}
 
 -- what is chosen for the engine that serves a scenario: as many calls as the scripts have, at least 1
 abbrev pub config_for : Setup → Config

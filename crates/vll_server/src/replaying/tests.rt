@@ -1,9 +1,9 @@
 use super::replay;
 use crate::fault::ReplayFault;
-use crate::plain::Plain;
 use crate::tests::texts::{BLOCKED, BLOCKED_TEXT};
 use std::alloc::Global;
 use std::test::Fail;
+use vll_scenario::Plain;
 
 // A transfer that has stored and holds one of its claims, a bump that runs, and one that waits for the transfer.
 const STANDING: &str = r#"{"version":1,"records":[10,20],

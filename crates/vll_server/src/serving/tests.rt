@@ -1,14 +1,11 @@
 use super::serve;
-use crate::fault::ScenarioFault;
-use crate::plain::Plain;
-use crate::reading::read_scenario;
-use crate::scenario::Scenario;
 use crate::tests::texts::{TRANSFER, TRANSFER_TEXT};
 use std::alloc::{AllocError, Global};
 use std::hint;
 use std::sync::atomic::{AtomicU64, Ordering};
 use std::test::Fail;
 use vll_core::Ticket;
+use vll_scenario::{Plain, Scenario, ScenarioFault, read_scenario};
 use vll_workers::{Gate, OpenGate};
 
 const NO_CLIENTS: &str = r#"{"version":1,"records":[7],"procs":[],"clients":[]}"#;

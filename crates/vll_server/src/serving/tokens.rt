@@ -1,13 +1,13 @@
 //! The tokens that the workers are handed, and the sessions of those that come back.
 ghost use Rattle.std.specs.Prelude.{◌≡◌, ◌≤◌, ◌<◌, ◌^◌, [], All, IfOk, length, vec_capacity};
 ghost use Rattle.vll_counters.specs.Shown.{AreNewSessions};
-ghost use Rattle.vll_server.specs.Setup.{lists_of};
+ghost use Rattle.vll_scenario.specs.Setup.{lists_of};
 ghost use Rattle.vll_server.specs.Private.Serving.{sessions_in, tokens_from};
 
-use crate::limits::MOST_CLIENTS;
 use std::alloc::{AllocError, Global};
 use vll_engine::{Name, Session};
 use vll_proc::Call;
+use vll_scenario::MOST_CLIENTS;
 use vll_workers::Token;
 
 // A token for each client, in order, with its session and its script. The sessions are those with which an engine of

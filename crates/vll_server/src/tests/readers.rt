@@ -2,14 +2,12 @@ ghost use Rattle.std.specs.Prelude.{◌≡◌, false};
 
 use super::streams::Slow;
 use super::texts::{BLOCKED, BLOCKED_TEXT, TRANSFER};
-use crate::fault::{ReplayFault, ScenarioFault};
-use crate::plain::Plain;
-use crate::reading::read_scenario;
+use crate::fault::ReplayFault;
 use crate::replaying::replay;
-use crate::stream::Source;
 use std::alloc::{AllocError, Global};
 use std::io;
 use std::test::Fail;
+use vll_scenario::{Plain, ScenarioFault, Source, read_scenario};
 
 // Whether the fault is what `read_scenario` answers, and `replay` too, which has written nothing then.
 fn is_refused<S: Source>(

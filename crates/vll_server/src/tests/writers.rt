@@ -1,14 +1,13 @@
 use super::streams::{Full, Narrow, Slow};
 use super::texts::{BLOCKED, BLOCKED_TEXT, TRANSFER, TRANSFER_TEXT};
-use crate::fault::{ReplayFault, ScenarioFault, ServeFault};
-use crate::plain::Plain;
-use crate::reading::read_scenario;
+use crate::fault::{ReplayFault, ServeFault};
 use crate::replaying::replay;
 use crate::serving::serve;
 use std::alloc::Global;
 use std::sync::Wait;
 use std::test::Fail;
 use std::thread::Threads;
+use vll_scenario::{Plain, ScenarioFault, read_scenario};
 use vll_workers::OpenGate;
 
 // What `serve` answers of the transfer, which is read a byte at a time.

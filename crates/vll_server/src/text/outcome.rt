@@ -1,13 +1,13 @@
 ghost use Rattle.std.specs.Prelude.{◌≡◌, ◌↔◌, false, true, IfErr, OnErr, OnOk};
 ghost use Rattle.std.specs.Io.KnownBytes.{Appends};
-ghost use Rattle.vll_server.specs.Streams.{AppendsBeginning};
+ghost use Rattle.vll_scenario.specs.Streams.{AppendsBeginning};
 ghost use Rattle.vll_server.specs.Text.{closed_text};
 
 use crate::fault::WriteFault;
-use crate::stream::Sink;
 use crate::text::closed_text_of;
 use std::alloc::Global;
 use vll_engine::Closed;
+use vll_scenario::Sink;
 
 /// Writes the text of what a run leaves: a line for each call, and then one for each record, with its value and its
 /// pair word. If there are more records than pair words, or fewer, there are as many such lines as the shorter list

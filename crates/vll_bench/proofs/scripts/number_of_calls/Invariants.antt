@@ -1,6 +1,6 @@
 use Rattle.std.proofs.Common.{◌≡◌, ◌+◌, length, drop}
 use Rattle.std.specs.Prelude.{sum_by}
-use Rattle.vll_server.specs.Setup.{lists_of}
+use Rattle.vll_scenario.specs.Setup.{lists_of}
 use Rattle.vll_bench.proofs.scripts.number_of_calls.Given as goal
 
 abbrev pub invariant-loop-script : goal.invariant-loop-script

@@ -5,7 +5,7 @@ use Rattle.vll_check.specs.Calls.{Fits}
 use Rattle.vll_counters.specs.Shown.{AreNewSessions}
 use Rattle.vll_engine.specs.Shown.{library_of}
 use Rattle.vll_workers.specs.Tokens.{AreFit, clients_of}
-use Rattle.vll_server.specs.declared.limits.TheConstants.{MOST_CLIENTS}
+use Rattle.vll_scenario.specs.declared.limits.TheConstants.{MOST_CLIENTS}
 use Rattle.vll_refusals.proofs.scripts.tokens.Given as goal
 
 abbrev pub invariant-loop-script : goal.invariant-loop-script

@@ -3,7 +3,7 @@ use Rattle.std.specs.Io.KnownBytes.{Appends}
 use Rattle.std.proofs.lemmas.Grind.{common_steps}
 use Rattle.std.proofs.lemmas.Result.{on_ok_weaker}
 use Rattle.vll_server.specs.Replay.{IsRead, text_of_setup}
-use Rattle.vll_server.specs.Streams.{AppendsBeginning}
+use Rattle.vll_scenario.specs.Streams.{AppendsBeginning}
 use Rattle.vll_server.proofs.Standing.{ok_before}
 use Rattle.vll_server.proofs.replaying.replay.Goals as goal
 

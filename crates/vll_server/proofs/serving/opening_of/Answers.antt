@@ -6,7 +6,7 @@ use Rattle.vll_proc.specs.declared.call.Call.{Call}
 use Rattle.vll_check.specs.Calls.{Fits}
 use Rattle.vll_check.specs.Catalog.{Catalog}
 use Rattle.vll_core.specs.declared.config.TheConstants.{MOST_CALLS}
-use Rattle.vll_server.proofs.Bounds.{scripts_short}
+use Rattle.vll_scenario.proofs.Bounds.{scripts_short}
 use Rattle.vll_server.proofs.serving.opening_of.Goals as goal
 
 pub returns-in-Ok-clause-short : goal.returns-in-Ok-clause-short

@@ -10,7 +10,7 @@ use Rattle.vll_counters.specs.Views.{calls_in}
 use Rattle.vll_engine.specs.declared.closed.Closed.{Closed}
 use Rattle.vll_engine.specs.Closed.{IsSerial}
 use Rattle.vll_engine.specs.Shown.{Named, OpeningShown, library_of, name_of}
-use Rattle.vll_server.specs.Setup.{lists_of}
+use Rattle.vll_scenario.specs.Setup.{lists_of}
 use Rattle.vll_server.specs.Merge.{IsMerge}
 use Rattle.vll_server.proofs.Served.{serves_closed}
 use Rattle.vll_server.proofs.serving.run.Goals as goal

@@ -9,7 +9,7 @@ use Rattle.vll_counters.specs.Views.{calls_in}
 use Rattle.vll_engine.specs.Sessions.{HasItsCalls}
 use Rattle.vll_workers.specs.Shown.{TokenShown}
 use Rattle.vll_workers.specs.Tokens.{AreBack, AreFit, clients_of}
-use Rattle.vll_server.specs.Setup.{lists_of}
+use Rattle.vll_scenario.specs.Setup.{lists_of}
 use Rattle.vll_server.specs.Private.Serving.{tokens_from}
 use Rattle.vll_server.proofs.Handed.{are_distinct, are_fit, are_own, count_back, merged}
 use Rattle.vll_server.proofs.serving.run_named.Goals as goal

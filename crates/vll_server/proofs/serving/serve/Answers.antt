@@ -1,5 +1,5 @@
 use Rattle.std.proofs.Common.{◌∙◌, Err, subst, ap}
-use Rattle.vll_server.specs.Streams.{AppendsBeginning}
+use Rattle.vll_scenario.specs.Streams.{AppendsBeginning}
 use Rattle.vll_server.proofs.serving.serve.Goals as goal
 
 -- what was written is a beginning of the text that serves

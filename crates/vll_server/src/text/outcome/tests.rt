@@ -1,7 +1,5 @@
 use super::write_outcome;
 use crate::fault::WriteFault;
-use crate::plain::Plain;
-use crate::stream::Sink;
 use crate::tests::streams::{Full, Narrow};
 use std::alloc::{AllocError, Global};
 use std::test::Fail;
@@ -9,6 +7,7 @@ use vll_core::Line;
 use vll_engine::Closed;
 use vll_proc::{Call, Reason, Reply};
 use vll_record::Claims;
+use vll_scenario::{Plain, Sink};
 
 const TEXT: &str =
     "call 0 client 1 aborted overflow\ncall 1 client 0 aborted code 7\ncall 2 client 1 \nrecord 0 value 100 pair 0\nrecord 1 value 18446744073709551615 pair 4294967296\n";

@@ -5,7 +5,7 @@ use Rattle.std.proofs.lemmas.List.Elements.{All-pop}
 use Rattle.vll_proc.specs.declared.call.Call.{Call}
 use Rattle.vll_counters.specs.Shown.{SessionShown}
 use Rattle.vll_workers.specs.Shown.{TokenShown, token}
-use Rattle.vll_server.specs.Setup.{lists_of}
+use Rattle.vll_scenario.specs.Setup.{lists_of}
 use Rattle.vll_server.specs.Private.Serving.{tokens_from}
 use Rattle.vll_server.proofs.Handed.{last_session, session_at, tokens-next}
 use Rattle.vll_server.proofs.serving.tokens.tokens_of.Goals as goal

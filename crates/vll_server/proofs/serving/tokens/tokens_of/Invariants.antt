@@ -2,8 +2,8 @@
 use Rattle.std.proofs.Common.{◌≡◌, ◌≤◌, ◌<◌, ◌^◌, ◌++◌, length, reverse, vec_len}
 use Rattle.std.specs.List.{All}
 use Rattle.vll_counters.specs.Shown.{AreNewSessions}
-use Rattle.vll_server.specs.declared.limits.TheConstants.{MOST_CLIENTS}
-use Rattle.vll_server.specs.Setup.{lists_of}
+use Rattle.vll_scenario.specs.declared.limits.TheConstants.{MOST_CLIENTS}
+use Rattle.vll_scenario.specs.Setup.{lists_of}
 use Rattle.vll_server.specs.Private.Serving.{tokens_from}
 use Rattle.vll_server.proofs.serving.tokens.tokens_of.Given as goal
 

@@ -1,0 +1,9 @@
+pub mod Lists
+pub mod Forms
+pub mod Names
+pub mod Given
+pub mod Fitting
+pub mod Bounds
+pub mod Checking
+pub mod Sizes
+pub mod Answering

@@ -1,0 +1,11 @@
+use Rattle.std.proofs.Common.{ℕ, List, Bor, bytes_eq, rules, tests, ◌∙◌}
+use Rattle.std.proofs.lemmas.Iterator.{YieldsList-from_slice}
+use Rattle.std.proofs.lemmas.Iterator.Search.{any_from_yields_List}
+use Rattle.vll_scenario.proofs.Names.{any-map}
+use Rattle.vll_scenario.proofs.reading.members.is_one_of.Goals as goal
+
+pub returns : goal.returns
+returns c =
+    any_from_yields_List (λ (s : Bor (List ℕ)). bytes_eq c.args.name.now s.now) _ _ _ c.any.ensures.ran
+    (YieldsList-from_slice c.args.names.now cc) (λ x b q k. search (rules, tests))
+    ∙ any-map c.args.name.now c.args.names.now

@@ -1,0 +1,10 @@
+pub mod Tree
+pub mod Syntax
+pub mod Schedule
+pub mod Shape
+pub mod Setup
+pub mod Scenario
+pub mod Reading
+pub mod Streams
+pub mod Plain
+pub mod Private

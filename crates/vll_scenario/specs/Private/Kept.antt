@@ -1,0 +1,20 @@
+-- What the type of a scenario keeps.
+use Rattle.std.specs.Prelude.{◌≡◌, length}
+use Rattle.vll_scenario.specs.declared.scenario.Scenario.TheInside.{Inside}
+use Rattle.vll_scenario.specs.Setup.{Setup, IsSetup, lists_of}
+
+-- what a scenario stands for
+abbrev pub setup_in : Inside → Setup
+setup_in s = record {
+  records = s.records.items;
+  procs = s.library.procs;
+  scripts = lists_of s.scripts.items;
+  config = s.config;
+  placing = s.placing;
+  schedule = s.schedule;
+}
+
+-- the library is for as many records as there are, and it makes each call
+pub record IsScenario (s : Inside) : Type 0 where
+  pub records : s.library.records ≡ length s.records.items
+  pub setup : IsSetup (setup_in s)

@@ -1,0 +1,47 @@
+-- What a scenario is: its records, its procedures, each client's calls, what is chosen for the machine, and its schedule.
+use Rattle.std.specs.Prelude.{◌≡◌, ℕ, ◌≤◌, Bool, ◌&&◌, nat_le, List, length, map, sum_by, All, None}
+use Rattle.std.specs.Global.{Vec}
+use Rattle.vll_proc.specs.declared.call.Call.{Call}
+use Rattle.vll_proc.specs.declared.syntax.Proc.{Proc}
+use Rattle.vll_check.specs.Calls.{Fits}
+use Rattle.vll_check.specs.Catalog.{Catalog}
+use Rattle.vll_sca.specs.declared.place.Placing.{Placing}
+use Rattle.vll_core.specs.declared.config.Config.{Config}
+use Rattle.vll_core.specs.declared.config.TheConstants.{MOST_CALLS}
+use Rattle.vll_core.specs.declared.event.Event.{Event}
+use Rattle.vll_core.specs.Faults.{open_fault}
+use Rattle.vll_scenario.specs.declared.limits.TheConstants.{MOST_CLIENTS, MOST_EVENTS, MOST_PROCS}
+
+pub record Setup : Type 0 where
+  pub records : List ℕ
+  pub procs : List Proc
+  pub scripts : List (List Call)
+  pub config : Config
+  pub placing : Placing
+  pub schedule : List Event
+
+-- scripts as lists of calls
+abbrev pub lists_of : List (Vec Call) → List (List Call)
+lists_of scripts = map (λ (v : Vec Call). v.items) scripts
+
+-- how many procedures, clients, calls and events a scenario may have
+abbrev pub has_sizes : {C : Type 0} → List Proc → List (List C) → List Event → Bool
+has_sizes procs scripts schedule =
+    nat_le (length procs) MOST_PROCS && nat_le (length scripts) MOST_CLIENTS && nat_le (sum_by length scripts) MOST_CALLS && nat_le (length schedule) MOST_EVENTS
+
+-- the library of a scenario: its procedures, checked for as many records as there are
+abbrev pub catalog_of : Setup → Catalog
+catalog_of s = record { records = length s.records; procs = s.procs }
+
+-- there are no more procedures, clients, calls and events than a scenario may have
+pub record HasSizes {C : Type 0} (procs : List Proc) (scripts : List (List C)) (schedule : List Event) : Type 0 where
+  pub few_procs : length procs ≤ MOST_PROCS
+  pub few_clients : length scripts ≤ MOST_CLIENTS
+  pub few_calls : sum_by length scripts ≤ MOST_CALLS
+  pub few_events : length schedule ≤ MOST_EVENTS
+
+-- what the type of a scenario keeps: its sizes, that a machine can be opened for it, and that each call is one that its library makes
+pub record IsSetup (s : Setup) : Type 0 where
+  pub sizes : HasSizes s.procs s.scripts s.schedule
+  pub openable : open_fault (length s.records) s.config ≡ None
+  pub fits : All (λ script. All (Fits (catalog_of s)) script) s.scripts

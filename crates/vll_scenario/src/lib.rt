@@ -1,0 +1,19 @@
+//! Scenarios: reading one from bytes, and checking it.
+#![tactic(auto)]
+
+mod fault;
+mod limits;
+mod plain;
+mod reading;
+mod scenario;
+mod stream;
+#[cfg(test)]
+mod tests;
+
+pub use fault::{Part, ScenarioFault, Spot};
+pub use limits::{MOST_BYTES, MOST_CLIENTS, MOST_EVENTS, MOST_PROCS};
+pub use plain::Plain;
+pub use reading::read_scenario;
+pub use scenario::{Scenario, ScenarioParts};
+pub use stream::{Sink, Source};
+pub use vll_check::{CallFault, CheckFault};

@@ -1,0 +1,84 @@
+//! A scenario, read from bytes.
+ghost use Rattle.std.specs.Prelude.{◌≡◌, ◌≤◌, ◌↔◌, ◌⊎◌, length, true, false, Some, None, Ok, Err, IfOk, IfErr, OnOk};
+ghost use Rattle.serde_json.specs.View.{view};
+ghost use Rattle.vll_scenario.specs.Private.Longest.{longest_list};
+ghost use Rattle.vll_scenario.specs.Scenario.{IsTree, parts_at, scenario_at, tree_or_json};
+ghost use Rattle.vll_scenario.specs.Reading.{Reads, Tells};
+ghost use Rattle.vll_scenario.specs.Private.Reading.{data_of};
+ghost use Rattle.vll_scenario.specs.declared.fault.ScenarioFault.TheVariants as ScenarioFault;
+
+mod asked;
+mod bytes;
+mod members;
+mod options;
+mod schedule;
+mod setup;
+mod shape;
+mod syntax;
+mod tree;
+
+use crate::fault::ScenarioFault;
+use crate::limits::MOST_BYTES;
+use crate::scenario::Scenario;
+use crate::stream::Source;
+use bytes::read_bytes;
+use serde_json::Value;
+use setup::setup_of;
+use shape::{Parts, shape_of};
+use std::alloc::Global;
+
+/// Reads a scenario: one JSON text, whose form docs/SCENARIO.md describes.
+///
+/// The reader is read until it gives no more bytes; once more than `MOST_BYTES` have come it is read no further.
+/// Of several faults the first is answered, in the order that `ScenarioFault` tells. `Read` comes exactly
+/// if the reader has failed. `NoMemory` is for want of memory, and can come in the place of any answer but
+/// `Read`. Each other answer, `Ok` among them, is that of the bytes that came.
+pub fn read_scenario<S: Source>(alloc: Global, reader: &mut S) -> Result<Scenario, ScenarioFault>
+    requires { S.failed reader.old ≡ false }
+    ensures answer { Reads scenario_at (S.remaining reader.old) (S.remaining reader.new) result }
+    ensures told { Tells scenario_at (S.remaining reader.old) result }
+    ensures failed { (result ≡ Err ScenarioFault.Read) ↔ (S.failed reader.new ≡ true) }
+{
+    let parts = read_parts(alloc, reader)?;
+    setup_of(alloc, parts)
+}
+
+// The parts of the scenario that a reader gives.
+pub(crate) fn read_parts<S: Source>(alloc: Global, reader: &mut S) -> Result<Parts, ScenarioFault>
+    requires { S.failed reader.old ≡ false }
+    ensures parts { Reads parts_at (S.remaining reader.old) (S.remaining reader.new) result }
+    ensures failed { (result ≡ Err ScenarioFault.Read) ↔ (S.failed reader.new ≡ true) }
+{
+    let tree = read_tree(alloc, reader)?;
+    shape_of(alloc, &tree)
+}
+
+// The JSON tree that a reader gives.
+fn read_tree<S: Source>(alloc: Global, reader: &mut S) -> Result<Value, ScenarioFault>
+    requires { S.failed reader.old ≡ false }
+    ensures tree { Reads tree_or_json (S.remaining reader.old) (S.remaining reader.new)
+        (data_of result) }
+    ensures few { IfOk result (λ v. longest_list (view v) ≤ MOST_BYTES) }
+    ensures failed { (result ≡ Err ScenarioFault.Read) ↔ (S.failed reader.new ≡ true) }
+{
+    let bytes = read_bytes(alloc, reader)?;
+    tree_of(alloc, bytes.as_slice())
+}
+
+// The JSON tree of bytes.
+fn tree_of(alloc: Global, bytes: &[u8]) -> Result<Value, ScenarioFault>
+    requires { length bytes.now ≤ MOST_BYTES }
+    ensures ok { IfOk result (λ v. IsTree bytes.now (Some (view v))) }
+    ensures err { IfErr result (λ e. ((e ≡ ScenarioFault.Json) × IsTree bytes.now None)
+        ⊎ (e ≡ ScenarioFault.NoMemory)) }
+    ensures few { IfOk result (λ v. longest_list (view v) ≤ MOST_BYTES) }
+{
+    match Value::from_slice(alloc, bytes) {
+        Ok(tree) => Ok(tree),
+        Err(error) if error.is_memory() => Err(ScenarioFault::NoMemory),
+        Err(_) => Err(ScenarioFault::Json),
+    }
+}
+
+#[cfg(test)]
+mod tests;

@@ -1,0 +1,115 @@
+ghost use Rattle.std.specs.Prelude.{◌≡◌, ◌^◌, IfOk, IfErr, Some, None};
+ghost use Rattle.serde_json.specs.Find.{as_str};
+ghost use Rattle.serde_json.specs.View.{view};
+ghost use Rattle.vll_scenario.specs.Syntax.{both_of, index_at, key_at, key_of, mode_at, place_at, proc_at};
+ghost use Rattle.vll_scenario.specs.Private.Reading.{Gives};
+ghost use Rattle.vll_scenario.specs.declared.reading.tree.Misread.TheVariants as Misread;
+
+mod expression;
+mod statement;
+
+use crate::reading::members::{has_exactly, member};
+use crate::reading::tree::{Misread, Reads, u32_of};
+use serde_json::Value;
+use sqlite_items::Items;
+use statement::stmts_of;
+use std::alloc::Global;
+use vll_proc::{KeyAt, KeyDecl, Proc, Text};
+use vll_record::Mode;
+
+impl Reads for KeyDecl {
+    ghost reads = { key_at };
+
+    fn read(_alloc: Global, value: &Value) -> Result<KeyDecl, Misread> {
+        key_of(value)
+    }
+}
+
+impl Reads for Proc {
+    ghost reads = { proc_at };
+
+    fn read(alloc: Global, value: &Value) -> Result<Proc, Misread> {
+        proc_of(alloc, value)
+    }
+}
+
+fn proc_of(alloc: Global, value: &Value) -> Result<Proc, Misread>
+    ensures { Gives result (proc_at (view value.now)) }
+{
+    if !has_exactly(value, &["name", "args", "keys", "body"]) {
+        return Err(Misread::Faulty);
+    }
+    let name = Text::read(alloc, member(value, "name")?)?;
+    let args = index_of(member(value, "args")?)?;
+    let keys = Items::read(alloc, member(value, "keys")?)?;
+    let body = stmts_of(alloc, member(value, "body")?)?;
+    Ok(Proc {
+        name,
+        args,
+        keys,
+        body,
+    })
+}
+
+fn key_of(value: &Value) -> Result<KeyDecl, Misread>
+    ensures { Gives result (key_at (view value.now)) }
+{
+    match value {
+        Value::Array(list) => match list.len() {
+            3 => declared(word_of(&list[0])?, word_of(&list[1])?, &list[2]),
+            _ => Err(Misread::Faulty),
+        },
+        _ => Err(Misread::Faulty),
+    }
+}
+
+// The key of a mode's word, a place's word, and an index or a record.
+fn declared(mode: &str, place: &str, value: &Value) -> Result<KeyDecl, Misread>
+    ensures { Gives result (both_of key_of (mode_at mode.now) (place_at place.now (view value.now))) }
+{
+    let mode = mode_of(mode)?;
+    let at = place_of(place, value)?;
+    Ok(KeyDecl { mode, at })
+}
+
+fn mode_of(word: &str) -> Result<Mode, Misread>
+    ensures { Gives result (mode_at word.now) }
+{
+    match word {
+        "read" => Ok(Mode::Read),
+        "write" => Ok(Mode::Write),
+        _ => Err(Misread::Faulty),
+    }
+}
+
+// Where a key is placed.
+fn place_of(word: &str, value: &Value) -> Result<KeyAt, Misread>
+    ensures { Gives result (place_at word.now (view value.now)) }
+{
+    match word {
+        "arg" => Ok(KeyAt::Arg(index_of(value)?)),
+        "fixed" => Ok(KeyAt::Fixed(u32_of(value)?)),
+        _ => Err(Misread::Faulty),
+    }
+}
+
+// The index of an argument, a key or a local, or a count of arguments.
+fn index_of(value: &Value) -> Result<u8, Misread>
+    ensures { Gives result (index_at (view value.now)) }
+{
+    match value.as_u64() {
+        Some(n) if n < 256 => Ok(n as u8),
+        _ => Err(Misread::Faulty),
+    }
+}
+
+// The word at the front of a form.
+pub fn word_of(value: &Value) -> Result<&str, Misread>
+    ensures ok { IfOk result (λ s. as_str (view value.now) ≡ Some s.now) }
+    ensures err { IfErr result (λ e. (e ≡ Misread.Faulty) × (as_str (view value.now) ≡ None)) }
+{
+    value.as_str().ok_or(Misread::Faulty)
+}
+
+#[cfg(test)]
+mod tests;

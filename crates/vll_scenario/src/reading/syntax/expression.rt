@@ -1,0 +1,68 @@
+ghost use Rattle.std.specs.Prelude.{Some};
+ghost use Rattle.serde_json.specs.View.{view};
+ghost use Rattle.vll_scenario.specs.Syntax.{expr_at, index_at, leaf, operation};
+ghost use Rattle.vll_scenario.specs.Private.Reading.{Gives};
+
+use super::{index_of, word_of};
+use crate::reading::tree::Misread;
+use serde_json::Value;
+use sqlite_items::Boxed;
+use std::alloc::Global;
+use vll_proc::Expr;
+
+pub(super) fn expr_of(alloc: Global, value: &Value) -> Result<Expr, Misread>
+    ensures { Gives result (expr_at (view value.now)) }
+{
+    match value {
+        Value::Number(n) => n.as_u64().map(Expr::Num).ok_or(Misread::Faulty),
+        Value::Array(list) => match list.len() {
+            2 => match word_of(&list[0])? {
+                "not" => {
+                    let operand = expr_of(alloc, &list[1])?;
+                    Ok(Expr::Not(Boxed::new(alloc, operand)?))
+                }
+                word => leaf_of(word, &list[1]),
+            },
+            3 => {
+                let word = word_of(&list[0])?;
+                let left = expr_of(alloc, &list[1])?;
+                let right = expr_of(alloc, &list[2])?;
+                operation_of(alloc, word, left, right)
+            }
+            _ => Err(Misread::Faulty),
+        },
+        _ => Err(Misread::Faulty),
+    }
+}
+
+// An argument, a key or a local.
+fn leaf_of(word: &str, index: &Value) -> Result<Expr, Misread>
+    ensures { Gives result (leaf word.now (index_at (view index.now))) }
+{
+    match word {
+        "arg" => Ok(Expr::Arg(index_of(index)?)),
+        "key" => Ok(Expr::Key(index_of(index)?)),
+        "local" => Ok(Expr::Local(index_of(index)?)),
+        _ => Err(Misread::Faulty),
+    }
+}
+
+// An operation on two operands.
+fn operation_of(alloc: Global, word: &str, left: Expr, right: Expr) -> Result<Expr, Misread>
+    ensures { Gives result (operation word.now (Some left) (Some right)) }
+{
+    let left = Boxed::new(alloc, left)?;
+    let right = Boxed::new(alloc, right)?;
+    match word {
+        "add" => Ok(Expr::Add(left, right)),
+        "sub" => Ok(Expr::Sub(left, right)),
+        "mul" => Ok(Expr::Mul(left, right)),
+        "div" => Ok(Expr::Div(left, right)),
+        "rem" => Ok(Expr::Rem(left, right)),
+        "min" => Ok(Expr::Min(left, right)),
+        "max" => Ok(Expr::Max(left, right)),
+        "equal" => Ok(Expr::Equal(left, right)),
+        "less" => Ok(Expr::Less(left, right)),
+        _ => Err(Misread::Faulty),
+    }
+}

@@ -1,0 +1,114 @@
+ghost use Rattle.std.specs.Prelude.{◌≡◌, ◌≤◌, All};
+ghost use Rattle.vll_check.specs.Calls.{Fits};
+ghost use Rattle.vll_scenario.specs.Setup.{lists_of, IsSetup, catalog_of};
+
+use sqlite_items::Items;
+use std::marker::Model;
+use vll_check::Library;
+use vll_core::{Config, Event, MOST_WAITING};
+use vll_proc::Call;
+use vll_sca::{MOST_BITS, Placing};
+
+/// A scenario: the records' first values, the procedures, each client's script of calls, what is chosen for
+/// the machine, and the events that a replay takes.
+///
+/// Only `read_scenario` makes one, and `with_cap` and `with_bits` one of another. It keeps the limits of a
+/// scenario's sizes, each of its procedures is well-formed for its records, and each of its calls was made for one
+/// of its procedures, on records that are there; `into_parts` says so to callers. Contracts see its procedures in
+/// the place of the library, and each of its lists as a list.
+#[derive(Drop)]
+pub struct Scenario {
+    pub(crate) records: Vec<u64>,
+    pub(crate) library: Library,
+    pub(crate) scripts: Vec<Vec<Call>>,
+    pub(crate) config: Config,
+    pub(crate) placing: Placing,
+    pub(crate) schedule: Items<Event>,
+}
+
+impl Model for Scenario {
+    ghost use Rattle.vll_proc.specs.contracts.syntax.Expr as expr;
+    ghost use Rattle.vll_proc.specs.contracts.syntax.Stmt as stmt;
+    ghost use Rattle.std.specs.Coded.{codes};
+    ghost use Rattle.vll_scenario.specs.Setup.{Setup};
+
+    ghost Value = { Setup };
+
+    ghost coded = { Prim.hlevel (codes, expr.the_row.coded, stmt.the_row.coded) };
+
+    ghost use Rattle.vll_scenario.specs.Private.Kept.{setup_in, IsScenario};
+
+    ghost view = { setup_in };
+
+    ghost invariant = { IsScenario };
+}
+
+/// What a scenario is made of.
+#[derive(Drop)]
+pub struct ScenarioParts {
+    /// The records' first values.
+    pub records: Vec<u64>,
+    /// The procedures, checked for as many records.
+    pub library: Library,
+    /// Each client's calls, in order.
+    pub scripts: Vec<Vec<Call>>,
+    pub config: Config,
+    pub placing: Placing,
+    /// The events that a replay takes.
+    pub schedule: Items<Event>,
+}
+
+impl Scenario {
+    /// What the scenario is made of. No memory is taken.
+    ///
+    /// Its sizes and what is chosen are within their limits, and the library makes each call of each script.
+    pub fn into_parts(self) -> ScenarioParts
+        ensures records { result.records.items ≡ self.records }
+        ensures library { result.library ≡ catalog_of self }
+        ensures scripts { lists_of result.scripts.items ≡ self.scripts }
+        ensures config { result.config ≡ self.config }
+        ensures placing { result.placing ≡ self.placing }
+        ensures schedule { result.schedule ≡ self.schedule }
+        ensures kept { IsSetup self }
+        ensures fits { All (λ script. All (Fits result.library) script.items) result.scripts.items }
+    {
+        let Scenario {
+            records,
+            library,
+            scripts,
+            config,
+            placing,
+            schedule,
+        } = self;
+        ScenarioParts {
+            records,
+            library,
+            scripts,
+            config,
+            placing,
+            schedule,
+        }
+    }
+
+    /// The scenario with this cap, which is how many calls may wait at a time, 1 to `MOST_WAITING` of `vll_core`, in
+    /// place of its own. All else stays as it was.
+    pub fn with_cap(mut self, cap: u32) -> Scenario
+        requires least { 1 ≤ cap }
+        requires most { cap ≤ MOST_WAITING }
+        ensures { result ≡ record self { config = record self.config { cap = cap } } }
+    {
+        self.config.cap = cap;
+        self
+    }
+
+    /// The scenario with this many places for the contention analysis, 1 to `MOST_BITS` of `vll_sca`, in place of its
+    /// own. All else stays as it was.
+    pub fn with_bits(mut self, bits: u32) -> Scenario
+        requires least { 1 ≤ bits }
+        requires most { bits ≤ MOST_BITS }
+        ensures { result ≡ record self { config = record self.config { bits = bits } } }
+    {
+        self.config.bits = bits;
+        self
+    }
+}
