@@ -1,4 +1,4 @@
-// Single steps of an engine over bump, each with the answer that it has to give.
+// Single steps of an engine, each with the answer that it has to give.
 ghost use Rattle.std.specs.Prelude.{◌≡◌, All, IfSome};
 ghost use Rattle.vll_check.specs.Calls.{Fits};
 ghost use Rattle.vll_engine.specs.Pass.{IsFresh, IsReleased};
@@ -51,14 +51,21 @@ pub(super) fn put_back<N: Name>(rt: &impl Abort, sessions: &mut Vec<Session>, se
     }
 }
 
+// The call of a procedure for a record.
+fn call_of(rt: &impl Abort, library: &Library, name: &str, record: u64) -> Call
+    ensures { Fits library.now result }
+{
+    match library.call(name, &[record]) {
+        Ok(call) => call,
+        Err(_) => panic!(rt; "there is no {name} of record {record}"),
+    }
+}
+
 // The bump of a record.
 pub(super) fn bump_of(rt: &impl Abort, library: &Library, record: u64) -> Call
     ensures { Fits library.now result }
 {
-    match library.call("bump", &[record]) {
-        Ok(call) => call,
-        Err(_) => panic!(rt; "there is no bump of record {record}"),
-    }
+    call_of(rt, library, "bump", record)
 }
 
 // The bump of a record is free under a ticket.
@@ -73,7 +80,23 @@ pub(super) fn begins_free<N: Name, R: Wait + Abort>(
     ensures session { session.new.table ≡ N.engine.table }
     ensures pass { IsFresh N.engine result }
 {
-    let call = bump_of(rt, engine.library(), record);
+    call_is_free(rt, engine, session, "bump", record, ticket)
+}
+
+// The call of a procedure for a record is free under a ticket.
+pub(super) fn call_is_free<N: Name, R: Wait + Abort>(
+    rt: &R,
+    engine: &Engine<N, Placing>,
+    session: &mut Session,
+    name: &str,
+    record: u64,
+    ticket: u32,
+) -> Pass
+    requires { session.old.table ≡ N.engine.table }
+    ensures session { session.new.table ≡ N.engine.table }
+    ensures pass { IsFresh N.engine result }
+{
+    let call = call_of(rt, engine.library(), name, record);
     match engine.begin(rt, session, call) {
         Begun::Free(pass) => {
             assert_eq!(rt; pass.ticket(), Ticket(ticket));

@@ -1,4 +1,4 @@
-// The procedure that the tests call, and openings over it.
+// The procedures that the tests call, and openings over them.
 ghost use Rattle.std.specs.Prelude.{◌≡◌, ◌≤◌, IfOk, length};
 
 use crate::opening::Opening;
@@ -30,11 +30,29 @@ fn bump(alloc: Global) -> Result<Proc, AllocError> {
     })
 }
 
-// The library of this procedure, for a number of records.
+// Replies a record's value.
+fn read(alloc: Global) -> Result<Proc, AllocError> {
+    let key = KeyDecl {
+        mode: Mode::Read,
+        at: KeyAt::Arg(0),
+    };
+    let body = vec![in alloc; Stmt::Reply(Expr::Key(0))]?;
+    Ok(Proc {
+        name: Text::new(String::from_str(alloc, "read")?),
+        args: 1,
+        keys: Items::from_slice(alloc, &[key])?,
+        body: Items::from_vec(body),
+    })
+}
+
+// The library of these procedures, for a number of records.
 fn library(alloc: Global, records: u32) -> Result<Library, Fail>
     ensures { IfOk result (λ l. l.records ≡ records) }
 {
-    let procs = vec![in alloc; check(bump(alloc)?, records)?]?;
+    let procs = vec![in alloc;
+        check(bump(alloc)?, records)?,
+        check(read(alloc)?, records)?,
+    ]?;
     Ok(Library::new(records, procs)?)
 }
 

@@ -4,8 +4,8 @@ ghost use Rattle.vll_engine.specs.Shown.{name_of};
 ghost use Rattle.vll_sca.specs.Placing.{placing};
 
 use super::playing::{
-    begins_blocked, begins_free, begins_refused, closes, finishes, is_given, last_of, replies,
-    started,
+    begins_blocked, begins_free, begins_refused, call_is_free, closes, finishes, is_given, last_of,
+    replies, started,
 };
 use super::procedures::opening;
 use crate::begun::BeginRefusal;
@@ -34,6 +34,28 @@ fn reply_comes<N: Name, R: Wait + Abort>(rt: &R, opening: Opening<Placing>)
 fn reply_comes_when_the_call_is_finished(rt: HostRuntime) -> Result<(), Fail> {
     let opening = opening(rt.alloc(), 1, 1, 8, 1)?;
     reply_comes::<Brand, HostRuntime>(&rt, opening);
+    Ok(())
+}
+
+// A bump of a record that holds 0 replies 1, and so does a read after it.
+fn reads_the_bumped_value<N: Name, R: Wait + Abort>(rt: &R, opening: Opening<Placing>)
+    requires { N.engine ≡ name_of placing opening }
+{
+    let (engine, mut sessions) = started::<N>(opening);
+    let mut session = last_of::<N>(rt, &mut sessions);
+    let bump = call_is_free(rt, &engine, &mut session, "bump", 0, 0);
+    finishes(rt, &engine, bump, 1);
+    replies(rt, &engine, &mut session, 0, Some(1));
+    let read = call_is_free(rt, &engine, &mut session, "read", 0, 1);
+    finishes(rt, &engine, read, 1);
+    replies(rt, &engine, &mut session, 1, Some(1));
+    closes(rt, engine, sessions, &[1], &[0, 0]);
+}
+
+#[test]
+fn read_replies_what_a_bump_has_stored(rt: HostRuntime) -> Result<(), Fail> {
+    let opening = opening(rt.alloc(), 1, 2, 8, 1)?;
+    reads_the_bumped_value::<Brand, HostRuntime>(&rt, opening);
     Ok(())
 }
 
