@@ -50,6 +50,16 @@ pub(super) fn opening(
         limit,
         bits: 64,
     };
+    opening_of(alloc, records, config, clients)
+}
+
+// An opening over so many records that hold 0, with these sizes.
+pub(super) fn opening_of(
+    alloc: Global,
+    records: u32,
+    config: Config,
+    clients: u32,
+) -> Result<Opening<Placing>, Fail> {
     let library = library(alloc, records)?;
     let values = vec![in alloc; 0; records as usize]?;
     Ok(Opening::new(alloc, values, library, config, Placing::Modulo, clients)?)
