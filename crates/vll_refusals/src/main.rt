@@ -18,7 +18,7 @@ use std::thread::Threads;
 use std::{env, io};
 
 const USAGE: &str = "usage: vll_refusals CALL
-the calls: bits queue core words opening run read_scenario write_outcome serve replay";
+the calls: bits queue core words opening run run_limited read_scenario write_outcome serve replay";
 
 fn main(rt: HostRuntime) -> ExitCode {
     match answer_of(&rt) {
@@ -55,7 +55,8 @@ fn of_call<R: Print + AllocGlobal + Threads + Wait + Sync>(
         "core" => rooms::core(rt)?,
         "words" => rooms::words(rt)?,
         "opening" => rooms::opening(rt)?,
-        "run" => runs::run_clients(rt)?,
+        "run" => runs::run_clients(rt, None)?,
+        "run_limited" => runs::run_clients(rt, Some(runs::STARTS))?,
         "read_scenario" => texts::read(rt)?,
         "write_outcome" => texts::write(rt)?,
         "serve" => texts::served(rt)?,

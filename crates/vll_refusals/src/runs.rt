@@ -1,4 +1,4 @@
-//! A run by worker threads.
+//! A run by worker threads, with and without a bound on their starts.
 ghost use Rattle.std.specs.Prelude.{◌≡◌, ◌≤◌, ◌<◌, ◌^◌, All, length};
 ghost use Rattle.vll_check.specs.Calls.{Fits};
 ghost use Rattle.vll_engine.specs.Shown.{library_of, name_of};
@@ -17,13 +17,16 @@ use vll_engine::{Closed, Name, Opening};
 use vll_proc::{Call, Reply};
 use vll_sca::Placing;
 use vll_server::{MOST_CLIENTS, Plain, Scenario, ScenarioFault, read_scenario};
-use vll_workers::{OpenGate, RunFault, Token, run};
+use vll_workers::{OpenGate, RunFault, Token, run, run_limited};
 
 const CLIENTS: usize = 4;
 
 const CALLS: u32 = 3;
 
 const WORKERS: u32 = 8;
+
+/// How many starts of a thread `run_limited` may try: if the only one is refused, it answers `Spawn`.
+pub(crate) const STARTS: u32 = 1;
 
 // Four clients that change one record three times each.
 const FOUR_CLIENTS: &str = r#"{"version":1,"records":[0],
@@ -40,12 +43,14 @@ pub(crate) fn four_clients(alloc: Global) -> Result<Scenario, ScenarioFault> {
     read_scenario(alloc, &mut Plain::new(FOUR_CLIENTS.as_bytes()))
 }
 
+/// Has the four clients' calls made, by `run_limited` if the starts have a bound, and else by `run`.
 pub(crate) fn run_clients<R: Print + AllocGlobal + Threads + Wait + Sync>(
     rt: &R,
+    starts: Option<u32>,
 ) -> Result<Answer, Unready> {
     let scenario = four_clients(rt.alloc())?;
     let (opening, scripts) = opening(rt.alloc(), scenario)?;
-    run_named::<Brand, R>(rt, rt.alloc(), opening, scripts)
+    run_named::<Brand, R>(rt, rt.alloc(), opening, scripts, starts)
 }
 
 // The run in an engine of this name.
@@ -54,6 +59,7 @@ fn run_named<N: Name + Send + Sync, R: Print + Threads + Wait + Sync>(
     alloc: Global,
     opening: Opening<Placing>,
     scripts: Vec<Vec<Call>>,
+    starts: Option<u32>,
 ) -> Result<Answer, Unready>
     requires named { N.engine ≡ name_of placing opening }
     requires clients { N.engine.clients ≡ length scripts.items }
@@ -64,7 +70,10 @@ fn run_named<N: Name + Send + Sync, R: Print + Threads + Wait + Sync>(
     let (engine, sessions) = opening.start::<N>();
     let tokens = tokens::<N>(alloc, sessions, scripts)?;
     begin(rt)?;
-    let ran = run(rt, rt, alloc, &engine, tokens, WORKERS, &OpenGate);
+    let ran = match starts {
+        None => run(rt, rt, alloc, &engine, tokens, WORKERS, &OpenGate),
+        Some(starts) => run_limited(rt, rt, alloc, &engine, tokens, WORKERS, starts, &OpenGate),
+    };
     end(rt)?;
     let (answer, tokens) = match ran {
         Ok(tokens) => (Answer::Ample, tokens),
