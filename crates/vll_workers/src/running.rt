@@ -29,8 +29,9 @@ pub const MOST_WORKERS: u32 = 64;
 ///
 /// The tokens come back in rising order of their clients, each with `next` the length of its script. Of its client's
 /// calls, each token's session has seen just those of its script enter, from the old `next` to the new one, in order.
-/// The memory that is needed is taken before the first thread is started. If some threads cannot be started the others
-/// do the work; if there are no tokens none is started.
+/// The memory that is needed is taken before the first thread is started. If some threads cannot be started, the others
+/// and the calling thread do the work. The calling thread also makes the calls that are left once the workers have
+/// ended. If there are no tokens no thread is started.
 ///
 /// `NoMemory`, and `Spawn` if no thread could be started, hand the tokens back as they came. `Spent` is returned
 /// after all has ended if the engine took no more calls, and hands all tokens back in rising order: one of them has
