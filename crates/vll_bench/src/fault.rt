@@ -25,6 +25,10 @@ pub(crate) enum Fault {
     Unfinished,
     /// A scan found a call where each is held back.
     Found,
+    /// A call claims a record that is not there.
+    NoRecord,
+    /// Ways of making the same calls made or committed other numbers of them.
+    Counts,
 }
 
 impl From<AllocError> for Fault {

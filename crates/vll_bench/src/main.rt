@@ -2,18 +2,22 @@
 #![tactic(auto)]
 
 mod bodies;
+mod compare;
 mod engine;
 mod events;
 mod fault;
+mod plain;
 mod runs;
 mod scans;
 mod scripts;
 mod setup;
 mod shapes;
 mod task;
+mod timed;
 mod workload;
 
 use crate::bodies::measure_bodies;
+use crate::compare::compare_ways;
 use crate::engine::measure_engine;
 use crate::events::measure_events;
 use crate::fault::Fault;
@@ -27,12 +31,15 @@ const USAGE: &str = "usage: vll_bench events
        vll_bench engine
        vll_bench scan
        vll_bench bodies
+       vll_bench compare < scenario
        vll_bench WORKERS ROUNDS < scenario
 
 events   what an event of the machine costs, on one thread
 engine   what a call of the engine costs from begin to finish, on one thread
 scan     what a scan of the queue costs that finds no call, on one thread
 bodies   what a body costs, a run and a node, on one thread
+compare  what a call of the scenario costs without the engine, one after the
+         other and behind one lock, and in the engine
 WORKERS  runs the scenario by so many worker threads, 1 to 64, as often as
 ROUNDS   says, and prints the nanoseconds of each run, a line each";
 
@@ -43,6 +50,7 @@ fn main(rt: HostRuntime) -> Result<(), Fault> {
         Task::Engine => measure_engine(&rt),
         Task::Scan => measure_scans(&rt),
         Task::Bodies => measure_bodies(&rt),
+        Task::Compare => compare_ways(&rt),
         Task::Runs { workers, rounds } if 1 <= workers && workers <= MOST_WORKERS => {
             measure_runs(&rt, workers, rounds)
         }

@@ -5,16 +5,17 @@ ghost use Rattle.vll_sca.specs.Placing.{placing};
 
 use crate::fault::Fault;
 use crate::scripts::{opening, tokens};
+use crate::timed::{Count, Timed};
 use std::alloc::Global;
 use std::io::Read;
 use std::marker::Brand;
 use std::sync::Wait;
 use std::thread::Threads;
-use std::time::{Clock, Duration, Instant};
+use std::time::{Clock, Instant};
 use vll_engine::{Name, Opening};
-use vll_proc::Call;
+use vll_proc::{Call, Reply};
 use vll_sca::Placing;
-use vll_server::{MOST_CLIENTS, Plain, read_scenario};
+use vll_server::{Line, MOST_CLIENTS, Plain, read_scenario};
 use vll_workers::{MOST_WORKERS, OpenGate, RunError, run};
 
 /// Runs the scenario on standard input by so many worker threads, as often as `rounds` says, and prints how many
@@ -31,20 +32,20 @@ pub(crate) fn measure_runs<R: Threads + Wait + Clock + Input + Print + AllocGlob
     for _ in 0..rounds {
         let scenario = read_scenario(rt.alloc(), &mut Plain::new(bytes.as_slice()))?;
         let (opening, scripts) = opening(rt.alloc(), scenario)?;
-        let time = time_of::<Brand, R>(rt, rt.alloc(), opening, scripts, workers)?;
-        println!(rt; "{}", time.as_nanos())?;
+        let timed = time_of::<Brand, R>(rt, rt.alloc(), opening, scripts, workers)?;
+        println!(rt; "{}", timed.time.as_nanos())?;
     }
     Ok(())
 }
 
-// The time of the run in an engine of this name.
-fn time_of<N: Name + Send + Sync, R: Threads + Wait + Clock + Sync>(
+/// Times the run in an engine of this name.
+pub(crate) fn time_of<N: Name + Send + Sync, R: Threads + Wait + Clock + Sync>(
     rt: &R,
     alloc: Global,
     opening: Opening<Placing>,
     scripts: Vec<Vec<Call>>,
     workers: u32,
-) -> Result<Duration, Fault>
+) -> Result<Timed, Fault>
     requires workers { (1 ≤ workers) × (workers ≤ MOST_WORKERS) }
     requires named { N.engine ≡ name_of placing opening }
     requires clients { N.engine.clients ≡ length scripts.items }
@@ -62,7 +63,19 @@ fn time_of<N: Name + Send + Sync, R: Threads + Wait + Clock + Sync>(
         Err(RunError { fault, .. }) => return Err(Fault::Run(fault)),
     }
     match engine.close(Vec::new(alloc)) {
-        Ok(_) => Ok(time),
+        Ok(closed) => Ok(Timed {
+            time,
+            count: count_of(closed.journal.as_slice()),
+        }),
         Err(_) => Err(Fault::Unfinished),
     }
+}
+
+// How many calls a journal has, and how many of them committed.
+fn count_of(journal: &[Line]) -> Count {
+    let mut count = Count::none();
+    for line in journal {
+        count = count.with_call(matches!(line.reply, Some(Reply::Committed(_))));
+    }
+    count
 }

@@ -7,6 +7,7 @@ pub(crate) enum Task {
     Engine,
     Scan,
     Bodies,
+    Compare,
     Runs { workers: u32, rounds: u32 },
 }
 
@@ -17,6 +18,7 @@ pub(crate) fn task_of(words: &[String]) -> Task {
         [_, word] if word.as_str() == "engine" => Task::Engine,
         [_, word] if word.as_str() == "scan" => Task::Scan,
         [_, word] if word.as_str() == "bodies" => Task::Bodies,
+        [_, word] if word.as_str() == "compare" => Task::Compare,
         [_, workers, rounds] => match (
             workers.as_str().parse::<u32>(),
             rounds.as_str().parse::<u32>(),

@@ -1,0 +1,11 @@
+-- The library makes each call of each script.
+use Rattle.std.proofs.Common.{All, sym, subst}
+use Rattle.std.specs.Global.{Vec}
+use Rattle.vll_proc.specs.declared.call.Call.{Call}
+use Rattle.vll_check.specs.Calls.{Fits}
+use Rattle.vll_bench.proofs.plain.make_share.Goals as goal
+
+pub make_script_by_lock-requires : goal.make_script_by_lock-requires
+make_script_by_lock-requires g c =
+    let fits = Fits c.args.library.now in
+    subst (All fits) (sym c.as_slice.ensures.value) (subst (λ (s : Vec Call). All fits s.items) (sym c.index-scripts-place.is) (c.requires.fits c.loop-place.place c.index-scripts-place.result c.loop-place-test.true))
