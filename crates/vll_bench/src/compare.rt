@@ -25,6 +25,7 @@ enum Way {
     Serial,
     /// On plain records, with one lock around each whole call.
     Mutex,
+    /// By the engine's workers.
     Engine,
 }
 
@@ -141,11 +142,11 @@ fn time_of<R: Threads + Wait + Clock + AllocGlobal + Sync>(
         scripts,
         ..
     } = scenario.into_parts();
+    let scripts = scripts.as_slice();
     if let Way::Serial = team.way {
-        return time_serial(rt, &library, records.as_mut_slice(), scripts.as_slice());
+        return time_serial(rt, &library, records.as_mut_slice(), scripts);
     }
-    let threads = team.threads as usize;
-    time_mutex(rt, alloc, &library, records, scripts.as_slice(), threads)
+    time_mutex(rt, alloc, &library, records, scripts, team.threads as usize)
 }
 
 // Whether every round of every team made as many calls, and where they are ordered committed as many.

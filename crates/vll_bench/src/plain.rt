@@ -1,11 +1,12 @@
-//! The calls of scripts without the engine: on plain records, one after the other on one thread, or by several threads
+//! The calls of scripts without the engine, on plain records: one after the other on one thread, or by several threads
 //! with one lock around each whole call.
-ghost use Rattle.std.specs.Prelude.{◌<◌, ◌≤◌, All, length};
+ghost use Rattle.std.specs.Prelude.{◌≤◌, All, length};
 ghost use Rattle.vll_check.specs.Calls.{Fits};
 
 use crate::fault::Fault;
 use crate::timed::{Count, Timed};
 use std::alloc::Global;
+use std::sync::atomic::{AtomicUsize, Ordering};
 use std::sync::{Mutex, Wait};
 use std::thread::{Threads, map_indices};
 use std::time::{Clock, Instant};
@@ -31,7 +32,8 @@ pub(crate) fn time_serial(
     Ok(Timed { time, count })
 }
 
-/// Times the calls by so many threads, each with every so manieth script, and one lock around each whole call.
+/// Times the calls by so many threads, each of which takes one script after the other, with one lock around each whole
+/// call.
 pub(crate) fn time_mutex<R: Threads + Wait + Clock + Sync>(
     rt: &R,
     alloc: Global,
@@ -40,16 +42,16 @@ pub(crate) fn time_mutex<R: Threads + Wait + Clock + Sync>(
     scripts: &[Vec<Call>],
     threads: usize,
 ) -> Result<Timed, Fault>
-    requires threads { 0 < threads }
-    requires fits { All (λ script. All (Fits library.now) script.items) scripts.now }
+    requires { All (λ script. All (Fits library.now) script.items) scripts.now }
 {
     let records = Mutex::new(records);
+    let next = AtomicUsize::new(0);
     let start = Instant::now(rt)?;
     let counts = map_indices(
         rt,
         alloc,
         threads,
-        &|thread| { make_share(rt, library, &records, scripts, thread, threads) },
+        &|_| { make_share(rt, library, &records, scripts, &next) },
     )?;
     let time = start.elapsed(rt)?;
     let mut count = Count::none();
@@ -59,23 +61,22 @@ pub(crate) fn time_mutex<R: Threads + Wait + Clock + Sync>(
     Ok(Timed { time, count })
 }
 
-// Makes the calls of a thread's scripts: of those whose place leaves the thread's number by the number of threads.
+// Makes the calls of the next script, and of the one that is next then, until none is left.
 fn make_share(
     rt: &impl Wait,
     library: &Library,
     records: &Mutex<Vec<u64>>,
     scripts: &[Vec<Call>],
-    thread: usize,
-    threads: usize,
+    next: &AtomicUsize,
 ) -> Result<Count, Fault>
-    requires threads { 0 < threads }
-    requires fits { All (λ script. All (Fits library.now) script.items) scripts.now }
+    requires { All (λ script. All (Fits library.now) script.items) scripts.now }
 {
     let mut count = Count::none();
-    for (place, script) in scripts.iter().enumerate() {
-        if place % threads == thread {
-            count = count.with(make_script_by_lock(rt, library, records, script.as_slice())?);
-        }
+    for _ in 0..scripts.len() {
+        let Some(script) = scripts.get(next.fetch_add(1, Ordering::SeqCst)) else {
+            break;
+        };
+        count = count.with(make_script_by_lock(rt, library, records, script.as_slice())?);
     }
     Ok(count)
 }

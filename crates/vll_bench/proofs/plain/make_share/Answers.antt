@@ -8,4 +8,5 @@ use Rattle.vll_bench.proofs.plain.make_share.Goals as goal
 pub make_script_by_lock-requires : goal.make_script_by_lock-requires
 make_script_by_lock-requires g c =
     let fits = Fits c.args.library.now in
-    subst (All fits) (sym c.as_slice.ensures.value) (subst (λ (s : Vec Call). All fits s.items) (sym c.index-scripts-place.is) (c.requires.fits c.loop-place.place c.index-scripts-place.result c.loop-place-test.true))
+    let found = c.in-Some.ensures.lookup in
+    subst (All fits) (sym c.as_slice.ensures.value) (subst (λ (s : Vec Call). All fits s.items) (sym found.1) (c.requires c.fetch_add.result c.in-Some.script.now found.3.0))

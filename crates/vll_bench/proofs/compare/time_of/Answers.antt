@@ -1,0 +1,16 @@
+-- The scenario's library makes each call of each script.
+use Rattle.std.proofs.Common.{All, sym, subst}
+use Rattle.std.specs.Global.{Vec}
+use Rattle.vll_proc.specs.declared.call.Call.{Call}
+use Rattle.vll_check.specs.Calls.{Fits}
+use Rattle.vll_bench.proofs.compare.time_of.Goals as goal
+
+pub time_serial-requires : goal.time_serial-requires
+time_serial-requires g c =
+    let fits = Fits c.into_parts-records.result.library in
+    subst (All (λ (s : Vec Call). All fits s.items)) (sym c.as_slice-scripts.ensures.value) c.into_parts-records.ensures.fits
+
+pub time_mutex-requires : goal.time_mutex-requires
+time_mutex-requires g c =
+    let fits = Fits c.into_parts-records.result.library in
+    subst (All (λ (s : Vec Call). All fits s.items)) (sym c.as_slice-scripts.ensures.value) c.into_parts-records.ensures.fits
