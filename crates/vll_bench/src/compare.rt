@@ -19,17 +19,29 @@ use vll_workers::MOST_WORKERS;
 // How often each way is timed. The median counts.
 const ROUNDS: u32 = 7;
 
+// How the calls are made.
 #[derive(Clone, Copy)]
 enum Way {
-    /// A call after the other on plain records, without a lock.
+    // One after the other on plain records, without a lock.
     Serial,
-    /// On plain records, with one lock around each whole call.
+    // On plain records, with one lock around each whole call.
     Mutex,
-    /// By the engine's workers.
+    // By the engine's workers.
     Engine,
 }
 
-/// A way of making calls, with its number of threads.
+impl Way {
+    // Its name in the table.
+    fn name(self) -> &'static str {
+        match self {
+            Way::Serial => "serial",
+            Way::Mutex => "mutex",
+            Way::Engine => "engine",
+        }
+    }
+}
+
+// A way of making calls, with its number of threads.
 #[derive(Clone, Copy)]
 struct Team {
     way: Way,
@@ -69,7 +81,7 @@ const TEAMS: [Team; 7] = [
     },
 ];
 
-/// A line of the table: a team, and what its rounds took.
+// A line of the table: a team, and what its rounds took.
 #[derive(Drop)]
 struct Row {
     team: Team,
@@ -91,7 +103,7 @@ pub(crate) fn compare_ways<R: Threads + Wait + Clock + Input + Print + AllocGlob
     if !agree(rows.as_slice(), ordered) {
         return Err(Fault::Counts);
     }
-    print_all(rt, rows.as_mut_slice())
+    print_table(rt, rows.as_mut_slice())
 }
 
 // Whether the calls can be made in one order alone, as one client has them all.
@@ -149,7 +161,7 @@ fn time_of<R: Threads + Wait + Clock + AllocGlobal + Sync>(
     time_mutex(rt, alloc, &library, records, scripts, team.threads as usize)
 }
 
-// Whether every round of every team made as many calls, and where they are ordered committed as many.
+// Whether each round of each team made as many calls, and committed as many if they have one order.
 fn agree(rows: &[Row], ordered: bool) -> bool {
     let Some(expected) = first_count(rows) else {
         return true;
@@ -168,19 +180,19 @@ fn first_count(rows: &[Row]) -> Option<Count> {
 }
 
 // Prints the table.
-fn print_all(rt: &impl Print, rows: &mut [Row]) -> Result<(), Fault> {
+fn print_table(rt: &impl Print, rows: &mut [Row]) -> Result<(), Fault> {
     println!(rt;
         "the median of {ROUNDS} rounds, and the fewest and the most calls that committed in a round"
     )?;
     println!(rt; "way     threads  ns a call    calls  committed")?;
     for row in rows {
-        print(rt, row)?;
+        print_row(rt, row)?;
     }
     Ok(())
 }
 
 // Prints a row.
-fn print(rt: &impl Print, row: &mut Row) -> Result<(), Fault> {
+fn print_row(rt: &impl Print, row: &mut Row) -> Result<(), Fault> {
     row.rounds
         .sort_unstable_by_key(|timed| timed.nanos_a_call());
     let Some(median) = row.rounds.get(row.rounds.len() / 2) else {
@@ -199,14 +211,4 @@ fn print(rt: &impl Print, row: &mut Row) -> Result<(), Fault> {
         most.unwrap_or(0)
     )?;
     Ok(())
-}
-
-impl Way {
-    fn name(self) -> &'static str {
-        match self {
-            Way::Serial => "serial",
-            Way::Mutex => "mutex",
-            Way::Engine => "engine",
-        }
-    }
 }

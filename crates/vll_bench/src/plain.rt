@@ -1,6 +1,6 @@
 //! The calls of scripts without the engine, on plain records: one after the other on one thread, or by several threads
 //! with one lock around each whole call.
-ghost use Rattle.std.specs.Prelude.{◌≤◌, All, length};
+ghost use Rattle.std.specs.Prelude.{◌<◌, ◌≤◌, All, length};
 ghost use Rattle.vll_check.specs.Calls.{Fits};
 
 use crate::fault::Fault;
@@ -42,7 +42,8 @@ pub(crate) fn time_mutex<R: Threads + Wait + Clock + Sync>(
     scripts: &[Vec<Call>],
     threads: usize,
 ) -> Result<Timed, Fault>
-    requires { All (λ script. All (Fits library.now) script.items) scripts.now }
+    requires some { 0 < threads }
+    requires fits { All (λ script. All (Fits library.now) script.items) scripts.now }
 {
     let records = Mutex::new(records);
     let next = AtomicUsize::new(0);
