@@ -61,7 +61,7 @@ impl<'a, N: Name, H: Place + Send + Drop> Hold<'a, N, H> {
         let Some(seat) = session.seat.take() else {
             unreachable!()
         };
-        let (begun, seat) = self.guard.begin(self.words, seat, session.client, call);
+        let (begun, seat) = self.guard.begin(self.words, seat, session.client, &call);
         session.seat = Some(seat);
         begun
     }

@@ -26,15 +26,15 @@ impl<N: Name, H: Place> Locked<N, H> {
         words: &Words,
         session: SessionSeat,
         client: u32,
-        call: Call,
+        call: &Call,
     ) -> (Begun, SessionSeat)
         requires words { words.now ≡ words_of N.engine }
         requires session { session.table ≡ N.engine.table }
         requires client { session.session.client ≡ client }
         requires catalog { IsCatalog (library_of N.engine) }
-        requires fits { Fits (library_of N.engine) call }
-        ensures answer { Begins N.engine session.session result.1.session call result.0 }
-        ensures queue { self.new ≡ begun_by self.old client call result.0 }
+        requires fits { Fits (library_of N.engine) call.now }
+        ensures answer { Begins N.engine session.session result.1.session call.now result.0 }
+        ensures queue { self.new ≡ begun_by self.old client call.now result.0 }
         ensures refused { IsRefusedBy (refusal self.old) result.0 }
         ensures given { result.1.session.given ≡ session.session.given }
         ensures session { result.1.table ≡ session.table }
@@ -82,30 +82,31 @@ impl<N: Name, H: Place> Locked<N, H> {
         words: &Words,
         session: SessionSeat,
         client: u32,
-        call: Call,
+        call: &Call,
     ) -> (Begun, SessionSeat)
         requires words { words.now ≡ words_of N.engine }
         requires session { session.table ≡ N.engine.table }
         requires client { session.session.client ≡ client }
         requires catalog { IsCatalog (library_of N.engine) }
-        requires fits { Fits (library_of N.engine) call }
+        requires fits { Fits (library_of N.engine) call.now }
         requires room { refusal self.old ≡ None }
         requires kept { IsQueued self.old }
-        ensures answer { Begins N.engine session.session result.1.session call result.0 }
-        ensures queue { self.new ≡ begun_by self.old client call result.0 }
+        ensures answer { Begins N.engine session.session result.1.session call.now result.0 }
+        ensures queue { self.new ≡ begun_by self.old client call.now result.0 }
         ensures entered { IsRefusedBy None result.0 }
         ensures given { result.1.session.given ≡ session.session.given }
         ensures session { result.1.table ≡ session.table }
     {
-        words.join_session(&mut self.seat, session, Some(call));
-        let free = request_all(words, &mut self.seat, client, &call);
-        let ticket = self.queue.admit(client, call, free);
+        words.join_session(&mut self.seat, session, Some(*call));
+        let free = request_all(words, &mut self.seat, client, call);
+        let ticket = self.queue.admit(client, *call, free);
         if !free {
             let session = words.give_session(&mut self.seat, None);
             return (Begun::Blocked(ticket), session);
         }
         let seat = words.give_pass(&mut self.seat, ticket);
         let session = words.give_session(&mut self.seat, None);
+        let call = *call;
         (Begun::Free(Pass { seat, ticket, call }), session)
     }
 }
