@@ -187,10 +187,11 @@ impl<'a, N: Name, H: Place + Send + Drop, T: Roster, W: Wait, G: Gate> Work<'a, 
         }
         let had_token = !tokens.is_empty();
         self.begin_all(worker, hold, tokens, passes, pace);
-        if passes.is_empty()
-            && let Some(pass) = hold.next_scan()
-        {
-            passes.push(pass);
+        if passes.is_empty() {
+            self.put_back(worker, tokens);
+            if let Some(pass) = hold.next_scan() {
+                passes.push(pass);
+            }
         }
         had_token
     }
