@@ -1,6 +1,8 @@
 -- What a worker has in hand while it works, step by step.
 use Rattle.std.proofs.Common.{◌≡◌, ◌<◌, List, [], ◌∷◌, ◌++◌, sym, subst}
+use Rattle.std.specs.Prelude.{IsPermutation}
 use Rattle.std.proofs.lemmas.List.Elements.{All-cons, All-head, All-tail}
+use Rattle.std.proofs.lemmas.List.Sorted.{All-permutation, IsPermutation-append_left, IsPermutation-middle, IsPermutation-sym}
 use Rattle.atomic_table.specs.Seated.{TableId}
 use Rattle.crossbeam_queue.specs.Passes.{IsSamePass, view}
 use Rattle.vll_counters.specs.Shown.{SessionShown}
@@ -11,7 +13,7 @@ use Rattle.vll_workers.specs.Private.Pool.{HasInHand, HoldsMore, HoldsOne, IsPut
 use Rattle.vll_workers.specs.Private.Work.{IsAtWork}
 use Rattle.vll_workers.specs.Shown.{TokenShown}
 use Rattle.vll_workers.specs.Tokens.{IsOf, clients_of}
-use Rattle.vll_workers.proofs.Hands.{begun_hand, given, more_held, one_held, put_by, still, taken}
+use Rattle.vll_workers.proofs.Hands.{begun_hand, given, more_held, one_held, put_by, reordered, still, taken}
 
 -- a token more is taken
 pub one_more : (handed : List TokenShown) (table : TableId) (old new : Working) (ts : List TokenShown) (t : TokenShown) → IsAtWork handed table old ts → new.kept ≡ old.kept → IsSamePass old.pass new.pass
@@ -31,9 +33,22 @@ as_before handed table old new ts at kept same is = record {
   part = subst (λ (v : Hand). 0 < v.parts) (sym is) at.part;
 }
 
--- one of them leaves the stack
-pub popped : (handed : List TokenShown) (table : TableId) (w : Working) (before ts : List TokenShown) (t : TokenShown) → IsAtWork handed table w before → before ≡ t ∷ ts → IsAtWork handed table w (t ∷ ts)
-popped handed table w before ts t at is = subst (IsAtWork handed table w) is at
+-- one of them leaves its stack, and others lie on the next one
+pub popped : (handed : List TokenShown) (table : TableId) (w : Working) (before ts others : List TokenShown) (t : TokenShown) → IsAtWork handed table w (before ++ others) → before ≡ t ∷ ts
+    → IsAtWork handed table w (t ∷ (ts ++ others))
+popped handed table w before ts others t at is = subst (λ (l : List TokenShown). IsAtWork handed table w (l ++ others)) is at
+
+-- it is put on the next stack
+pub set_aside : (handed : List TokenShown) (table : TableId) (w : Working) (ts others new : List TokenShown) (t : TokenShown) → IsAtWork handed table w (t ∷ (ts ++ others)) → new ≡ t ∷ others
+    → IsAtWork handed table w (ts ++ new)
+set_aside handed table w ts others new t at is =
+    let moved : IsPermutation (t ∷ (ts ++ others)) (ts ++ t ∷ others) = IsPermutation-sym (ts ++ t ∷ others) (t ∷ (ts ++ others)) (IsPermutation-middle ts t others) in
+    let aside : IsAtWork handed table w (ts ++ t ∷ others) = record {
+      hand = reordered table w.pass ((t ∷ (ts ++ others)) ++ w.kept) ((ts ++ t ∷ others) ++ w.kept) at.hand (IsPermutation-append_left w.kept (t ∷ (ts ++ others)) (ts ++ t ∷ others) moved);
+      own = All-permutation (IsOf handed) (t ∷ (ts ++ others)) (ts ++ t ∷ others) moved at.own;
+      part = at.part;
+    } in
+    subst (λ (l : List TokenShown). IsAtWork handed table w (ts ++ l)) (sym is) aside
 
 pub own_of : (handed : List TokenShown) (table : TableId) (w : Working) (ts : List TokenShown) (t : TokenShown) → IsAtWork handed table w (t ∷ ts) → IsOf handed t
 own_of handed table w ts t at = All-head (IsOf handed) t ts at.own

@@ -1,7 +1,8 @@
 -- What a worker has in hand, step by step.
 use Rattle.std.proofs.Common.{◌≡◌, ◌<◌, ◌≤◌, ℕ, List, [], ◌∷◌, ◌++◌, length, refl, sym, ap, ◌∙◌, arith}
-use Rattle.std.specs.Prelude.{sum_by}
+use Rattle.std.specs.Prelude.{IsPermutation, sum_by}
 use Rattle.std.proofs.lemmas.List.{length-append, length-map, map-append}
+use Rattle.std.proofs.lemmas.List.Sorted.{IsPermutation-map, sum_by-IsPermutation}
 use Rattle.std.proofs.lemmas.List.Sums.{sum_by-append, sum_by-cons}
 use Rattle.atomic_table.specs.Seated.{TableId}
 use Rattle.crossbeam_queue.specs.Passes.{IsSamePass, Pass, view}
@@ -70,6 +71,13 @@ pub put_by : (table : TableId) (old new : PoolPass) (t : TokenShown) (rest kept 
 put_by table old new t rest kept now hand same is more =
     let there = still table old new (t ∷ (rest ++ kept)) hand same is in
     record { of = there.of; holds = λ h. there.holds h ∙ to_back t rest kept h ∙ ap (λ (l : List TokenShown). sum_by h (clients_of (rest ++ l))) (sym more) }
+
+-- the same tokens in another order
+pub reordered : (table : TableId) (p : PoolPass) (old new : List TokenShown) → HasInHand table p old → IsPermutation old new → HasInHand table p new
+reordered table p old new hand moved = record {
+  of = hand.of;
+  holds = λ h. hand.holds h ∙ sym (sum_by-IsPermutation h (clients_of old) (clients_of new) (IsPermutation-map (λ (u : TokenShown). u.client) old new moved));
+}
 
 -- what two workers have in hand, in one hand
 pub joined_hands : (table : TableId) (old new other : PoolPass) (kept more : List TokenShown) → HasInHand table old kept → HasInHand table other more → IsSamePass old new

@@ -7,10 +7,12 @@ use std::alloc::{AllocError, Global};
 use vll_core::Ticket;
 use vll_engine::{Pass, Released};
 
-// What a worker has under way: tokens whose next call is to begin, passes of calls that may run, calls that were
-// executed, and the tickets of those that are finished and not told of yet.
+// What a worker has under way: tokens whose next call is to begin, tokens whose call was tried and that go back to the
+// pool, passes of calls that may run, calls that were executed, and the tickets of those that are finished and not told
+// of yet.
 pub(crate) struct Batch {
     pub(crate) tokens: Stack<Token>,
+    pub(crate) tried: Stack<Token>,
     pub(crate) passes: Stack<Pass>,
     pub(crate) released: Stack<Released>,
     pub(crate) finished: Stack<Ticket>,
@@ -21,6 +23,7 @@ pub(crate) struct Batch {
 pub(crate) struct BatchRoom {
     batch: Batch,
     ghost tokens: { batch.tokens ≡ [] },
+    ghost tried: { batch.tried ≡ [] },
     ghost passes: { batch.passes ≡ [] },
     ghost released: { batch.released ≡ [] },
     ghost finished: { batch.finished ≡ [] },
@@ -30,12 +33,14 @@ impl BatchRoom {
     // Room for what a worker has under way that takes at most so many tokens before a hold.
     pub(crate) fn new(alloc: Global, most: usize) -> Result<BatchRoom, AllocError> {
         let tokens = Stack::new(alloc)?;
+        let tried = Stack::new(alloc)?;
         let finished = Stack::new(alloc)?;
         let passes = Stack::new(alloc)?;
         match Stack::new(alloc) {
             Ok(released) => Ok(BatchRoom {
                 batch: Batch {
                     tokens,
+                    tried,
                     passes,
                     released,
                     finished,
@@ -52,6 +57,7 @@ impl BatchRoom {
     // Nothing is under way yet.
     pub(crate) fn open(self) -> Batch
         ensures tokens { result.tokens ≡ [] }
+        ensures tried { result.tried ≡ [] }
         ensures passes { result.passes ≡ [] }
         ensures released { result.released ≡ [] }
         ensures finished { result.finished ≡ [] }
@@ -76,6 +82,7 @@ impl Batch {
     {
         let Batch {
             tokens: _,
+            tried: _,
             passes,
             released,
             finished: _,

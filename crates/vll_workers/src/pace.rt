@@ -34,6 +34,11 @@ impl Pace {
         }
     }
 
+    // Whether tokens are ever taken before a hold, and not under it alone.
+    pub(crate) fn takes_ahead(&self) -> bool {
+        self.most > 0
+    }
+
     // How many tokens are to be taken before the next hold.
     pub(crate) fn tokens(&self) -> usize {
         self.now
@@ -60,7 +65,7 @@ impl Pace {
     pub(crate) fn rest(&mut self, had_token: bool) -> bool {
         if had_token {
             self.idle = 0;
-        } else if self.most == 0 || self.idle >= MOST_IDLE {
+        } else if !self.takes_ahead() || self.idle >= MOST_IDLE {
             return false;
         } else {
             self.idle += 1;

@@ -1,4 +1,4 @@
-ghost use Rattle.std.specs.Prelude.{◌≡◌, ◌<◌, ◌≤◌, ◌+◌, ◌∷◌, [], All, IfSome, length, suc};
+ghost use Rattle.std.specs.Prelude.{◌≡◌, ◌<◌, ◌≤◌, ◌+◌, ◌++◌, ◌∷◌, [], All, IfSome, length, suc};
 ghost use Rattle.crossbeam_queue.specs.Passes.{view};
 ghost use Rattle.vll_engine.specs.Pass.{IsFresh, IsReleased};
 ghost use Rattle.vll_workers.specs.Private.Pool.{AreSame, HasInHand, all_parts};
@@ -73,12 +73,14 @@ impl<'a, N: Name, H: Place + Send + Drop, T: Roster, W: Wait, G: Gate> Work<'a, 
         requires fit { AreFit N.engine T.tokens }
         requires limit { T.limit ≡ N.engine.config.limit }
         requires old { IsAtWork T.tokens self.pool.now worker.old batch.old.tokens }
+        requires tried { batch.old.tried ≡ [] }
         requires passes { batch.old.passes ≡ [] }
         requires released { batch.old.released ≡ [] }
         requires finished { batch.old.finished ≡ [] }
         ensures new { IsAtWork T.tokens self.entry.pool.now worker.new [] }
         ensures parts { (view worker.new.pass).parts ≡ (view worker.old.pass).parts }
         ensures tokens { batch.new.tokens ≡ [] }
+        ensures tried { batch.new.tried ≡ [] }
         ensures passes { batch.new.passes ≡ [] }
         ensures released { batch.new.released ≡ [] }
         ensures finished { batch.new.finished ≡ [] }
@@ -101,6 +103,7 @@ impl<'a, N: Name, H: Place + Send + Drop, T: Roster, W: Wait, G: Gate> Work<'a, 
         requires fit { AreFit N.engine T.tokens }
         requires limit { T.limit ≡ N.engine.config.limit }
         requires old { IsAtWork T.tokens self.pool.now worker.old batch.old.tokens }
+        requires tried { batch.old.tried ≡ [] }
         requires passes { batch.old.passes ≡ [] }
         requires released { All (IsReleased N.engine) batch.old.released }
         requires few { length batch.old.released ≤ MOST_BATCH }
@@ -108,6 +111,7 @@ impl<'a, N: Name, H: Place + Send + Drop, T: Roster, W: Wait, G: Gate> Work<'a, 
         ensures new { IsAtWork T.tokens self.entry.pool.now worker.new [] }
         ensures parts { (view worker.new.pass).parts ≡ (view worker.old.pass).parts }
         ensures tokens { batch.new.tokens ≡ [] }
+        ensures tried { batch.new.tried ≡ [] }
         ensures passes { All (IsFresh N.engine) batch.new.passes }
         ensures released { batch.new.released ≡ [] }
         ensures finished { batch.new.finished ≡ [] }
@@ -119,12 +123,13 @@ impl<'a, N: Name, H: Place + Send + Drop, T: Roster, W: Wait, G: Gate> Work<'a, 
             worker,
             &mut hold,
             &mut batch.tokens,
+            &mut batch.tried,
             &mut batch.passes,
             &mut batch.pace,
         );
         drop(hold);
+        self.put_back(worker, &mut batch.tokens, &mut batch.tried);
         self.tell_all(&mut batch.finished);
-        self.put_back(worker, &mut batch.tokens);
         had_token
     }
 
@@ -167,14 +172,16 @@ impl<'a, N: Name, H: Place + Send + Drop, T: Roster, W: Wait, G: Gate> Work<'a, 
         worker: &mut Worker<T>,
         hold: &mut Hold<'_, N, H>,
         tokens: &mut Stack<Token>,
+        tried: &mut Stack<Token>,
         passes: &mut Stack<Pass>,
         pace: &mut Pace,
     ) -> bool
         requires fit { AreFit N.engine T.tokens }
         requires limit { T.limit ≡ N.engine.config.limit }
         requires old { IsAtWork T.tokens self.pool.now worker.old tokens.old }
+        requires tried { tried.old ≡ [] }
         requires passes { passes.old ≡ [] }
-        ensures new { IsAtWork T.tokens self.entry.pool.now worker.new tokens.new }
+        ensures new { IsAtWork T.tokens self.entry.pool.now worker.new (tokens.new ++ tried.new) }
         ensures parts { (view worker.new.pass).parts ≡ (view worker.old.pass).parts }
         ensures passes { All (IsFresh N.engine) passes.new }
     {
@@ -186,9 +193,12 @@ impl<'a, N: Name, H: Place + Send + Drop, T: Roster, W: Wait, G: Gate> Work<'a, 
             self.take_one(worker, tokens);
         }
         let had_token = !tokens.is_empty();
-        self.begin_all(worker, hold, tokens, passes, pace);
+        self.begin_all(worker, hold, tokens, tried, passes, pace);
+        // A worker that takes tokens under a hold alone leaves once it finds the pool empty there.
+        if !pace.takes_ahead() {
+            self.put_back(worker, tokens, tried);
+        }
         if passes.is_empty() {
-            self.put_back(worker, tokens);
             if let Some(pass) = hold.next_scan() {
                 passes.push(pass);
             }
@@ -202,19 +212,21 @@ impl<'a, N: Name, H: Place + Send + Drop, T: Roster, W: Wait, G: Gate> Work<'a, 
         worker: &mut Worker<T>,
         hold: &mut Hold<'_, N, H>,
         tokens: &mut Stack<Token>,
+        tried: &mut Stack<Token>,
         passes: &mut Stack<Pass>,
         pace: &mut Pace,
     )
         requires fit { AreFit N.engine T.tokens }
         requires limit { T.limit ≡ N.engine.config.limit }
         requires old { IsAtWork T.tokens self.pool.now worker.old tokens.old }
+        requires tried { tried.old ≡ [] }
         requires passes { passes.old ≡ [] }
-        ensures new { IsAtWork T.tokens self.entry.pool.now worker.new tokens.new }
+        ensures new { IsAtWork T.tokens self.entry.pool.now worker.new (tokens.new ++ tried.new) }
         ensures parts { (view worker.new.pass).parts ≡ (view worker.old.pass).parts }
         ensures passes { All (IsFresh N.engine) passes.new }
     {
         for _ in 0..tokens.len() {
-            let Some(pass) = self.begin_next(worker, hold, tokens) else {
+            let Some(pass) = self.begin_next(worker, hold, tokens, tried) else {
                 pace.slacken();
                 return;
             };
@@ -223,18 +235,21 @@ impl<'a, N: Name, H: Place + Send + Drop, T: Roster, W: Wait, G: Gate> Work<'a, 
         }
     }
 
-    // Begins the next call of the last token, and answers its pass if it is free. The token goes back to the pool, or
-    // stays with the worker if no call is left or the engine takes no more.
+    // Begins the next call of the last token, and answers its pass if it is free. The token is set aside, or stays with
+    // the worker if no call is left or the engine takes no more.
     fn begin_next(
         self,
         worker: &mut Worker<T>,
         hold: &mut Hold<'_, N, H>,
         tokens: &mut Stack<Token>,
+        tried: &mut Stack<Token>,
     ) -> Option<Pass>
         requires fit { AreFit N.engine T.tokens }
         requires limit { T.limit ≡ N.engine.config.limit }
-        requires old { IsAtWork T.tokens self.pool.now worker.old tokens.old }
-        ensures new { IsAtWork T.tokens self.entry.pool.now worker.new tokens.new }
+        requires old { IsAtWork T.tokens self.pool.now worker.old (tokens.old ++ tried.old) }
+        requires few { length tokens.old + length tried.old ≤ MOST_BATCH }
+        ensures new { IsAtWork T.tokens self.entry.pool.now worker.new (tokens.new ++ tried.new) }
+        ensures few { length tokens.new + length tried.new ≤ MOST_BATCH }
         ensures parts { (view worker.new.pass).parts ≡ (view worker.old.pass).parts }
         ensures pass { IfSome result (IsFresh N.engine) }
         ensures one { IfSome result (λ _. suc (length tokens.new) ≡ length tokens.old) }
@@ -246,11 +261,11 @@ impl<'a, N: Name, H: Place + Send + Drop, T: Roster, W: Wait, G: Gate> Work<'a, 
         };
         match token.begin(hold, call) {
             Begun::Free(pass) => {
-                worker.put(self.wait, self.pool, token);
+                tried.push(token);
                 Some(pass)
             }
             Begun::Blocked(_) | Begun::Refused(BeginRefusal::Busy) => {
-                worker.put(self.wait, self.pool, token);
+                tried.push(token);
                 None
             }
             Begun::Refused(BeginRefusal::Spent) => {
@@ -260,14 +275,18 @@ impl<'a, N: Name, H: Place + Send + Drop, T: Roster, W: Wait, G: Gate> Work<'a, 
         }
     }
 
-    // Puts the tokens back into the pool.
-    fn put_back(self, worker: &mut Worker<T>, tokens: &mut Stack<Token>)
-        requires old { IsAtWork T.tokens self.pool.now worker.old tokens.old }
+    // Puts the tokens back into the pool, those that were tried behind the others.
+    fn put_back(self, worker: &mut Worker<T>, tokens: &mut Stack<Token>, tried: &mut Stack<Token>)
+        requires old { IsAtWork T.tokens self.pool.now worker.old (tokens.old ++ tried.old) }
         ensures new { IsAtWork T.tokens self.entry.pool.now worker.new [] }
         ensures parts { (view worker.new.pass).parts ≡ (view worker.old.pass).parts }
-        ensures none { tokens.new ≡ [] }
+        ensures tokens { tokens.new ≡ [] }
+        ensures tried { tried.new ≡ [] }
     {
         while let Some(token) = tokens.pop() {
+            worker.put(self.wait, self.pool, token);
+        }
+        while let Some(token) = tried.pop() {
             worker.put(self.wait, self.pool, token);
         }
     }

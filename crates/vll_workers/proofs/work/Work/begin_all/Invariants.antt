@@ -1,5 +1,5 @@
--- The tokens that are left are in hand, and each call that began may run.
-use Rattle.std.proofs.Common.{◌≡◌, ◌≤◌, ◌+◌, All, length}
+-- The tokens that are left and those that were tried are in hand, and each call that began may run.
+use Rattle.std.proofs.Common.{◌≡◌, ◌≤◌, ◌+◌, ◌++◌, All, length}
 use Rattle.vll_engine.specs.Pass.{IsFresh}
 use Rattle.vll_workers.specs.declared.stack.TheConstants.{MOST_BATCH}
 use Rattle.crossbeam_queue.specs.Passes.{view}
@@ -8,5 +8,5 @@ use Rattle.vll_workers.proofs.work.Work.begin_all.Given as goal
 
 abbrev pub invariant-loop : goal.invariant-loop
 invariant-loop g l =
-    IsAtWork g.T.Roster.tokens l.self.pool.now l.worker l.tokens × ((view l.worker.pass).parts ≡ (view l.initial.worker.pass).parts)
-    × All (IsFresh g.N.Name.engine) l.passes × (length l.passes + length l.tokens ≤ MOST_BATCH)
+    IsAtWork g.T.Roster.tokens l.self.pool.now l.worker (l.tokens ++ l.tried) × ((view l.worker.pass).parts ≡ (view l.initial.worker.pass).parts)
+    × All (IsFresh g.N.Name.engine) l.passes × (length l.passes + length l.tokens ≤ MOST_BATCH) × (length l.tokens + length l.tried ≤ MOST_BATCH)

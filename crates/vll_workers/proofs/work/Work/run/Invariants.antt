@@ -9,4 +9,4 @@ use Rattle.vll_workers.proofs.work.Work.run.Given as goal
 abbrev pub invariant-loop : goal.invariant-loop
 invariant-loop g l =
     IsAtWork g.T.Roster.tokens l.self.pool.now l.worker l.batch.tokens × ((view l.worker.pass).parts ≡ (view l.initial.worker.pass).parts)
-    × (l.batch.passes ≡ []) × All (IsReleased g.N.Name.engine) l.batch.released × (length l.batch.released ≤ MOST_BATCH) × (l.batch.finished ≡ [])
+    × (l.batch.tried ≡ []) × (l.batch.passes ≡ []) × All (IsReleased g.N.Name.engine) l.batch.released × (length l.batch.released ≤ MOST_BATCH) × (l.batch.finished ≡ [])
