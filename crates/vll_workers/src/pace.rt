@@ -21,6 +21,7 @@ pub(crate) struct Pace {
     now: usize,
     pause: u32,
     idle: u32,
+    had_front: bool,
 }
 
 impl Pace {
@@ -31,6 +32,7 @@ impl Pace {
             now: most,
             pause: 0,
             idle: 0,
+            had_front: false,
         }
     }
 
@@ -39,9 +41,19 @@ impl Pace {
         self.most > 0
     }
 
-    // How many tokens are to be taken before the next hold.
+    // How many tokens are to be taken before the next hold: one at least, unless the last round found the front, since
+    // the next one may find it too and then needs none.
     pub(crate) fn tokens(&self) -> usize {
-        self.now
+        if self.had_front {
+            self.now
+        } else {
+            self.now.max(self.most.min(1))
+        }
+    }
+
+    // Whether the front was found.
+    pub(crate) fn saw_front(&mut self, had_front: bool) {
+        self.had_front = had_front;
     }
 
     // A call that began may run.

@@ -185,7 +185,9 @@ impl<'a, N: Name, H: Place + Send + Drop, T: Roster, W: Wait, G: Gate> Work<'a, 
         ensures parts { (view worker.new.pass).parts ≡ (view worker.old.pass).parts }
         ensures passes { All (IsFresh N.engine) passes.new }
     {
-        if let Some(pass) = hold.next_front() {
+        let front = hold.next_front();
+        pace.saw_front(front.is_some());
+        if let Some(pass) = front {
             passes.push(pass);
             return true;
         }
