@@ -1,3 +1,4 @@
+ghost use Rattle.std.specs.Prelude.{ℕ};
 ghost use Rattle.vll_proc.specs.Made.{IsCallOf};
 ghost use Rattle.vll_proc.specs.WellFormed.{IsWellFormed};
 
@@ -75,7 +76,7 @@ pub(crate) fn measure_bodies(rt: &(impl CpuClock + Print + AllocGlobal)) -> Resu
 // Prints what a body costs.
 fn measure(rt: &(impl CpuClock + Print + AllocGlobal), shape: Shape) -> Result<(), Fault> {
     let library = library(rt.alloc(), shape)?;
-    let call = library.call("body", &[])?;
+    let call = library.with_found(&library.call("body", &[])?, 0);
     let Some(procedure) = library.proc(call.number) else {
         return Err(Fault::Refused);
     };
@@ -102,7 +103,7 @@ fn print(rt: &impl Print, name: &str, nodes: u32, nanos: u64, runs: u32) -> Resu
 // The nanoseconds of processor time that so many runs of a body take.
 fn time_of(rt: &impl CpuClock, procedure: &Proc, call: &Call, runs: u32) -> Result<u64, Fault>
     requires formed { IsWellFormed procedure.now }
-    requires made { IsCallOf procedure.now call.now }
+    requires made { (n : ℕ) × IsCallOf n procedure.now call.now }
 {
     let mut fastest = u64::MAX;
     for _ in 0..REPEATS {

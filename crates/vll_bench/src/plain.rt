@@ -1,7 +1,7 @@
 //! The calls of scripts without the engine, on plain records: one after the other on one thread, or by several threads
 //! with one lock around each whole call.
 ghost use Rattle.std.specs.Prelude.{◌<◌, ◌≤◌, All, length};
-ghost use Rattle.vll_check.specs.Calls.{Fits};
+ghost use Rattle.vll_check.specs.Calls.{Fits, IsReady};
 
 use crate::fault::Fault;
 use crate::timed::{Count, Timed};
@@ -110,9 +110,23 @@ fn make_script(library: &Library, records: &mut [u64], script: &[Call]) -> Resul
     Ok(count)
 }
 
-// Makes a call: its loads, its body, and its stores unless it aborts. Returns whether it committed.
+// Makes a call, which first finds the record of its indirect key if it has one. Returns whether it committed.
 fn make(library: &Library, records: &mut [u64], call: &Call) -> Result<bool, Fault>
     requires { Fits library.now call.now }
+{
+    let Some(source) = library.source(call) else {
+        return make_ready(library, records, call);
+    };
+    let Some(value) = records.get(source.0 as usize) else {
+        return Err(Fault::NoRecord);
+    };
+    let call = library.with_found(call, *value);
+    make_ready(library, records, &call)
+}
+
+// Makes a call: its loads, its body, and its stores unless it aborts. Returns whether it committed.
+fn make_ready(library: &Library, records: &mut [u64], call: &Call) -> Result<bool, Fault>
+    requires { IsReady library.now call.now }
 {
     let procedure = library.proc(call.number).unwrap();
     let mut frame = load_all(records, &call.claims)?;

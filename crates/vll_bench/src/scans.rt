@@ -121,6 +121,7 @@ fn enter(queue: &mut Queue<Placing>, record: u32, free: bool) -> Result<Ticket, 
         number: 0,
         arg_count: 0,
         args: [0; MOST_ARGS],
+        found: None,
         claims,
         cells: [0; MOST_CLAIMS],
     };

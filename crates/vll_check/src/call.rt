@@ -1,12 +1,15 @@
-//! The call of one procedure, or why there is none, and whether a call is one.
-ghost use Rattle.std.specs.Prelude.{◌≡◌, ◌↔◌, ℕ, List, Some, None, Ok, IsTrue};
+//! The call of one procedure, or why there is none, with what it finds, and whether a call is one.
+ghost use Rattle.std.specs.Prelude.{◌≡◌, ◌↔◌, ◌<◌, ℕ, List, Some, None, Ok, IsTrue, IfSome};
 ghost use Rattle.std.specs.List.{list_all};
-ghost use Rattle.vll_check.specs.Calls.{call_to, place_is_there};
+ghost use Rattle.vll_proc.specs.declared.call.Call.{Call};
+ghost use Rattle.vll_check.specs.Calls.{call_to, found_by, place_is_there, source_by};
 ghost use Rattle.vll_check.specs.Faults.{check_fault};
+ghost use Rattle.vll_check.specs.Private.Making.{IsMadeFor};
 
 use crate::fault::CallFault;
-use crate::making::call_of;
+use crate::making::{Naming, call_of, record_of};
 use vll_proc::{Call, KeyAt, KeyDecl, Proc};
+use vll_record::RecordId;
 
 // The call of a procedure, or the lowest fault that stands.
 pub(crate) fn call_to(
@@ -24,7 +27,12 @@ pub(crate) fn call_to(
     if !places_are_there(procedure, args, records) {
         return Err(CallFault::RecordRange);
     }
-    Ok(call_of(number, procedure, args))
+    let naming = Naming {
+        records,
+        args,
+        found: None,
+    };
+    Ok(call_of(number, procedure, naming))
 }
 
 // Each argument that places a key is below the number of records.
@@ -40,7 +48,7 @@ fn place_is_there(key: &KeyDecl, args: &[u64], records: u32) -> bool
     ensures { result ≡ place_is_there records args.now key.now }
 {
     match key.at {
-        KeyAt::Fixed(_) => true,
+        KeyAt::Fixed(_) | KeyAt::Through(_) => true,
         KeyAt::Arg(i) => args.get(i as usize).copied().unwrap_or(0) < records as u64,
     }
 }
@@ -48,13 +56,61 @@ fn place_is_there(key: &KeyDecl, args: &[u64], records: u32) -> bool
 // Whether a call is the one that is made of its own arguments for this procedure.
 pub(crate) fn is_made_for(records: u32, procedure: &Proc, call: &Call) -> bool
     requires { check_fault records procedure.now ≡ None }
-    ensures { IsTrue result ↔ ((args : List ℕ) × (call_to records call.now.number (Some procedure.now) args ≡ Ok call.now)) }
+    ensures { IsTrue result ↔ IsMadeFor records procedure.now call.now }
 {
     let Some(args) = call.args.get(..call.arg_count as usize) else {
         return false;
     };
     match call_to(records, call.number, procedure, args) {
         Ok(made) => made == *call,
+        Err(_) => false,
+    }
+}
+
+// The record by whose value a call of this procedure finds the record of its indirect key, if it has one.
+pub(crate) fn source_for(records: u32, procedure: &Proc, call: &Call) -> Option<RecordId>
+    requires checked { check_fault records procedure.now ≡ None }
+    requires made { IsMadeFor records procedure.now call.now }
+    ensures source { result ≡ source_by records (Some procedure.now) call.now }
+    ensures within { IfSome result (λ r. r < records) }
+{
+    let place = procedure.source()?;
+    let key = procedure.keys.get(place as usize)?;
+    let naming = Naming {
+        records,
+        args: &call.args[..call.arg_count as usize],
+        found: None,
+    };
+    Some(RecordId(record_of(key, naming)?))
+}
+
+// A call of this procedure with a value found, if it has an indirect key.
+pub(crate) fn found_for(records: u32, procedure: &Proc, call: &Call, value: u64) -> Call
+    requires checked { check_fault records procedure.now ≡ None }
+    requires made { IsMadeFor records procedure.now call.now }
+    ensures { result ≡ found_by records (Some procedure.now) call.now value }
+{
+    if procedure.source().is_none() {
+        return *call;
+    }
+    let naming = Naming {
+        records,
+        args: &call.args[..call.arg_count as usize],
+        found: Some(value),
+    };
+    call_of(call.number, procedure, naming)
+}
+
+// Whether a call is one that is made for this procedure, with a value found if it has an indirect key.
+pub(crate) fn is_ready_for(records: u32, procedure: &Proc, call: &Call) -> bool
+    requires { check_fault records procedure.now ≡ None }
+    ensures { IsTrue result ↔ ((made : Call) × (v : ℕ) × (IsMadeFor records procedure.now made × (call.now ≡ found_by records (Some procedure.now) made v))) }
+{
+    let Some(args) = call.args.get(..call.arg_count as usize) else {
+        return false;
+    };
+    match call_to(records, call.number, procedure, args) {
+        Ok(made) => found_for(records, procedure, &made, call.found.unwrap_or(0)) == *call,
         Err(_) => false,
     }
 }

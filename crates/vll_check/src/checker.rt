@@ -1,5 +1,5 @@
 //! The tests of a procedure, in the order of their numbers.
-ghost use Rattle.std.specs.Prelude.{◌≡◌, IfOk};
+ghost use Rattle.std.specs.Prelude.{◌≡◌, ◌≤◌, ◌+◌, IfOk, length, option_map, sum_by};
 ghost use Rattle.vll_proc.specs.WellFormed as formed;
 ghost use Rattle.vll_check.specs.Faults.{check_fault, fault_in};
 
@@ -71,6 +71,12 @@ fn fault_of(procedure: &Proc, records: u32) -> Option<CheckFault>
     if !is_short(procedure) {
         return Some(CheckFault::TooLong);
     }
+    if !has_earlier_sources(procedure) {
+        return Some(CheckFault::ThroughKey);
+    }
+    if !has_one_indirect_key(procedure) {
+        return Some(CheckFault::TwoThrough);
+    }
     None
 }
 
@@ -86,7 +92,7 @@ fn argument_is_declared(key: &KeyDecl, args: u8) -> bool
     ensures { result ≡ formed.argument_is_declared args key.now }
 {
     match key.at {
-        KeyAt::Fixed(_) => true,
+        KeyAt::Fixed(_) | KeyAt::Through(_) => true,
         KeyAt::Arg(i) => i < args,
     }
 }
@@ -103,7 +109,7 @@ fn record_is_there(key: &KeyDecl, records: u32) -> bool
 {
     match key.at {
         KeyAt::Fixed(r) => r < records,
-        KeyAt::Arg(_) => true,
+        KeyAt::Arg(_) | KeyAt::Through(_) => true,
     }
 }
 
@@ -156,6 +162,68 @@ fn is_short(procedure: &Proc) -> bool
     ensures { result ≡ formed.is_short procedure.now }
 {
     nodes_left(procedure.body.as_slice(), MOST_NODES).is_some()
+}
+
+fn has_earlier_sources(procedure: &Proc) -> bool
+    requires { length procedure.now.keys ≤ MOST_CLAIMS }
+    ensures { result ≡ formed.has_earlier_sources procedure.now }
+{
+    let keys = procedure.keys.as_slice();
+    have_sources(keys, 0, keys)
+}
+
+// The key positions from a place on.
+fn have_sources(all: &[KeyDecl], place: usize, keys: &[KeyDecl]) -> bool
+    requires { place + length keys.now ≤ MOST_CLAIMS }
+    ensures { result ≡ formed.have_sources all.now place keys.now }
+{
+    match keys {
+        [] => true,
+        [key, others @ ..] => has_source(all, place, key) && have_sources(all, place + 1, others),
+    }
+}
+
+fn has_source(all: &[KeyDecl], place: usize, key: &KeyDecl) -> bool
+    ensures { result ≡ formed.has_source all.now place key.now }
+{
+    match key.at {
+        KeyAt::Fixed(_) | KeyAt::Arg(_) => true,
+        KeyAt::Through(i) => (i as usize) < place && is_direct(all.get(i as usize)),
+    }
+}
+
+fn is_direct(key: Option<&KeyDecl>) -> bool
+    ensures { result ≡ formed.is_direct (option_map (λ k. k.now) key.entry) }
+{
+    match key {
+        Some(key) => match key.at {
+            KeyAt::Fixed(_) | KeyAt::Arg(_) => true,
+            KeyAt::Through(_) => false,
+        },
+        None => false,
+    }
+}
+
+fn has_one_indirect_key(procedure: &Proc) -> bool
+    requires { length procedure.now.keys ≤ MOST_CLAIMS }
+    ensures { result ≡ formed.has_one_indirect_key procedure.now }
+{
+    indirect_keys(procedure.keys.as_slice()) <= 1
+}
+
+// How many key positions are indirect.
+fn indirect_keys(keys: &[KeyDecl]) -> usize
+    requires { length keys.now ≤ MOST_CLAIMS }
+    ensures value { result ≡ sum_by formed.indirect keys.now }
+    ensures few { result ≤ length keys.now }
+{
+    match keys {
+        [] => 0,
+        [key, others @ ..] => match key.at {
+            KeyAt::Fixed(_) | KeyAt::Arg(_) => indirect_keys(others),
+            KeyAt::Through(_) => 1 + indirect_keys(others),
+        },
+    }
 }
 
 #[cfg(test)]

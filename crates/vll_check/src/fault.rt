@@ -39,6 +39,13 @@ pub enum CheckFault {
     /// More than `MOST_NODES` nodes in the body.
     #[error("12")]
     TooLong,
+    /// A key position's record is to be found by another one that does not stand before it, or that names no record by
+    /// itself.
+    #[error("13")]
+    ThroughKey,
+    /// More than one key position whose record is found by another's value.
+    #[error("14")]
+    TwoThrough,
 }
 
 /// Why a call cannot be made: the lowest number that stands.

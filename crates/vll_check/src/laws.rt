@@ -1,10 +1,11 @@
 //! What holds of each checked procedure, and of each call that a library makes.
 
-ghost use Rattle.std.specs.Prelude.{◌≡◌, ℕ, None, true};
+ghost use Rattle.std.specs.Prelude.{◌≡◌, ◌<◌, ℕ, List, All, None, true};
+ghost use Rattle.vll_record.specs.declared.claim.Claim.{Claim};
 ghost use Rattle.vll_proc.specs.declared.call.Call.{Call};
 ghost use Rattle.vll_proc.specs.declared.syntax.Proc.{Proc};
 ghost use Rattle.vll_proc.specs.WellFormed.{IsWellFormed, has_records};
-ghost use Rattle.vll_check.specs.Calls.{CallsProcedure, Fits};
+ghost use Rattle.vll_check.specs.Calls.{bare, bares, source, with_found, AreFound, CallsProcedure, Fits, IsReady};
 ghost use Rattle.vll_check.specs.Catalog.{Catalog, IsCatalog};
 ghost use Rattle.vll_check.specs.Faults.{check_fault};
 
@@ -15,9 +16,19 @@ pub fn checked_procedures_are_well_formed()
         → IsWellFormed p × (has_records records p ≡ true) }
 {}
 
-/// A call that a library makes is one of a checked, well-formed procedure of its own, and claims only
+/// A call that a library makes claims only records that are there. If it has no source, it has no indirect key, and finding
+/// leaves it as it is. What is found changes neither its procedure nor its arguments; so calls that may enter, and that have
+/// the procedures and arguments of these, are these with what they have found.
+pub fn fitting_calls_are_of_the_records()
+    ensures within { (c : Catalog) (call : Call) → IsCatalog c → Fits c call → All (λ (d : Claim). d.id < c.records) call.claims }
+    ensures alone { (c : Catalog) (call : Call) (v : ℕ) → IsCatalog c → Fits c call → source c call ≡ None → with_found c call v ≡ call }
+    ensures found { (c : Catalog) (call : Call) (v : ℕ) → Fits c call → bare (with_found c call v) ≡ bare call }
+    ensures like { (c : Catalog) (calls found : List Call) → All (Fits c) calls → All (IsReady c) found → bares found ≡ bares calls → AreFound c calls found }
+{}
+
+/// A call that is ready is one of a checked, well-formed procedure of its own, and claims only
 /// records that are there.
-#[tactic(auto, using(crate::proofs::Fitting::fits_well))]
-pub fn fitting_calls_have_their_procedure()
-    ensures { (c : Catalog) (call : Call) → IsCatalog c → Fits c call → CallsProcedure c call }
+#[tactic(auto, using(crate::proofs::Fitting::ready_well))]
+pub fn ready_calls_have_their_procedure()
+    ensures { (c : Catalog) (call : Call) → IsCatalog c → IsReady c call → CallsProcedure c call }
 {}

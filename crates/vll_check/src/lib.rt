@@ -17,5 +17,8 @@ mod walk;
 pub use checked::Checked;
 pub use checker::check;
 pub use fault::{CallFault, CheckFault, NameTwice};
-pub use laws::{checked_procedures_are_well_formed, fitting_calls_have_their_procedure};
+pub use laws::{
+    checked_procedures_are_well_formed, fitting_calls_are_of_the_records,
+    ready_calls_have_their_procedure,
+};
 pub use library::Library;

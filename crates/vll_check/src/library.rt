@@ -1,15 +1,16 @@
-ghost use Rattle.std.specs.Prelude.{◌≡◌, ◌<◌, ◌^◌, All, length, map, slice_get, IfOk, is_err, option_map, IfSome, IsTrue, Some, ◌↔◌};
-ghost use Rattle.vll_check.specs.Calls.{call_made, Fits};
+ghost use Rattle.std.specs.Prelude.{◌≡◌, ◌<◌, ◌^◌, All, length, map, slice_get, IfOk, is_err, option_map, IfNone, IfSome, IsTrue, Some, ◌↔◌};
+ghost use Rattle.vll_check.specs.Calls.{call_made, source, with_found, Fits, IsReady};
 ghost use Rattle.vll_check.specs.Catalog.{IsCatalog};
 ghost use Rattle.vll_check.specs.Names.{has_name_twice, number_named};
 ghost use Rattle.vll_check.specs.Entry.{procedure_of};
 
-use crate::call::{call_to, is_made_for};
+use crate::call::{call_to, found_for, is_made_for, is_ready_for, source_for};
 use crate::checked::Checked;
 use crate::fault::{CallFault, NameTwice};
 use crate::order::arrange;
 use std::marker::Model;
 use vll_proc::{Call, Proc};
+use vll_record::RecordId;
 
 /// The procedures of a server, checked for its number of records, each with a name of its own.
 #[derive(Drop)]
@@ -99,6 +100,42 @@ impl Library {
     {
         match self.proc(call.number) {
             Some(procedure) => is_made_for(self.records(), procedure, call),
+            None => false,
+        }
+    }
+
+    /// The record by whose value a call finds the record of its indirect key, and `None` exactly where its procedure has no
+    /// indirect key: such a call is ready as it is. It takes no memory.
+    pub fn source(&self, call: &Call) -> Option<RecordId>
+        requires { Fits self.now call.now }
+        ensures source { result ≡ source self.now call.now }
+        ensures within { IfSome result (λ r. r < self.now.records) }
+        ensures ready { IfNone result (IsReady self.now call.now) }
+    {
+        let procedure = self.proc(call.number)?;
+        source_for(self.records(), procedure, call)
+    }
+
+    /// The call with a value that was found: its indirect key names the record whose number is the value's remainder by the
+    /// number of records, and the claims are those of all its keys. Without an indirect key the call as it was. It takes no
+    /// memory.
+    pub fn with_found(&self, call: &Call, value: u64) -> Call
+        requires { Fits self.now call.now }
+        ensures call { result ≡ with_found self.now call.now value }
+        ensures ready { IsReady self.now result }
+    {
+        match self.proc(call.number) {
+            Some(procedure) => found_for(self.records(), procedure, call, value),
+            None => unreachable!(),
+        }
+    }
+
+    /// Whether a call may enter: it fits and has no indirect key, or `with_found` answers it. It takes no memory.
+    pub fn is_ready(&self, call: &Call) -> bool
+        ensures { IsTrue result ↔ IsReady self.now call.now }
+    {
+        match self.proc(call.number) {
+            Some(procedure) => is_ready_for(self.records(), procedure, call),
             None => false,
         }
     }

@@ -1,8 +1,8 @@
 //! Calls of a procedure, made of their arguments.
-ghost use Rattle.std.specs.Prelude.{◌≡◌, ◌≤◌, ◌<◌, ◌^◌, length, map, true, All, Some};
+ghost use Rattle.std.specs.Prelude.{◌≡◌, ◌≤◌, ◌<◌, ◌^◌, length, map, true, All, IfSome, Some};
 ghost use Rattle.vll_record.specs.Canon.{laid};
 ghost use Rattle.vll_record.specs.Claim.{claims_of};
-ghost use Rattle.vll_proc.specs.Made.{asked_by, call_of, place_of};
+ghost use Rattle.vll_proc.specs.Made.{asked_by, call_of, place_for, place_of};
 ghost use Rattle.vll_proc.specs.Meaning.{record_named};
 ghost use Rattle.vll_proc.specs.WellFormed.{argument_is_declared};
 ghost use Rattle.vll_check.specs.Private.Making.{cell_of, IsPlaced};
@@ -10,49 +10,69 @@ ghost use Rattle.vll_check.specs.Private.Making.{cell_of, IsPlaced};
 use vll_proc::{Call, KeyAt, KeyDecl, MOST_ARGS, Proc};
 use vll_record::{Claim, Claims, MOST_CLAIMS, RecordId};
 
-// The call of a procedure with its number and arguments.
-pub(crate) fn call_of(number: u32, procedure: &Proc, args: &[u64]) -> Call
-    requires few { length args.now ≤ MOST_ARGS }
+// By what key positions name their records.
+#[derive(Clone, Copy)]
+pub(crate) struct Naming<'a> {
+    // How many records there are.
+    pub(crate) records: u32,
+    pub(crate) args: &'a [u64],
+    // The value that an indirect one has found.
+    pub(crate) found: Option<u64>,
+}
+
+// The call of a procedure with its number.
+pub(crate) fn call_of(number: u32, procedure: &Proc, naming: Naming) -> Call
+    requires few { length naming.args.now ≤ MOST_ARGS }
     requires keys { length procedure.now.keys ≤ MOST_CLAIMS }
-    requires placed { All (IsPlaced args.now (length args.now)) procedure.now.keys }
-    ensures { result ≡ call_of number procedure.now args.now }
+    requires some { IfSome naming.found (λ _. 0 < naming.records) }
+    requires placed { All (IsPlaced naming.records naming.args.now naming.found (length naming.args.now)) procedure.now.keys }
+    ensures { result ≡ call_of naming.entry.records number procedure.now naming.entry.args.now naming.entry.found }
 {
     let keys = procedure.keys.as_slice();
-    let claims = claims_of(keys, args);
+    let claims = claims_of(keys, naming);
     Call {
         number,
-        arg_count: args.len() as u8,
-        args: args_of(args),
-        cells: cells_of(keys, args, &claims),
+        arg_count: naming.args.len() as u8,
+        args: args_of(naming.args),
+        found: naming.found,
+        cells: cells_of(keys, naming, &claims),
         claims,
     }
 }
 
 // The record that a key position names.
-fn record_of(key: &KeyDecl, args: &[u64]) -> u32
-    requires placed { IsPlaced args.now (length args.now) key.now }
-    ensures { record_named args.now key.now.at ≡ Some result }
+pub(crate) fn record_of(key: &KeyDecl, naming: Naming) -> Option<u32>
+    requires placed { IsPlaced naming.records naming.args.now naming.found (length naming.args.now) key.now }
+    requires some { IfSome naming.found (λ _. 0 < naming.records) }
+    ensures { result ≡ record_named naming.entry.records naming.entry.args.now naming.entry.found key.now.at }
 {
     match key.at {
-        KeyAt::Fixed(r) => r,
-        KeyAt::Arg(i) => args[i as usize] as u32,
+        KeyAt::Fixed(r) => Some(r),
+        KeyAt::Arg(i) => Some(naming.args[i as usize] as u32),
+        KeyAt::Through(_) => match naming.found {
+            Some(value) => Some((value % naming.records as u64) as u32),
+            None => None,
+        },
     }
 }
 
 // The claims that key positions ask for.
-fn claims_of(keys: &[KeyDecl], args: &[u64]) -> Claims
+fn claims_of(keys: &[KeyDecl], naming: Naming) -> Claims
     requires keys { length keys.now ≤ MOST_CLAIMS }
-    requires placed { All (IsPlaced args.now (length args.now)) keys.now }
-    ensures { result ≡ claims_of (asked_by args.now keys.now) }
+    requires some { IfSome naming.found (λ _. 0 < naming.records) }
+    requires placed { All (IsPlaced naming.records naming.args.now naming.found (length naming.args.now)) keys.now }
+    ensures { result ≡ claims_of (asked_by naming.entry.records naming.entry.args.now naming.entry.found keys.now) }
 {
     match keys {
         [] => Claims::new(),
         [key, others @ ..] => {
-            let mut claims = claims_of(others, args);
-            claims.add(Claim {
-                id: RecordId(record_of(key, args)),
-                mode: key.mode,
-            });
+            let mut claims = claims_of(others, naming);
+            if let Some(id) = record_of(key, naming) {
+                claims.add(Claim {
+                    id: RecordId(id),
+                    mode: key.mode,
+                });
+            }
             claims
         }
     }
@@ -70,17 +90,28 @@ fn args_of(args: &[u64]) -> [u64; MOST_ARGS]
     places
 }
 
-// For each key position the place of its claim, and then zeros.
-fn cells_of(keys: &[KeyDecl], args: &[u64], claims: &Claims) -> [u8; MOST_CLAIMS]
+// For each key position the place of its claim, and then zeros; zero too where it names no record.
+fn cells_of(keys: &[KeyDecl], naming: Naming, claims: &Claims) -> [u8; MOST_CLAIMS]
     requires keys { length keys.now ≤ MOST_CLAIMS }
-    requires placed { All (IsPlaced args.now (length args.now)) keys.now }
-    ensures { result ≡ laid MOST_CLAIMS 0 (map (cell_of claims.now args.now) keys.now) }
+    requires some { IfSome naming.found (λ _. 0 < naming.records) }
+    requires placed { All (IsPlaced naming.records naming.args.now naming.found (length naming.args.now)) keys.now }
+    ensures { result ≡ laid MOST_CLAIMS 0 (map (cell_of naming.entry.records claims.now naming.entry.args.now naming.entry.found) keys.now) }
 {
     let mut cells = [0; MOST_CLAIMS];
     for (i, key) in keys.iter().enumerate() {
-        cells[i] = place_of(claims, record_of(key, args));
+        cells[i] = place_for(claims, record_of(key, naming));
     }
     cells
+}
+
+// The place of the claim of a record that a key position names, and 0 where it names none.
+fn place_for(claims: &Claims, id: Option<u32>) -> u8
+    ensures { result ≡ place_for claims.now id }
+{
+    match id {
+        Some(id) => place_of(claims, id),
+        None => 0,
+    }
 }
 
 // The place of a record's claim, and the number of claims where there is none.

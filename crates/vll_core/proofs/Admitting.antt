@@ -8,9 +8,9 @@ use Rattle.vll_proc.specs.declared.syntax.Proc.{Proc}
 use Rattle.vll_proc.specs.Made.{IsCallOf}
 use Rattle.vll_proc.specs.Serial.{before}
 use Rattle.vll_proc.specs.WellFormed.{IsWellFormed}
-use Rattle.vll_check.specs.Calls.{Fits, CallsProcedure}
+use Rattle.vll_check.specs.Calls.{IsReady, CallsProcedure}
 use Rattle.vll_check.specs.Catalog.{Catalog}
-use Rattle.vll_check.proofs.Fitting.{fits_well}
+use Rattle.vll_check.proofs.Fitting.{ready_well}
 use Rattle.vll_core.specs.declared.event.Event.TheVariants as event
 use Rattle.vll_core.specs.declared.machine.Machine.TheInside.{Inside}
 use Rattle.vll_core.specs.declared.machine.OpenTurn.{OpenTurn}
@@ -29,7 +29,7 @@ use Rattle.vll_core.specs.Private.View.{entered_of, entries_of, turn_of, shown}
 use Rattle.vll_core.specs.Private.Work.{IsAtWork}
 use Rattle.vll_core.specs.Private.MachineKept.{IsMachine, made_of, AreAtWork, AreReplied}
 use Rattle.vll_core.proofs.Places.{all_at, at_push}
-use Rattle.vll_core.proofs.AtWork.{procedure_fits}
+use Rattle.vll_core.proofs.AtWork.{procedure_ready}
 use Rattle.vll_core.proofs.Reached.{turn_has_room}
 use Rattle.vll_core.proofs.SerialRun.{length_before}
 use Rattle.vll_core.proofs.MachineState.{length_shown, waiting_shown, entry_pushed, all_from, at_work_pushed, replied_pushed, queued_admitted}
@@ -83,21 +83,21 @@ pub record HasWork {H : Type 0} (a : Inside H) (turn : OpenTurn) (works : Vec Wo
   pub loads : w.loads ≡ 0
   pub stores : w.stores ≡ 0
   pub releases : w.releases ≡ 0
-  pub at_work : (records : List ℕ) → All (λ (d : Claim). d.id < length records) turn.call.claims → IsAtWork a.library.value.procs turn.call records w
+  pub at_work : (records : List ℕ) → length records ≡ a.library.value.records → All (λ (d : Claim). d.id < length records) turn.call.claims → IsAtWork a.library.value.procs turn.call records w
 
 -- the fields of a machine once the call of its open turn has a ticket
 abbrev pub entered_turn : {H : Type 0} → Inside H → OpenTurn → Vec Work → Inside H
 entered_turn a turn works = record a { queue = admitted a.queue (turn_entry turn); work = works; turn = None }
 
--- the call of an open turn is one that the library makes
-pub turn_fits : {H : Type 0} {places : H → ℕ → ℕ} (a : Inside H) (turn : OpenTurn) → IsMachine places a → a.turn ≡ Some turn → Fits a.library.value turn.call
-turn_fits a turn core opened = subst (λ (x : Option OpenTurn). IfSome x (λ (t : OpenTurn). Fits a.library.value t.call)) opened core.turn_fits
+-- the call of an open turn is ready
+pub turn_ready : {H : Type 0} {places : H → ℕ → ℕ} (a : Inside H) (turn : OpenTurn) → IsMachine places a → a.turn ≡ Some turn → IsReady a.library.value turn.call
+turn_ready a turn core opened = subst (λ (x : Option OpenTurn). IfSome x (λ (t : OpenTurn). IsReady a.library.value t.call)) opened core.turn_ready
 
 -- the procedure of an open turn's call
 pub record IsTurnProcedure {H : Type 0} (a : Inside H) (turn : OpenTurn) (p : Proc) : Type 0 where
   pub found : slice_get a.library.value.procs turn.call.number ≡ Some p
   pub formed : IsWellFormed p
-  pub made : IsCallOf p turn.call
+  pub made : IsCallOf a.library.value.records p turn.call
 
 pub turn_procedure : {H : Type 0} {places : H → ℕ → ℕ} (a : Inside H) (s : Shown H) (turn : OpenTurn) (library : Catalog) (lent : Option (Bor Proc)) (p : Bor Proc)
     → IsMachine places a → shown a ≡ s → library ≡ library_of s → a.turn ≡ Some turn
@@ -105,8 +105,12 @@ pub turn_procedure : {H : Type 0} {places : H → ℕ → ℕ} (a : Inside H) (s
 turn_procedure a s turn library lent p core view same opened at is =
     let here : slice_get library.procs turn.call.number ≡ Some p.now = sym at ∙ ap (λ (o : Option (Bor Proc)). option_map (λ (q : Bor Proc). q.now) o) is in
     let found : slice_get a.library.value.procs turn.call.number ≡ Some p.now = subst (λ (c : Catalog). slice_get c.procs turn.call.number ≡ Some p.now) (library_same a s library core view same) here in
-    let suits : IsWellFormed p.now × IsCallOf p.now turn.call = procedure_fits a.library.value turn.call p.now core.catalog (turn_fits a turn core opened) found in
+    let suits : IsWellFormed p.now × IsCallOf a.library.value.records p.now turn.call = procedure_ready a.library.value turn.call p.now core.catalog (turn_ready a turn core opened) found in
     record { found = found; formed = suits.0; made = suits.1 }
+
+-- the call is one of it also where there are as many records
+pub made_among : {H : Type 0} (a : Inside H) (turn : OpenTurn) (p : Proc) → IsTurnProcedure a turn p → (records : List ℕ) → length records ≡ a.library.value.records → IsCallOf (length records) p turn.call
+made_among a turn p is records long = subst (λ (n : ℕ). IsCallOf n p turn.call) (sym long) is.made
 
 -- where a turn is open, there is room for its call
 pub turn_room : {H : Type 0} {places : H → ℕ → ℕ} (a : Inside H) (turn : OpenTurn) → IsMachine places a → a.turn ≡ Some turn → length a.queue.entries < a.queue.limit
@@ -150,11 +154,10 @@ core_admit {H} {places} a turn works w core has =
     let seen : Seen = ticket_seen turn.granted (length a.queue.entries) in
     let takes : Takes places a b event.Admit seen = taken_admit a turn works w core has in
     let last : QueueEntry = turn_entry turn in
-    let calls : CallsProcedure a.library.value turn.call = fits_well a.library.value turn.call core.catalog (turn_fits a turn core has.opened) in
+    let calls : CallsProcedure a.library.value turn.call = ready_well a.library.value turn.call core.catalog (turn_ready a turn core has.opened) in
     let now : List ℕ = before a.library.value.procs (made_of a.queue.entries) a.opening.value.items (length a.queue.entries) in
-    let within : All (λ (d : Claim). d.id < length now) turn.call.claims =
-    subst (λ (n : ℕ). All (λ (d : Claim). d.id < n) turn.call.claims)
-    (core.records ∙ sym (length_before a.library.value.procs (made_of a.queue.entries) a.opening.value.items (length a.queue.entries))) calls.within in
+    let long : length now ≡ a.library.value.records = length_before a.library.value.procs (made_of a.queue.entries) a.opening.value.items (length a.queue.entries) ∙ sym core.records in
+    let within : All (λ (d : Claim). d.id < length now) turn.call.claims = subst (λ (n : ℕ). All (λ (d : Claim). d.id < n) turn.call.claims) (sym long) calls.within in
     record {
       reached = taken_reached a b event.Admit seen takes core.reached;
       words = taken_words a b event.Admit seen takes core.reached refl refl refl core.words;
@@ -168,18 +171,19 @@ core_admit {H} {places} a turn works w core has =
           ∙ omega (arith, core.works, length-append a.work.items (w ∷ []), length-append a.queue.entries (last ∷ []));
       room = omega (arith, core.room, has.room);
       nexts = core.nexts;
-      entries_fit = all_from (λ (e : QueueEntry). Fits a.library.value e.line.call) b.queue.entries (λ t e at. fits t e (at_push a.queue.entries last t e at));
-      turn_fits = tt;
+      kepts = core.kepts;
+      entries_ready = all_from (λ (e : QueueEntry). IsReady a.library.value e.line.call) b.queue.entries (λ t e at. ready t e (at_push a.queue.entries last t e at));
+      turn_ready = tt;
       scripts_fit = core.scripts_fit;
       at_work =
           subst (AreAtWork a.library.value a.opening.value.items b.queue.entries) (sym has.pushed)
-          (at_work_pushed a.library.value a.opening.value.items a.queue.entries a.work.items last w core.works (has.at_work now within) core.at_work);
+          (at_work_pushed a.library.value a.opening.value.items a.queue.entries a.work.items last w core.works (has.at_work now long within) core.at_work);
       replied =
           subst (AreReplied b.queue.entries) (sym has.pushed)
           (replied_pushed a.queue.entries a.work.items last w core.works (here_still turn.granted) core.replied);
     }
   where
-    fits : (t : ℕ) (e : QueueEntry) → (slice_get a.queue.entries t ≡ Some e) ⊎ ((t ≡ length a.queue.entries) × (e ≡ turn_entry turn)) → Fits a.library.value e.line.call
-    fits t e (inl at) = all_at (λ (d : QueueEntry). Fits a.library.value d.line.call) a.queue.entries t e core.entries_fit at
-    fits t e (inr new) =
-        subst (λ (d : QueueEntry). Fits a.library.value d.line.call) (sym new.1) (turn_fits a turn core has.opened)
+    ready : (t : ℕ) (e : QueueEntry) → (slice_get a.queue.entries t ≡ Some e) ⊎ ((t ≡ length a.queue.entries) × (e ≡ turn_entry turn)) → IsReady a.library.value e.line.call
+    ready t e (inl at) = all_at (λ (d : QueueEntry). IsReady a.library.value d.line.call) a.queue.entries t e core.entries_ready at
+    ready t e (inr new) =
+        subst (λ (d : QueueEntry). IsReady a.library.value d.line.call) (sym new.1) (turn_ready a turn core has.opened)

@@ -14,21 +14,21 @@ use Rattle.vll_proc.specs.Cells.{Holds}
 use Rattle.vll_proc.specs.Made.{IsCallOf}
 use Rattle.vll_proc.specs.Serial.{apply}
 use Rattle.vll_proc.specs.WellFormed.{IsWellFormed}
-use Rattle.vll_check.specs.Calls.{Fits, CallsProcedure}
+use Rattle.vll_check.specs.Calls.{IsReady, CallsProcedure}
 use Rattle.vll_check.specs.Catalog.{Catalog, IsCatalog}
-use Rattle.vll_check.proofs.Fitting.{fits_well}
+use Rattle.vll_check.proofs.Fitting.{ready_well}
 use Rattle.vll_core.specs.declared.work.Work.{Work}
 use Rattle.vll_core.specs.State.{is_aborted}
 use Rattle.vll_core.specs.Private.Work.{HoldsFirst, IsLoading, IsAtWork}
 use Rattle.vll_core.proofs.Tests.{eq_no}
 use Rattle.vll_core.proofs.Places.{all_at, drop_next, drop_none, entry_at}
 
--- a call that fits is one of the procedure with its number, which is well-formed
-pub procedure_fits : (c : Catalog) (call : Call) (p : Proc) → IsCatalog c → Fits c call → slice_get c.procs call.number ≡ Some p → IsWellFormed p × IsCallOf p call
-procedure_fits c call p catalog fits at =
-    let called : CallsProcedure c call = fits_well c call catalog fits in
+-- a call that is ready is one of the procedure with its number, which is well-formed
+pub procedure_ready : (c : Catalog) (call : Call) (p : Proc) → IsCatalog c → IsReady c call → slice_get c.procs call.number ≡ Some p → IsWellFormed p × IsCallOf c.records p call
+procedure_ready c call p catalog ready at =
+    let called : CallsProcedure c call = ready_well c call catalog ready in
     let same : called.procedure ≡ p = same_Some called.procedure p (sym called.found ∙ at) in
-    (subst IsWellFormed same called.formed, subst (λ (q : Proc). IsCallOf q call) same called.made)
+    (subst IsWellFormed same called.formed, subst (λ (q : Proc). IsCallOf c.records q call) same called.made)
 
 -- a call that has done nothing is loading
 pub loading_first : (claims : List Claim) (records : List ℕ) (w : Work) → w.loads ≡ 0 → w.frame ≡ replicate 16 0 → w.reply ≡ None → IsLoading claims records w

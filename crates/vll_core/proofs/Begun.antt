@@ -5,13 +5,13 @@ use Rattle.std.specs.List.{All}
 use Rattle.std.proofs.lemmas.List.{length-replicate}
 use Rattle.std.proofs.lemmas.List.Elements.{All-map, All-nil}
 use Rattle.vll_proc.specs.declared.call.Call.{Call}
-use Rattle.vll_check.specs.Calls.{Fits}
+use Rattle.vll_check.specs.Calls.{Fits, IsReady}
 use Rattle.vll_check.specs.Catalog.{IsCatalog}
 use Rattle.vll_core.specs.declared.config.Config.{Config}
 use Rattle.vll_core.specs.declared.machine.Machine.TheInside.{Inside}
 use Rattle.vll_core.specs.State.{Base}
 use Rattle.vll_core.specs.Machine.{opened}
-use Rattle.vll_core.specs.Moves.{IsProper, AreProper, IsReached, begun}
+use Rattle.vll_core.specs.Moves.{AreProper, IsReached, begun}
 use Rattle.vll_core.specs.declared.machine.OpenTurn.{OpenTurn}
 use Rattle.vll_core.specs.Queue.{QueueEntry, Queued, IsQueued, empty}
 use Rattle.vll_core.specs.Private.FirstWords.{AreFirstWords}
@@ -19,7 +19,7 @@ use Rattle.vll_core.specs.Shown.{Shown, AreWords, opening_of}
 use Rattle.vll_core.specs.Shown as shown_of
 use Rattle.vll_core.specs.Private.View.{shown, entries_of, turn_of, left_of}
 use Rattle.vll_core.specs.Private.MachineKept.{IsMachine}
-use Rattle.vll_core.proofs.Fitted.{proper_fits}
+use Rattle.vll_core.proofs.Fitted.{proper_scripts}
 
 -- each script is left whole where its next call is its first
 left_whole : (vs : List (Vec Call)) (ns : List ℕ) → ns ≡ replicate (length vs) 0 → left_of vs ns ≡ map (λ (v : Vec Call). v.items) vs
@@ -29,10 +29,20 @@ left_whole vs ns is = ap (left_of vs) is ∙ whole vs
     whole [] = refl
     whole (v ∷ vs) = ap (λ (left : List (List Call)). v.items ∷ left) (whole vs)
 
--- a list that is filled with 0
-pub filled : {E : Type 0} (n : ℕ) (r : Result (Vec ℕ) E) → IfOk r (λ v. ((y : ℕ) → y ≡ 0 → y ≡ 0) → v.items ≡ replicate n 0) → IfOk r (λ v. v.items ≡ replicate n 0)
-filled n (Ok v) h = h (λ y e. e)
-filled n (Err why) h = tt
+-- nothing is kept for any script
+none_kept : (vs : List (Vec Call)) → replicate (length vs) None ≡ map (λ (script : List Call). let none : Option ℕ = None in none) (map (λ (v : Vec Call). v.items) vs)
+none_kept [] = refl
+none_kept (v ∷ vs) = ap (λ (kept : List (Option ℕ)). None ∷ kept) (none_kept vs)
+
+-- a list that is filled with one item, if its clones are equal to it
+pub filled : {A E : Type 0} {Equal : Type 0} (x : A) (n : ℕ) (r : Result (Vec A) E) → IfOk r (λ v. Equal → v.items ≡ replicate n x) → Equal → IfOk r (λ v. v.items ≡ replicate n x)
+filled x n (Ok v) h equal = h equal
+filled x n (Err why) h equal = tt
+
+-- what is like no number is no number
+pub none_alone : (Like : Option ℕ → Type 0) → ((n : ℕ) → Like (Some n) → ⊥) → (y : Option ℕ) → Like y → y ≡ None
+none_alone Like other None like = refl
+none_alone Like other (Some n) like = absurd (other n like)
 
 -- a machine in which nothing is entered
 pub record IsFresh {H : Type 0} (config : Config) (hash : H) (c : Inside H) : Type 0 where
@@ -40,6 +50,7 @@ pub record IsFresh {H : Type 0} (config : Config) (hash : H) (c : Inside H) : Ty
   pub work : c.work.items ≡ []
   pub turn : c.turn ≡ None
   pub nexts : c.next.items ≡ replicate (length c.scripts.items) 0
+  pub kepts : c.kept.items ≡ replicate (length c.scripts.items) None
 
 -- nothing is entered in its queue
 pub none_entered : {H : Type 0} (config : Config) (hash : H) (c : Inside H) → IsFresh config hash c → c.queue.entries ≡ []
@@ -57,6 +68,7 @@ shown_begun {H} config hash c fresh =
       ap (λ (q : Queued H). q.hash) fresh.queue,
       ap turn_of fresh.turn,
       left_whole c.scripts.items c.next.items fresh.nexts,
+      fresh.kepts ∙ none_kept c.scripts.items,
     )
 
 -- the words at the opening are those of the state
@@ -78,12 +90,15 @@ core_begun {H} {places} config hash c fresh words some few records catalog queue
   works = ap length fresh.work ∙ ap length (sym (none_entered config hash c fresh));
   room = room;
   nexts = ap length fresh.nexts ∙ length-replicate (length c.scripts.items) 0;
-  entries_fit = subst (All (λ (e : QueueEntry). Fits c.library.value e.line.call)) (sym (none_entered config hash c fresh)) (All-nil _);
-  turn_fits = subst (λ (o : Option OpenTurn). IfSome o (λ (t : OpenTurn). Fits c.library.value t.call)) (sym fresh.turn) tt;
+  kepts = ap length fresh.kepts ∙ length-replicate (length c.scripts.items) None;
+  entries_ready = subst (All (λ (e : QueueEntry). IsReady c.library.value e.line.call)) (sym (none_entered config hash c fresh)) (All-nil _);
+  turn_ready = subst (λ (o : Option OpenTurn). IfSome o (λ (t : OpenTurn). IsReady c.library.value t.call)) (sym fresh.turn) tt;
   scripts_fit = fits;
   at_work = λ t e w at has. absurd (let none : slice_get [] t ≡ Some e = ap (λ (es : List QueueEntry). slice_get es t) (sym (none_entered config hash c fresh)) ∙ at in cc none);
   replied = λ t e w at has gone. absurd (let none : slice_get [] t ≡ Some e = ap (λ (es : List QueueEntry). slice_get es t) (sym (none_entered config hash c fresh)) ∙ at in cc none);
 }
   where
     proper : AreProper (record { procs = c.library.value.procs; records = c.opening.value.items }) (map (λ (v : Vec Call). v.items) c.scripts.items)
-    proper = All-map (All (IsProper (record { procs = c.library.value.procs; records = c.opening.value.items }))) (λ (v : Vec Call). v.items) c.scripts.items (λ k d lt j e low. proper_fits c.library.value c.opening.value.items _ catalog (fits k d lt j e low))
+    proper =
+        proper_scripts c.library.value c.opening.value.items (map (λ (v : Vec Call). v.items) c.scripts.items) catalog records
+        (All-map (All (Fits c.library.value)) (λ (v : Vec Call). v.items) c.scripts.items fits)

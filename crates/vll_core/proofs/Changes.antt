@@ -1,13 +1,14 @@
 -- What a lawful move that is not refused changes, case by case.
 use Rattle.std.proofs.Common.{◌≡◌, ℕ, Bool, true, false, ◌&&◌, not, refl, sym, ◌||◌, nat_lt, nat_le, ◌+◌, [], ◌∷◌, length, ap, ◌∙◌, subst, slice_get, Some, ◌++◌, map, Option, None, if◌then◌else◌, Ok, is_some}
 use Rattle.std.proofs.lemmas.Option.{same_Some, same_Some}
-use Rattle.vll_core.specs.Machine.{step, with_entry, has_stored, running, next_call, used, front, scanned, waiting, Outcome, refuse_if, or_refuse, if_running, with_status, admit}
-use Rattle.vll_core.specs.State.{Entered, State, Turn, is_clear, value, Opening, open_claims}
+use Rattle.vll_core.specs.Machine.{step, with_entry, has_stored, running, next_call, used, is_turn_of, keeping, ready, front, scanned, waiting, Outcome, refuse_if, or_refuse, if_running, with_status, admit}
+use Rattle.vll_core.specs.State.{Entered, State, Turn, catalog_of, is_clear, value, Opening, open_claims}
 use Rattle.vll_record.specs.declared.claim.Claim.{Claim}
 use Rattle.vll_record.specs.Claim.{conflict}
 use Rattle.std.proofs.lemmas.Bool.{or_parts}
 use Rattle.vll_core.specs.Moves.{Move, by_event, wake, hand, if_waiting, move}
 use Rattle.vll_proc.specs.declared.call.Call.{Call}
+use Rattle.vll_check.specs.Calls.{source}
 use Rattle.vll_sca.specs.declared.status.Status.{Status}
 use Rattle.vll_sca.specs.Status.{is_waiting, is_gone, is_running}
 use Rattle.vll_sca.specs.declared.status.Status.TheVariants.{Running, Gone, Waiting}
@@ -21,10 +22,12 @@ use Rattle.vll_core.proofs.Events.{IsFront, front_is}
 use Rattle.vll_core.proofs.Picked.{IsPicked, picked_is}
 
 pub data Change (o : Opening) (s : State) : Move → State → Type 0 where
-  entered_by : (client : ℕ) (call : Call) → s.turn ≡ None → next_call s client ≡ Some call → nat_le o.limit (length s.entries) ≡ false → nat_le o.cap (waiting s) ≡ false
-      → Change o s (by_event (event.Enter client)) (record s { turn = Some (record { client = client; call = call; requested = 0; granted = true }); scripts = used s client })
+  sourced : (client : ℕ) (call : Call) (r : ℕ) → next_call s client ≡ Some call → source (catalog_of o.base) call ≡ Some r
+      → Change o s (by_event (event.Find client)) (record s { kept = keeping s client (Some (value o.base s r)) })
+  entered_by : (client : ℕ) (next call : Call) → s.turn ≡ None → next_call s client ≡ Some next → ready o.base s client next ≡ Some call → nat_le o.limit (length s.entries) ≡ false → nat_le o.cap (waiting s) ≡ false
+      → Change o s (by_event (event.Enter client)) (record s { turn = Some (record { client = client; call = call; requested = 0; granted = true }); scripts = used s client; kept = keeping s client None })
   handed : (client : ℕ) (call : Call) → s.turn ≡ None → nat_le o.limit (length s.entries) ≡ false → nat_le o.cap (waiting s) ≡ false
-      → Change o s (hand client call) (record s { turn = Some (record { client = client; call = call; requested = 0; granted = true }); scripts = s.scripts })
+      → Change o s (hand client call) (record s { turn = Some (record { client = client; call = call; requested = 0; granted = true }); scripts = s.scripts; kept = s.kept })
   requested : (turn : Turn) (c : Claim) → s.turn ≡ Some turn → slice_get turn.call.claims turn.requested ≡ Some c
       → Change o s (by_event event.Claim) (record s { turn = Some (record turn { requested = turn.requested + 1; granted = turn.granted && not (conflict (open_claims s) (c ∷ [])) }) })
   admitted : (turn : Turn) (status : Status) → s.turn ≡ Some turn → nat_lt turn.requested (length turn.call.claims) ≡ false → is_gone status ≡ false → (is_waiting status ≡ false → turn.granted ≡ true)
@@ -138,12 +141,18 @@ admit_change o s turn out is all h = step turn.granted refl h
     step false g k = subst (Change o s (by_event event.Admit)) (same_state _ _ out k) (admitted turn Waiting is all refl (λ w. absurd (cc w)))
 
 pub change_of : (o : Opening) (s : State) (m : Move) (out : Seen × State) → move o s m ≡ Ok out → Change o s m out.1
+change_of o s (by_event (event.Find client)) out h =
+    let a = refused_not (is_turn_of client s.turn) _ _ out h in
+    let b = found (next_call s client) _ _ out a.1 in
+    let c = found (source (catalog_of o.base) b.0) _ _ out b.2 in
+    subst (Change o s (by_event (event.Find client))) (same_state _ _ out c.2) (sourced client b.0 c.0 b.1 c.1)
 change_of o s (by_event (event.Enter client)) out h =
     let a = refused_not (is_some s.turn) _ _ out h in
     let b = found (next_call s client) _ _ out a.1 in
     let c = refused_not (nat_le o.limit (length s.entries)) _ _ out b.2 in
     let d = refused_not (nat_le o.cap (waiting s)) _ _ out c.1 in
-    subst (Change o s (by_event (event.Enter client))) (same_state _ _ out d.1) (entered_by client b.0 (no_turn s.turn a.0) b.1 c.0 d.0)
+    let e = found (ready o.base s client b.0) _ _ out d.1 in
+    subst (Change o s (by_event (event.Enter client))) (same_state _ _ out e.2) (entered_by client b.0 e.0 (no_turn s.turn a.0) b.1 e.1 c.0 d.0)
 change_of o s (by_event event.Claim) out h =
     let a = found s.turn _ _ out h in
     let b = found (slice_get a.0.call.claims a.0.requested) _ _ out a.2 in

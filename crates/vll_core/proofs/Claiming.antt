@@ -9,8 +9,8 @@ use Rattle.vll_record.specs.Counter.{claims_on, delta_of, is_granted}
 use Rattle.vll_record.specs.Word.{pair_word_of_record}
 use Rattle.vll_record.proofs.Counted.{pair_word_of-below, is_granted-no_conflict}
 use Rattle.vll_proc.proofs.Called.{claims_few}
-use Rattle.vll_check.specs.Calls.{Fits, CallsProcedure}
-use Rattle.vll_check.proofs.Fitting.{fits_well}
+use Rattle.vll_check.specs.Calls.{IsReady, CallsProcedure}
+use Rattle.vll_check.proofs.Fitting.{ready_well}
 use Rattle.vll_core.specs.declared.event.Event.TheVariants as event
 use Rattle.vll_core.specs.declared.machine.OpenTurn.{OpenTurn}
 use Rattle.vll_core.specs.declared.machine.Machine.TheInside.{Inside}
@@ -95,15 +95,15 @@ pub record Finds {H : Type 0} (places : H → ℕ → ℕ) (a : Inside H) (turn 
   pub reached : IsReached (opening_of places (shown a)) (shown a).state
   pub open_turn : (shown a).state.turn ≡ turn_of (Some turn)
   pub limit : a.queue.limit ≤ 65536
-  pub fits : Fits a.library.value turn.call
+  pub ready : IsReady a.library.value turn.call
 
 pub finds : {H : Type 0} {places : H → ℕ → ℕ} (a : Inside H) (turn : OpenTurn) (c : Claim) → IsMachine places a → a.turn ≡ Some turn → slice_get turn.call.claims turn.requested ≡ Some c → Finds places a turn c
 finds a turn c kept is at =
-    let fits : Fits a.library.value turn.call = subst (λ (x : Option OpenTurn). IfSome x (λ (t : OpenTurn). Fits a.library.value t.call)) is kept.turn_fits in
-    let well : CallsProcedure a.library.value turn.call = fits_well a.library.value turn.call kept.catalog fits in
+    let ready : IsReady a.library.value turn.call = subst (λ (x : Option OpenTurn). IfSome x (λ (t : OpenTurn). IsReady a.library.value t.call)) is kept.turn_ready in
+    let well : CallsProcedure a.library.value turn.call = ready_well a.library.value turn.call kept.catalog ready in
     let within : c.id < a.library.value.records = all_at (λ (d : Claim). d.id < a.library.value.records) turn.call.claims turn.requested c well.within at in
     let there : c.id < length a.opening.value.items = omega (arith, within, kept.records) in
-    let claims = claims_few well.procedure turn.call well.formed well.made in
+    let claims = claims_few a.library.value.records well.procedure turn.call well.formed well.made in
     let before = slice_get_within turn.call.claims turn.requested c at in
     record {
       record_there = there;
@@ -113,7 +113,7 @@ finds a turn c kept is at =
       reached = kept.reached;
       open_turn = ap turn_of is;
       limit = kept.queue.few_calls;
-      fits = fits;
+      ready = ready;
     }
 
 -- the word that is read is the counter
@@ -184,8 +184,9 @@ kept_claimed {H} {places} a turn c words granted kept found at is written =
       works = kept.works;
       room = kept.room;
       nexts = kept.nexts;
-      entries_fit = kept.entries_fit;
-      turn_fits = found.fits;
+      kepts = kept.kepts;
+      entries_ready = kept.entries_ready;
+      turn_ready = found.ready;
       scripts_fit = kept.scripts_fit;
       at_work = kept.at_work;
       replied = kept.replied;

@@ -5,7 +5,7 @@ use Rattle.vll_core.specs.Machine.{Outcome, rest_of, used, state_after}
 use Rattle.vll_core.specs.Moves.{Move, move}
 use Rattle.vll_core.specs.Shown.{Shown, after}
 use Rattle.vll_core.specs.State.{Opening, State}
-use Rattle.vll_core.proofs.Changes.{Change, change_of, entered_by, handed, requested, admitted, fronted, picked, woken, loaded, stored, released, finished}
+use Rattle.vll_core.proofs.Changes.{Change, change_of, sourced, entered_by, handed, requested, admitted, fronted, picked, woken, loaded, stored, released, finished}
 
 length-used : (s : State) (client : ℕ) → length (used s client) ≡ length s.scripts
 length-used s client = by_script (slice_get s.scripts client)
@@ -15,7 +15,8 @@ length-used s client = by_script (slice_get s.scripts client)
     by_script (Some script) = length-set s.scripts client (rest_of script)
 
 change_stays : (o : Opening) (s : State) (m : Move) (next : State) → Change o s m next → length next.scripts ≡ length s.scripts
-change_stays o s m next (entered_by client call none at room waits) = length-used s client
+change_stays o s m next (sourced client call r at from) = refl
+change_stays o s m next (entered_by client first call none at is room waits) = length-used s client
 change_stays o s m next (handed client call none room waits) = refl
 change_stays o s m next (requested turn c is at) = refl
 change_stays o s m next (admitted turn status is all here free) = refl

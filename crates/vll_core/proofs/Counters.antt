@@ -13,7 +13,7 @@ use Rattle.vll_core.proofs.Tests.{lt_no}
 use Rattle.vll_core.proofs.OwnClaims.{once, on-append, on_part}
 use Rattle.vll_core.proofs.Deltas.{word_on, counter_request, counter_release, counter_same}
 use Rattle.vll_core.proofs.Kept.{IsKept}
-use Rattle.vll_core.proofs.Changes.{Change, change_of, entered_by, handed, requested, admitted, fronted, picked, woken, loaded, stored, released, finished}
+use Rattle.vll_core.proofs.Changes.{Change, change_of, sourced, entered_by, handed, requested, admitted, fronted, picked, woken, loaded, stored, released, finished}
 use Rattle.vll_core.proofs.Reached.{kept_reached}
 
 plus_none : (a b : ℕ) → a ≡ b → a + 0 ≡ b + 0
@@ -36,7 +36,8 @@ admitted_same s turn new r is all own =
     ap (word_on r) (left ∙ right)
 
 counter_change : (o : Opening) (s : State) (m : Move) (next : State) (r : ℕ) → Change o s m next → counter next r + delta_if r (released_by s m) ≡ counter s r + delta_if r (requested_by s m)
-counter_change o s m next r (entered_by client call none at room waits) = plus_none _ _ (opened_same s r none)
+counter_change o s m next r (sourced client call n at from) = plus_none _ _ refl
+counter_change o s m next r (entered_by client first call none at is room waits) = plus_none _ _ (opened_same s r none)
 counter_change o s m next r (handed client call none room waits) = plus_none _ _ (opened_same s r none)
 counter_change o s m next r (requested turn c is at) =
     let delta : delta_if r (turn_request s.turn) ≡ delta_on r c = ap (λ (x : Option Turn). delta_if r (turn_request x)) is ∙ ap (delta_if r) at in

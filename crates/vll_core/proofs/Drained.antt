@@ -1,4 +1,4 @@
--- Lists of events that lead from a state to another, none of them Enter or Scan and none refused.
+-- Lists of events that lead from a state to another, none of them Find, Enter or Scan and none refused.
 use Rattle.std.proofs.Common.{◌≡◌, ℕ, ◌+◌, ◌<◌, ◌^◌, true, false, List, [], ◌∷◌, ◌++◌, length, All, Ok, Err, Result, is_ok, refl, sym, ap, ◌∙◌, subst, arith, length-append}
 use Rattle.std.proofs.lemmas.List.Elements.{All-nil, All-push}
 use Rattle.vll_core.specs.declared.event.Event.{Event}
@@ -6,7 +6,7 @@ use Rattle.vll_core.specs.declared.refusal.Refusal.{Refusal}
 use Rattle.vll_core.specs.declared.seen.Seen.{Seen}
 use Rattle.vll_core.specs.State.{Opening, State}
 use Rattle.vll_core.specs.Machine.{Outcome, step, state_after, told, answers, run}
-use Rattle.vll_core.specs.Drain.{is_enter_or_scan, IsDrained}
+use Rattle.vll_core.specs.Drain.{begins_or_scans, IsDrained}
 use Rattle.vll_core.specs.Private.Draining.{IsNext, left}
 use Rattle.vll_core.specs.Moves.{IsReached}
 use Rattle.vll_core.specs.Shown.{Shown, opening_of, after}
@@ -37,7 +37,7 @@ drained_more o s mid made e so_far next =
     record {
       events = so_far.events ++ e ∷ [];
       number = omega (arith, length-append so_far.events (e ∷ []), so_far.number);
-      others = All-push (λ (d : Event). is_enter_or_scan d ≡ false) so_far.events e so_far.others next.other;
+      others = All-push (λ (d : Event). begins_or_scans d ≡ false) so_far.events e so_far.others next.other;
       taken =
           subst (All (λ (answer : Result Seen Refusal). is_ok answer ≡ true)) (sym (answers_more o s so_far.events e))
           (All-push (λ (answer : Result Seen Refusal). is_ok answer ≡ true) (answers o s so_far.events) _ so_far.taken ok);

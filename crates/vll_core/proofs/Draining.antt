@@ -1,4 +1,4 @@
--- Every event but Enter and Scan lessens what is left to do, and leaves no turn open where none was.
+-- Every event but Find, Enter and Scan lessens what is left to do, and leaves no turn open where none was.
 use Rattle.std.proofs.Common.{◌≡◌, ℕ, ◌+◌, ◌*◌, ◌-◌, ◌<◌, ◌≤◌, ◌≢◌, Bool, true, false, ◌==◌, [], ◌∷◌, length, slice_get, get_or, Option, Some, None, Ok, refl, ap, arith}
 use Rattle.std.proofs.lemmas.List.Sums.{count_by-le-length, length-filter, sum_by-append, sum_by-set, sum_by-le-sum_by}
 use Rattle.std.proofs.lemmas.Bool.{or_parts}
@@ -13,7 +13,7 @@ use Rattle.vll_core.specs.declared.seen.Seen.{Seen}
 use Rattle.vll_core.specs.State.{Opening, Entered, State, Turn, writes, has_aborted}
 use Rattle.vll_core.specs.Machine.{step, with_entry}
 use Rattle.vll_core.specs.Moves.{Move, by_event, IsReached}
-use Rattle.vll_core.specs.Drain.{is_enter_or_scan, most_of, most_of_turn, most_events}
+use Rattle.vll_core.specs.Drain.{begins_or_scans, most_of, most_of_turn, most_events}
 use Rattle.vll_core.specs.Private.Draining.{steps_left, turn_left, left}
 use Rattle.vll_core.proofs.Tests.{and_rest, lt_no, eq_no, eq_same}
 use Rattle.vll_core.proofs.Kept.{IsKept}
@@ -63,7 +63,7 @@ new_left call client Waiting = omega (arith, few_writes call)
 new_left call client Gone = omega arith
 
 abbrev other : Move → Bool
-other (by_event e) = is_enter_or_scan e
+other (by_event e) = begins_or_scans e
 other m = true
 
 less_change : (o : Opening) (s : State) (m : Move) (next : State) → IsKept o s → Change o s m next → other m ≡ false → left next < left s
@@ -104,8 +104,8 @@ less_change o s m next kept (finished t e at runs all) not =
     less_put s t e _ at (omega (arith, runs_left e runs))
 less_change o s m next kept change not = absurd (cc not)
 
--- an event that is neither Enter nor Scan lessens what is left
-pub less_left : (o : Opening) (s : State) (e : Event) (out : Seen × State) → IsReached o s → is_enter_or_scan e ≡ false → step o s e ≡ Ok out → left out.1 < left s
+-- an event that is none of Find, Enter and Scan lessens what is left
+pub less_left : (o : Opening) (s : State) (e : Event) (out : Seen × State) → IsReached o s → begins_or_scans e ≡ false → step o s e ≡ Ok out → left out.1 < left s
 less_left o s e out reached not is = less_change o s (by_event e) out.1 (kept_reached o s reached) (change_of o s (by_event e) out is) not
 
 -- an entry, and a turn, have no more left than is told

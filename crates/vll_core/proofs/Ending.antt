@@ -9,9 +9,9 @@ use Rattle.std.proofs.lemmas.Option.{same_Some, slice_get-map, slice_get-get_or,
 use Rattle.vll_record.specs.declared.claim.Claim.{Claim}
 use Rattle.vll_proc.specs.declared.call.Call.{Call}
 use Rattle.vll_proc.proofs.Called.{claims_few}
-use Rattle.vll_check.specs.Calls.{Fits, CallsProcedure}
+use Rattle.vll_check.specs.Calls.{IsReady, CallsProcedure}
 use Rattle.vll_check.specs.Catalog.{Catalog, IsCatalog}
-use Rattle.vll_check.proofs.Fitting.{fits_well}
+use Rattle.vll_check.proofs.Fitting.{ready_well}
 use Rattle.vll_sca.specs.declared.status.Status.{Status}
 use Rattle.vll_sca.specs.declared.status.Status.TheVariants.{Running, Waiting, Gone}
 use Rattle.vll_sca.specs.Status.{is_running, is_gone}
@@ -195,8 +195,8 @@ ends_here {H} {places} a core closed none =
 
 -- ---- how much is left
 
-few_claims : (c : Catalog) (call : Call) → IsCatalog c → Fits c call → length call.claims ≤ 16
-few_claims c call catalog fits = let well : CallsProcedure c call = fits_well c call catalog fits in claims_few well.procedure call well.formed well.made
+few_claims : (c : Catalog) (call : Call) → IsCatalog c → IsReady c call → length call.claims ≤ 16
+few_claims c call catalog ready = let well : CallsProcedure c call = ready_well c call catalog ready in claims_few c.records well.procedure call well.formed well.made
 
 few_steps : (e : Entered) → length e.call.claims ≤ 16 → steps_left e ≤ 50
 few_steps e few = let most = entry_most e in let fit = most_fits e.status in omega (arith, most, fit)
@@ -211,17 +211,17 @@ few_left {H} places a core =
     let total = sum_by-le steps_left 50 (shown a).state.entries each in
     let within = (kept_reached (opening_of places (shown a)) (shown a).state core.reached).room in
     let few = core.queue.few_calls in
-    let turn = turn_few a.turn core.turn_fits in
+    let turn = turn_few a.turn core.turn_ready in
     omega (arith, total, within, few, turn)
   where
     each : All (λ (e : Entered). steps_left e ≤ 50) (shown a).state.entries
     each k d lt =
         let at = slice_get-get_or (shown a).state.entries k d lt in
         let there = shown_at a.queue.entries a.work.items k _ at in
-        let fits = all_at (λ (x : QueueEntry). Fits a.library.value x.line.call) a.queue.entries k there.entry core.entries_fit there.at in
+        let ready = all_at (λ (x : QueueEntry). IsReady a.library.value x.line.call) a.queue.entries k there.entry core.entries_ready there.at in
         few_steps (get_or (shown a).state.entries k d)
-        (subst (λ (x : Entered). length x.call.claims ≤ 16) (sym there.is) (few_claims a.library.value there.entry.line.call core.catalog fits))
+        (subst (λ (x : Entered). length x.call.claims ≤ 16) (sym there.is) (few_claims a.library.value there.entry.line.call core.catalog ready))
 
-    turn_few : (x : Option OpenTurn) → IfSome x (λ (u : OpenTurn). Fits a.library.value u.call) → turn_left (turn_of x) ≤ 67
-    turn_few None fits = omega arith
-    turn_few (Some u) fits = let few = few_claims a.library.value u.call core.catalog fits in omega (arith, few)
+    turn_few : (x : Option OpenTurn) → IfSome x (λ (u : OpenTurn). IsReady a.library.value u.call) → turn_left (turn_of x) ≤ 67
+    turn_few None ready = omega arith
+    turn_few (Some u) ready = let few = few_claims a.library.value u.call core.catalog ready in omega (arith, few)

@@ -1,30 +1,32 @@
 -- A turn opens, for the next call of a client's script or for one that is handed in.
-use Rattle.std.proofs.Common.{◌≡◌, ℕ, zero, suc, ◌+◌, ◌<◌, ◌≤◌, ◌↔◌, Bool, true, false, IsTrue, nat_le, refl, sym, ap, ◌∙◌, subst, arith, List, [], ◌∷◌, length, count_by, drop, slice_get, slice_set, Option, Some, None, is_some, Result, Ok, Err, add-one, length-set, All}
+use Rattle.std.proofs.Common.{◌≡◌, ℕ, zero, suc, ◌+◌, ◌^◌, ◌<◌, ◌≤◌, ◌↔◌, Bool, true, false, IsTrue, nat_le, refl, sym, ap, ◌∙◌, subst, arith, List, [], ◌∷◌, length, count_by, drop, slice_get, slice_set, Option, Some, None, is_some, IfSome, Result, Ok, Err, add-one, length-set, All}
+use Rattle.std.specs.Option.{option_map}
 use Rattle.std.specs.Vec.{with_item}
 use Rattle.std.specs.Global.{Vec}
-use Rattle.std.proofs.lemmas.Option.{same_Some}
+use Rattle.std.proofs.lemmas.Option.{same_Some, slice_get_within}
 use Rattle.vll_proc.specs.declared.call.Call.{Call}
-use Rattle.vll_check.specs.Calls.{Fits}
+use Rattle.vll_check.specs.Calls.{Fits, IsReady, source, with_found}
+use Rattle.vll_check.specs.Catalog.{Catalog, IsCatalog}
 use Rattle.vll_core.specs.declared.event.Event.TheVariants as event
 use Rattle.vll_core.specs.declared.machine.Machine.TheInside.{Inside}
 use Rattle.vll_core.specs.declared.refusal.Refusal.{Refusal}
-use Rattle.vll_core.specs.declared.refusal.Refusal.TheVariants.{TurnOpen, NoCall, Spent, Busy}
+use Rattle.vll_core.specs.declared.refusal.Refusal.TheVariants.{TurnOpen, NoCall, Spent, Busy, OutOfStep}
 use Rattle.vll_core.specs.declared.seen.Seen.TheVariants.{Opened}
 use Rattle.vll_sca.specs.declared.status.Status.{Status}
 use Rattle.vll_sca.specs.Status.{is_waiting}
-use Rattle.vll_core.specs.State.{Entered, Opening, State, Turn}
-use Rattle.vll_core.specs.Machine.{Outcome, refuse_if, or_refuse, waiting, first_call, next_call, rest_of, used, enter, step}
+use Rattle.vll_core.specs.State.{Base, catalog_of, Entered, Opening, State}
+use Rattle.vll_core.specs.Machine.{Outcome, refuse_if, or_refuse, waiting, first_call, next_call, rest_of, used, kept_for, keeping, ready, enter, step}
 use Rattle.vll_core.specs.Moves.{hand, move, moved}
 use Rattle.vll_core.specs.Queue.{statuses}
-use Rattle.vll_core.specs.Shown.{Shown, opening_of}
+use Rattle.vll_core.specs.Shown.{Shown, library_of, opening_of}
 use Rattle.vll_core.specs.Private.View.{turn_of, left_of, shown}
 use Rattle.vll_core.specs.Private.MachineKept.{IsMachine}
 use Rattle.vll_core.proofs.Tests.{le_no}
-use Rattle.vll_core.proofs.Places.{all_at}
-use Rattle.vll_core.proofs.Fitted.{proper_fits}
+use Rattle.vll_core.proofs.Places.{all_at, entry_at}
+use Rattle.vll_core.proofs.Fitted.{proper_ready}
 use Rattle.vll_core.proofs.WordsKept.{words_stay}
 use Rattle.vll_core.proofs.MachineState.{length_shown, counted_shown, waiting_shown}
-use Rattle.vll_core.proofs.MachineSteps.{Refuses, Takes, taken_reached, taken_words}
+use Rattle.vll_core.proofs.MachineSteps.{library_same, Takes, taken_reached, taken_words}
 
 -- ---- the plain machine
 
@@ -119,17 +121,27 @@ room_is s r go room = by_tests (nat_le s.limit (length s.state.entries)) (nat_le
     by_tests false true spent busy = ap (λ (x : Result (Unit {0}) Refusal). if_room x go) (sym (room.busy.1 (le_no _ _ spent, grind (arith, busy))))
     by_tests false false spent busy = ap (λ (x : Result (Unit {0}) Refusal). if_room x go) (sym (room.ok.1 (le_no _ _ spent, le_no _ _ busy)))
 
--- where no turn is open, the machine goes by the next call, and then by the room that is left
+-- where no turn is open, the machine goes by the next call, then by the room that is left, and then by the value that is kept
 by_call : (o : Opening) (s : State) (client : ℕ) (x : Option Call) → is_some s.turn ≡ false → next_call s client ≡ x
-    → step o s (event.Enter client) ≡ or_refuse x NoCall (λ (call : Call). enter o s client call (used s client))
+    → step o s (event.Enter client) ≡ or_refuse x NoCall (λ (call : Call). enter o s client (ready o.base s client call) (used s client) (keeping s client None))
 by_call o s client x closed next =
-    ap (λ (b : Bool). refuse_if b TurnOpen (or_refuse (next_call s client) NoCall (λ (call : Call). enter o s client call (used s client)))) closed
-    ∙ ap (λ (y : Option Call). or_refuse y NoCall (λ (call : Call). enter o s client call (used s client))) next
+    ap (λ (b : Bool). refuse_if b TurnOpen (or_refuse (next_call s client) NoCall (λ (call : Call). enter o s client (ready o.base s client call) (used s client) (keeping s client None)))) closed
+    ∙ ap (λ (y : Option Call). or_refuse y NoCall (λ (call : Call). enter o s client (ready o.base s client call) (used s client) (keeping s client None))) next
 
-by_room : {H : Type 0} (places : H → ℕ → ℕ) (s : Shown H) (client : ℕ) (call : Call) (scripts : List (List Call)) (r : Result (Unit {0}) Refusal) → IsRoom s r
-    → enter (opening_of places s) s.state client call scripts ≡ if_room r (Ok (Opened, record s.state { turn = Some (record { client = client; call = call; requested = 0; granted = true }); scripts = scripts }))
-by_room places s client call scripts r room =
-    room_is s r (Ok (Opened, record s.state { turn = Some (record { client = client; call = call; requested = 0; granted = true }); scripts = scripts })) room
+-- a turn opens for a call
+abbrev opens : State → ℕ → List (List Call) → List (Option ℕ) → Call → Outcome
+opens s client scripts kept call = Ok (Opened, record s { turn = Some (record { client = client; call = call; requested = 0; granted = true }); scripts = scripts; kept = kept })
+
+by_room : {H : Type 0} (places : H → ℕ → ℕ) (s : Shown H) (client : ℕ) (entering : Option Call) (scripts : List (List Call)) (kept : List (Option ℕ)) (r : Result (Unit {0}) Refusal) → IsRoom s r
+    → enter (opening_of places s) s.state client entering scripts kept ≡ if_room r (or_refuse entering OutOfStep (opens s.state client scripts kept))
+by_room places s client entering scripts kept r room = room_is s r (or_refuse entering OutOfStep (opens s.state client scripts kept)) room
+
+-- a call with a source enters with the value that is kept for it, if there is one
+pub enters_found : (base : Base) (s : State) (client r : ℕ) (call : Call) (value : Option ℕ) → source (catalog_of base) call ≡ Some r → slice_get s.kept client ≡ Some value
+    → ready base s client call ≡ option_map (with_found (catalog_of base) call) value
+enters_found base s client r call value some at =
+    ap (λ (x : Option ℕ). elim x [ None ↦ Some call | Some r ↦ option_map (with_found (catalog_of base) call) (kept_for s client) ]) some
+    ∙ ap (λ (x : Option (Option ℕ)). option_map (with_found (catalog_of base) call) (elim x [ None ↦ None | Some v ↦ v ])) at
 
 -- ---- the machine
 
@@ -167,59 +179,144 @@ pub few_shown : {H : Type 0} {places : H → ℕ → ℕ} (a : Inside H) (s : Sh
 few_shown {H} a s core view few =
     subst (λ (x : Shown H). waiting x.state < x.cap) view (omega (arith, waiting_shown a.queue.entries a.work.items core.works, few))
 
--- no turn is open, and a client's script has a next call
-pub record HasNext {H : Type 0} (a : Inside H) (client n : ℕ) (call : Call) : Type 0 where
+-- the next call of a client's script, by the script and the place in it
+pub next_at : {H : Type 0} (a : Inside H) (client n : ℕ) (v : Vec Call) → slice_get a.scripts.items client ≡ Some v → slice_get a.next.items client ≡ Some n
+    → next_call (shown a).state client ≡ slice_get v.items n
+next_at a client n v at place = next_left a.scripts.items a.next.items client n v at place
+
+-- there is none where there is no such client
+pub next_none : {H : Type 0} (a : Inside H) (client : ℕ) → slice_get a.scripts.items client ≡ None → next_call (shown a).state client ≡ None
+next_none a client none = ap (λ (x : Option (List Call)). first_call x) (left_none a.scripts.items a.next.items client none)
+
+-- where the next call of a client's script stands
+pub record StandsNext {H : Type 0} (a : Inside H) (client : ℕ) (call : Call) : Type 0 where
   pub script : Vec Call
-  pub closed : is_some (turn_of a.turn) ≡ false
+  pub place : ℕ
   pub at : slice_get a.scripts.items client ≡ Some script
-  pub place : slice_get a.next.items client ≡ Some n
-  pub next : slice_get script.items n ≡ Some call
+  pub has : slice_get a.next.items client ≡ Some place
+  pub next : slice_get script.items place ≡ Some call
+
+pub stands_next : {H : Type 0} {places : H → ℕ → ℕ} (a : Inside H) (client : ℕ) (call : Call) → IsMachine places a → next_call (shown a).state client ≡ Some call → StandsNext a client call
+stands_next a client call core next = by_script (slice_get a.scripts.items client) refl
+  where
+    by_script : (x : Option (Vec Call)) → slice_get a.scripts.items client ≡ x → StandsNext a client call
+    by_script None none = absurd (cc (sym (next_none a client none) ∙ next))
+    by_script (Some v) at =
+        let within = slice_get_within a.scripts.items client v at in
+        let same = core.nexts in
+        let n = entry_at a.next.items client (omega (arith, within, same)) in
+        record { script = v; place = n.0; at = at; has = n.1; next = sym (next_at a client n.0 v at n.1) ∙ next }
+
+-- the scripts that are shown are as many
+length_left : (vs : List (Vec Call)) (ns : List ℕ) → length ns ≡ length vs → length (left_of vs ns) ≡ length vs
+length_left [] ns same = refl
+length_left (v ∷ vs) [] same = absurd (omega (arith, same))
+length_left (v ∷ vs) (n ∷ ns) same = omega (arith, length_left vs ns (omega (arith, same)))
+
+-- a value or none is kept for each client
+pub client_kept : {H : Type 0} {places : H → ℕ → ℕ} (a : Inside H) (s : Shown H) (client : ℕ) → IsMachine places a → shown a ≡ s → client < length s.state.scripts → client < length a.kept.items
+client_kept {H} a s client core view within =
+    let there : client < length (shown a).state.scripts = subst (λ (x : Shown H). client < length x.state.scripts) (sym view) within in
+    omega (arith, there, length_left a.scripts.items a.next.items core.nexts, core.kepts)
+
+-- a client that has a next call has a script
+pub client_there : {H : Type 0} {places : H → ℕ → ℕ} (a : Inside H) (client : ℕ) (call : Call) → IsMachine places a → StandsNext a client call → client < length (shown a).state.scripts
+client_there a client call core s =
+    let within = slice_get_within a.scripts.items client s.script s.at in
+    omega (arith, within, length_left a.scripts.items a.next.items core.nexts)
+
+-- the place of its next call is less than there is room for
+pub place_fits : {H : Type 0} (a : Inside H) (client n : ℕ) (call : Call) → StandsNext a client call → slice_get a.next.items client ≡ Some n → n + 1 < 2 ^ 64
+place_fits a client n call s place =
+    let same : s.place ≡ n = same_Some s.place n (sym s.has ∙ place) in
+    let within = slice_get_within s.script.items s.place call s.next in
+    omega (arith, same, within, s.script.ok.0)
+
+-- the call at a place of a script is one that the library makes
+pub some_fits : {H : Type 0} {places : H → ℕ → ℕ} (a : Inside H) (s : Shown H) (client n : ℕ) (v : Vec Call) (x : Option Call) → IsMachine places a → shown a ≡ s → slice_get a.scripts.items client ≡ Some v → slice_get v.items n ≡ x
+    → IfSome x (Fits (library_of s))
+some_fits a s client n v None core view at is = tt
+some_fits a s client n v (Some call) core view at is =
+    subst (λ (c : Catalog). Fits c call) (sym (library_same a s (library_of s) core view refl))
+    (all_at (Fits a.library.value) v.items n call (all_at (λ (w : Vec Call). All (Fits a.library.value) w.items) a.scripts.items client v core.scripts_fit at) is)
+
+-- a library that is handed in, the one that a machine shows, is a library
+pub catalog_handed : {H : Type 0} {places : H → ℕ → ℕ} (a : Inside H) (s : Shown H) (library : Catalog) → IsMachine places a → shown a ≡ s → library ≡ library_of s → IsCatalog library
+catalog_handed a s library core view same = subst IsCatalog (sym (library_same a s library core view same)) core.catalog
+
+-- what fields show of a client's next call is seen of it
+pub next_told : {H : Type 0} (a : Inside H) (s : Shown H) (client : ℕ) (x : Option Call) → shown a ≡ s → next_call (shown a).state client ≡ x → x ≡ next_call s.state client
+next_told {H} a s client x view is = sym is ∙ ap (λ (y : Shown H). next_call y.state client) view
+
+-- what a test tells of an option
+pub none_there : (x : Option ℕ) → is_some x ≡ false → x ≡ None
+none_there None none = refl
+none_there (Some r) none = absurd (cc none)
+
+one_there : (x : Option ℕ) → is_some x ≡ true → (r : ℕ) × (x ≡ Some r)
+one_there None some = absurd (cc some)
+one_there (Some r) some = (r, refl)
+
+-- the call that enters, by the library that is handed in and the value that is kept
+pub found_told : {H : Type 0} (a : Inside H) (s : Shown H) (library : Catalog) (client : ℕ) (call : Call) (value : Option ℕ) → shown a ≡ s → library ≡ library_of s → is_some (source library call) ≡ true
+    → slice_get a.kept.items client ≡ Some value → option_map (with_found library call) value ≡ ready s.base s.state client call
+found_told {H} a s library client call value view same some at =
+    let there = one_there (source library call) some in
+    ap (λ (c : Catalog). option_map (with_found c call) value) same
+    ∙ sym (enters_found s.base s.state client there.0 call value (ap (λ (c : Catalog). source c call) (sym same) ∙ there.1) (ap (λ (x : Shown H). slice_get x.state.kept client) (sym view) ∙ at))
+
+-- what is seen of a machine's scripts is what its fields show
+pub next_seen : {H : Type 0} (a : Inside H) (s : Shown H) (client : ℕ) (x : Option Call) → shown a ≡ s → x ≡ next_call s.state client → next_call (shown a).state client ≡ x
+next_seen {H} a s client x view is = ap (λ (y : Shown H). next_call y.state client) view ∙ sym is
+
+-- and of the call that enters
+pub ready_seen : {H : Type 0} (a : Inside H) (s : Shown H) (client : ℕ) (call : Call) (x : Option Call) → shown a ≡ s → x ≡ ready s.base s.state client call → ready (shown a).base (shown a).state client call ≡ x
+ready_seen {H} a s client call x view is = ap (λ (y : Shown H). ready y.base y.state client call) view ∙ sym is
+
+-- no turn is open, and this is the next call of a client's script
+pub record HasNext {H : Type 0} (a : Inside H) (client : ℕ) (call : Call) : Type 0 where
+  pub closed : is_some (turn_of a.turn) ≡ false
+  pub next : next_call (shown a).state client ≡ Some call
 
 -- the fields of a machine once a turn is open
 abbrev pub opened_turn : {H : Type 0} → Inside H → ℕ → Call → ℕ → Inside H
 opened_turn a client call n =
-    record a { turn = Some (record { client = client; call = call; requested = 0; granted = true }); next = with_item a.next client (n + 1) }
+    record a { turn = Some (record { client = client; call = call; requested = 0; granted = true }); next = with_item a.next client (n + 1); kept = with_item a.kept client None }
 
-pub refused_client : {H : Type 0} {places : H → ℕ → ℕ} (a : Inside H) (client : ℕ) → is_some (turn_of a.turn) ≡ false → slice_get a.scripts.items client ≡ None → Refuses places a (event.Enter client) NoCall
-refused_client {H} {places} a client closed none = record {
-  is = by_call (opening_of places (shown a)) (shown a).state client None closed (ap (λ (x : Option (List Call)). first_call x) (left_none a.scripts.items a.next.items client none));
-}
+next_is : {H : Type 0} (places : H → ℕ → ℕ) (a : Inside H) (client : ℕ) (call : Call) (r : Result (Unit {0}) Refusal) → HasNext a client call → IsRoom (shown a) r
+    → step (opening_of places (shown a)) (shown a).state (event.Enter client)
+    ≡ if_room r (or_refuse (ready (shown a).base (shown a).state client call) OutOfStep (opens (shown a).state client (used (shown a).state client) (keeping (shown a).state client None)))
+next_is places a client call r has room =
+    by_call (opening_of places (shown a)) (shown a).state client (Some call) has.closed has.next
+    ∙ by_room places (shown a) client (ready (shown a).base (shown a).state client call) (used (shown a).state client) (keeping (shown a).state client None) r room
 
-pub refused_call : {H : Type 0} {places : H → ℕ → ℕ} (a : Inside H) (client n : ℕ) (v : Vec Call) → is_some (turn_of a.turn) ≡ false → slice_get a.scripts.items client ≡ Some v → slice_get a.next.items client ≡ Some n
-    → slice_get v.items n ≡ None → Refuses places a (event.Enter client) NoCall
-refused_call {H} {places} a client n v closed at place none = record {
-  is = by_call (opening_of places (shown a)) (shown a).state client None closed (next_left a.scripts.items a.next.items client n v at place ∙ none);
-}
+-- there is room for a client's next call, which enters as this call
+pub record CanEnter {H : Type 0} (places : H → ℕ → ℕ) (a : Inside H) (client n : ℕ) (next call : Call) : Type 0 where
+  pub core : IsMachine places a
+  pub has : HasNext a client next
+  pub place : slice_get a.next.items client ≡ Some n
+  pub room : IsRoom (shown a) (Ok tt)
+  pub enters : ready (shown a).base (shown a).state client next ≡ Some call
 
-next_is : {H : Type 0} (places : H → ℕ → ℕ) (a : Inside H) (client n : ℕ) (call : Call) → HasNext a client n call
-    → step (opening_of places (shown a)) (shown a).state (event.Enter client) ≡ enter (opening_of places (shown a)) (shown a).state client call (used (shown a).state client)
-next_is places a client n call has =
-    by_call (opening_of places (shown a)) (shown a).state client (Some call) has.closed (next_left a.scripts.items a.next.items client n has.script has.at has.place ∙ has.next)
-
-pub refused_room : {H : Type 0} {places : H → ℕ → ℕ} (a : Inside H) (client n : ℕ) (call : Call) (why : Refusal) → HasNext a client n call
-    → IsRoom (shown a) (Err why) → Refuses places a (event.Enter client) why
-refused_room {H} {places} a client n call why has room = record {
-  is = next_is places a client n call has ∙ by_room places (shown a) client call (used (shown a).state client) (Err why) room;
-}
-
-pub taken_enter : {H : Type 0} {places : H → ℕ → ℕ} (a : Inside H) (client n : ℕ) (call : Call) → HasNext a client n call
-    → IsRoom (shown a) (Ok tt) → Takes places a (opened_turn a client call n) (event.Enter client) Opened
-taken_enter {H} {places} a client n call has room =
-    let turn : Turn = record { client = client; call = call; requested = 0; granted = true } in
+pub taken_enter : {H : Type 0} {places : H → ℕ → ℕ} (a : Inside H) (client n : ℕ) (next call : Call) → CanEnter places a client n next call → Takes places a (opened_turn a client call n) (event.Enter client) Opened
+taken_enter {H} {places} a client n next call can =
+    let s : State = (shown a).state in
+    let stands = stands_next a client next can.core can.has.next in
     record {
       fixed = refl;
       is =
-          next_is places a client n call has
-          ∙ (by_room places (shown a) client call (used (shown a).state client) (Ok tt) room
-          ∙ ap (λ (scripts : List (List Call)). let out : Outcome = Ok (Opened, record (shown a).state { turn = Some turn; scripts = scripts }) in out)
-          (used_left (shown a).state a.scripts.items a.next.items client n has.script refl has.at has.place));
+          next_is places a client next (Ok tt) can.has can.room
+          ∙ (ap (λ (x : Option Call). or_refuse x OutOfStep (opens s client (used s client) (keeping s client None))) can.enters
+          ∙ ap (λ (scripts : List (List Call)). opens s client scripts (keeping s client None) call)
+          (used_left s a.scripts.items a.next.items client n stands.script refl stands.at can.place));
     }
 
-pub core_enter : {H : Type 0} {places : H → ℕ → ℕ} (a : Inside H) (client n : ℕ) (call : Call) → IsMachine places a → HasNext a client n call
-    → IsRoom (shown a) (Ok tt) → IsMachine places (opened_turn a client call n)
-core_enter {H} {places} a client n call core has room =
+pub core_enter : {H : Type 0} {places : H → ℕ → ℕ} (a : Inside H) (client n : ℕ) (next call : Call) → CanEnter places a client n next call → IsReady a.library.value call
+    → IsMachine places (opened_turn a client call n)
+core_enter {H} {places} a client n next call can is_ready =
     let b : Inside H = opened_turn a client call n in
-    let takes : Takes places a b (event.Enter client) Opened = taken_enter a client n call has room in
+    let takes : Takes places a b (event.Enter client) Opened = taken_enter a client n next call can in
+    let core = can.core in
     record {
       reached = taken_reached a b (event.Enter client) Opened takes core.reached;
       words = taken_words a b (event.Enter client) Opened takes core.reached refl refl refl core.words;
@@ -231,12 +328,18 @@ core_enter {H} {places} a client n call core has room =
       works = core.works;
       room = core.room;
       nexts = length-set a.next.items client (n + 1) ∙ core.nexts;
-      entries_fit = core.entries_fit;
-      turn_fits = all_at (Fits a.library.value) has.script.items n call (all_at (λ (v : Vec Call). All (Fits a.library.value) v.items) a.scripts.items client has.script core.scripts_fit has.at) has.next;
+      kepts = length-set a.kept.items client None ∙ core.kepts;
+      entries_ready = core.entries_ready;
+      turn_ready = is_ready;
       scripts_fit = core.scripts_fit;
       at_work = core.at_work;
       replied = core.replied;
     }
+
+-- the next call of a client's script is one that the library makes
+pub next_fits : {H : Type 0} {places : H → ℕ → ℕ} (a : Inside H) (client : ℕ) (call : Call) → IsMachine places a → StandsNext a client call → Fits a.library.value call
+next_fits a client call core s =
+    all_at (Fits a.library.value) s.script.items s.place call (all_at (λ (v : Vec Call). All (Fits a.library.value) v.items) a.scripts.items client s.script core.scripts_fit s.at) s.next
 
 -- the fields of a machine once a turn is open for a call that is handed in
 abbrev pub handed_turn : {H : Type 0} → Inside H → ℕ → Call → Inside H
@@ -246,17 +349,17 @@ hand_is : {H : Type 0} (places : H → ℕ → ℕ) (a : Inside H) (client : ℕ
     → IsRoom (shown a) r
     → move (opening_of places (shown a)) (shown a).state (hand client call) ≡ if_room r (Ok (Opened, (shown (handed_turn a client call)).state))
 hand_is places a client call r closed room =
-    ap (λ (b : Bool). refuse_if b TurnOpen (enter (opening_of places (shown a)) (shown a).state client call (shown a).state.scripts)) closed
-    ∙ by_room places (shown a) client call (shown a).state.scripts r room
+    ap (λ (b : Bool). refuse_if b TurnOpen (enter (opening_of places (shown a)) (shown a).state client (Some call) (shown a).state.scripts (shown a).state.kept)) closed
+    ∙ by_room places (shown a) client (Some call) (shown a).state.scripts (shown a).state.kept r room
 
-pub core_handed : {H : Type 0} {places : H → ℕ → ℕ} (a : Inside H) (client : ℕ) (call : Call) → IsMachine places a → is_some (turn_of a.turn) ≡ false → Fits a.library.value call
+pub core_handed : {H : Type 0} {places : H → ℕ → ℕ} (a : Inside H) (client : ℕ) (call : Call) → IsMachine places a → is_some (turn_of a.turn) ≡ false → IsReady a.library.value call
     → IsRoom (shown a) (Ok tt) → IsMachine places (handed_turn a client call)
-core_handed {H} {places} a client call core closed fits room =
+core_handed {H} {places} a client call core closed is_ready room =
     let o : Opening = opening_of places (shown a) in
     let next : State = (shown (handed_turn a client call)).state in
     let is : move o (shown a).state (hand client call) ≡ Ok (Opened, next) = hand_is places a client call (Ok tt) closed room in
     record {
-      reached = moved (shown a).state (hand client call) Opened next core.reached (proper_fits a.library.value a.opening.value.items call core.catalog fits) is;
+      reached = moved (shown a).state (hand client call) Opened next core.reached (proper_ready a.library.value a.opening.value.items call core.catalog core.records is_ready) is;
       words = words_stay o (shown a).state next (hand client call) Opened a.words.items core.reached is refl refl refl core.words;
       some_records = core.some_records;
       few_records = core.few_records;
@@ -266,8 +369,9 @@ core_handed {H} {places} a client call core closed fits room =
       works = core.works;
       room = core.room;
       nexts = core.nexts;
-      entries_fit = core.entries_fit;
-      turn_fits = fits;
+      kepts = core.kepts;
+      entries_ready = core.entries_ready;
+      turn_ready = is_ready;
       scripts_fit = core.scripts_fit;
       at_work = core.at_work;
       replied = core.replied;

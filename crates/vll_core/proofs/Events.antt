@@ -1,18 +1,19 @@
 -- Each event keeps what reached states keep.
-use Rattle.std.proofs.Common.{◌≡◌, ℕ, Bool, true, false, ◌==◌, ◌&&◌, not, refl, sym, arith, ◌<◌, ◌≤◌, nat_lt, nat_le, ◌≢◌, ◌⊎◌, inl, inr, ◌+◌, List, [], ◌∷◌, length, drop, ap, ◌∙◌, subst, slice_get, slice_set, Some, cond, ◌++◌, take, All, Option, None, if◌then◌else◌, length-append, take_all}
+use Rattle.std.proofs.Common.{◌≡◌, ℕ, Bool, true, false, ◌==◌, ◌&&◌, not, refl, sym, arith, ◌<◌, ◌≤◌, nat_lt, nat_le, ◌≢◌, ◌⊎◌, inl, inr, ◌+◌, List, [], ◌∷◌, length, drop, ap, ◌∙◌, subst, slice_get, slice_set, Some, cond, ◌++◌, take, All, Option, None, option_map, if◌then◌else◌, length-append, take_all}
 use Rattle.std.proofs.Math.Seq.{take-length}
 use Rattle.std.proofs.lemmas.Option.{slice_get_within, same_Some, same_Some}
 use Rattle.std.specs.List.{position_or_len, list_any, flat_map}
-use Rattle.vll_core.specs.Machine.{with_entry, has_stored, first_call, next_call, rest_of, used, front}
-use Rattle.vll_core.specs.State.{Entered, Base, State, Turn, writes, records_before, open_of, is_clear, requested_of, unstored, has_aborted, Opening, open_claims}
+use Rattle.vll_core.specs.Machine.{with_entry, has_stored, first_call, next_call, rest_of, used, kept_for, ready, front}
+use Rattle.vll_core.specs.State.{Entered, Base, State, Turn, catalog_of, writes, records_before, open_of, is_clear, requested_of, unstored, has_aborted, Opening, open_claims}
 use Rattle.vll_record.specs.declared.claim.Claim.{Claim}
 use Rattle.std.proofs.lemmas.List.Elements.{All-set, All-tail}
 use Rattle.std.proofs.lemmas.List.Folds.{list_any-append}
 use Rattle.std.proofs.lemmas.Map.Views.{exact_unsigned_eq}
 use Rattle.vll_record.specs.Claim.{conflict, conflicts}
 use Rattle.std.proofs.lemmas.Bool.{or_parts}
-use Rattle.vll_core.specs.Moves.{IsProper, AreProper}
+use Rattle.vll_core.specs.Moves.{IsProper, EntersProper, AreProper}
 use Rattle.vll_proc.specs.declared.call.Call.{Call}
+use Rattle.vll_check.specs.Calls.{source, with_found}
 use Rattle.vll_sca.specs.declared.status.Status.{Status}
 use Rattle.vll_sca.specs.Status.{is_waiting, is_gone, is_running}
 use Rattle.vll_sca.specs.declared.status.Status.TheVariants.{Running, Gone, Waiting}
@@ -161,10 +162,14 @@ front_is s t h = by_position (nat_lt (position_or_len p s.entries) (length s.ent
     by_position true k = by_entry (position_or_len p s.entries) (slice_get s.entries (position_or_len p s.entries)) refl refl k
     by_position false k = absurd (cc k)
 
+-- a value is found
+pub kept_find : (o : Opening) (s : State) (values : List (Option ℕ)) → IsKept o s → IsKept o (record s { kept = values })
+kept_find o s values kept = record { entries = kept.entries; clear = kept.clear; turn = kept.turn; scripts = kept.scripts; room = kept.room }
+
 -- a turn opens
-pub kept_enter : (o : Opening) (s : State) (client : ℕ) (call : Call) (scripts : List (List Call)) → IsKept o s → IsProper o.base call → AreProper o.base scripts
-    → nat_le o.limit (length s.entries) ≡ false → IsKept o (record s { turn = Some (record { client = client; call = call; requested = 0; granted = true }); scripts = scripts })
-kept_enter o s client call scripts kept proper all room = record {
+pub kept_enter : (o : Opening) (s : State) (client : ℕ) (call : Call) (scripts : List (List Call)) (values : List (Option ℕ)) → IsKept o s → IsProper o.base call → AreProper o.base scripts
+    → nat_le o.limit (length s.entries) ≡ false → IsKept o (record s { turn = Some (record { client = client; call = call; requested = 0; granted = true }); scripts = scripts; kept = values })
+kept_enter o s client call scripts values kept proper all room = record {
   entries = kept.entries;
   clear = kept.clear;
   turn = λ turn is. subst (IsTurnKept o s.entries) (same_Some _ turn is) opened_turn;
@@ -175,26 +180,39 @@ kept_enter o s client call scripts kept proper all room = record {
     opened_turn : IsTurnKept o s.entries (record { client = client; call = call; requested = 0; granted = true })
     opened_turn = record { proper = proper; granted = λ g. conflict_none (flat_map open_of s.entries); room = le_no o.limit (length s.entries) room }
 
--- the next call of a script is proper, and so is the rest
-pub proper_next : (o : Base) (s : State) (client : ℕ) (call : Call) → AreProper o s.scripts → next_call s client ≡ Some call → IsProper o call
+-- the next call of a script is proper as it enters, and so is the rest
+pub proper_next : (o : Base) (s : State) (client : ℕ) (call : Call) → AreProper o s.scripts → next_call s client ≡ Some call → EntersProper o call
 proper_next o s client call all h = step (slice_get s.scripts client) refl h
   where
-    step : (x : Option (List Call)) → slice_get s.scripts client ≡ x → first_call x ≡ Some call → IsProper o call
+    step : (x : Option (List Call)) → slice_get s.scripts client ≡ x → first_call x ≡ Some call → EntersProper o call
     step None at k = absurd (cc k)
     step (Some []) at k = absurd (cc k)
-    step (Some (c ∷ more)) at k = all_at (IsProper o) (c ∷ more) 0 call (all_at (All (IsProper o)) s.scripts client (c ∷ more) all at) k
+    step (Some (c ∷ more)) at k = all_at (EntersProper o) (c ∷ more) 0 call (all_at (All (EntersProper o)) s.scripts client (c ∷ more) all at) k
+
+-- such a call is proper with the value that is kept for it
+pub proper_entering : (o : Base) (s : State) (client : ℕ) (next call : Call) → EntersProper o next → ready o s client next ≡ Some call → IsProper o call
+proper_entering o s client next call proper h = by_source (source (catalog_of o) next) proper h
+  where
+    by_kept : (x : Option ℕ) → ((v : ℕ) → IsProper o (with_found (catalog_of o) next v)) → option_map (with_found (catalog_of o) next) x ≡ Some call → IsProper o call
+    by_kept None all k = absurd (cc k)
+    by_kept (Some v) all k = subst (IsProper o) (same_Some (with_found (catalog_of o) next v) call k) (all v)
+
+    by_source : (x : Option ℕ) → elim x as (λ _. Type 0) [ None ↦ IsProper o next | Some r ↦ ((v : ℕ) → IsProper o (with_found (catalog_of o) next v)) ]
+        → elim x as (λ _. Option Call) [ None ↦ Some next | Some r ↦ option_map (with_found (catalog_of o) next) (kept_for s client) ] ≡ Some call → IsProper o call
+    by_source None own k = subst (IsProper o) (same_Some next call k) own
+    by_source (Some r) all k = by_kept (kept_for s client) all k
 
 pub proper_used : (o : Base) (s : State) (client : ℕ) → AreProper o s.scripts → AreProper o (used s client)
 proper_used o s client all = step (slice_get s.scripts client) refl
   where
-    rest : (cs : List Call) → All (IsProper o) cs → All (IsProper o) (rest_of cs)
+    rest : (cs : List Call) → All (EntersProper o) cs → All (EntersProper o) (rest_of cs)
     rest [] h = h
-    rest (c ∷ cs) h = All-tail (IsProper o) c cs h
+    rest (c ∷ cs) h = All-tail (EntersProper o) c cs h
 
     step : (x : Option (List Call)) → slice_get s.scripts client ≡ x
         → AreProper o (elim x as (λ _. List (List Call)) [ None ↦ s.scripts | Some script ↦ slice_set s.scripts client (rest_of script) ])
     step None at = all
-    step (Some script) at = All-set (All (IsProper o)) s.scripts client (rest_of script) (rest script (all_at (All (IsProper o)) s.scripts client script all at)) all
+    step (Some script) at = All-set (All (EntersProper o)) s.scripts client (rest_of script) (rest script (all_at (All (EntersProper o)) s.scripts client script all at)) all
 
 -- a request
 pub kept_request : (o : Opening) (s : State) (turn : Turn) (c : Claim) → IsKept o s → s.turn ≡ Some turn → slice_get turn.call.claims turn.requested ≡ Some c

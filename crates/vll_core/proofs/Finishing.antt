@@ -22,7 +22,7 @@ use Rattle.vll_core.specs.Queue.{QueueEntry, Queued, statuses, finished}
 use Rattle.vll_core.specs.Shown.{opening_of}
 use Rattle.vll_core.specs.Private.View.{entered_of, shown}
 use Rattle.vll_core.specs.Private.MachineKept.{IsMachine}
-use Rattle.vll_core.proofs.MachineState.{entry_changed, made_changed, fits_same, at_work_same, replied_changed, queued_finished, length_changed}
+use Rattle.vll_core.proofs.MachineState.{entry_changed, made_changed, ready_same, at_work_same, replied_changed, queued_finished, length_changed}
 use Rattle.vll_core.proofs.MachineSteps.{Refuses, Takes, taken_reached, taken_words}
 use Rattle.vll_core.proofs.RunningCalls.{RunsAt, now_at, now_shown, stored_by_work, stored_shown, replies}
 
@@ -154,8 +154,9 @@ core_finish {H} {places} a t call w reply core e is =
       works = core.works ∙ sym (length_changed a.queue.entries t change);
       room = core.room;
       nexts = core.nexts;
-      entries_fit = fits_same a.library.value a.queue.entries _ (sym made) core.entries_fit;
-      turn_fits = core.turn_fits;
+      kepts = core.kepts;
+      entries_ready = ready_same a.library.value a.queue.entries _ (sym made) core.entries_ready;
+      turn_ready = core.turn_ready;
       scripts_fit = core.scripts_fit;
       at_work = at_work_same a.library.value a.opening.value.items a.queue.entries _ a.work.items (sym made) core.at_work;
       replied =

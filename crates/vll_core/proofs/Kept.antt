@@ -47,7 +47,7 @@ pub record IsKept (o : Opening) (s : State) : Type 0 where
 -- what is kept is sound
 pub sound_of : (o : Opening) (s : State) → IsKept o s → IsSound o.base s
 sound_of o s kept = record {
-  frames = λ v e records r at none. proper_keeps o.base e.call records r (kept.entries v e at).proper none;
+  frames = λ v e records r many at none. proper_keeps o.base e.call records r many (kept.entries v e at).proper none;
   clear = kept.clear;
   waiting = λ v e at. (kept.entries v e at).waiting;
   stored = λ v e at. (kept.entries v e at).stored;

@@ -43,6 +43,7 @@ pub mod WordsKept
 pub mod MachineState
 pub mod MachineSteps
 pub mod Entering
+pub mod FindingValues
 pub mod Waking
 pub mod Admitting
 pub mod RunningCalls

@@ -149,8 +149,9 @@ core_load {H} {places} a t call w c new core l h at_work =
       works = length-set a.work.items t new ∙ core.works;
       room = core.room;
       nexts = core.nexts;
-      entries_fit = core.entries_fit;
-      turn_fits = core.turn_fits;
+      kepts = core.kepts;
+      entries_ready = core.entries_ready;
+      turn_ready = core.turn_ready;
       scripts_fit = core.scripts_fit;
       at_work =
           at_work_put a.library.value a.opening.value.items a.queue.entries a.work.items t new

@@ -7,7 +7,7 @@ use Rattle.std.proofs.lemmas.List.Folds.{fold-map}
 use Rattle.vll_proc.specs.declared.call.Call.{Call}
 use Rattle.vll_proc.specs.declared.call.Reply.{Reply}
 use Rattle.vll_proc.specs.Serial.{Made, before, end}
-use Rattle.vll_check.specs.Calls.{Fits}
+use Rattle.vll_check.specs.Calls.{IsReady}
 use Rattle.vll_check.specs.Catalog.{Catalog}
 use Rattle.vll_core.specs.declared.line.Line.{Line}
 use Rattle.vll_sca.specs.declared.status.Status.{Status}
@@ -151,14 +151,14 @@ like_item {A} {B} f xs ys t y same at =
 pub all_from : {X : Type 0} (P : X → Type 0) (xs : List X) → ((t : ℕ) (x : X) → slice_get xs t ≡ Some x → P x) → All P xs
 all_from P xs all = λ k d within. let at = entry_at xs k within in subst P (sym (get_or_from_slice_get xs k at.0 d at.1)) (all k at.0 at.1)
 
--- lists of the same calls fit alike
-pub fits_same : (c : Catalog) (es ds : List QueueEntry) → made_of es ≡ made_of ds → All (λ (e : QueueEntry). Fits c e.line.call) es → All (λ (e : QueueEntry). Fits c e.line.call) ds
-fits_same c es ds same all = all_from (λ (e : QueueEntry). Fits c e.line.call) ds (λ t d at. fits t d at)
+-- lists of the same calls are ready alike
+pub ready_same : (c : Catalog) (es ds : List QueueEntry) → made_of es ≡ made_of ds → All (λ (e : QueueEntry). IsReady c e.line.call) es → All (λ (e : QueueEntry). IsReady c e.line.call) ds
+ready_same c es ds same all = all_from (λ (e : QueueEntry). IsReady c e.line.call) ds (λ t d at. ready t d at)
   where
-    fits : (t : ℕ) (d : QueueEntry) → slice_get ds t ≡ Some d → Fits c d.line.call
-    fits t d at =
+    ready : (t : ℕ) (d : QueueEntry) → slice_get ds t ≡ Some d → IsReady c d.line.call
+    ready t d at =
         let like = like_item (λ (e : QueueEntry). (e.line.client, e.line.call)) es ds t d same at in
-        subst (Fits c) (ap (λ (m : Made). m.1) like.2) (all_at (λ (e : QueueEntry). Fits c e.line.call) es t like.0 all like.1)
+        subst (IsReady c) (ap (λ (m : Made). m.1) like.2) (all_at (λ (e : QueueEntry). IsReady c e.line.call) es t like.0 all like.1)
 
 -- works on the same calls are done alike
 pub at_work_same : (c : Catalog) (records : List ℕ) (es ds : List QueueEntry) (ws : List Work) → made_of es ≡ made_of ds → AreAtWork c records es ws → AreAtWork c records ds ws

@@ -1,5 +1,5 @@
 -- The procedures of the worked rows, calls of them, and openings.
-use Rattle.std.proofs.Common.{ℕ, List, [], ◌∷◌}
+use Rattle.std.proofs.Common.{ℕ, List, [], ◌∷◌, None}
 use Rattle.std.specs.Prelude.{codes}
 use Rattle.vll_record.specs.declared.claim.Mode.TheVariants.{Read, Write}
 use Rattle.vll_proc.specs.declared.call.Call.{Call}
@@ -39,22 +39,34 @@ read = record {
 abbrev pub seven : Proc
 seven = record { name = codes "seven"; args = 0; keys = []; body = Reply (Num 7) ∷ [] }
 
+abbrev pub via : Proc
+via = record {
+  name = codes "via";
+  args = 1;
+  keys = record { mode = Read; at = at.Arg 0 } ∷ record { mode = Write; at = at.Through 0 } ∷ [];
+  body = Set 1 (Add (Key 1) (Num 1)) ∷ Reply (Key 1) ∷ [];
+}
+
+-- the calls as a library makes them: nothing is found yet, so how many records there are plays no part
 abbrev pub transfer_call : ℕ → ℕ → ℕ → Call
-transfer_call a b n = call_of 0 transfer (a ∷ b ∷ n ∷ [])
+transfer_call a b n = call_of 0 0 transfer (a ∷ b ∷ n ∷ []) None
 
 abbrev pub bump_call : ℕ → Call
-bump_call r = call_of 1 bump (r ∷ [])
+bump_call r = call_of 0 1 bump (r ∷ []) None
 
 abbrev pub read_call : ℕ → Call
-read_call r = call_of 2 read (r ∷ [])
+read_call r = call_of 0 2 read (r ∷ []) None
 
 abbrev pub seven_call : Call
-seven_call = call_of 3 seven []
+seven_call = call_of 0 3 seven [] None
+
+abbrev pub via_call : ℕ → Call
+via_call r = call_of 0 4 via (r ∷ []) None
 
 -- these procedures on the given records, for at most `limit` calls, of which at most 8 wait; the analysis has 64 bits
 abbrev pub opening : List ℕ → ℕ → Opening
 opening records limit = record {
-  base = record { procs = transfer ∷ bump ∷ read ∷ seven ∷ []; records = records };
+  base = record { procs = transfer ∷ bump ∷ read ∷ seven ∷ via ∷ []; records = records };
   cap = 8;
   limit = limit;
   bits = 64;

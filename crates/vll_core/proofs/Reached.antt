@@ -14,10 +14,10 @@ use Rattle.vll_core.specs.Laws.{FrontTicketIsClear, ScanTicketIsClear, OpenTurns
 use Rattle.vll_core.proofs.SerialRun.{records_same, records_pushed}
 use Rattle.vll_core.proofs.Sound.{load_sees}
 use Rattle.vll_core.proofs.Kept.{IsKept, sound_of}
-use Rattle.vll_core.proofs.Events.{front_is, running_not_waiting, kept_load, kept_store, kept_release, kept_finish, kept_run, clear_above_gone, kept_enter, proper_next, proper_used, kept_request, kept_admit}
+use Rattle.vll_core.proofs.Events.{front_is, running_not_waiting, kept_load, kept_store, kept_release, kept_finish, kept_run, clear_above_gone, kept_find, kept_enter, proper_next, proper_entering, proper_used, kept_request, kept_admit}
 use Rattle.vll_core.proofs.Picked.{clear_picked, picked_is}
 use Rattle.vll_core.proofs.Waits.{capped_reached}
-use Rattle.vll_core.proofs.Changes.{Change, load_is, change_of, entered_by, handed, requested, admitted, fronted, picked, woken, loaded, stored, released, finished}
+use Rattle.vll_core.proofs.Changes.{Change, load_is, change_of, sourced, entered_by, handed, requested, admitted, fronted, picked, woken, loaded, stored, released, finished}
 
 kept_opened : (o : Opening) (scripts : List _) → AreProper o.base scripts → IsKept o (opened scripts)
 kept_opened o scripts proper = record {
@@ -29,8 +29,10 @@ kept_opened o scripts proper = record {
 }
 
 pub kept_change : (o : Opening) (s : State) (m : Move) (next : State) → IsKept o s → IsLawful o m → Change o s m next → IsKept o next
-kept_change o s m next kept lawful (entered_by client call is at room waits) = kept_enter o s client call _ kept (proper_next o.base s client call kept.scripts at) (proper_used o.base s client kept.scripts) room
-kept_change o s m next kept lawful (handed client call is room waits) = kept_enter o s client call _ kept lawful kept.scripts room
+kept_change o s m next kept lawful (sourced client call r at from) = kept_find o s _ kept
+kept_change o s m next kept lawful (entered_by client first call none at is room waits) =
+    kept_enter o s client call _ _ kept (proper_entering o.base s client first call (proper_next o.base s client first kept.scripts at) is) (proper_used o.base s client kept.scripts) room
+kept_change o s m next kept lawful (handed client call none room waits) = kept_enter o s client call _ _ kept lawful kept.scripts room
 kept_change o s m next kept lawful (requested turn c is at) = kept_request o s turn c kept is at
 kept_change o s m next kept lawful (admitted turn status is all here free) = kept_admit o s turn status kept is all here free
 kept_change o s m next kept lawful (fronted t f) = kept_run o s t f.entry kept f.at (clear_above_gone o s t f.entry.call.claims kept f.gone)
@@ -103,7 +105,8 @@ load_reached o s next t v e c reached at left is =
 
 -- the records before a ticket stay
 serial_change : (o : Opening) (s : State) (m : Move) (next : State) (t : ℕ) → Change o s m next → t ≤ length s.entries → records_before o.base next t ≡ records_before o.base s t
-serial_change o s m next t (entered_by client call none at room waits) within = refl
+serial_change o s m next t (sourced client call r at from) within = refl
+serial_change o s m next t (entered_by client first call none at is room waits) within = refl
 serial_change o s m next t (handed client call none room waits) within = refl
 serial_change o s m next t (requested turn c is at) within = refl
 serial_change o s m next t (admitted turn status is all here free) within = records_pushed o.base s _ None t within

@@ -123,7 +123,7 @@ pub finds : {H : Type 0} {places : H → ℕ → ℕ} (a : Inside H) (t : ℕ) (
 finds a t call w c kept r at =
     let within : c.id < a.library.value.records = all_at (λ (d : Claim). d.id < a.library.value.records) call.claims w.releases c r.well.within at in
     let there : c.id < length a.opening.value.items = omega (arith, within, kept.records) in
-    let claims = claims_few r.well.procedure call r.well.formed r.well.made in
+    let claims = claims_few a.library.value.records r.well.procedure call r.well.formed r.well.made in
     let before = slice_get_within call.claims w.releases c at in
     record {
       record_there = there;
@@ -191,8 +191,9 @@ core_release {H} {places} a t call w c words works r kept all at written put roo
       works = ap length put ∙ length-set a.work.items t (one_more w) ∙ kept.works;
       room = omega (arith, kept.room, room);
       nexts = kept.nexts;
-      entries_fit = kept.entries_fit;
-      turn_fits = kept.turn_fits;
+      kepts = kept.kepts;
+      entries_ready = kept.entries_ready;
+      turn_ready = kept.turn_ready;
       scripts_fit = kept.scripts_fit;
       at_work =
           subst (AreAtWork a.library.value a.opening.value.items a.queue.entries) (sym put)

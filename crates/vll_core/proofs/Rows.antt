@@ -1,13 +1,14 @@
 -- Worked lists of events: what each is answered, and the words at the end.
 use Rattle.std.proofs.Common.{◌≡◌, ℕ, List, [], ◌∷◌, map, refl, Result, Ok, Err, true, false}
-use Rattle.vll_proc.specs.declared.call.Reply.TheVariants.{Committed}
+use Rattle.vll_proc.specs.declared.call.Reason.TheVariants.{Moved}
+use Rattle.vll_proc.specs.declared.call.Reply.TheVariants.{Committed, Aborted}
 use Rattle.vll_proc.specs.declared.syntax.Expr.TheBlock.{hidden-the_row-Expr-0}
 use Rattle.vll_proc.specs.declared.syntax.Stmt.TheBlock.{hidden-the_row-Stmt-0}
 use denote.Hole.Carrier.{hidden}
 use Rattle.vll_core.specs.declared.event.Event.{Event}
 use Rattle.vll_core.specs.declared.event.Event.TheVariants as ev
 use Rattle.vll_core.specs.declared.seen.Seen.{Seen}
-use Rattle.vll_core.specs.declared.seen.Seen.TheVariants.{Opened, Claimed, Free, Blocked, Run, Loaded, Stored, Released, Replied}
+use Rattle.vll_core.specs.declared.seen.Seen.TheVariants.{Found, Opened, Claimed, Free, Blocked, Run, Loaded, Stored, Released, Replied}
 use Rattle.vll_core.specs.declared.refusal.Refusal.{Refusal}
 use Rattle.vll_core.specs.declared.refusal.Refusal.TheVariants.{TurnOpen, NoTurn, NoCall, Spent, Busy, NotRunning, OutOfStep, Idle}
 use Rattle.vll_sca.specs.declared.status.Status.{Status}
@@ -15,7 +16,7 @@ use Rattle.vll_sca.specs.declared.status.Status.TheVariants.{Running, Waiting, G
 use Rattle.vll_core.specs.State.{State, Opening, Entered, counter, value}
 use Rattle.vll_core.specs.Machine.{answers, opened, run, state_after, told}
 use Rattle.vll_core.specs.Moves.{Move, by_event, hand, move}
-use Rattle.vll_core.proofs.Procedures.{opening, bump_call, read_call, transfer_call, seven_call}
+use Rattle.vll_core.proofs.Procedures.{opening, bump_call, read_call, transfer_call, seven_call, via_call}
 
 -- the statuses at the end of a list of events
 abbrev statuses : Opening → State → List Event → List Status
@@ -256,3 +257,54 @@ refused_with_nothing_entered-end : word_pair (opening (0 ∷ []) 1) (opened ((bu
     (ev.Claim ∷ ev.Load 0 ∷ ev.Front ∷ ev.Enter 9 ∷ ev.Enter 0 ∷ ev.Finish 9 ∷ []) 0 ≡ (0, 0)
 unfolding hidden hidden-the_row-Expr-0 hidden-the_row-Stmt-0
 refused_with_nothing_entered-end = refl
+
+-- a call finds its second record by the value of the first: of three records, 2 leads to the last
+abbrev found_and_run : List Event
+found_and_run =
+    ev.Find 0 ∷ ev.Enter 0 ∷ ev.Claim ∷ ev.Claim ∷ ev.Admit ∷ ev.Load 0 ∷ ev.Load 0 ∷ ev.Store 0 ∷ ev.Release 0 ∷ ev.Release 0 ∷ ev.Finish 0 ∷ []
+
+found_record_is_claimed : answers (opening (2 ∷ 0 ∷ 7 ∷ []) 1) (opened ((via_call 0 ∷ []) ∷ [])) found_and_run
+    ≡ Ok (Found 2) ∷ Ok Opened ∷ Ok (Claimed 0 true) ∷ Ok (Claimed 0 true) ∷ Ok (Free 0) ∷ Ok (Loaded 2) ∷ Ok (Loaded 7) ∷ Ok Stored
+    ∷ Ok (Released 1) ∷ Ok (Released 4294967296) ∷ Ok (Replied (Committed (8 ∷ []))) ∷ []
+unfolding hidden hidden-the_row-Expr-0 hidden-the_row-Stmt-0
+found_record_is_claimed = refl
+
+found_record_is_claimed-end : (word_pair (opening (2 ∷ 0 ∷ 7 ∷ []) 1) (opened ((via_call 0 ∷ []) ∷ [])) found_and_run 0 ≡ (2, 0))
+    × (word_pair (opening (2 ∷ 0 ∷ 7 ∷ []) 1) (opened ((via_call 0 ∷ []) ∷ [])) found_and_run 1 ≡ (0, 0))
+    × (word_pair (opening (2 ∷ 0 ∷ 7 ∷ []) 1) (opened ((via_call 0 ∷ []) ∷ [])) found_and_run 2 ≡ (8, 0))
+unfolding hidden hidden-the_row-Expr-0 hidden-the_row-Stmt-0
+found_record_is_claimed-end = (refl, refl, refl)
+
+-- a value that has changed between its load and the call's own loads
+abbrev via_and_bump : State
+via_and_bump = opened ((via_call 0 ∷ []) ∷ (bump_call 0 ∷ []) ∷ [])
+
+abbrev bump_between : List Event
+bump_between =
+    ev.Find 0 ∷ ev.Enter 1 ∷ ev.Claim ∷ ev.Admit ∷ ev.Load 0 ∷ ev.Store 0 ∷ ev.Release 0 ∷ ev.Finish 0
+    ∷ ev.Enter 0 ∷ ev.Claim ∷ ev.Claim ∷ ev.Admit ∷ ev.Load 1 ∷ ev.Load 1 ∷ ev.Store 1 ∷ ev.Release 1 ∷ ev.Release 1 ∷ ev.Finish 1 ∷ []
+
+moved_value_aborts_the_call : answers (opening (1 ∷ 10 ∷ 20 ∷ []) 2) via_and_bump bump_between
+    ≡ Ok (Found 1) ∷ Ok Opened ∷ Ok (Claimed 0 true) ∷ Ok (Free 0) ∷ Ok (Loaded 1) ∷ Ok Stored ∷ Ok (Released 4294967296) ∷ Ok (Replied (Committed (2 ∷ [])))
+    ∷ Ok Opened ∷ Ok (Claimed 0 true) ∷ Ok (Claimed 0 true) ∷ Ok (Free 1) ∷ Ok (Loaded 2) ∷ Ok (Loaded 10) ∷ Err OutOfStep
+    ∷ Ok (Released 1) ∷ Ok (Released 4294967296) ∷ Ok (Replied (Aborted Moved)) ∷ []
+unfolding hidden hidden-the_row-Expr-0 hidden-the_row-Stmt-0
+moved_value_aborts_the_call = refl
+
+moved_value_aborts_the_call-end : (word_pair (opening (1 ∷ 10 ∷ 20 ∷ []) 2) via_and_bump bump_between 0 ≡ (2, 0))
+    × (word_pair (opening (1 ∷ 10 ∷ 20 ∷ []) 2) via_and_bump bump_between 1 ≡ (10, 0))
+    × (word_pair (opening (1 ∷ 10 ∷ 20 ∷ []) 2) via_and_bump bump_between 2 ≡ (20, 0))
+unfolding hidden hidden-the_row-Expr-0 hidden-the_row-Stmt-0
+moved_value_aborts_the_call-end = (refl, refl, refl)
+
+-- nothing enters before its source is loaded; only the next call of a script is found for, if it has an indirect key, and not in its client's own turn
+finds_are_refused : answers (opening (0 ∷ []) 2) via_and_bump (ev.Enter 0 ∷ ev.Find 1 ∷ ev.Find 9 ∷ ev.Find 0 ∷ ev.Enter 0 ∷ ev.Find 0 ∷ [])
+    ≡ Err OutOfStep ∷ Err OutOfStep ∷ Err NoCall ∷ Ok (Found 0) ∷ Ok Opened ∷ Err TurnOpen ∷ []
+unfolding hidden hidden-the_row-Expr-0 hidden-the_row-Stmt-0
+finds_are_refused = refl
+
+-- a value is found in another client's turn, and a refused Enter keeps it
+value_is_kept_through_another_turn : answers (opening (0 ∷ []) 2) via_and_bump (ev.Enter 1 ∷ ev.Find 0 ∷ ev.Enter 0 ∷ ev.Claim ∷ ev.Admit ∷ ev.Enter 0 ∷ [])
+    ≡ Ok Opened ∷ Ok (Found 0) ∷ Err TurnOpen ∷ Ok (Claimed 0 true) ∷ Ok (Free 0) ∷ Ok Opened ∷ []
+unfolding hidden hidden-the_row-Expr-0 hidden-the_row-Stmt-0
+value_is_kept_through_another_turn = refl

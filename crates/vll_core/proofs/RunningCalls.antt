@@ -10,9 +10,9 @@ use Rattle.vll_proc.specs.Made.{IsCallOf}
 use Rattle.vll_proc.specs.Serial.{Made, After, apply, applied_at, before, end}
 use Rattle.vll_proc.specs.WellFormed.{IsWellFormed}
 use Rattle.vll_proc.proofs.Kept.{length-applied}
-use Rattle.vll_check.specs.Calls.{Fits, CallsProcedure}
+use Rattle.vll_check.specs.Calls.{IsReady, CallsProcedure}
 use Rattle.vll_check.specs.Catalog.{Catalog}
-use Rattle.vll_check.proofs.Fitting.{fits_well}
+use Rattle.vll_check.proofs.Fitting.{ready_well}
 use Rattle.vll_core.specs.declared.line.Line.{Line}
 use Rattle.vll_core.specs.declared.machine.Machine.TheInside.{Inside}
 use Rattle.vll_sca.specs.declared.status.Status.{Status}
@@ -130,6 +130,7 @@ pub record RunsAt {H : Type 0} (a : Inside H) (t : ℕ) (call : Call) : Type 0 w
   pub own : entry.line.call ≡ call
   pub runs : is_running entry.status ≡ true
   pub calls : CallsProcedure a.library.value call
+  pub long : length (now_at a t) ≡ a.library.value.records
   pub within : All (λ (d : Claim). d.id < length (now_at a t)) call.claims
   pub at_work : IsAtWork a.library.value.procs call (now_at a t) work
 
@@ -144,8 +145,9 @@ runs_at a t call kept told = by_entry (slice_get a.queue.entries t) refl
         by_test true is =
             let runs = running_entry a t (record { entry = e; work = w; at = at; has = has }) true is in
             let own : e.line.call ≡ call = same_Some e.line.call call (ap (λ (o : Option Entered). option_map call_of o) (sym runs) ∙ told) in
-            let fits : Fits a.library.value call = subst (Fits a.library.value) own (all_at (λ (d : QueueEntry). Fits a.library.value d.line.call) a.queue.entries t e kept.entries_fit at) in
-            let calls : CallsProcedure a.library.value call = fits_well a.library.value call kept.catalog fits in
+            let ready : IsReady a.library.value call = subst (IsReady a.library.value) own (all_at (λ (d : QueueEntry). IsReady a.library.value d.line.call) a.queue.entries t e kept.entries_ready at) in
+            let calls : CallsProcedure a.library.value call = ready_well a.library.value call kept.catalog ready in
+            let long : length (now_at a t) ≡ a.library.value.records = length_before a.library.value.procs (made_of a.queue.entries) a.opening.value.items t ∙ sym kept.records in
             record {
               entry = e;
               work = w;
@@ -155,9 +157,8 @@ runs_at a t call kept told = by_entry (slice_get a.queue.entries t) refl
               own = own;
               runs = is;
               calls = calls;
-              within =
-                  subst (λ (n : ℕ). All (λ (d : Claim). d.id < n) call.claims)
-                  (kept.records ∙ sym (length_before a.library.value.procs (made_of a.queue.entries) a.opening.value.items t)) calls.within;
+              long = long;
+              within = subst (λ (n : ℕ). All (λ (d : Claim). d.id < n) call.claims) (sym long) calls.within;
               at_work = subst (λ (x : Call). IsAtWork a.library.value.procs x (now_at a t) w) own (kept.at_work t e w at has);
             }
 
@@ -195,11 +196,15 @@ procedure_lent a t call (Some p) r is = refl
 
 -- it is well-formed, and the call is one of it
 pub procedure_is : {H : Type 0} (a : Inside H) (t : ℕ) (call : Call) (o : Option (Bor Proc)) (p : Bor Proc) → RunsAt a t call → option_map (λ (q : Bor Proc). q.now) o ≡ slice_get a.library.value.procs call.number → o ≡ Some p
-    → (slice_get a.library.value.procs call.number ≡ Some p.now) × (IsWellFormed p.now × IsCallOf p.now call)
+    → (slice_get a.library.value.procs call.number ≡ Some p.now) × (IsWellFormed p.now × IsCallOf a.library.value.records p.now call)
 procedure_is a t call o p r is lent =
     let at : slice_get a.library.value.procs call.number ≡ Some p.now = sym is ∙ ap (λ (x : Option (Bor Proc)). option_map (λ (q : Bor Proc). q.now) x) lent in
     let same : r.calls.procedure ≡ p.now = same_Some r.calls.procedure p.now (sym r.calls.found ∙ at) in
-    (at, (subst IsWellFormed same r.calls.formed, subst (λ (q : Proc). IsCallOf q call) same r.calls.made))
+    (at, (subst IsWellFormed same r.calls.formed, subst (λ (q : Proc). IsCallOf a.library.value.records q call) same r.calls.made))
+
+-- also where there are as many records as before the ticket
+pub made_now : {H : Type 0} (a : Inside H) (t : ℕ) (call : Call) (r : RunsAt a t call) (p : Proc) → IsCallOf a.library.value.records p call → IsCallOf (length (now_at a t)) p call
+made_now a t call r p made = subst (λ (n : ℕ). IsCallOf n p call) (sym r.long) made
 
 -- what the work tells of loads and stores
 abbrev pub stored_by_work : Call → After → Work → Bool

@@ -63,9 +63,9 @@ pub apply_same : (procs : List Proc) (c : Call) (records : List ℕ) → is_abor
 apply_same procs c records h = proc_same (slice_get procs c.number) c records h
 
 -- a proper call keeps a record that it has no Write claim on
-pub proper_keeps : (o : Base) (call : Call) (records : List ℕ) (r : ℕ) → IsProper o call → list_any (λ (c : Claim). c.id == r) (writes call) ≡ false
+pub proper_keeps : (o : Base) (call : Call) (records : List ℕ) (r : ℕ) → length records ≡ length o.records → IsProper o call → list_any (λ (c : Claim). c.id == r) (writes call) ≡ false
     → slice_index (apply o.procs call records).records r ≡ slice_index records r
-proper_keeps o call records r proper none = proper.changes_its_own records r (λ w. cc (sym (mode_hit r call.claims w) ∙ none))
+proper_keeps o call records r many proper none = proper.changes_its_own records r many (λ w. cc (sym (mode_hit r call.claims w) ∙ none))
 
 pub made_at : (xs : List Entered) (n : ℕ) (e : Entered) → slice_get xs n ≡ Some e → slice_get (map made xs) n ≡ Some (made e)
 made_at [] n e h = absurd (cc h)

@@ -3,7 +3,7 @@ use Rattle.std.proofs.Common.{◌≡◌, ℕ, Bool, true, false, ◌==◌, not, 
 use Rattle.std.proofs.lemmas.Option.{slice_get_within, same_Some, same_Some}
 use Rattle.std.specs.List.{list_any}
 use Rattle.vll_core.specs.Machine.{has_stored}
-use Rattle.vll_core.specs.State.{Entered, Base, State, writes, records_before, is_clear, will_store, unstored, value, has_aborted}
+use Rattle.vll_core.specs.State.{Entered, Base, State, entered, writes, records_before, is_clear, will_store, unstored, value, has_aborted}
 use Rattle.vll_proc.specs.Serial.{apply}
 use Rattle.vll_record.specs.declared.claim.Claim.{Claim}
 use Rattle.std.proofs.lemmas.Map.Views.{exact_unsigned_eq}
@@ -13,14 +13,14 @@ use Rattle.vll_sca.specs.Status.{is_waiting}
 use Rattle.vll_core.proofs.Tests.{both_true, or_rest, not_yes, lt_no, lt_yes, none_pos, some_pos, at_least}
 use Rattle.vll_core.proofs.Places.{drop_none}
 use Rattle.vll_core.proofs.OwnClaims.{hit, write_hit, drop_any, meets, met_by}
-use Rattle.vll_core.proofs.SerialRun.{apply_same}
+use Rattle.vll_core.proofs.SerialRun.{apply_same, length_before}
 use Rattle.vll_core.proofs.Clear.{no_lower}
 use Rattle.vll_core.proofs.Unstored.{below_first, at_first, not_before, value_from}
 
 -- what loads and stores rest on
 pub record IsSound (o : Base) (s : State) : Type 0 where
   -- a call changes no record that it has no Write claim on
-  pub frames : (v : ℕ) (e : Entered) (records : List ℕ) (r : ℕ) → slice_get s.entries v ≡ Some e → list_any (λ (c : Claim). c.id == r) (writes e.call) ≡ false
+  pub frames : (v : ℕ) (e : Entered) (records : List ℕ) (r : ℕ) → length records ≡ length o.records → slice_get s.entries v ≡ Some e → list_any (λ (c : Claim). c.id == r) (writes e.call) ≡ false
       → slice_index (apply o.procs e.call records).records r ≡ slice_index records r
   pub clear : (v : ℕ) (e : Entered) → slice_get s.entries v ≡ Some e → is_waiting e.status ≡ false → is_clear s v e.call.claims ≡ true
   pub waiting : (v : ℕ) (e : Entered) → slice_get s.entries v ≡ Some e → is_waiting e.status ≡ true → e.stores ≡ 0
@@ -57,7 +57,7 @@ stays_unless o s r v d sound here never = step (has_aborted o s v d) (list_any (
     step : (a w : Bool) → has_aborted o s v d ≡ a → list_any (λ (x : Claim). x.id == r) (writes d.call) ≡ w
         → slice_index (apply o.procs d.call (records_before o s v)).records r ≡ slice_index (records_before o s v) r
     step true w is has = ap (λ xs. slice_index xs r) (apply_same o.procs d.call (records_before o s v) (both_true _ _ is).1)
-    step false false is has = sound.frames v d (records_before o s v) r here has
+    step false false is has = sound.frames v d (records_before o s v) r (length_before o.procs (entered s) o.records v) here has
     step false true is has = absurd (never is has)
 
 -- a call that is yet to store no record that it claims for writing, and has not aborted, has stored

@@ -202,7 +202,7 @@ still_at_work procs call records w next n is at = subst (IsAtWork procs call rec
 -- a call has at most 16 stores
 pub few_stores : {H : Type 0} (a : Inside H) (t : ℕ) (call : Call) (w : Work) (c : Claim) → Runs a t call w → slice_get (writes call) w.stores ≡ Some c → w.stores < 255
 few_stores a t call w c r left =
-    omega (arith, slice_get_within (writes call) w.stores c left, few_writes call.claims, claims_few r.well.procedure call r.well.formed r.well.made)
+    omega (arith, slice_get_within (writes call) w.stores c left, few_writes call.claims, claims_few a.library.value.records r.well.procedure call r.well.formed r.well.made)
 
 -- what the type of a machine keeps
 pub core_store : {H : Type 0} {places : H → ℕ → ℕ} (a : Inside H) (t place word v : ℕ) (call : Call) (w next : Work) (c : Claim) → IsMachine places a → Stores a t place word v call w next c → IsMachine places (stored_core a place word v next)
@@ -220,8 +220,9 @@ core_store {H} {places} a t place word v call w next c core f =
       works = length-set a.work.items place next ∙ core.works;
       room = core.room;
       nexts = core.nexts;
-      entries_fit = core.entries_fit;
-      turn_fits = core.turn_fits;
+      kepts = core.kepts;
+      entries_ready = core.entries_ready;
+      turn_ready = core.turn_ready;
       scripts_fit = core.scripts_fit;
       at_work = at_work_put a.library.value a.opening.value.items a.queue.entries a.work.items place next
           (λ e at. still_at_work a.library.value.procs e.line.call _ w next (w.stores + 1) f.more

@@ -16,12 +16,12 @@ use Rattle.vll_core.specs.Laws.{StoresMakeTheSerialState, OtherValuesStay}
 use Rattle.vll_core.proofs.Tests.{both_true, and_not_parts, none_pos}
 use Rattle.vll_core.proofs.Places.{drop_next, entry_at, get_set, at_push, get_pushed}
 use Rattle.vll_core.proofs.OwnClaims.{IsClaimedAt, claimed_at, at_filter, RisesFrom-writes, none_behind}
-use Rattle.vll_core.proofs.SerialRun.{before_more, apply_same, proper_keeps, made_at, records_same, records_pushed}
+use Rattle.vll_core.proofs.SerialRun.{length_before, before_more, apply_same, proper_keeps, made_at, records_same, records_pushed}
 use Rattle.vll_core.proofs.Unstored.{below_first, at_first, first_le, will_here, not_before, value_from, value_replaced, value_same}
 use Rattle.vll_core.proofs.Sound.{not_below, stored_sees}
 use Rattle.vll_core.proofs.Kept.{IsKept, sound_of}
 use Rattle.vll_core.proofs.Events.{running_not_waiting, kept_load, kept_store}
-use Rattle.vll_core.proofs.Changes.{Change, store_is, change_of, entered_by, handed, requested, admitted, fronted, picked, woken, loaded, stored, released, finished}
+use Rattle.vll_core.proofs.Changes.{Change, store_is, change_of, sourced, entered_by, handed, requested, admitted, fronted, picked, woken, loaded, stored, released, finished}
 use Rattle.vll_core.proofs.Reached.{kept_reached}
 
 abbrev pushed : State → Entered → Option Turn → State
@@ -36,7 +36,7 @@ abbrev Stays : Base → State → ℕ → ℕ → Entered → Type 0
 Stays o s r v d = slice_index (apply o.procs d.call (records_before o s v)).records r ≡ slice_index (records_before o s v) r
 
 pub value_admit : (o : Base) (s : State) (new : Entered) (turn : Option Turn) (r : ℕ) → new.stores ≡ 0
-    → ((records : List ℕ) → list_any (λ (c : Claim). c.id == r) (writes new.call) ≡ false → slice_index (apply o.procs new.call records).records r ≡ slice_index records r)
+    → ((records : List ℕ) → length records ≡ length o.records → list_any (λ (c : Claim). c.id == r) (writes new.call) ≡ false → slice_index (apply o.procs new.call records).records r ≡ slice_index records r)
     → value o (pushed s new turn) r ≡ value o s r
 value_admit o s new turn r fresh frames =
     let within : unstored o s r ≤ length s.entries = first_le (will_store o s r) s.entries 0 in
@@ -55,7 +55,7 @@ value_admit o s new turn r fresh frames =
 
     new_stays : (v : ℕ) → (has_aborted o (pushed s new turn) v new ≡ true) ⊎ (list_any (λ (c : Claim). c.id == r) (drop new.stores (writes new.call)) ≡ false) → Stays o (pushed s new turn) r v new
     new_stays v (inl is) = ap (λ xs. slice_index xs r) (apply_same o.procs new.call (records_before o (pushed s new turn) v) (both_true _ _ is).1)
-    new_stays v (inr none) = frames (records_before o (pushed s new turn) v) (ap (λ n. list_any (λ (c : Claim). c.id == r) (drop n (writes new.call))) (sym fresh) ∙ none)
+    new_stays v (inr none) = frames (records_before o (pushed s new turn) v) (length_before o.procs (entered (pushed s new turn)) o.records v) (ap (λ n. list_any (λ (c : Claim). c.id == r) (drop n (writes new.call))) (sym fresh) ∙ none)
 
     old_first : (n : ℕ) → unstored o s r < length s.entries → n < unstored o (pushed s new turn) r → unstored o s r ≤ n → ⊥
     old_first n low upto from =
@@ -163,12 +163,13 @@ store_reached o s next t e c seen reached at write is =
     (ap (λ (x : Entered). nat_lt x.loads (length x.call.claims)) (sym same) ∙ l.loaded) (ap (has_stored o.base s t) (sym same) ∙ l.left) write)
 
 other_values : (o : Opening) (s : State) (m : Move) (next : State) (r : ℕ) → IsKept o s → Change o s m next → is_on r (stored_by s m) ≡ false → value o.base next r ≡ value o.base s r
-other_values o s m next r kept (entered_by client call none at room waits) other = refl
+other_values o s m next r kept (sourced client call n at from) other = refl
+other_values o s m next r kept (entered_by client first call none at is room waits) other = refl
 other_values o s m next r kept (handed client call none room waits) other = refl
 other_values o s m next r kept (requested turn c is at) other = refl
 other_values o s m next r kept (admitted turn status is all here free) other =
     value_admit o.base s (record { client = turn.client; call = turn.call; status = status; loads = 0; stores = 0; releases = 0 }) None r refl
-    (λ records none. proper_keeps o.base turn.call records r (kept.turn turn is).proper none)
+    (λ records many none. proper_keeps o.base turn.call records r many (kept.turn turn is).proper none)
 other_values o s m next r kept (fronted t f) other = value_same o.base s t f.entry Running f.entry.releases r f.at
 other_values o s m next r kept (picked t p) other = value_same o.base s t p.entry Running p.entry.releases r p.at
 other_values o s m next r kept (woken t e at clear) other = value_same o.base s t e Running e.releases r at

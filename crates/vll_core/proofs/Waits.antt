@@ -7,7 +7,7 @@ use Rattle.vll_core.specs.Machine.{waiting, with_entry}
 use Rattle.vll_core.specs.Moves.{Move, IsReached, begun, moved}
 use Rattle.vll_core.specs.State.{Opening, Entered, State, Turn}
 use Rattle.vll_core.proofs.Tests.{le_no}
-use Rattle.vll_core.proofs.Changes.{Change, change_of, entered_by, handed, requested, admitted, fronted, picked, woken, loaded, stored, released, finished}
+use Rattle.vll_core.proofs.Changes.{Change, change_of, sourced, entered_by, handed, requested, admitted, fronted, picked, woken, loaded, stored, released, finished}
 
 abbrev does_wait : Entered → Bool
 does_wait e = is_waiting e.status
@@ -41,12 +41,13 @@ capped_put o s t e f capped at less =
       turn = λ turn is. let z = capped.turn turn is in omega (arith, fewer, z);
     }
 
-capped_opened : (o : Opening) (s : State) (turn : Turn) (scripts : List (List _)) → IsCapped o s → waiting s < o.cap → IsCapped o (record s { turn = Some turn; scripts = scripts })
-capped_opened o s turn scripts capped room = record { within = capped.within; turn = λ other is. room }
+capped_opened : (o : Opening) (s : State) (turn : Turn) (scripts : List (List _)) (values : List _) → IsCapped o s → waiting s < o.cap → IsCapped o (record s { turn = Some turn; scripts = scripts; kept = values })
+capped_opened o s turn scripts values capped room = record { within = capped.within; turn = λ other is. room }
 
 capped_change : (o : Opening) (s : State) (m : Move) (next : State) → IsCapped o s → Change o s m next → IsCapped o next
-capped_change o s m next capped (entered_by client call none at room waits) = capped_opened o s _ _ capped (le_no o.cap (waiting s) waits)
-capped_change o s m next capped (handed client call none room waits) = capped_opened o s _ s.scripts capped (le_no o.cap (waiting s) waits)
+capped_change o s m next capped (sourced client call r at from) = record { within = capped.within; turn = capped.turn }
+capped_change o s m next capped (entered_by client first call none at is room waits) = capped_opened o s _ _ _ capped (le_no o.cap (waiting s) waits)
+capped_change o s m next capped (handed client call none room waits) = capped_opened o s _ s.scripts s.kept capped (le_no o.cap (waiting s) waits)
 capped_change o s m next capped (requested turn c is at) = record { within = capped.within; turn = λ other same. capped.turn turn is }
 capped_change o s m next capped (admitted turn status is all here free) =
     let new : Entered = record { client = turn.client; call = turn.call; status = status; loads = 0; stores = 0; releases = 0 } in

@@ -23,7 +23,7 @@ use Rattle.vll_core.specs.Private.MachineKept.{IsMachine, made_of}
 use Rattle.vll_core.proofs.Events.{front_is}
 use Rattle.vll_core.proofs.Picked.{picked_is}
 use Rattle.vll_core.proofs.QueueLaws.{machine_front}
-use Rattle.vll_core.proofs.MachineState.{shown_at, entry_shown, map_shown, statuses_shown, entry_changed, length_changed, made_changed, fits_same, at_work_same, replied_changed, queued_started}
+use Rattle.vll_core.proofs.MachineState.{shown_at, entry_shown, map_shown, statuses_shown, entry_changed, length_changed, made_changed, ready_same, at_work_same, replied_changed, queued_started}
 use Rattle.vll_core.proofs.MachineSteps.{Refuses, Takes, taken_reached, taken_words}
 
 -- ---- an event that finds a waiting ticket, or none
@@ -89,8 +89,9 @@ core_wake {H} {places} a e found t core wakes some =
       works = core.works ∙ sym (length_changed a.queue.entries t (λ e. record e { status = Running }));
       room = core.room;
       nexts = core.nexts;
-      entries_fit = fits_same a.library.value a.queue.entries b.queue.entries (sym calls) core.entries_fit;
-      turn_fits = core.turn_fits;
+      kepts = core.kepts;
+      entries_ready = ready_same a.library.value a.queue.entries b.queue.entries (sym calls) core.entries_ready;
+      turn_ready = core.turn_ready;
       scripts_fit = core.scripts_fit;
       at_work = at_work_same a.library.value a.opening.value.items a.queue.entries b.queue.entries a.work.items (sym calls) core.at_work;
       replied = replied_changed a.queue.entries a.work.items t (λ e. record e { status = Running }) (λ e w at has gone. absurd (cc gone)) core.replied;

@@ -1,4 +1,4 @@
--- Draining a machine: the open turn is closed and each call brought to its end, by events other than Enter and Scan.
+-- Draining a machine: the open turn is closed and each call brought to its end, by events other than Find, Enter and Scan.
 use Rattle.std.specs.Prelude.{◌≡◌, ℕ, ◌+◌, ◌*◌, Bool, true, false, List, length, Option, Some, None, All, is_ok, slice_index, if◌then◌else◌}
 use Rattle.std.specs.List.{sum_by}
 use Rattle.vll_proc.specs.Serial.{end}
@@ -8,17 +8,18 @@ use Rattle.vll_core.specs.declared.event.Event.TheVariants as event
 use Rattle.vll_core.specs.State.{Base, Opening, Entered, Turn, State, entered, counter, value}
 use Rattle.vll_core.specs.Machine.{answers, run}
 
--- an event is Enter or Scan
-abbrev pub is_enter_or_scan : Event → Bool
-is_enter_or_scan (event.Enter client) = true
-is_enter_or_scan event.Scan = true
-is_enter_or_scan other = false
+-- an event is Find, Enter or Scan
+abbrev pub begins_or_scans : Event → Bool
+begins_or_scans (event.Find client) = true
+begins_or_scans (event.Enter client) = true
+begins_or_scans event.Scan = true
+begins_or_scans other = false
 
--- so many events lead from a state to another: none of them is Enter or Scan, and none is refused
+-- so many events lead from a state to another: none of them is Find, Enter or Scan, and none is refused
 pub record IsDrained (o : Opening) (s next : State) (made : ℕ) : Type 0 where
   pub events : List Event
   pub number : length events ≡ made
-  pub others : All (λ e. is_enter_or_scan e ≡ false) events
+  pub others : All (λ e. begins_or_scans e ≡ false) events
   pub taken : All (λ answer. is_ok answer ≡ true) (answers o s events)
   pub leads : run o s events ≡ next
 

@@ -6,7 +6,7 @@ use Rattle.vll_record.specs.Counter.{claims_on}
 use Rattle.vll_proc.specs.declared.call.Call.{Call}
 use Rattle.vll_proc.specs.declared.syntax.Proc.{Proc}
 use Rattle.vll_proc.specs.Serial.{Made, answer, before, end}
-use Rattle.vll_check.specs.Calls.{Fits}
+use Rattle.vll_check.specs.Calls.{Fits, IsReady}
 use Rattle.vll_check.specs.Catalog.{Catalog, IsCatalog}
 use Rattle.vll_core.specs.declared.event.Event.{Event}
 use Rattle.vll_core.specs.declared.event.Event.TheVariants as event
@@ -99,15 +99,17 @@ FinishedMachinesHaveTheSerialEnd =
     → ((t : ℕ) (e : Entered) → slice_get s.entries t ≡ Some e → is_gone e.status ≡ true)
     × ((r : ℕ) → (value o.base s r ≡ slice_index (end o.base.procs (entered s) o.base.records) r) × (counter s r ≡ 0))
 
--- a call that the library makes is proper on its procedures, whatever the records
-abbrev pub FittingCallIsProper : Type 0
-FittingCallIsProper = (c : Catalog) (records : List ℕ) (call : Call) → IsCatalog c → Fits c call → IsProper (record { procs = c.procs; records = records }) call
+-- a call that is ready is proper on the procedures of its library, whatever is in the records
+abbrev pub ReadyCallIsProper : Type 0
+ReadyCallIsProper =
+    (c : Catalog) (records : List ℕ) (call : Call)
+    → IsCatalog c → c.records ≡ length records → IsReady c call → IsProper (record { procs = c.procs; records = records }) call
 
 -- scripts of calls that the library makes are proper
 abbrev pub FittingScriptsAreProper : Type 0
 FittingScriptsAreProper =
     (c : Catalog) (records : List ℕ) (scripts : List (List Call))
-    → IsCatalog c → All (All (Fits c)) scripts → AreProper (record { procs = c.procs; records = records }) scripts
+    → IsCatalog c → c.records ≡ length records → All (All (Fits c)) scripts → AreProper (record { procs = c.procs; records = records }) scripts
 
 -- what the records are before a call of a list, or after its last one, is the same whatever calls come behind the list
 abbrev pub LaterCallsLeaveSerialStates : Type 0

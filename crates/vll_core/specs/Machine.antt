@@ -1,8 +1,9 @@
 -- The plain machine: each event is refused, by the lowest number that stands, or has an answer and a next state.
-use Rattle.std.specs.Prelude.{ℕ, ◌+◌, Bool, true, false, ◌&&◌, ◌||◌, ◌==◌, not, nat_lt, nat_le, List, [], ◌∷◌, ◌++◌, map, length, count_by, position, Option, Some, None, is_some, slice_get, slice_set, Result, Ok, Err, if◌then◌else◌}
+use Rattle.std.specs.Prelude.{ℕ, ◌+◌, Bool, true, false, ◌&&◌, ◌||◌, ◌==◌, not, nat_lt, nat_le, List, [], ◌∷◌, ◌++◌, map, length, count_by, position, Option, Some, None, is_some, slice_get, slice_set, option_map, Result, Ok, Err, if◌then◌else◌}
 use Rattle.vll_record.specs.declared.claim.Claim.{Claim}
 use Rattle.vll_record.specs.Claim.{conflict}
 use Rattle.vll_proc.specs.declared.call.Call.{Call}
+use Rattle.vll_check.specs.Calls.{source, with_found}
 use Rattle.vll_sca.specs.declared.status.Status.{Status}
 use Rattle.vll_sca.specs.declared.status.Status.TheVariants.{Running, Waiting, Gone}
 use Rattle.vll_sca.specs.Status.{is_waiting, is_running, is_gone}
@@ -11,10 +12,10 @@ use Rattle.vll_sca.specs.Scan.{scan}
 use Rattle.vll_core.specs.declared.event.Event.{Event}
 use Rattle.vll_core.specs.declared.event.Event.TheVariants as event
 use Rattle.vll_core.specs.declared.seen.Seen.{Seen}
-use Rattle.vll_core.specs.declared.seen.Seen.TheVariants.{Opened, Claimed, Free, Blocked, Run, Loaded, Stored, Released, Replied}
+use Rattle.vll_core.specs.declared.seen.Seen.TheVariants.{Found, Opened, Claimed, Free, Blocked, Run, Loaded, Stored, Released, Replied}
 use Rattle.vll_core.specs.declared.refusal.Refusal.{Refusal}
 use Rattle.vll_core.specs.declared.refusal.Refusal.TheVariants.{TurnOpen, NoTurn, NoCall, Spent, Busy, NotRunning, OutOfStep, Idle}
-use Rattle.vll_core.specs.State.{Base, Opening, Entered, Turn, State, open_claims, counter, writes, reply_at, has_aborted, value}
+use Rattle.vll_core.specs.State.{Base, catalog_of, Opening, Entered, Turn, State, open_claims, counter, writes, reply_at, has_aborted, value}
 
 -- a refusal, or an answer and the next state
 abbrev pub Outcome : Type 0
@@ -57,6 +58,23 @@ rest_of (x ∷ xs) = xs
 abbrev pub used : State → ℕ → List (List Call)
 used s c = elim (slice_get s.scripts c) [ None ↦ s.scripts | Some script ↦ slice_set s.scripts c (rest_of script) ]
 
+-- the open turn, if there is one, is this client's
+abbrev pub is_turn_of : ℕ → Option Turn → Bool
+is_turn_of c None = false
+is_turn_of c (Some turn) = turn.client == c
+
+-- the value that is kept for a client's next call, if there is one
+abbrev pub kept_for : State → ℕ → Option ℕ
+kept_for s c = elim (slice_get s.kept c) [ None ↦ None | Some v ↦ v ]
+
+-- what is kept, with another value or none for a client
+abbrev pub keeping : State → ℕ → Option ℕ → List (Option ℕ)
+keeping s c v = slice_set s.kept c v
+
+-- a client's call as it enters: with the value that is kept for it, if it has an indirect key; it does not enter where none is kept
+abbrev pub ready : Base → State → ℕ → Call → Option Call
+ready o s c call = elim (source (catalog_of o) call) [ None ↦ Some call | Some r ↦ option_map (with_found (catalog_of o) call) (kept_for s c) ]
+
 -- an entry, if it is Running
 abbrev pub if_running : Option Entered → Option Entered
 if_running None = None
@@ -90,12 +108,17 @@ abbrev pub has_stored : Base → State → ℕ → Entered → Bool
 has_stored o s t e =
     (e.loads == length e.call.claims) && (has_aborted o s t e || (e.stores == length (writes e.call)))
 
--- a turn opens for a call
-abbrev pub enter : Opening → State → ℕ → Call → List (List Call) → Outcome
-enter o s c call scripts =
+-- the source of a client's next call is loaded, and its value kept
+abbrev pub find : Opening → State → ℕ → ℕ → Outcome
+find o s c r = Ok (Found (value o.base s r), record s { kept = keeping s c (Some (value o.base s r)) })
+
+-- a turn opens for a call, if it may enter
+abbrev pub enter : Opening → State → ℕ → Option Call → List (List Call) → List (Option ℕ) → Outcome
+enter o s c entering scripts kept =
     refuse_if (nat_le o.limit (length s.entries)) Spent
     (refuse_if (nat_le o.cap (waiting s)) Busy
-    (Ok (Opened, record s { turn = Some (record { client = c; call = call; requested = 0; granted = true }); scripts = scripts })))
+    (or_refuse entering OutOfStep (λ call.
+    Ok (Opened, record s { turn = Some (record { client = c; call = call; requested = 0; granted = true }); scripts = scripts; kept = kept }))))
 
 -- a request is granted where no open claim conflicts with it
 abbrev pub request : State → Turn → Claim → Outcome
@@ -112,7 +135,13 @@ admit s turn =
 
 -- what an event is answered, and the next state
 abbrev pub step : Opening → State → Event → Outcome
-step o s (event.Enter c) = refuse_if (is_some s.turn) TurnOpen (or_refuse (next_call s c) NoCall (λ call. enter o s c call (used s c)))
+step o s (event.Find c) =
+    refuse_if (is_turn_of c s.turn) TurnOpen
+    (or_refuse (next_call s c) NoCall (λ call.
+    or_refuse (source (catalog_of o.base) call) OutOfStep (find o s c)))
+step o s (event.Enter c) =
+    refuse_if (is_some s.turn) TurnOpen
+    (or_refuse (next_call s c) NoCall (λ call. enter o s c (ready o.base s c call) (used s c) (keeping s c None)))
 step o s event.Claim = or_refuse s.turn NoTurn (λ turn. or_refuse (slice_get turn.call.claims turn.requested) OutOfStep (request s turn))
 step o s event.Admit = or_refuse s.turn NoTurn (λ turn. refuse_if (nat_lt turn.requested (length turn.call.claims)) OutOfStep (admit s turn))
 step o s event.Front = refuse_if (is_some s.turn) TurnOpen (or_refuse (front s) Idle (λ t. Ok (Run t, with_status s t Running)))
@@ -136,9 +165,9 @@ step o s (event.Finish t) =
     refuse_if (not (has_stored o.base s t e) || nat_lt e.releases (length e.call.claims)) OutOfStep
     (Ok (Replied (reply_at o.base s t e), with_entry s t (record e { status = Gone })))))
 
--- the machine begins with nothing entered
+-- the machine begins with nothing entered and nothing kept
 abbrev pub opened : List (List Call) → State
-opened scripts = record { entries = []; turn = None; scripts = scripts }
+opened scripts = record { entries = []; turn = None; scripts = scripts; kept = map (λ (script : List Call). None) scripts }
 
 -- the state after an event: a refusal changes nothing
 abbrev pub state_after : State → Outcome → State

@@ -1,10 +1,11 @@
 -- Lawful moves: the events of the machine, and two that are wider than Front and Scan, and than Enter. The laws hold of them all.
-use Rattle.std.specs.Prelude.{◌≡◌, ◌≢◌, ℕ, Bool, false, not, List, Option, Some, None, Ok, All, is_some, slice_get, slice_index, ◌==◌, if◌then◌else◌}
+use Rattle.std.specs.Prelude.{◌≡◌, ◌≢◌, ℕ, Bool, false, not, List, length, Option, Some, None, Ok, All, is_some, slice_get, slice_index, ◌==◌, if◌then◌else◌}
 use Rattle.vll_record.specs.declared.claim.Claim.{Claim}
 use Rattle.vll_record.specs.declared.claim.Mode.TheVariants.{Write}
 use Rattle.vll_record.specs.Claim.{IsRising, mode_on}
 use Rattle.vll_proc.specs.declared.call.Call.{Call}
 use Rattle.vll_proc.specs.Serial.{apply}
+use Rattle.vll_check.specs.Calls.{source, with_found}
 use Rattle.vll_core.specs.declared.event.Event.{Event}
 use Rattle.vll_core.specs.declared.event.Event.TheVariants as event
 use Rattle.vll_core.specs.declared.seen.Seen.{Seen}
@@ -12,17 +13,21 @@ use Rattle.vll_core.specs.declared.seen.Seen.TheVariants.{Run}
 use Rattle.vll_sca.specs.declared.status.Status.TheVariants.{Running}
 use Rattle.vll_core.specs.declared.refusal.Refusal.TheVariants.{TurnOpen, Idle}
 use Rattle.vll_sca.specs.Status.{is_waiting}
-use Rattle.vll_core.specs.State.{Base, Opening, Entered, Turn, State, delta_on, writes, is_clear}
+use Rattle.vll_core.specs.State.{Base, catalog_of, Opening, Entered, Turn, State, delta_on, writes, is_clear}
 use Rattle.vll_core.specs.Machine.{Outcome, refuse_if, or_refuse, enter, with_status, step, opened}
 
--- a call of checked procedures: its claims rise by record number, and it changes no record that it does not claim for writing
+-- a call of checked procedures: its claims rise by record number, and it changes none of the records that it does not claim for writing
 pub record IsProper (o : Base) (call : Call) : Type 0 where
   pub rising : IsRising call.claims
-  pub changes_its_own : (records : List ℕ) (r : ℕ) → mode_on call.claims r ≢ Some Write → slice_index (apply o.procs call records).records r ≡ slice_index records r
+  pub changes_its_own : (records : List ℕ) (r : ℕ) → length records ≡ length o.records → mode_on call.claims r ≢ Some Write → slice_index (apply o.procs call records).records r ≡ slice_index records r
 
--- each call of each script is proper
+-- a call is proper as it enters: as it is, or with whatever value is found where it has an indirect key
+abbrev pub EntersProper : Base → Call → Type 0
+EntersProper o call = elim (source (catalog_of o) call) [ None ↦ IsProper o call | Some r ↦ ((v : ℕ) → IsProper o (with_found (catalog_of o) call v)) ]
+
+-- each call of each script is
 abbrev pub AreProper : Base → List (List Call) → Type 0
-AreProper o scripts = All (All (IsProper o)) scripts
+AreProper o scripts = All (All (EntersProper o)) scripts
 
 -- an event; a waiting ticket that is clear begins to run, also in an open turn; or a turn opens for a call that is handed in
 pub data Move : Type 0 where
@@ -39,7 +44,7 @@ if_waiting (Some e) = if is_waiting e.status then Some e else None
 abbrev pub move : Opening → State → Move → Outcome
 move o s (by_event e) = step o s e
 move o s (wake t) = or_refuse (if_waiting (slice_get s.entries t)) Idle (λ e. refuse_if (not (is_clear s t e.call.claims)) Idle (Ok (Run t, with_status s t Running)))
-move o s (hand client call) = refuse_if (is_some s.turn) TurnOpen (enter o s client call s.scripts)
+move o s (hand client call) = refuse_if (is_some s.turn) TurnOpen (enter o s client (Some call) s.scripts s.kept)
 
 -- a call that is handed in is proper
 abbrev pub IsLawful : Opening → Move → Type 0

@@ -5,7 +5,7 @@ use Rattle.vll_proc.specs.declared.call.Call.{Call}
 use Rattle.vll_check.specs.Catalog.{Catalog}
 use Rattle.vll_record.specs.Word.{value_word_of, pair_word_of_record}
 use Rattle.vll_core.specs.declared.config.Config.{Config}
-use Rattle.vll_core.specs.State.{Base, Opening, State, counter, value}
+use Rattle.vll_core.specs.State.{Base, catalog_of, Opening, State, counter, value}
 use Rattle.vll_core.specs.Machine.{Outcome, opened, state_after}
 
 -- what is fixed from the opening on, the hash as it was handed in, and the state of the machine
@@ -23,7 +23,7 @@ opening_of place c = record { base = c.base; cap = c.cap; limit = c.limit; bits 
 
 -- the library of a machine: its procedures, checked for its number of records
 abbrev pub library_of : {H : Type 0} → Shown H → Catalog
-library_of c = record { records = length c.base.records; procs = c.base.procs }
+library_of c = catalog_of c.base
 
 -- a machine in which nothing is entered
 abbrev pub begun : {H : Type 0} → Catalog → List ℕ → List (Vec Call) → Config → H → Shown H

@@ -9,12 +9,17 @@ use Rattle.vll_proc.specs.declared.call.Reply.{Reply}
 use Rattle.vll_proc.specs.declared.call.Reply.TheVariants.{Committed, Aborted}
 use Rattle.vll_proc.specs.declared.syntax.Proc.{Proc}
 use Rattle.vll_proc.specs.Serial.{Made, apply, before}
+use Rattle.vll_check.specs.Catalog.{Catalog}
 use Rattle.vll_sca.specs.declared.status.Status.{Status}
 
 -- the procedures, and the records as they were at the opening
 pub record Base : Type 0 where
   pub procs : List Proc
   pub records : List ℕ
+
+-- the catalog of the library: the procedures, checked for as many records
+abbrev pub catalog_of : Base → Catalog
+catalog_of base = record { records = length base.records; procs = base.procs }
 
 -- what is fixed from the opening on: the base, how many calls may be entered and how many may wait, and for the
 -- contention analysis the hash as the places that it gives to records, and the number of bits
@@ -41,11 +46,12 @@ pub record Turn : Type 0 where
   pub requested : ℕ
   pub granted : Bool
 
--- the entered calls in order, the open turn, and of each script the calls that are left
+-- the entered calls in order, the open turn, and of each script the calls that are left and the value that is kept for the first of these
 pub record State : Type 0 where
   pub entries : List Entered
   pub turn : Option Turn
   pub scripts : List (List Call)
+  pub kept : List (Option ℕ)
 
 -- an entered call as a client and its call
 abbrev pub made : Entered → Made

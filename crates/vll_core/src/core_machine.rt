@@ -1,5 +1,5 @@
 ghost use Rattle.std.specs.Prelude.{◌≡◌, ◌≤◌, ◌<◌, ℕ, All, length, IfOk, option_map, slice_get};
-ghost use Rattle.vll_check.specs.Calls.{Fits};
+ghost use Rattle.vll_check.specs.Calls.{Fits, IsReady};
 ghost use Rattle.vll_core.specs.Faults.{Refuses, open_fault};
 ghost use Rattle.vll_core.specs.Journal.{journal_of};
 ghost use Rattle.vll_core.specs.Machine.{entered, running_count, step, told, waiting};
@@ -80,11 +80,11 @@ impl<H: Place> Core<H> {
     }
 
     /// Opens a turn for a call that is handed in, for a client that has a script, an empty one too; the script
-    /// stays as it is. Refused, in this order, by `TurnOpen`, `Spent` and `Busy`, as Enter is. A refusal
+    /// and what is kept for it stay as they are. Refused, in this order, by `TurnOpen`, `Spent` and `Busy`, as Enter is. A refusal
     /// changes nothing. It takes no memory.
     pub fn enter(&mut self, client: u32, call: Call) -> Result<(), Refusal>
         requires client { client < length self.old.state.scripts }
-        requires fits { Fits (library_of self.old) call }
+        requires ready { IsReady (library_of self.old) call }
         ensures answer { result ≡ entered (move (opening_of H.place_of self.old) self.old.state (hand client call)) }
         ensures state { self.new ≡ after self.old (move (opening_of H.place_of self.old) self.old.state (hand client call)) }
     {

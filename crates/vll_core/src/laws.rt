@@ -1,7 +1,7 @@
 // Laws of the machine of atomic steps, each the contract of a function that does nothing. A lawful
 // move is an event of the machine, the start of any waiting ticket that is clear, or the opening of
 // a turn for a call that is handed in.
-ghost use Rattle.vll_core.specs.Laws.{EventListsReach, RunningTicketsAreClear, FrontTicketIsClear, ScanTicketIsClear, OpenTurnsHaveRoom, WaitingStaysWithinTheCap, LoadsSeeTheSerialState, CountersChangeByDeltas, StoresMakeTheSerialState, OtherValuesStay, SerialStatesStay, CountersStayWithinTheLimit, FinishedMachinesHaveTheSerialEnd, FittingCallIsProper, FittingScriptsAreProper, LaterCallsLeaveSerialStates, LaterCallsLeaveSerialAnswers};
+ghost use Rattle.vll_core.specs.Laws.{EventListsReach, RunningTicketsAreClear, FrontTicketIsClear, ScanTicketIsClear, OpenTurnsHaveRoom, WaitingStaysWithinTheCap, LoadsSeeTheSerialState, CountersChangeByDeltas, StoresMakeTheSerialState, OtherValuesStay, SerialStatesStay, CountersStayWithinTheLimit, FinishedMachinesHaveTheSerialEnd, ReadyCallIsProper, FittingScriptsAreProper, LaterCallsLeaveSerialStates, LaterCallsLeaveSerialAnswers};
 
 /// Every list of events, refused ones among them, reaches a state of which the other laws hold.
 #[tactic(auto, using(crate::proofs::Reached::lists_reach))]
@@ -48,7 +48,6 @@ pub fn loads_see_the_serial_state()
 
 /// A request adds its claim's delta to the counter of its record, a release takes it, and nothing
 /// else changes a counter.
-#[tactic(auto, using(crate::proofs::Counters::counters_change))]
 pub fn counters_change_by_deltas()
     ensures { CountersChangeByDeltas }
 {}
@@ -85,10 +84,10 @@ pub fn finished_machines_have_the_serial_end()
     ensures { FinishedMachinesHaveTheSerialEnd }
 {}
 
-/// Calls that a library makes are proper, so a machine over its procedures meets what the laws ask
-/// for: in its scripts, and where a call is handed in.
+/// Calls that are ready are proper, and those that a library makes are so as they enter, so a machine over its procedures
+/// meets what the laws ask for: where a call is handed in, and in its scripts.
 pub fn fitting_calls_are_proper()
-    ensures call { FittingCallIsProper }
+    ensures call { ReadyCallIsProper }
     ensures scripts { FittingScriptsAreProper }
 {}
 

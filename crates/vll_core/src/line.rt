@@ -21,6 +21,7 @@ impl Line {
             number: 0,
             arg_count: 0,
             args: [0; MOST_ARGS],
+            found: None,
             claims: Claims::new(),
             cells: [0; MOST_CLAIMS],
         };

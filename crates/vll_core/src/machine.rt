@@ -60,6 +60,8 @@ pub struct Machine<H: Place> {
     scripts: Vec<Vec<Call>>,
     // The index of each script's next call.
     next: Vec<usize>,
+    // The value that is kept for it.
+    kept: Vec<Option<u64>>,
 }
 
 impl<H: Place> Model for Machine<H> {
@@ -121,6 +123,7 @@ impl<H: Place + Drop> Machine<H> {
         let words = words_of(alloc, records)?;
         let work = list_with_room(alloc, config.limit as usize, Work::blank())?;
         let next = vec![in alloc; 0; scripts.len()].map_err(|_| AllocError)?;
+        let kept = vec![in alloc; None; scripts.len()].map_err(|_| AllocError)?;
         Ok(Machine {
             library: Snapshot::of(library),
             opening: Snapshot::of(records),
@@ -130,6 +133,7 @@ impl<H: Place + Drop> Machine<H> {
             turn: None,
             scripts,
             next,
+            kept,
         })
     }
 
@@ -153,7 +157,8 @@ impl<H: Place> Machine<H> {
         ensures state { self.new ≡ after self.old (step (opening_of H.place_of self.old) self.old.state event) }
     {
         match event {
-            Event::Enter(client) => self.enter_next(client),
+            Event::Find(client) => self.find(library, client),
+            Event::Enter(client) => self.enter_next(library, client),
             Event::Claim => self.claim(),
             Event::Admit => self.admit(library),
             Event::Front => self.front(),

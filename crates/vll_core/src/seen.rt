@@ -4,6 +4,8 @@ use vll_proc::Reply;
 /// What an event that is not refused answers.
 #[derive(Clone, Copy)]
 pub enum Seen {
+    /// To Find: the source's value.
+    Found(u64),
     /// To Enter: the turn is open.
     Opened,
     /// To Claim: the pair word before the request, and whether the request was granted.

@@ -28,12 +28,13 @@ impl Work {
     /// The work of a call that has done nothing yet. The body of a call without claims has run.
     pub(crate) fn new(call: &Call, procedure: &Proc) -> Work
         requires formed { IsWellFormed procedure.now }
-        requires made { IsCallOf procedure.now call.now }
+        requires made { (n : ℕ) × IsCallOf n procedure.now call.now }
         ensures loads { result.loads ≡ 0 }
         ensures stores { result.stores ≡ 0 }
         ensures releases { result.releases ≡ 0 }
         ensures at_work { (procs : List Proc) (records : List ℕ)
             → slice_get procs call.now.number ≡ Some procedure.now
+            → IsCallOf (length records) procedure.now call.now
             → All (λ (d : Claim). d.id < length records) call.now.claims
             → IsAtWork procs call.now records result }
     {
@@ -69,13 +70,14 @@ impl Work {
     /// Takes the value of the claim that is to be loaded next. With the last one the body runs.
     pub(crate) fn load(&mut self, call: &Call, procedure: &Proc, value: u64)
         requires formed { IsWellFormed procedure.now }
-        requires made { IsCallOf procedure.now call.now }
+        requires made { (n : ℕ) × IsCallOf n procedure.now call.now }
         requires left { self.old.loads < length call.now.claims }
         ensures loads { self.new.loads ≡ self.old.loads + 1 }
         ensures stores { self.new.stores ≡ self.old.stores }
         ensures releases { self.new.releases ≡ self.old.releases }
         ensures at_work { (procs : List Proc) (records : List ℕ) (c : Claim)
             → slice_get procs call.now.number ≡ Some procedure.now
+            → IsCallOf (length records) procedure.now call.now
             → All (λ (d : Claim). d.id < length records) call.now.claims
             → slice_get call.now.claims self.old.loads ≡ Some c
             → value ≡ slice_index records c.id
@@ -90,12 +92,13 @@ impl Work {
     // Runs the body where all loads are made.
     fn run_if_loaded(&mut self, call: &Call, procedure: &Proc)
         requires formed { IsWellFormed procedure.now }
-        requires made { IsCallOf procedure.now call.now }
+        requires made { (n : ℕ) × IsCallOf n procedure.now call.now }
         ensures loads { self.new.loads ≡ self.old.loads }
         ensures stores { self.new.stores ≡ self.old.stores }
         ensures releases { self.new.releases ≡ self.old.releases }
         ensures at_work { (procs : List Proc) (records : List ℕ)
             → slice_get procs call.now.number ≡ Some procedure.now
+            → IsCallOf (length records) procedure.now call.now
             → All (λ (d : Claim). d.id < length records) call.now.claims
             → IsLoading call.now.claims records self.old
             → IsAtWork procs call.now records self.new }

@@ -7,7 +7,7 @@ use Rattle.vll_core.specs.Machine.{with_entry}
 use Rattle.vll_core.specs.Moves.{Move, IsReached, begun, moved}
 use Rattle.vll_core.proofs.Places.{at_set, at_push}
 use Rattle.vll_core.proofs.Events.{running_not_waiting}
-use Rattle.vll_core.proofs.Changes.{Change, change_of, entered_by, handed, requested, admitted, fronted, picked, woken, loaded, stored, released, finished}
+use Rattle.vll_core.proofs.Changes.{Change, change_of, sourced, entered_by, handed, requested, admitted, fronted, picked, woken, loaded, stored, released, finished}
 
 pub record IsFresh (e : Entered) : Type 0 where
   pub loads : e.loads ≡ 0
@@ -26,7 +26,8 @@ fresh_set s t f busy fresh n d at waits = by_place (at_set s.entries t f n d at)
     by_place (inr h) = fresh n d h waits
 
 fresh_change : (o : Opening) (s : State) (m : Move) (next : State) → Change o s m next → AreFresh s → AreFresh next
-fresh_change o s m next (entered_by client call none at room waits) fresh = fresh
+fresh_change o s m next (sourced client call r at from) fresh = fresh
+fresh_change o s m next (entered_by client first call none at is room waits) fresh = fresh
 fresh_change o s m next (handed client call none room waits) fresh = fresh
 fresh_change o s m next (requested turn c is at) fresh = fresh
 fresh_change o s m next (admitted turn status is all here free) fresh = λ t e at waits. by_place t e (at_push s.entries new t e at) waits

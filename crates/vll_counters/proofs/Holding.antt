@@ -7,9 +7,10 @@ use Rattle.atomic_table.specs.Table as table
 use Rattle.vll_core.specs.State.{Base, State}
 use Rattle.vll_core.specs.Shown.{AreWords}
 use Rattle.vll_counters.specs.declared.views.PassView.{PassView}
+use Rattle.vll_counters.specs.declared.views.SessionView.{SessionView}
 use Rattle.vll_counters.specs.declared.views.QueueView.{QueueView}
 use Rattle.vll_counters.specs.declared.views.View.{View}
-use Rattle.vll_counters.specs.declared.views.View.TheVariants.{Queue, Pass}
+use Rattle.vll_counters.specs.declared.views.View.TheVariants.{Queue, Pass, Session}
 use Rattle.vll_counters.specs.Views.{calls_in}
 use Rattle.vll_counters.specs.Rule.{Shows, IsHosted, ArePasses, AreSessions, pass_of, Rule}
 
@@ -29,6 +30,9 @@ same_queue p q e = let h : Queue p ≡ Queue q = some-injective _ _ e in cc h
 
 pub not_pass : {P : Type 0} (q : QueueView) (p : PassView) → some (Queue q) ≡ some (Pass p) → P
 not_pass q p e = let h : Queue q ≡ Pass p = some-injective _ _ e in absurd (cc h)
+
+pub not_session : {P : Type 0} (q : QueueView) (g : SessionView) → some (Queue q) ≡ some (Session g) → P
+not_session q g e = let h : Queue q ≡ Session g = some-injective _ _ e in absurd (cc h)
 
 module _ {S : Type 0} where
   pub held : (base : Base) (t : table.State S View) (q : QueueView) → Rule base t → get_elem? t.views 0 ≡ some (Queue q) → Holds base q t.words t.views

@@ -7,6 +7,7 @@ pub mod Fresh
 pub mod Holding
 pub mod Turns
 pub mod PassSteps
+pub mod Finding
 pub mod QueueSteps
 pub mod Entry
 pub mod Giving

@@ -67,7 +67,7 @@ pub hand_made : (o : Opening) (s : State) (client : ℕ) (call : Call) → s.tur
 hand_made o s client call closed room few =
     let left : nat_le o.limit (length s.entries) ≡ false = grind (arith, room) in
     let fits : nat_le o.cap (waiting s) ≡ false = grind (arith, few) in
-    ap (λ (x : Option Turn). refuse_if (is_some x) TurnOpen (enter o s client call s.scripts)) closed
+    ap (λ (x : Option Turn). refuse_if (is_some x) TurnOpen (enter o s client (Some call) s.scripts s.kept)) closed
     ∙ ap (λ (b : Bool). refuse_if b Spent (refuse_if (nat_le o.cap (waiting s)) Busy opens)) left
     ∙ ap (λ (b : Bool). refuse_if b Busy opens) fits
   where

@@ -7,14 +7,14 @@ use Rattle.vll_record.specs.Counter.{delta_of}
 use Rattle.vll_record.specs.Word.{value_word_of, pair_word_of_record}
 use Rattle.vll_proc.specs.declared.call.Call.{Call}
 use Rattle.vll_proc.specs.Serial.{apply}
-use Rattle.vll_check.specs.Calls.{Fits}
+use Rattle.vll_check.specs.Calls.{IsReady}
 use Rattle.vll_check.specs.Catalog.{Catalog, IsCatalog}
 use Rattle.vll_core.specs.declared.line.Line.{Line}
 use Rattle.vll_sca.specs.Status.{is_waiting, is_running}
 use Rattle.vll_counters.specs.Laid.{AreLaid}
-use Rattle.vll_core.specs.State.{Base, writes, is_aborted}
+use Rattle.vll_core.specs.State.{Base, catalog_of, writes, is_aborted}
 use Rattle.vll_core.specs.Moves.{IsProper}
-use Rattle.vll_core.proofs.Fitted.{proper_fits}
+use Rattle.vll_core.proofs.Fitted.{proper_ready}
 use Rattle.vll_counters.specs.declared.key.Key.{Key}
 use Rattle.vll_counters.specs.declared.views.TurnView.{TurnView}
 use Rattle.vll_counters.specs.declared.views.PassView.{PassView}
@@ -24,9 +24,10 @@ use Rattle.vll_counters.specs.declared.views.View.{View}
 use Rattle.vll_counters.specs.declared.views.View.TheVariants.{Queue, Pass, Session}
 use Rattle.vll_counters.specs.Rule.{Rule}
 use Rattle.vll_counters.specs.Steps.{new_session, first_view, new_line, admitted, joined, spent, reply_of_pass, records_before_pass, pass_given, pass_at, pass_kept, pass_made, session_kept, session_given, more_clients, session_made, new_pass}
-use Rattle.vll_counters.specs.Told.{IsAtEnd, AtQueue, KnowsPass, KnowsSession, RequestTells, OpenTells, LoadTells, StoreTells, ReleaseTells, EndTells, MayRun, MayLeave, IsGivenOut, has_stored_pass}
+use Rattle.vll_counters.specs.Told.{IsAtEnd, AtQueue, KnowsPass, KnowsSession, RequestTells, OpenTells, LoadTells, FindTells, StoreTells, ReleaseTells, EndTells, MayRun, MayLeave, IsGivenOut, has_stored_pass}
 use Rattle.vll_counters.specs.Shown.{AreNewSessions, base_of, QueueShown, SessionShown, PassShown, shown_queue, settled, queue_in, queue_view, session_of, pass_of_view, next_claim, record_of}
 use Rattle.vll_counters.proofs.PassSteps.{loads, stores, releases}
+use Rattle.vll_counters.proofs.Finding.{finds}
 use Rattle.vll_counters.proofs.QueueSteps.{MayOpen, requests, opens}
 use Rattle.vll_counters.proofs.Giving.{gives, pass_there}
 use Rattle.vll_counters.proofs.Places.{get_last, get_longer}
@@ -63,12 +64,12 @@ turn_of_claim : (x : Option TurnView) (c : Claim) → next_claim x ≡ Some c �
 turn_of_claim None c e = absurd (cc e)
 turn_of_claim (Some turn) c e = (turn, refl, e)
 
--- a call that fits is proper, and there is room for it
-pub may_open : (base : Base) (library : Catalog) (lines : List Line) (call : Option Call) → IsCatalog library → library ≡ record { records = length base.records; procs = base.procs } → IfSome call (Fits record { records = length base.records; procs = base.procs })
+-- a call that is ready is proper, and there is room for it
+pub may_open : (base : Base) (library : Catalog) (lines : List Line) (call : Option Call) → IsCatalog library → library ≡ catalog_of base → IfSome call (IsReady (catalog_of base))
     → IfSome call (λ _. length lines < 65536) → MayOpen base lines call
-may_open base library lines None catalog same fits room c is = absurd (cc is)
-may_open base library lines (Some d) catalog same fits room c is =
-    subst (λ (x : Call). IsProper base x × (length lines < 65536)) (cc is) (proper_fits (record { records = length base.records; procs = base.procs }) base.records d (subst IsCatalog same catalog) fits, room)
+may_open base library lines None catalog same ready room c is = absurd (cc is)
+may_open base library lines (Some d) catalog same ready room c is =
+    subst (λ (x : Call). IsProper base x × (length lines < 65536)) (cc is) (proper_ready (catalog_of base) base.records d (subst IsCatalog same catalog) refl ready, room)
 
 module _ (slots : ℕ) where
   pub requests_at : (base b d : Base) (id : ℕ) (me : Me (Unit {0}) View) (q : QueueView) (c e : Claim) (word k : ℕ) → base ≡ b → d ≡ b → e ≡ c → id ≡ 0 → me ≡ (Queue q, []) → word ≡ pair_word_of_record c.id → k ≡ delta_of c.mode
@@ -88,6 +89,10 @@ module _ (slots : ℕ) where
   loads_at base b d id me p r n word same told number is at next low =
       let c = claim_of (slice_get p.call.claims p.loads) r next in
       rw (same, told, number ∙ sym c.2, is, at ∙ ap value_word_of (sym c.2)) (loads b slots id p c.0 c.1 (subst (λ m. m < length b.records) (sym c.2) low))
+
+  pub finds_at : (base b d : Base) (id : ℕ) (me : Me (Unit {0}) View) (g : SessionView) (r n word : ℕ) → base ≡ b → d ≡ b → n ≡ r → me ≡ (Session g, []) → word ≡ value_word_of r → r < length b.records
+      → Allows (Rule {S = Unit {0}} base) slots id me word (λ n. n) (FindTells d n (step 0 0 0 0 mathlib.Core.Option.none) me)
+  finds_at base b d id me g r n word same told number is at low = rw (same, told, number, is, at) (finds b slots id g r low)
 
   pub stores_at : (base b : Base) (id : ℕ) (me : Me (Unit {0}) View) (p : PassView) (r word new : ℕ) → base ≡ b → me ≡ (Pass p, []) → word ≡ value_word_of r
       → record_of (slice_get (writes p.call) p.stores) ≡ Some r → r < length b.records → p.loads ≡ length p.call.claims → is_aborted (reply_of_pass b p) ≡ false
@@ -162,9 +167,8 @@ told_session b d me q g told is knows =
     subst (λ (x : Base). KnowsSession x q g) told (record { client = k.client; has_seen = k.has_seen; replied = k.replied })
 
 -- the library of the words is that of their base
-pub library_is : (library : Catalog) (records : List ℕ) (b : Base) → record { procs = library.procs; records = records } ≡ b → library.records ≡ length records → library ≡ record { records = length b.records; procs = b.procs }
-library_is library records b same many =
-    (λ i. let c : Catalog = record { records = many i; procs = library.procs } in c) ∙ ap (λ (x : Base). let c : Catalog = record { records = length x.records; procs = x.procs } in c) same
+pub library_is : (library : Catalog) (records : List ℕ) (b : Base) → record { procs = library.procs; records = records } ≡ b → library.records ≡ length records → library ≡ catalog_of b
+library_is library records b same many = (λ i. let c : Catalog = record { records = many i; procs = library.procs } in c) ∙ ap catalog_of same
 
 -- ---- the opening and the end
 

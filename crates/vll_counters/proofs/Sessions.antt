@@ -85,6 +85,16 @@ module _ (calls : List Made) (statuses : List Status) (clients : ℕ) (f : ℕ �
   sessions_reviewed by v w at same s =
       each_set (λ n x. IsSession calls statuses clients f n x) views by w (λ x has. s by v x at (sym same ∙ has)) (λ n y x away there has. s n y x there has)
 
+  -- the session at a seat sees more
+  pub sessions_told : (by : ℕ) (v w : View) (g y : SessionView) → get_elem? views by ≡ some v → session_in v ≡ Some g → session_in w ≡ Some y → y.client ≡ g.client → HasSeen calls statuses y
+      → AreSessions calls statuses clients f views → AreSessions calls statuses clients f (set views by w)
+  sessions_told by v w g y at has now client seen s =
+      let mine = s by v g at has in
+      each_set (λ n b. IsSession calls statuses clients f n b) views by w
+      (λ b h. subst (λ (d : SessionView). IsSession calls statuses clients f by d) (same_Some y b (sym now ∙ h))
+      (record { there = ap f client ∙ mine.there; client = subst (λ (n : ℕ). n < clients) (sym client) mine.client; has_seen = seen }))
+      (λ n b z away there is. s n b z there is)
+
   -- a new seat has no session
   pub sessions_pushed : (w : View) → session_in w ≡ None → AreSessions calls statuses clients f views → AreSessions calls statuses clients f (views ++ w ∷ [])
   sessions_pushed w none s = each_pushed (λ n x. IsSession calls statuses clients f n x) views w (λ x has. no_some x (sym none ∙ has)) s

@@ -7,7 +7,7 @@ use Rattle.vll_proc.specs.declared.call.Call.{Call}
 use Rattle.vll_check.specs.Catalog.{Catalog}
 use Rattle.vll_sca.specs.declared.status.Status.{Status}
 use Rattle.vll_core.specs.declared.line.Line.{Line}
-use Rattle.vll_core.specs.State.{Base}
+use Rattle.vll_core.specs.State.{Base, catalog_of}
 use Rattle.vll_counters.specs.declared.key.Key.{Key}
 use Rattle.vll_counters.specs.declared.views.TurnView.{TurnView}
 use Rattle.vll_counters.specs.declared.views.PassView.{PassView}
@@ -28,7 +28,7 @@ pub record WordsShown : Type 0 where
 
 -- the library of the base: its procedures, checked for its number of records
 abbrev pub library_of : WordsShown → Catalog
-library_of w = record { records = length w.base.records; procs = w.base.procs }
+library_of w = catalog_of w.base
 
 -- what the queue's seat knows between two calls, when no pass is on its way into it
 pub record QueueShown : Type 0 where
@@ -63,7 +63,7 @@ abbrev pub no_claim : Claim
 no_claim = record { id = 0; mode = Read }
 
 abbrev pub no_call : Call
-no_call = record { number = 0; arg_count = 0; args = []; claims = []; cells = [] }
+no_call = record { number = 0; arg_count = 0; args = []; found = None; claims = []; cells = [] }
 
 abbrev pub pass_of_view : View → PassView
 pass_of_view (Pass p) = p

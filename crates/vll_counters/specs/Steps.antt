@@ -33,6 +33,10 @@ abbrev pub on_pass : (PassView → PassView) → View → View
 on_pass f (Pass p) = Pass (f p)
 on_pass f v = v
 
+abbrev pub on_session : (SessionView → SessionView) → View → View
+on_session f (Session g) = Session (f g)
+on_session f v = v
+
 -- ---- sessions are made at the opening
 
 -- a client's session that has seen nothing

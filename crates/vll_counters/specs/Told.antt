@@ -1,4 +1,5 @@
 -- What each step tells its caller, beside its new view.
+use Rattle.std.specs.List.{list_any}
 use Rattle.std.specs.Prelude.{◌≡◌, ℕ, suc, ◌+◌, ◌*◌, ◌<◌, ◌≤◌, ◌&&◌, ◌||◌, ◌==◌, Bool, true, false, List, length, take, Option, Some, None, slice_get, slice_index}
 use mathlib.Core.Option as opt
 use lib.ListN.{get_elem?}
@@ -10,18 +11,18 @@ use Rattle.vll_proc.specs.declared.call.Call.{Call}
 use Rattle.vll_sca.specs.declared.status.Status.{Status}
 use Rattle.vll_sca.specs.declared.status.Status.TheVariants.{Running, Waiting, Gone}
 use Rattle.vll_sca.specs.Status.{is_gone}
-use Rattle.vll_core.specs.State.{Base, counter, value, writes, is_aborted}
+use Rattle.vll_core.specs.State.{Base, entered, counter, value, writes, is_aborted}
 use Rattle.vll_core.specs.declared.line.Line.{Line}
-use Rattle.vll_proc.specs.Serial.{answer, end}
+use Rattle.vll_proc.specs.Serial.{Made, answer, before, end}
 use Rattle.vll_counters.specs.declared.views.TurnView.{TurnView}
 use Rattle.vll_counters.specs.declared.views.PassView.{PassView}
 use Rattle.vll_counters.specs.declared.views.SessionView.{SessionView}
 use Rattle.vll_counters.specs.declared.views.QueueView.{QueueView}
 use Rattle.vll_counters.specs.declared.views.View.{View}
-use Rattle.vll_counters.specs.declared.views.View.TheVariants.{Queue, Pass}
-use Rattle.vll_counters.specs.Views.{calls_in}
+use Rattle.vll_counters.specs.declared.views.View.TheVariants.{Queue, Pass, Session}
+use Rattle.vll_counters.specs.Views.{calls_in, calls_by, Begins}
 use Rattle.vll_counters.specs.Rule.{HasSeen, Moment, Rule}
-use Rattle.vll_counters.specs.Steps.{on_queue, on_pass, opened, requested, loaded, stored, released, ended, records_before_pass, reply_of_pass}
+use Rattle.vll_counters.specs.Steps.{on_queue, on_pass, on_session, told, opened, requested, loaded, stored, released, ended, records_before_pass, reply_of_pass}
 
 -- a fact about the view of the queue's seat
 abbrev pub AtQueue : (QueueView → Type 0) → View → Type 0
@@ -46,6 +47,18 @@ pub record PassMoment (base : Base) (p : PassView) : Type 0 where
   pub seat : ℕ
   pub at : get_elem? moment.views seat ≡ opt.some (Pass p)
 
+-- a fact about the view of a session
+abbrev pub AtSession : (SessionView → Type 0) → View → Type 0
+AtSession P (Session g) = P g
+AtSession P v = Unit {0}
+
+-- a moment at which the rule holds, and a seat has this session
+pub record SessionMoment (base : Base) (g : SessionView) : Type 0 where
+  pub moment : Moment
+  pub rule : Rule base moment
+  pub seat : ℕ
+  pub at : get_elem? moment.views seat ≡ opt.some (Session g)
+
 -- this is the record's counter at such a moment
 pub record IsCounterNow (base : Base) (q : QueueView) (r n : ℕ) : Type 0 where
   pub now : QueueMoment base q
@@ -61,6 +74,28 @@ pub record IsValueNow (base : Base) (p : PassView) (r n : ℕ) : Type 0 where
 pub record IsCountedNow (base : Base) (p : PassView) (r n : ℕ) : Type 0 where
   pub now : PassMoment base p
   pub counts : n ≡ counter now.rule.state r
+
+-- a call claims a record
+abbrev pub is_claimed_by : Call → ℕ → Bool
+is_claimed_by call r = list_any (λ (c : Claim). c.id == r) call.claims
+
+-- a value that a record had: where these calls run one at a time it is the record's before some ticket up to a bound, and behind each of these given tickets whose call claims the record
+pub record WasThere (base : Base) (calls : List Made) (given : List ℕ) (bound r v : ℕ) : Type 0 where
+  pub ticket : ℕ
+  pub within : ticket ≤ bound
+  pub value : v ≡ slice_index (before base.procs calls base.records ticket) r
+  pub behind : (k t : ℕ) (m : Made) → slice_get given k ≡ Some t → slice_get calls t ≡ Some m → is_claimed_by m.1 r ≡ true → t < ticket
+
+-- a session has found a record's present value, at a moment of its own: it has then seen all calls that have entered, with no more of its client, and each ticket whose reply it was given is one of theirs
+pub record HasFound (base : Base) (old new : SessionView) (r v : ℕ) : Type 0 where
+  pub now : SessionMoment base old
+  pub present : v ≡ value base now.rule.state r
+  pub same : new ≡ told new.seen old
+  pub seen : new.seen ≡ entered now.rule.state
+  pub begins : Begins old.seen new.seen
+  pub own : calls_by old.client old.seen ≡ calls_by old.client new.seen
+  pub given : (k t : ℕ) → slice_get old.given k ≡ Some t → t < length new.seen
+  pub was : WasThere base new.seen old.given (length new.seen) r v
 
 -- each line of a call that is gone has its serial reply
 abbrev pub AreReplied : Base → QueueView → Type 0
@@ -139,6 +174,9 @@ module _ {S : Type 0} where
 
   abbrev pub LoadTells : Base → ℕ → Step S → Me S View → ℕ → Me S View → Type 0
   LoadTells base r st v n w = (w ≡ (on_pass (loaded n) v.0, v.1)) × AtPass (λ p. IsValueNow base p r n) v.0
+
+  abbrev pub FindTells : Base → ℕ → Step S → Me S View → ℕ → Me S View → Type 0
+  FindTells base r st v n w = (new : SessionView) × ((w ≡ (on_session (λ g. new) v.0, v.1)) × AtSession (λ g. HasFound base g new r n) v.0)
 
   abbrev pub StoreTells : Step S → Me S View → ℕ → Me S View → Type 0
   StoreTells st v n w = w ≡ (on_pass stored v.0, v.1)

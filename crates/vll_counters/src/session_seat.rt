@@ -1,19 +1,20 @@
-// The steps that bring a session to the queue's seat and let it leave.
+// The steps that bring a session to the queue's seat and let it leave, and the one that it makes under no lock.
 ghost use Rattle.std.specs.Prelude.{◌≡◌, ◌<◌, suc, [], length, Some, None, IfSome, IsSome};
-ghost use Rattle.vll_check.specs.Calls.{Fits};
+ghost use Rattle.vll_check.specs.Calls.{IsReady};
 ghost use Rattle.vll_core.specs.declared.config.TheConstants.{MOST_CALLS};
 ghost use Rattle.vll_counters.specs.Shown.{queue_view, after, library_of, without_session, left_session};
 ghost use Rattle.vll_counters.specs.Steps.{new_session, turn_of};
-ghost use Rattle.vll_counters.specs.Told.{KnowsSession, MayLeave, IsGivenOut};
+ghost use Rattle.vll_counters.specs.Told.{HasFound, KnowsSession, MayLeave, IsGivenOut};
 
 use crate::queue_seat::QueueSeat;
-use crate::steps::{Comes, GivesSession, MakesSession, Opens, Told};
+use crate::steps::{Comes, Finds, GivesSession, MakesSession, Opens, Told};
 use crate::views::View;
 use crate::words::Words;
 use atomic_table::Seat;
 use std::marker::{Brand, Model};
 use vll_core::Ticket;
 use vll_proc::Call;
+use vll_record::{RecordId, value_word};
 
 /// A client's seat. Contracts see what its session knows: the entered calls that it has seen, the tickets whose reply
 /// it was given, and how many calls waited when it last left the lock.
@@ -50,13 +51,38 @@ impl Words {
         }
     }
 
+    /// A session loads a record, by one load of its value word, which needs no lock. The value is the record's present
+    /// one, and with it the session has seen all calls that have entered so far, no more of its client's than before.
+    /// Where these run one at a time the record has the value before some ticket, behind each one whose reply the
+    /// session was given and whose call claims the record.
+    pub fn find(&self, session: &mut SessionSeat, id: RecordId) -> u64
+        requires same { session.old.table ≡ self.now.table }
+        requires there { id < length self.now.base.records }
+        ensures table { session.new.table ≡ session.old.table }
+        ensures found { HasFound self.now.base session.old.session session.new.session id result }
+    {
+        self.find_told::<Brand>(session, id)
+    }
+
+    fn find_told<T: Told>(&self, session: &mut SessionSeat, id: RecordId) -> u64
+        requires told { (T.base ≡ self.now.base) × (T.number ≡ id) }
+        requires same { session.old.table ≡ self.now.table }
+        requires there { id < length self.now.base.records }
+        ensures table { session.new.table ≡ session.old.table }
+        ensures found { HasFound self.now.base session.old.session session.new.session id result }
+    {
+        self.table
+            .shared
+            .load::<Finds<T>>(&mut session.seat, value_word(id))
+    }
+
     /// A session comes to the queue. If it brings a call, a turn opens for it. What the session has seen is a beginning
     /// of the entered calls, with all calls of its client, and the tickets whose reply it was given are gone.
     pub fn join_session(&self, queue: &mut QueueSeat, session: SessionSeat, call: Option<Call>)
         requires same { (queue.old.table ≡ self.now.table) × (session.table ≡ self.now.table) }
         requires alone { queue.old.session ≡ None }
         requires closed { queue.old.turn ≡ None }
-        requires fits { IfSome call (Fits (library_of self.now)) }
+        requires ready { IfSome call (IsReady (library_of self.now)) }
         requires room { IfSome call (λ _. length queue.old.lines < MOST_CALLS) }
         ensures queue { queue.new ≡ record queue.old { session = Some session.session; turn = turn_of call (Some session.session) } }
         ensures session { KnowsSession self.now.base (queue_view queue.old) session.session }
@@ -74,7 +100,7 @@ impl Words {
         requires same { (queue.old.table ≡ self.now.table) × (session.table ≡ self.now.table) }
         requires alone { queue.old.session ≡ None }
         requires closed { queue.old.turn ≡ None }
-        requires fits { IfSome call (Fits (library_of self.now)) }
+        requires ready { IfSome call (IsReady (library_of self.now)) }
         requires room { IfSome call (λ _. length queue.old.lines < MOST_CALLS) }
         ensures queue { queue.new ≡ record queue.old { session = Some session.session; turn = turn_of call (Some session.session) } }
         ensures session { KnowsSession self.now.base (queue_view queue.old) session.session }

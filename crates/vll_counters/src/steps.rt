@@ -98,6 +98,15 @@ impl<T: Told> Split<View> for GivesSession<T> {
     ghost right = { session_given T.given };
 }
 
+/// A session loads a record for a call that it has not entered yet.
+pub struct Finds<T>(PhantomData<T>);
+
+impl<T: Told> Play<(), View> for Finds<T> {
+    ghost use Rattle.vll_counters.specs.Told.{FindTells};
+
+    ghost then = { FindTells T.base T.number };
+}
+
 /// A running call loads the record of its next claim.
 pub struct Loads<T>(PhantomData<T>);
 

@@ -14,6 +14,7 @@ use Rattle.vll_counters.specs.Told.{IsAtEnd}
 use Rattle.vll_counters.specs.Views.{calls_in}
 use Rattle.vll_engine.specs.Closed.{AreAnswered, IsSerial}
 use Rattle.vll_engine.specs.Private.Divided.{AreDivided}
+use Rattle.vll_engine.specs.Private.Kept.{AreOwn}
 use Rattle.vll_engine.specs.Sessions.{HasItsCalls}
 use Rattle.vll_engine.specs.Shown.{Named}
 use Rattle.vll_engine.specs.declared.closed.Closed.{Closed}
@@ -48,7 +49,7 @@ ended_pairs base ls words values pairs are divided =
 
 -- so what is left of an engine's words is serial
 pub serial_end : (e : Named) (base : Base) (room : ℕ) (ls : List Line) (words divided : List ℕ) (c : Closed) → base ≡ e.base → room ≡ length e.base.records → IsAtEnd base ls words → divided ≡ words
-    → AreDivided room divided c.records.items c.pairs.items → c.journal.items ≡ ls → All (λ (l : Line). l.client < e.clients) ls → IsSerial e c
+    → AreDivided room divided c.records.items c.pairs.items → c.journal.items ≡ ls → AreOwn e ls → IsSerial e c
 serial_end e base room ls words divided c same count at_end as_words each journal own =
     let are : IsAtEnd e.base ls words = subst (λ (b : Base). IsAtEnd b ls words) same at_end in
     let parts : AreDivided (length e.base.records) words c.records.items c.pairs.items =
@@ -57,7 +58,9 @@ serial_end e base room ls words divided c same count at_end as_words each journa
       answered = subst (AreAnswered e) (sym journal) are.replied;
       at_end = ended_values e.base ls words c.records.items c.pairs.items are parts ∙ ap (λ (xs : List Line). end e.base.procs (calls_in xs) e.base.records) (sym journal);
       none_open = ended_pairs e.base ls words c.records.items c.pairs.items are parts;
-      clients = subst (λ (xs : List Line). All (λ (l : Line). l.client < e.clients) xs) (sym journal) own;
+      ready = (subst (AreOwn e) (sym journal) own).ready;
+      found = (subst (AreOwn e) (sym journal) own).found;
+      clients = (subst (AreOwn e) (sym journal) own).clients;
     }
 
 -- what sessions have of the calls in some lines they have of the same lines

@@ -7,9 +7,9 @@ use Rattle.std.proofs.lemmas.List.Elements.{All-push}
 use Rattle.atomic_table.specs.Seated.{TableId}
 use Rattle.vll_record.specs.declared.claim.Claim.{Claim}
 use Rattle.vll_proc.specs.declared.call.Call.{Call}
-use Rattle.vll_check.specs.Calls.{Fits}
+use Rattle.vll_check.specs.Calls.{source, IsReady}
 use Rattle.vll_check.specs.Catalog.{IsCatalog}
-use Rattle.vll_check.proofs.Fitting.{fits_well}
+use Rattle.vll_check.proofs.Fitting.{ready_well}
 use Rattle.vll_sca.specs.declared.status.Status.{Status}
 use Rattle.vll_sca.specs.declared.status.Status.TheVariants.{Running, Waiting}
 use Rattle.vll_sca.specs.Status.{is_waiting}
@@ -29,7 +29,10 @@ use Rattle.vll_engine.specs.Begin.{IsPassFor, IsRefused, refusal}
 use Rattle.vll_engine.specs.Sessions.{SawOwn}
 use Rattle.vll_engine.specs.Shown.{Named, library_of, words_of}
 use Rattle.vll_engine.specs.Private.Begun.{asked_turn}
+use Rattle.vll_engine.specs.Found.{FoundThere, AreFoundThere}
 use Rattle.vll_engine.specs.Private.Kept.{AreOwn, IsKept}
+use Rattle.vll_engine.specs.Private.Looked.{IsLookedUp}
+use Rattle.vll_engine.proofs.There.{found_more, looked_up_next}
 use Rattle.vll_engine.proofs.Learning.{saw_own}
 use Rattle.vll_engine.proofs.Starting.{new_pass_fresh}
 
@@ -55,8 +58,8 @@ refused {H = H} e q g why queued limit cap is seen waited = by_tests why (nat_le
     by_tests Busy false false full is_many at = absurd (cc at)
 
 -- the records of a call's claims are there
-pub claims_there : (e : Named) (w : WordsShown) (call : Call) → w ≡ words_of e → IsCatalog (library_of e) → Fits (library_of e) call → All (λ (d : Claim). d.id < length w.base.records) call.claims
-claims_there e w call is catalog fits = subst (λ (x : WordsShown). All (λ (d : Claim). d.id < length x.base.records) call.claims) (sym is) (fits_well (library_of e) call catalog fits).within
+pub claims_there : (e : Named) (w : WordsShown) (call : Call) → w ≡ words_of e → IsCatalog (library_of e) → IsReady (library_of e) call → All (λ (d : Claim). d.id < length w.base.records) call.claims
+claims_there e w call is catalog ready = subst (λ (x : WordsShown). All (λ (d : Claim). d.id < length x.base.records) call.claims) (sym is) (ready_well (library_of e) call catalog ready).within
 
 -- ---- the queue's seat and the session
 
@@ -119,10 +122,12 @@ entered_free old given seat g client call free left is now leaves = record {
 -- ---- the lock's type
 
 -- what is true of all lines is true with one more
-own_more : (e : Named) (ls : List Line) (client : ℕ) (call : Call) → AreOwn e ls → client < e.clients → Fits (library_of e) call → AreOwn e (ls ++ line_of client call ∷ [])
-own_more e ls client call own low fits = record {
-  fits = All-push (λ (l : Line). Fits (library_of e) l.call) ls (line_of client call) own.fits fits;
+own_more : (e : Named) (ls : List Line) (client : ℕ) (call : Call) → AreOwn e ls → client < e.clients → IsReady (library_of e) call
+    → ((r : ℕ) → source (library_of e) call ≡ Some r → FoundThere e.base (calls_in ls) (length (calls_in ls)) call r) → AreOwn e (ls ++ line_of client call ∷ [])
+own_more e ls client call own low ready found = record {
+  ready = All-push (λ (l : Line). IsReady (library_of e) l.call) ls (line_of client call) own.ready ready;
   clients = All-push (λ (l : Line). l.client < e.clients) ls (line_of client call) own.clients low;
+  found = subst (AreFoundThere e.base) (sym (map-append (λ (l : Line). (l.client, l.call)) ls (line_of client call ∷ []))) (found_more e.base (calls_in ls) (client, call) own.found found);
 }
 
 -- its client is one of the engine's
@@ -130,8 +135,9 @@ client_there : {H : Type 0} (e : Named) (place : H → ℕ → ℕ) (base : Base
 client_there e place base old q g client kept knows own = let below = knows.client in let count = kept.count in omega (arith, below, count, own)
 
 pub kept_entered : {H : Type 0} (e : Named) (place : H → ℕ → ℕ) (base : Base) (old seat : QueueShown) (q new : Queued H) (g : SessionView) (client : ℕ) (call : Call) (free : Bool) (left : SessionShown)
-    → IsKept e place old q → KnowsSession base (queue_view old) g → HasEntered old seat g client call free left → new ≡ admitted q (entry client call free) → g.client ≡ client → Fits (library_of e) call → IsKept e place seat new
-kept_entered {H = H} e place base old seat q new g client call free left kept knows entered is own fits =
+    → IsKept e place old q → KnowsSession base (queue_view old) g → HasEntered old seat g client call free left → new ≡ admitted q (entry client call free) → g.client ≡ client → IsReady (library_of e) call → IsLookedUp e g call
+    → IsKept e place seat new
+kept_entered {H = H} e place base old seat q new g client call free left kept knows entered is own ready up =
     let low = client_there e place base old q g client kept knows own in
     subst (λ (x : QueueShown × Queued H). IsKept e place x.0 x.1) (λ i. (sym entered.seat_is i, sym is i)) (record {
       same = kept.same;
@@ -144,7 +150,8 @@ kept_entered {H = H} e place base old seat q new g client call free left kept kn
       limit = kept.limit;
       bits = kept.bits;
       places = kept.places;
-      own = subst (AreOwn e) (sym (lines_admitted q (entry client call free))) (own_more e (lines q) client call kept.own low fits);
+      own = subst (AreOwn e) (sym (lines_admitted q (entry client call free))) (own_more e (lines q) client call kept.own low ready
+          (λ r source_is. subst (λ (ls : List Line). FoundThere e.base (calls_in ls) (length (calls_in ls)) call r) kept.lines_are (looked_up_next e (calls_in old.lines) old.statuses g call r knows.has_seen (up r source_is))));
     })
 
 -- ---- the answer
@@ -175,15 +182,15 @@ pass_is e place old given q g client call free t table p kept is last gets =
     ∙ ap (λ (ls : List Line). record { table = table; pass = new_pass t call ls }) lines_are
 
 pub pass_for : {H : Type 0} (e : Named) (place : H → ℕ → ℕ) (base : Base) (old seat : QueueShown) (q : Queued H) (g : SessionView) (client : ℕ) (call : Call) (free : Bool) (left : SessionShown) (t : ℕ) (table : TableId) (p : PassShown)
-    → IsKept e place old q → KnowsSession base (queue_view old) g → HasEntered old seat g client call free left → g.client ≡ client → Fits (library_of e) call → table ≡ e.table → t ≡ length q.entries
+    → IsKept e place old q → KnowsSession base (queue_view old) g → HasEntered old seat g client call free left → g.client ≡ client → IsReady (library_of e) call → IsLookedUp e g call → table ≡ e.table → t ≡ length q.entries
     → p ≡ record { table = table; pass = new_pass t call (old.lines ++ line_of client call ∷ []) } → IsPassFor e left.session call p
-pass_for e place base old seat q g client call free left t table p kept knows entered own fits same last is =
+pass_for e place base old seat q g client call free left t table p kept knows entered own ready up same last is =
     let low = client_there e place base old q g client kept knows own in
     let next = next_ticket e place old q t kept last in
     let long : length (calls_in (old.lines ++ line_of client call ∷ [])) ≡ length old.lines + 1 = length-map (old.lines ++ line_of client call ∷ []) (λ (l : Line). (l.client, l.call)) ∙ length-append old.lines (line_of client call ∷ []) in
     record {
       fresh = new_pass_fresh e table p (old.lines ++ line_of client call ∷ []) t (line_of client call) same
-          (own_more e old.lines client call (subst (AreOwn e) (sym kept.lines_are) kept.own) low fits)
+          (own_more e old.lines client call (subst (AreOwn e) (sym kept.lines_are) kept.own) low ready (λ r source_is. looked_up_next e (calls_in old.lines) old.statuses g call r knows.has_seen (up r source_is)))
           (ap (slice_get (old.lines ++ line_of client call ∷ [])) next ∙ get_last old.lines (line_of client call)) is;
       own = ap (λ (x : PassShown). x.pass.call) is;
       seen = ap (λ (x : PassShown). x.pass.seen) is ∙ take_all (suc t) (calls_in (old.lines ++ line_of client call ∷ [])) (omega (arith, long, next)) ∙ sym (ap (λ (s : SessionShown). s.session.seen) entered.session_is);

@@ -3,7 +3,7 @@ use Rattle.std.proofs.Common.{◌≡◌, ℕ, zero, suc, ◌<◌, List, [], ◌�
 use Rattle.std.proofs.lemmas.List.Elements.{All-set}
 use Rattle.vll_proc.specs.declared.call.Reply.{Reply}
 use Rattle.vll_proc.specs.Serial.{Made, apply, before}
-use Rattle.vll_check.specs.Calls.{Fits}
+use Rattle.vll_check.specs.Calls.{IsReady}
 use Rattle.vll_sca.specs.declared.status.Status.{Status}
 use Rattle.vll_sca.specs.declared.status.Status.TheVariants.{Running, Gone}
 use Rattle.vll_core.specs.declared.line.Line.{Line}
@@ -18,7 +18,9 @@ use Rattle.vll_counters.specs.Steps.{finished as ended, reply_of_pass, answered,
 use Rattle.vll_counters.specs.Told.{KnowsPass}
 use Rattle.vll_engine.specs.Shown.{Named, library_of}
 use Rattle.vll_engine.specs.Pass.{DoneShown, IsOf, IsReply}
+use Rattle.vll_engine.specs.Found.{AreFoundThere}
 use Rattle.vll_engine.specs.Private.Kept.{AreOwn, IsKept}
+use Rattle.vll_engine.proofs.There.{calls_replied}
 
 same_some : {A : Type 0} (a b : A) → ◌≡◌ {A = Option A} (Some a) (Some b) → a ≡ b
 same_some {A = A} a b h = ap (λ (o : Option A). elim o [ None ↦ a | Some x ↦ x ]) h
@@ -51,8 +53,9 @@ reply_is e d of is = same_some (reply_of_pass e.base d.pass) d.reply (sym (ap (�
 -- lines of the engine's own with one of them changed but for its reply
 own_set : (e : Named) (ls : List Line) (t : ℕ) (l : Line) (reply : Reply) → AreOwn e ls → slice_get ls t ≡ Some l → AreOwn e (slice_set ls t (with_reply reply l))
 own_set e ls t l reply own at = record {
-  fits = All-set (λ (x : Line). Fits (library_of e) x.call) ls t (with_reply reply l) (all_at (λ (x : Line). Fits (library_of e) x.call) ls t l own.fits at) own.fits;
+  ready = All-set (λ (x : Line). IsReady (library_of e) x.call) ls t (with_reply reply l) (all_at (λ (x : Line). IsReady (library_of e) x.call) ls t l own.ready at) own.ready;
   clients = All-set (λ (x : Line). x.client < e.clients) ls t (with_reply reply l) (all_at (λ (x : Line). x.client < e.clients) ls t l own.clients at) own.clients;
+  found = subst (AreFoundThere e.base) (sym (calls_replied ls t l reply at)) own.found;
 }
 
 -- the pass that has come ends its call, in the queue as at the seat

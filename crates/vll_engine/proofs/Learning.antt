@@ -28,7 +28,7 @@ use Rattle.vll_engine.specs.Private.Replied.{reply_in}
 use Rattle.vll_engine.specs.Sessions.{SawOthers, SawOwn}
 use Rattle.vll_engine.specs.Shown.{Named}
 
-calls_by-append : (client : ℕ) (xs ys : List Made) → calls_by client (xs ++ ys) ≡ calls_by client xs ++ calls_by client ys
+pub calls_by-append : (client : ℕ) (xs ys : List Made) → calls_by client (xs ++ ys) ≡ calls_by client xs ++ calls_by client ys
 calls_by-append client xs ys =
     ap (λ (l : List Made). map (λ (m : Made). m.1) l) (filter-append (λ (m : Made). m.0 == client) xs ys)
     ∙ map-append (λ (m : Made). m.1) (filter (λ (m : Made). m.0 == client) xs) (filter (λ (m : Made). m.0 == client) ys)

@@ -2,6 +2,8 @@ pub mod Ending
 pub mod Entering
 pub mod Keeps
 pub mod Learning
+pub mod Looking
 pub mod Opens
 pub mod Starting
+pub mod There
 pub mod Working

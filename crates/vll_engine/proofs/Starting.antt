@@ -6,7 +6,7 @@ use Rattle.std.proofs.lemmas.List.{length-map}
 use Rattle.std.proofs.lemmas.Option.{same_Some, slice_get-map}
 use Rattle.atomic_table.specs.Seated.{TableId}
 use Rattle.vll_record.specs.Claim.{conflict}
-use Rattle.vll_check.specs.Calls.{Fits}
+use Rattle.vll_check.specs.Calls.{IsReady}
 use Rattle.vll_sca.specs.declared.status.Status.{Status}
 use Rattle.vll_sca.specs.declared.status.Status.TheVariants.{Running, Waiting, Gone}
 use Rattle.vll_sca.specs.Status.{is_waiting, is_gone}
@@ -163,7 +163,7 @@ pub new_pass_fresh : (e : Named) (table : TableId) (p : PassShown) (ls : List Li
 new_pass_fresh e table p ls t l same own at is = subst (IsFresh e) (sym is) (record {
   of = record {
     same = same;
-    fits = all_at (λ (x : Line). Fits (library_of e) x.call) ls t l own.fits at;
+    ready = all_at (λ (x : Line). IsReady (library_of e) x.call) ls t l own.ready at;
     client = l.client;
     last = at_taken (calls_in ls) t (l.client, l.call) (slice_get-map (λ (x : Line). (x.client, x.call)) ls t ∙ ap (option_map (λ (x : Line). (x.client, x.call))) at);
   };

@@ -16,12 +16,13 @@ use Rattle.vll_proc.specs.declared.syntax.Proc.{Proc}
 use Rattle.vll_proc.specs.Made.{IsCallOf}
 use Rattle.vll_proc.specs.Serial.{Made, answer, applied, applied_at, apply, before}
 use Rattle.vll_proc.specs.WellFormed.{IsWellFormed}
-use Rattle.vll_check.specs.Calls.{Fits}
+use Rattle.vll_check.specs.Calls.{IsReady}
 use Rattle.vll_check.specs.Catalog.{Catalog, IsCatalog}
-use Rattle.vll_check.proofs.Fitting.{fits_well}
+use Rattle.vll_check.proofs.Fitting.{ready_well}
 use Rattle.vll_core.specs.State.{Base, is_aborted, writes}
 use Rattle.vll_core.specs.Private.Work.{HoldsFirst}
-use Rattle.vll_core.proofs.AtWork.{loading_next, holds_all, procedure_fits}
+use Rattle.vll_core.proofs.SerialRun.{length_before}
+use Rattle.vll_core.proofs.AtWork.{loading_next, holds_all, procedure_ready}
 use Rattle.vll_core.proofs.SerialRun.{length_before}
 use Rattle.vll_core.proofs.Tests.{eq_same}
 use Rattle.vll_counters.specs.declared.views.PassView.{PassView}
@@ -82,20 +83,20 @@ loaded_more first old new n value was is =
 pub claims_there : (e : Named) (w : WordsShown) (table : TableId) (p : PassView) (call : Call) → IsCatalog (library_of e) → IsOf e table p → w ≡ words_of e → p.call ≡ call
     → All (λ (c : Claim). c.id < length w.base.records) call.claims
 claims_there e w table p call catalog of words same =
-    subst (λ (x : WordsShown × Call). All (λ (c : Claim). c.id < length x.0.base.records) x.1.claims) (λ i. (sym words i, same i)) (fits_well (library_of e) p.call catalog of.fits).within
+    subst (λ (x : WordsShown × Call). All (λ (c : Claim). c.id < length x.0.base.records) x.1.claims) (λ i. (sym words i, same i)) (ready_well (library_of e) p.call catalog of.ready).within
 
 -- the procedure that the library has for it
 pub record HasProcedure (library : Catalog) (call : Call) (procedure : Proc) : Type 0 where
   pub found : slice_get library.procs call.number ≡ Some procedure
   pub formed : IsWellFormed procedure
-  pub made : IsCallOf procedure call
+  pub made : IsCallOf library.records procedure call
 
 pub has_procedure : (e : Named) (library : Catalog) (table : TableId) (p : PassView) (call : Call) (answer : Option (Bor Proc)) (procedure : Bor Proc) → IsCatalog library → IsOf e table p → library ≡ library_of e → p.call ≡ call
     → option_map (λ (b : Bor Proc). b.now) answer ≡ slice_get library.procs call.number → answer ≡ Some procedure → HasProcedure library call procedure.now
 has_procedure e library table p call answer procedure catalog of known same at is =
     let found : slice_get library.procs call.number ≡ Some procedure.now = sym at ∙ ap (option_map (λ (b : Bor Proc). b.now)) is in
-    let fits = procedure_fits library call procedure.now catalog (subst (λ (x : Catalog × Call). Fits x.0 x.1) (λ i. (sym known i, same i)) of.fits) found in
-    record { found = found; formed = fits.0; made = fits.1 }
+    let ready = procedure_ready library call procedure.now catalog (subst (λ (x : Catalog × Call). IsReady x.0 x.1) (λ i. (sym known i, same i)) of.ready) found in
+    record { found = found; formed = ready.0; made = ready.1 }
 
 -- what its body has made on the records before its ticket: its reply, and the cells behind it
 pub record Ran (base : Base) (p : PassView) (call : Call) (cells : List ℕ) (reply : Reply) : Type 0 where
@@ -104,14 +105,16 @@ pub record Ran (base : Base) (p : PassView) (call : Call) (cells : List ℕ) (re
 
 pub body_ran : (e : Named) (w : WordsShown) (library : Catalog) (p : PassView) (call : Call) (procedure : Proc) (cells next : List ℕ) (reply : Reply) → w ≡ words_of e → library ≡ library_of e → p.call ≡ call
     → HasProcedure library call procedure → Holds cells call.claims (records_before_pass w.base p)
-    → ((records : List ℕ) → Holds cells call.claims records → reply ≡ (applied procedure call records).reply)
-    → ((records : List ℕ) → Holds cells call.claims records → Holds next call.claims (applied procedure call records).records)
+    → ((records : List ℕ) → IsCallOf (length records) procedure call → Holds cells call.claims records → reply ≡ (applied procedure call records).reply)
+    → ((records : List ℕ) → IsCallOf (length records) procedure call → Holds cells call.claims records → Holds next call.claims (applied procedure call records).records)
     → Ran w.base p call next reply
 body_ran e w library p call procedure cells next reply words known same has held replies moves =
     let now = records_before_pass w.base p in
+    let many : library.records ≡ length now = ap (λ (c : Catalog). c.records) known ∙ sym (ap (λ (x : WordsShown). length x.base.records) words) ∙ sym (length_before w.base.procs p.seen w.base.records p.ticket) in
+    let made = subst (λ (n : ℕ). IsCallOf n procedure call) many has.made in
     let found : slice_get w.base.procs p.call.number ≡ Some procedure = (λ i. slice_get (words i).base.procs (same i).number) ∙ sym (ap (λ (c : Catalog). slice_get c.procs call.number) known) ∙ has.found in record {
-      reply_is = (λ i. (applied_at (found i) (same i) now).reply) ∙ sym (replies now held);
-      holds = subst (λ (x : Option Proc × Call). Holds next call.claims (applied_at x.0 x.1 now).records) (λ i. (sym found i, sym same i)) (moves now held);
+      reply_is = (λ i. (applied_at (found i) (same i) now).reply) ∙ sym (replies now made held);
+      holds = subst (λ (x : Option Proc × Call). Holds next call.claims (applied_at x.0 x.1 now).records) (λ i. (sym found i, sym same i)) (moves now made held);
     }
 
 -- the reply of a pass's call is that of the serial run on what it has seen
@@ -127,7 +130,7 @@ pub done_aborted : (e : Named) (w : WordsShown) (old : PassShown) (new : DoneSho
 done_aborted e w old new values why fresh words reply is =
     let replied : reply_of_pass e.base old.pass ≡ Aborted why = ap (λ (v : WordsShown). reply_of_pass v.base old.pass) (sym words) ∙ reply in
     subst (IsDone e) (sym is) (record {
-      of = record { same = fresh.of.same; fits = fresh.of.fits; client = fresh.of.client; last = fresh.of.last };
+      of = record { same = fresh.of.same; ready = fresh.of.ready; client = fresh.of.client; last = fresh.of.last };
       stored = (λ i. eq_same (length old.pass.call.claims) (length old.pass.call.claims) refl i && (is_aborted (replied i) || (old.pass.stores == length (writes old.pass.call))));
       no_releases = fresh.no_releases;
       reply = serial_reply e old.table old.pass (Aborted why) fresh.of replied;
@@ -139,7 +142,7 @@ pub done_committed : (e : Named) (w : WordsShown) (old : PassShown) (new : DoneS
 done_committed e w old new values reply fresh words right is =
     let replied : reply_of_pass e.base old.pass ≡ reply = ap (λ (v : WordsShown). reply_of_pass v.base old.pass) (sym words) ∙ right in
     subst (IsDone e) (sym is) (record {
-      of = record { same = fresh.of.same; fits = fresh.of.fits; client = fresh.of.client; last = fresh.of.last };
+      of = record { same = fresh.of.same; ready = fresh.of.ready; client = fresh.of.client; last = fresh.of.last };
       stored = all_made (length old.pass.call.claims) (length (writes old.pass.call)) (is_aborted (reply_of_pass e.base old.pass));
       no_releases = fresh.no_releases;
       reply = serial_reply e old.table old.pass reply fresh.of replied;

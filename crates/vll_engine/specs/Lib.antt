@@ -3,4 +3,5 @@ pub mod Sessions
 pub mod Pass
 pub mod Begin
 pub mod Closed
+pub mod Found
 pub mod Private

@@ -3,7 +3,7 @@ use Rattle.std.specs.Prelude.{◌≡◌, ℕ, true, length, Some, slice_get}
 use Rattle.atomic_table.specs.Seated.{TableId}
 use Rattle.vll_proc.specs.declared.call.Reply.{Reply}
 use Rattle.vll_proc.specs.Serial.{answer}
-use Rattle.vll_check.specs.Calls.{Fits}
+use Rattle.vll_check.specs.Calls.{IsReady}
 use Rattle.vll_counters.specs.declared.views.PassView.{PassView}
 use Rattle.vll_counters.specs.Shown.{PassShown}
 use Rattle.vll_counters.specs.Told.{has_stored_pass}
@@ -15,10 +15,10 @@ pub record DoneShown : Type 0 where
   pub pass : PassView
   pub reply : Reply
 
--- the pass is of this engine, for a call that its library makes, which is the last of the entered calls that the pass has seen
+-- the pass is of this engine, for a call that may enter, which is the last of the entered calls that the pass has seen
 pub record IsOf (e : Named) (table : TableId) (p : PassView) : Type 0 where
   pub same : table ≡ e.table
-  pub fits : Fits (library_of e) p.call
+  pub ready : IsReady (library_of e) p.call
   pub client : ℕ
   pub last : slice_get p.seen p.ticket ≡ Some (client, p.call)
 

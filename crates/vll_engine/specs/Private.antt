@@ -6,3 +6,4 @@ pub mod Opened
 pub mod Replied
 pub mod Seats
 pub mod Worked
+pub mod Looked

@@ -3,7 +3,7 @@ use Rattle.std.specs.Prelude.{ℕ, length, List, [], Option, Some, None}
 use Rattle.atomic_table.specs.Seated.{TableId}
 use Rattle.vll_check.specs.Catalog.{Catalog}
 use Rattle.vll_core.specs.declared.config.Config.{Config}
-use Rattle.vll_core.specs.State.{Base}
+use Rattle.vll_core.specs.State.{Base, catalog_of}
 use Rattle.vll_counters.specs.Shown.{WordsShown, SessionShown}
 use Rattle.vll_counters.specs.Steps.{new_session}
 
@@ -22,7 +22,7 @@ words_of e = record { table = e.table; base = e.base }
 
 -- the library of an engine: its procedures, checked for its number of records
 abbrev pub library_of : Named → Catalog
-library_of e = record { records = length e.base.records; procs = e.base.procs }
+library_of e = catalog_of e.base
 
 -- the name of no words
 abbrev pub no_table : TableId

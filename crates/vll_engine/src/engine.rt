@@ -3,7 +3,7 @@ ghost use Rattle.vll_check.specs.Calls.{Fits};
 ghost use Rattle.vll_check.specs.Catalog.{IsCatalog};
 ghost use Rattle.vll_proc.specs.Serial.{answer};
 ghost use Rattle.vll_counters.specs.Views.{calls_in};
-ghost use Rattle.vll_engine.specs.Begin.{Begins};
+ghost use Rattle.vll_engine.specs.Begin.{FindsAndBegins};
 ghost use Rattle.vll_engine.specs.Closed.{IsSerial};
 ghost use Rattle.vll_engine.specs.Pass.{IsDone, IsFresh, IsReleased, StaysOf};
 ghost use Rattle.vll_engine.specs.Sessions.{HasItsCalls, SawOthers};
@@ -12,6 +12,7 @@ ghost use Rattle.vll_engine.specs.Shown.{library_of, words_of};
 use crate::begun::Begun;
 use crate::closed::{Closed, NotClosed};
 use crate::execution;
+use crate::finding::find;
 use crate::hold::Hold;
 use crate::latch::Latch;
 use crate::locked::Locked;
@@ -75,7 +76,7 @@ impl<N: Name, H: Place + Send + Drop> Engine<N, H> {
     /// another thread that needs one comes between.
     pub fn hold(&self, wait: &impl Wait) -> Hold<'_, N, H> {
         let latch = self.latch.enter().then_some(&self.latch);
-        Hold::new(self.locked.lock(wait), &self.words, latch)
+        Hold::new(self.locked.lock(wait), &self.words, &self.library, latch)
     }
 
     /// A load of the pair word of each record that the call claims, which tells nothing and changes nothing: a call that
@@ -91,14 +92,23 @@ impl<N: Name, H: Place + Send + Drop> Engine<N, H> {
     /// takes no claim: `Spent` if as many calls as the limit have entered, `Busy` if that is not so and as many as the
     /// cap wait. After each answer the session has seen all calls that had entered when the lock was let go: behind
     /// what it had seen, calls of other clients alone and, after an entry, its own as the last.
+    ///
+    /// If the call has an indirect key its source is loaded first, without a claim and before the lock is taken, and what
+    /// enters is the call with the value found; a refusal drops it. The source held the value before the call's ticket or
+    /// an earlier one, and behind each of the session's calls that claim it and whose reply the session was given. If the
+    /// source has another value when the body begins the call is aborted with `Reason::Moved`; the engine does not try
+    /// again.
     pub fn begin(&self, wait: &impl Wait, session: &mut Session, call: Call) -> Begun
         requires session { session.old.table ≡ N.engine.table }
         requires fits { Fits (library_of N.engine) call }
-        ensures answer { Begins N.engine session.old.session session.new.session call result }
+        ensures answer { FindsAndBegins N.engine session.old.session session.new.session call result }
         ensures given { session.new.session.given ≡ session.old.session.given }
         ensures session { session.new.table ≡ session.old.table }
     {
-        self.hold(wait).begin(session, call)
+        match find::<N>(&self.words, &self.library, session, &call) {
+            Some(call) => self.hold(wait).begin_ready(session, &call),
+            None => self.hold(wait).begin_ready(session, &call),
+        }
     }
 
     /// A pass for the lowest ticket that is not gone, if it waits: all before it are gone.

@@ -1,19 +1,22 @@
 ghost use Rattle.std.specs.Prelude.{◌≡◌, ◌++◌, ◌∷◌, [], IfNone, IfSome, IsSome, Some, slice_get};
-ghost use Rattle.vll_check.specs.Calls.{Fits};
+ghost use Rattle.vll_check.specs.Calls.{Fits, IsReady};
 ghost use Rattle.vll_check.specs.Catalog.{IsCatalog};
 ghost use Rattle.vll_proc.specs.Serial.{answer};
-ghost use Rattle.vll_engine.specs.Begin.{Begins};
+ghost use Rattle.vll_engine.specs.Begin.{Begins, FindsAndBegins};
 ghost use Rattle.vll_engine.specs.Pass.{IsFresh, IsReleased};
+ghost use Rattle.vll_engine.specs.Private.Looked.{IsLookedUp};
 ghost use Rattle.vll_engine.specs.Sessions.{SawOthers};
 ghost use Rattle.vll_engine.specs.Shown.{library_of, words_of};
 
 use crate::begun::Begun;
+use crate::finding::find;
 use crate::latch::Latch;
 use crate::locked::Locked;
 use crate::name::Name;
 use crate::pass::{Pass, Released};
 use crate::session::Session;
 use std::sync::MutexGuard;
+use vll_check::Library;
 use vll_core::Ticket;
 use vll_counters::Words;
 use vll_proc::{Call, Reply};
@@ -27,9 +30,11 @@ use vll_sca::Place;
 pub struct Hold<'a, N: Name, H: Place + Send + Drop> {
     guard: MutexGuard<'a, Locked<N, H>>,
     words: &'a Words,
+    library: &'a Library,
     // The latch, if this hold has taken it: only then it opens it.
     latch: Option<&'a Latch>,
     ghost words_are: { words.now ≡ words_of N.engine },
+    ghost library_is: { library.now ≡ library_of N.engine },
     ghost catalog: { IsCatalog (library_of N.engine) },
 }
 
@@ -38,30 +43,49 @@ impl<'a, N: Name, H: Place + Send + Drop> Hold<'a, N, H> {
     pub(crate) fn new(
         guard: MutexGuard<'a, Locked<N, H>>,
         words: &'a Words,
+        library: &'a Library,
         latch: Option<&'a Latch>,
     ) -> Hold<'a, N, H>
         requires words { words.now ≡ words_of N.engine }
+        requires library { library.now ≡ library_of N.engine }
         requires catalog { IsCatalog (library_of N.engine) }
     {
         Hold {
             guard,
             words,
+            library,
             latch,
         }
     }
 
-    /// A session's client enters a call, or is refused, as by `Engine::begin`.
+    /// A session's client enters a call, or is refused, as by `Engine::begin`. If the call has an indirect key its source
+    /// is loaded under this hold.
     pub fn begin(&mut self, session: &mut Session, call: Call) -> Begun
         requires session { session.old.table ≡ N.engine.table }
         requires fits { Fits (library_of N.engine) call }
-        ensures answer { Begins N.engine session.old.session session.new.session call result }
+        ensures answer { FindsAndBegins N.engine session.old.session session.new.session call result }
+        ensures given { session.new.session.given ≡ session.old.session.given }
+        ensures session { session.new.table ≡ session.old.table }
+    {
+        match find::<N>(self.words, self.library, session, &call) {
+            Some(call) => self.begin_ready(session, &call),
+            None => self.begin_ready(session, &call),
+        }
+    }
+
+    // The session's client enters a call that is ready, or is refused.
+    pub(crate) fn begin_ready(&mut self, session: &mut Session, call: &Call) -> Begun
+        requires session { session.old.table ≡ N.engine.table }
+        requires ready { IsReady (library_of N.engine) call.now }
+        requires looked_up { IsLookedUp N.engine session.old.session call.now }
+        ensures answer { Begins N.engine session.old.session session.new.session call.now result }
         ensures given { session.new.session.given ≡ session.old.session.given }
         ensures session { session.new.table ≡ session.old.table }
     {
         let Some(seat) = session.seat.take() else {
             unreachable!()
         };
-        let (begun, seat) = self.guard.begin(self.words, seat, session.client, &call);
+        let (begun, seat) = self.guard.begin(self.words, seat, session.client, call);
         session.seat = Some(seat);
         begun
     }
@@ -113,6 +137,7 @@ impl<N: Name, H: Place + Send + Drop> Drop for Hold<'_, N, H> {
         let Hold {
             guard,
             words: _,
+            library: _,
             latch,
         } = self;
         drop(guard);

@@ -7,6 +7,7 @@ mod begun;
 mod closed;
 mod engine;
 mod execution;
+mod finding;
 mod hold;
 mod latch;
 mod locked;

@@ -1,4 +1,5 @@
 mod closing;
+mod finding;
 mod holding;
 mod opening;
 mod playing;

@@ -11,12 +11,13 @@ use Rattle.vll_record.specs.Claim.{mode_on, stronger_of}
 use Rattle.vll_record.proofs.ClaimsOf.{mode_on-claims_of}
 use Rattle.vll_proc.specs.declared.call.Call.{Call}
 use Rattle.vll_proc.specs.declared.call.Reason.{Reason}
+use Rattle.vll_proc.specs.declared.call.Reason.TheVariants.{Moved}
 use Rattle.vll_proc.specs.declared.syntax.Expr.{Expr}
 use Rattle.vll_proc.specs.declared.syntax.KeyDecl.{KeyDecl}
 use Rattle.vll_proc.specs.declared.syntax.Proc.{Proc}
 use Rattle.vll_proc.specs.declared.syntax.Stmt.{Stmt, Row_of-Stmt, end_of-Stmt, more_of-Stmt, Let, Set, If', Abort, Reply}
 use Rattle.vll_proc.specs.Made.{IsCallOf}
-use Rattle.vll_proc.specs.Meaning.{Scene, Action, and_then, value_of, effect, list_effect, in_turn, record_named, found_at, opening_scene, body}
+use Rattle.vll_proc.specs.Meaning.{Scene, Action, and_then, value_of, effect, list_effect, in_turn, record_named, found_at, has_moved, opening_scene, source_of, unless_moved, body}
 use Rattle.vll_proc.specs.Serial.{after, applied}
 use Rattle.vll_proc.specs.WellFormed.{IsWellFormed, key_is_below, set_is_below, any_leaf, throughout, list_throughout, is_not_read, sets_no_read_key}
 use Rattle.vll_proc.proofs.Called.{claims_named, claim_named, number_named, some_key, key_record}
@@ -66,8 +67,15 @@ all_keep_length n [] s h = h
 all_keep_length n (st ∷ sts) s h =
     goes_on_then (HasLength n) (HasLength n) (effect st s) (in_turn (map effect sts)) (keeps_length n st s h) (λ t k. all_keep_length n sts t k)
 
+-- a body begins at its scene, if it begins
+begins : (P : Scene → Type 0) (p : Proc) (c : Call) (s : Scene) → P s → IfGoesOn P (unless_moved p c s)
+begins P p c s h = goes_on_choice P (has_moved (source_of p.keys) c.found s) (Err Moved) (Ok s) tt h
+
 pub length-applied : (p : Proc) (c : Call) (records : List ℕ) → length (applied p c records).records ≡ length records
-length-applied p c records = ended (body p c records) (all_keep_length (length records) p.body (opening_scene p c records) refl)
+length-applied p c records =
+    ended (body p c records)
+    (goes_on_then (HasLength (length records)) (HasLength (length records)) (unless_moved p c (opening_scene p c records)) (in_turn (map effect p.body))
+    (begins (HasLength (length records)) p c (opening_scene p c records) refl) (λ s h. all_keep_length (length records) p.body s h))
   where
     ended : (r : Result Scene Reason) → IfGoesOn (HasLength (length records)) r → length (after records r).records ≡ length records
     ended (Ok s) h = h
@@ -154,24 +162,27 @@ written o d is h = by_mode d.mode (rw is at h)
     by_mode Write h = refl
 
 -- a key position that may be set claims its record for writing
-claimed_for_writing : (p : Proc) (c : Call) (records : List ℕ) → IsWellFormed p → IsCallOf p c → (k : ℕ) → k < length p.keys → is_not_read (slice_get p.keys k) ≡ true
-    → mode_on c.claims (slice_index (map (λ (d : KeyDecl). found_at records (record_named c.args d.at)) p.keys) k) ≡ Some Write
+claimed_for_writing : (p : Proc) (c : Call) (records : List ℕ) → IsWellFormed p → IsCallOf (length records) p c → (k : ℕ) → k < length p.keys → is_not_read (slice_get p.keys k) ≡ true
+    → mode_on c.claims (slice_index (map (λ (d : KeyDecl). found_at records (record_named (length records) c.args c.found d.at)) p.keys) k) ≡ Some Write
 claimed_for_writing p c records formed made k lt free =
+    let n : ℕ = length records in
     let args : List ℕ = take c.arg_count c.args in
     let mode : (get_or p.keys k some_key).mode ≡ Write = written (slice_get p.keys k) (get_or p.keys k some_key) (slice_get-get_or p.keys k some_key lt) free in
-    rw (key_record p c records formed made k lt, claims_named p c formed made)
-    (mode_on-claims_of (map (claim_named args) p.keys) (number_named args (get_or p.keys k some_key))
-    ∙ mode_on-written (claim_named args) p.keys k some_key lt mode)
+    rw (key_record p c records formed made k lt, claims_named n p c formed made)
+    (mode_on-claims_of (map (claim_named n args c.found) p.keys) (number_named n args c.found (get_or p.keys k some_key))
+    ∙ mode_on-written (claim_named n args c.found) p.keys k some_key lt mode)
 
-pub slice_index-applied : (p : Proc) (c : Call) (records : List ℕ) → IsWellFormed p → IsCallOf p c → (r : ℕ) → mode_on c.claims r ≢ Some Write
+pub slice_index-applied : (p : Proc) (c : Call) (records : List ℕ) → IsWellFormed p → IsCallOf (length records) p c → (r : ℕ) → mode_on c.claims r ≢ Some Write
     → slice_index (applied p c records).records r ≡ slice_index records r
 unfolding NamesNot
 slice_index-applied p c records formed made r free =
-    let named : List ℕ = map (λ (d : KeyDecl). found_at records (record_named c.args d.at)) p.keys in
+    let named : List ℕ = map (λ (d : KeyDecl). found_at records (record_named (length records) c.args c.found d.at)) p.keys in
     let apart : NamesNot r p.keys named = λ k lt writable e. free (ap (mode_on c.claims) (sym e) ∙ claimed_for_writing p c records formed made k (ltb-true k (length p.keys) lt) writable) in
     ended (body p c records)
-    (all_keep_value r (slice_index records r) p.keys named p.body (opening_scene p c records) apart (formed.known_keys, formed.writable_keys) (record { value = refl; names = refl }))
+    (goes_on_then (StaysAt r (slice_index records r) named) (StaysAt r (slice_index records r) named) (unless_moved p c (opening_scene p c records)) (in_turn (map effect p.body))
+    (begins (StaysAt r (slice_index records r) named) p c (opening_scene p c records) (record { value = refl; names = refl }))
+    (λ s h. all_keep_value r (slice_index records r) p.keys named p.body s apart (formed.known_keys, formed.writable_keys) h))
   where
-    ended : (q : Result Scene Reason) → IfGoesOn (StaysAt r (slice_index records r) (map (λ (d : KeyDecl). found_at records (record_named c.args d.at)) p.keys)) q → slice_index (after records q).records r ≡ slice_index records r
+    ended : (q : Result Scene Reason) → IfGoesOn (StaysAt r (slice_index records r) (map (λ (d : KeyDecl). found_at records (record_named (length records) c.args c.found d.at)) p.keys)) q → slice_index (after records q).records r ≡ slice_index records r
     ended (Ok s) h = h.value
     ended (Err why) h = refl

@@ -8,10 +8,10 @@ use Rattle.vll_proc.specs.declared.call.Reason.{Reason}
 use Rattle.vll_proc.specs.declared.syntax.Proc.{Proc}
 use Rattle.vll_proc.specs.Cells.{AgreeAt}
 use Rattle.vll_proc.specs.Made.{IsCallOf}
-use Rattle.vll_proc.specs.Meaning.{Scene, effect, in_turn}
+use Rattle.vll_proc.specs.Meaning.{Scene}
 use Rattle.vll_proc.specs.Serial.{After, applied}
 use Rattle.vll_proc.specs.WellFormed.{IsWellFormed}
-use Rattle.vll_proc.proofs.Runs.{ToldBy, told_on, cell_opening}
+use Rattle.vll_proc.proofs.Runs.{ToldBy, cell_body, told_on}
 
 -- the cells of the claims, as a list of records has them
 cells_of : List ℕ → List Claim → List ℕ
@@ -36,17 +36,17 @@ unfolding SameEnd
 same_end cells claims (Ok s) a b p q = (p.0 ∙ sym q.0, λ i c is. ((p.1 i c is).0, (q.1 i c is).0, sym (p.1 i c is).1 ∙ (q.1 i c is).1))
 same_end cells claims (Err why) a b p q = (p.0 ∙ sym q.0, λ i c is. ((p.1 i c is).0, (q.1 i c is).0, sym (p.1 i c is).1 ∙ (q.1 i c is).1))
 
-local : (p : Proc) (c : Call) (m n : List ℕ) → IsWellFormed p → IsCallOf p c → AgreeAt c.claims m n → SameEnd c.claims (applied p c m) (applied p c n)
-local p c m n formed made agree =
+local : (p : Proc) (c : Call) (m n : List ℕ) → IsWellFormed p → IsCallOf (length m) p c → IsCallOf (length n) p c → AgreeAt c.claims m n → SameEnd c.claims (applied p c m) (applied p c n)
+local p c m n formed by_m by_n agree =
     let cells : List ℕ = cells_of m c.claims in
-    same_end cells c.claims (in_turn (map effect p.body) (cell_opening c cells)) (applied p c m) (applied p c n)
-    (told_on p c cells m formed made (room m c.claims) (λ i d is. ((agree i d is).0, slice_index-cells m c.claims i d is)))
-    (told_on p c cells n formed made (room m c.claims) (λ i d is. ((agree i d is).1, slice_index-cells m c.claims i d is ∙ (agree i d is).2)))
+    same_end cells c.claims (cell_body p c cells) (applied p c m) (applied p c n)
+    (told_on p c cells m formed by_m (room m c.claims) (λ i d is. ((agree i d is).0, slice_index-cells m c.claims i d is)))
+    (told_on p c cells n formed by_n (room m c.claims) (λ i d is. ((agree i d is).1, slice_index-cells m c.claims i d is ∙ (agree i d is).2)))
 
-pub same_reply : (p : Proc) (c : Call) (m n : List ℕ) → IsWellFormed p → IsCallOf p c → AgreeAt c.claims m n → (applied p c m).reply ≡ (applied p c n).reply
+pub same_reply : (p : Proc) (c : Call) (m n : List ℕ) → IsWellFormed p → IsCallOf (length m) p c → IsCallOf (length n) p c → AgreeAt c.claims m n → (applied p c m).reply ≡ (applied p c n).reply
 unfolding SameEnd
-same_reply p c m n formed made agree = (local p c m n formed made agree).0
+same_reply p c m n formed by_m by_n agree = (local p c m n formed by_m by_n agree).0
 
-pub same_values : (p : Proc) (c : Call) (m n : List ℕ) → IsWellFormed p → IsCallOf p c → AgreeAt c.claims m n → AgreeAt c.claims (applied p c m).records (applied p c n).records
+pub same_values : (p : Proc) (c : Call) (m n : List ℕ) → IsWellFormed p → IsCallOf (length m) p c → IsCallOf (length n) p c → AgreeAt c.claims m n → AgreeAt c.claims (applied p c m).records (applied p c n).records
 unfolding SameEnd
-same_values p c m n formed made agree = (local p c m n formed made agree).1
+same_values p c m n formed by_m by_n agree = (local p c m n formed by_m by_n agree).1

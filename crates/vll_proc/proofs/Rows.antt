@@ -1,9 +1,9 @@
 -- What some procedures answer, computed.
-use Rattle.std.proofs.Common.{◌≡◌, ℕ, false, List, [], ◌∷◌, refl}
+use Rattle.std.proofs.Common.{◌≡◌, ℕ, false, List, [], ◌∷◌, Option, None, Some, refl}
 use Rattle.std.specs.Prelude.{codes}
 use denote.Hole.Carrier.{hidden}
 use Rattle.vll_record.specs.declared.claim.Mode.TheVariants.{Read, Write}
-use Rattle.vll_proc.specs.declared.call.Reason.TheVariants.{Code, Overflow, Underflow, ZeroDivisor}
+use Rattle.vll_proc.specs.declared.call.Reason.TheVariants.{Code, Moved, Overflow, Underflow, ZeroDivisor}
 use Rattle.vll_proc.specs.declared.call.Reply.TheVariants.{Committed, Aborted}
 use Rattle.vll_proc.specs.declared.syntax.Expr.{Num, Arg, Key, Local, Add, Sub, Mul, Div, Rem, Min, Max, Equal, Less, Not}
 use Rattle.vll_proc.specs.declared.syntax.Expr.TheBlock.{hidden-the_row-Expr-0}
@@ -94,74 +94,109 @@ choose = record { name = codes "choose"; args = 1; keys = []; body = choose_body
 abbrev procs : List Proc
 procs = transfer ∷ bump ∷ sum2 ∷ odd_sum ∷ operators ∷ product ∷ odd_quotient ∷ take ∷ choose ∷ []
 
-transfers : apply procs (call_of 0 transfer (0 ∷ 1 ∷ 30 ∷ [])) (100 ∷ 50 ∷ []) ≡ record { records = 70 ∷ 80 ∷ []; reply = Committed (70 ∷ []) }
+transfers : apply procs (call_of 2 0 transfer (0 ∷ 1 ∷ 30 ∷ []) None) (100 ∷ 50 ∷ []) ≡ record { records = 70 ∷ 80 ∷ []; reply = Committed (70 ∷ []) }
 unfolding hidden hidden-the_row-Expr-0
 transfers = refl
 
-underflows : apply procs (call_of 0 transfer (0 ∷ 1 ∷ 200 ∷ [])) (100 ∷ 50 ∷ []) ≡ record { records = 100 ∷ 50 ∷ []; reply = Aborted Underflow }
+underflows : apply procs (call_of 2 0 transfer (0 ∷ 1 ∷ 200 ∷ []) None) (100 ∷ 50 ∷ []) ≡ record { records = 100 ∷ 50 ∷ []; reply = Aborted Underflow }
 unfolding hidden hidden-the_row-Expr-0
 underflows = refl
 
 -- two key positions of one record are one record
-to_itself : apply procs (call_of 0 transfer (0 ∷ 0 ∷ 30 ∷ [])) (100 ∷ []) ≡ record { records = 100 ∷ []; reply = Committed (100 ∷ []) }
+to_itself : apply procs (call_of 1 0 transfer (0 ∷ 0 ∷ 30 ∷ []) None) (100 ∷ []) ≡ record { records = 100 ∷ []; reply = Committed (100 ∷ []) }
 unfolding hidden hidden-the_row-Expr-0
 to_itself = refl
 
-one_claim : (call_of 0 transfer (0 ∷ 0 ∷ 30 ∷ [])).claims ≡ record { id = 0; mode = Write } ∷ []
+one_claim : (call_of 1 0 transfer (0 ∷ 0 ∷ 30 ∷ []) None).claims ≡ record { id = 0; mode = Write } ∷ []
 one_claim = refl
 
-bumps : apply procs (call_of 1 bump (1 ∷ [])) (7 ∷ 9 ∷ []) ≡ record { records = 7 ∷ 10 ∷ []; reply = Committed (10 ∷ []) }
+bumps : apply procs (call_of 2 1 bump (1 ∷ []) None) (7 ∷ 9 ∷ []) ≡ record { records = 7 ∷ 10 ∷ []; reply = Committed (10 ∷ []) }
 unfolding hidden hidden-the_row-Expr-0
 bumps = refl
 
-overflows : apply procs (call_of 1 bump (0 ∷ [])) (18446744073709551615 ∷ []) ≡ record { records = 18446744073709551615 ∷ []; reply = Aborted Overflow }
+overflows : apply procs (call_of 1 1 bump (0 ∷ []) None) (18446744073709551615 ∷ []) ≡ record { records = 18446744073709551615 ∷ []; reply = Aborted Overflow }
 unfolding hidden hidden-the_row-Expr-0
 overflows = refl
 
-sums : apply procs (call_of 2 sum2 (1 ∷ 0 ∷ [])) (70 ∷ 80 ∷ []) ≡ record { records = 70 ∷ 80 ∷ []; reply = Committed (150 ∷ []) }
+sums : apply procs (call_of 2 2 sum2 (1 ∷ 0 ∷ []) None) (70 ∷ 80 ∷ []) ≡ record { records = 70 ∷ 80 ∷ []; reply = Committed (150 ∷ []) }
 unfolding hidden hidden-the_row-Expr-0
 sums = refl
 
 -- the reason of the left operand is the one that is answered
-left_first : apply procs (call_of 3 odd_sum (18446744073709551615 ∷ [])) [] ≡ record { records = []; reply = Aborted Overflow }
+left_first : apply procs (call_of 0 3 odd_sum (18446744073709551615 ∷ []) None) [] ≡ record { records = []; reply = Aborted Overflow }
 unfolding hidden hidden-the_row-Expr-0
 left_first = refl
 
-operate : apply procs (call_of 4 operators []) [] ≡ record { records = []; reply = Committed (3 ∷ 1 ∷ 3 ∷ 9 ∷ 1 ∷ 0 ∷ 1 ∷ []) }
+operate : apply procs (call_of 0 4 operators [] None) [] ≡ record { records = []; reply = Committed (3 ∷ 1 ∷ 3 ∷ 9 ∷ 1 ∷ 0 ∷ 1 ∷ []) }
 unfolding hidden hidden-the_row-Expr-0
 operate = refl
 
-greatest_product : apply procs (call_of 5 product (4294967295 ∷ 4294967297 ∷ [])) [] ≡ record { records = []; reply = Committed (18446744073709551615 ∷ []) }
+greatest_product : apply procs (call_of 0 5 product (4294967295 ∷ 4294967297 ∷ []) None) [] ≡ record { records = []; reply = Committed (18446744073709551615 ∷ []) }
 unfolding hidden hidden-the_row-Expr-0
 greatest_product = refl
 
-product_overflows : apply procs (call_of 5 product (4294967296 ∷ 4294967296 ∷ [])) [] ≡ record { records = []; reply = Aborted Overflow }
+product_overflows : apply procs (call_of 0 5 product (4294967296 ∷ 4294967296 ∷ []) None) [] ≡ record { records = []; reply = Aborted Overflow }
 unfolding hidden hidden-the_row-Expr-0
 product_overflows = refl
 
-zero_divisor_first : apply procs (call_of 6 odd_quotient []) [] ≡ record { records = []; reply = Aborted ZeroDivisor }
+zero_divisor_first : apply procs (call_of 0 6 odd_quotient [] None) [] ≡ record { records = []; reply = Aborted ZeroDivisor }
 unfolding hidden hidden-the_row-Expr-0
 zero_divisor_first = refl
 
-takes_too_much : apply procs (call_of 7 take (0 ∷ 9 ∷ [])) (5 ∷ []) ≡ record { records = 5 ∷ []; reply = Aborted (Code 7) }
+takes_too_much : apply procs (call_of 1 7 take (0 ∷ 9 ∷ []) None) (5 ∷ []) ≡ record { records = 5 ∷ []; reply = Aborted (Code 7) }
 unfolding hidden hidden-the_row-Expr-0 hidden-the_row-Stmt-0
 takes_too_much = refl
 
-takes_all : apply procs (call_of 7 take (0 ∷ 5 ∷ [])) (5 ∷ []) ≡ record { records = 0 ∷ []; reply = Committed (0 ∷ []) }
+takes_all : apply procs (call_of 1 7 take (0 ∷ 5 ∷ []) None) (5 ∷ []) ≡ record { records = 0 ∷ []; reply = Committed (0 ∷ []) }
 unfolding hidden hidden-the_row-Expr-0 hidden-the_row-Stmt-0
 takes_all = refl
 
-chooses_the_first : apply procs (call_of 8 choose (2 ∷ [])) [] ≡ record { records = []; reply = Committed (42 ∷ []) }
+chooses_the_first : apply procs (call_of 0 8 choose (2 ∷ []) None) [] ≡ record { records = []; reply = Committed (42 ∷ []) }
 unfolding hidden hidden-the_row-Expr-0 hidden-the_row-Stmt-0
 chooses_the_first = refl
 
-chooses_the_second : apply procs (call_of 8 choose (1 ∷ [])) [] ≡ record { records = []; reply = Committed (41 ∷ []) }
+chooses_the_second : apply procs (call_of 0 8 choose (1 ∷ []) None) [] ≡ record { records = []; reply = Committed (41 ∷ []) }
 unfolding hidden hidden-the_row-Expr-0 hidden-the_row-Stmt-0
 chooses_the_second = refl
 
-chooses_nothing : apply procs (call_of 8 choose (0 ∷ [])) [] ≡ record { records = []; reply = Committed (40 ∷ []) }
+chooses_nothing : apply procs (call_of 0 8 choose (0 ∷ []) None) [] ≡ record { records = []; reply = Committed (40 ∷ []) }
 unfolding hidden hidden-the_row-Expr-0 hidden-the_row-Stmt-0
 chooses_nothing = refl
+
+-- an indirect key: the record that record `arg 0` names is claimed for writing, and is one more afterwards
+abbrev pub via_keys : List KeyDecl
+via_keys = record { mode = Read; at = at.Arg 0 } ∷ record { mode = Write; at = at.Through 0 } ∷ []
+
+abbrev pub via_body : List Stmt
+via_body = Set 1 (Add (Key 1) (Num 1)) ∷ Reply (Key 1) ∷ []
+
+abbrev via : Proc
+via = record { name = codes "via"; args = 1; keys = via_keys; body = via_body }
+
+finds : apply (via ∷ []) (call_of 3 0 via (0 ∷ []) (Some 2)) (2 ∷ 0 ∷ 7 ∷ []) ≡ record { records = 2 ∷ 0 ∷ 8 ∷ []; reply = Committed (8 ∷ []) }
+unfolding hidden hidden-the_row-Expr-0 hidden-the_row-Stmt-0
+finds = refl
+
+two_claims : (call_of 3 0 via (0 ∷ []) (Some 2)).claims ≡ record { id = 0; mode = Read } ∷ record { id = 2; mode = Write } ∷ []
+two_claims = refl
+
+-- the value found is taken modulo the number of records
+finds_around : apply (via ∷ []) (call_of 2 0 via (0 ∷ []) (Some 5)) (5 ∷ 9 ∷ []) ≡ record { records = 5 ∷ 10 ∷ []; reply = Committed (10 ∷ []) }
+unfolding hidden hidden-the_row-Expr-0 hidden-the_row-Stmt-0
+finds_around = refl
+
+-- one record in both positions
+finds_itself : (call_of 1 0 via (0 ∷ []) (Some 0)).claims ≡ record { id = 0; mode = Write } ∷ []
+finds_itself = refl
+
+-- another value stands at the source
+moved : apply (via ∷ []) (call_of 3 0 via (0 ∷ []) (Some 1)) (2 ∷ 10 ∷ 20 ∷ []) ≡ record { records = 2 ∷ 10 ∷ 20 ∷ []; reply = Aborted Moved }
+unfolding hidden hidden-the_row-Expr-0 hidden-the_row-Stmt-0
+moved = refl
+
+-- as long as nothing is found the position names no record
+not_found : (call_of 3 0 via (0 ∷ []) None).claims ≡ record { id = 0; mode = Read } ∷ []
+not_found = refl
 
 -- a local that one list of an `If` sets is not surely set behind it
 reads_half_set : body_reads_set nothing_set (If (Arg 0) (Let 0 (Num 1) ∷ []) [] ∷ Reply (Local 0) ∷ []) ≡ false
@@ -182,6 +217,8 @@ transfer_is_well_formed name = record {
   few_replies = refl;
   shallow = refl;
   short = refl;
+  sources = refl;
+  one_indirect = refl;
 }
 
 pub bump_is_well_formed : (name : List ℕ) → IsWellFormed (record { name = name; args = 1; keys = bump_keys; body = bump_body })
@@ -198,6 +235,8 @@ bump_is_well_formed name = record {
   few_replies = refl;
   shallow = refl;
   short = refl;
+  sources = refl;
+  one_indirect = refl;
 }
 
 pub sum2_is_well_formed : (name : List ℕ) → IsWellFormed (record { name = name; args = 2; keys = sum2_keys; body = sum2_body })
@@ -214,6 +253,8 @@ sum2_is_well_formed name = record {
   few_replies = refl;
   shallow = refl;
   short = refl;
+  sources = refl;
+  one_indirect = refl;
 }
 
 pub take_is_well_formed : (name : List ℕ) → IsWellFormed (record { name = name; args = 2; keys = take_keys; body = take_body })
@@ -230,6 +271,8 @@ take_is_well_formed name = record {
   few_replies = refl;
   shallow = refl;
   short = refl;
+  sources = refl;
+  one_indirect = refl;
 }
 
 pub choose_is_well_formed : (name : List ℕ) → IsWellFormed (record { name = name; args = 1; keys = []; body = choose_body })
@@ -246,4 +289,6 @@ choose_is_well_formed name = record {
   few_replies = refl;
   shallow = refl;
   short = refl;
+  sources = refl;
+  one_indirect = refl;
 }

@@ -1,5 +1,5 @@
 -- A well-formed procedure's body on the cells of a made call: it may run there, and ends as on the records.
-use Rattle.std.proofs.Common.{◌≡◌, ℕ, ◌≤◌, Bool, true, ◌&&◌, nat_lt, List, [], ◌∷◌, length, map, replicate, Result, Ok, Err, slice_index, refl, sym, ap, ◌∙◌, arith}
+use Rattle.std.proofs.Common.{◌≡◌, ℕ, ◌<◌, ◌≤◌, ◌==◌, Bool, true, false, ◌&&◌, not, nat_lt, List, [], ◌∷◌, length, map, replicate, Option, Some, None, Result, Ok, Err, slice_index, refl, sym, ap, ◌∙◌, arith}
 use Rattle.std.specs.List.{list_all}
 use Rattle.std.proofs.lemmas.Bool.{ltb-true, lt-ltb, leb-true}
 use Rattle.std.proofs.lemmas.List.{length-set}
@@ -9,17 +9,19 @@ use Rattle.vll_record.specs.declared.claim.Claim.{Claim}
 use Rattle.vll_record.specs.Claim.{IsRising}
 use Rattle.vll_proc.specs.declared.call.Call.{Call}
 use Rattle.vll_proc.specs.declared.call.Reason.{Reason}
+use Rattle.vll_proc.specs.declared.call.Reason.TheVariants.{Moved}
 use Rattle.vll_proc.specs.declared.call.Reply.TheVariants.{Committed, Aborted}
 use Rattle.vll_proc.specs.declared.syntax.Expr.{Expr, Row_of-Expr, end_of-Expr, more_of-Expr, Num, Arg, Key, Local, Add', Sub', Mul', Div', Rem', Min', Max', Equal', Less', Not'}
 use Rattle.vll_proc.specs.declared.syntax.Proc.{Proc}
 use Rattle.vll_proc.specs.declared.syntax.Stmt.{Stmt, Row_of-Stmt, end_of-Stmt, more_of-Stmt, Let, Set, If', Abort, Reply}
 use Rattle.vll_proc.specs.Cells.{Holds}
 use Rattle.vll_proc.specs.Made.{IsCallOf}
-use Rattle.vll_proc.specs.Meaning.{Scene, effect, in_turn, opening_scene, body}
+use Rattle.vll_proc.specs.Meaning.{Scene, and_then, effect, has_moved, in_turn, opening_scene, source_of, unless_moved}
+use Rattle.vll_proc.specs.Private.Running.{cell_opening}
 use Rattle.vll_proc.specs.Serial.{After, after, applied}
 use Rattle.vll_proc.specs.WellFormed.{IsWellFormed, all_leaves, operand_leaves, throughout, list_throughout, key_is_below, arg_is_below, set_is_below, any_stmt, nothing_set, body_set_behind}
 use Rattle.vll_proc.proofs.Alike.{Bridge, IsAlike, EndAlike, alike_in_turn}
-use Rattle.vll_proc.proofs.Called.{claims_rise, claims_few, key_place}
+use Rattle.vll_proc.proofs.Called.{claims_rise, claims_few, key_place, source_within}
 use Rattle.vll_proc.proofs.Copy.{IsPlaceFor, both_true, Holds-set}
 
 both_still : (a b c d : Bool) → (a ≡ true → c ≡ true) → (b ≡ true → d ≡ true) → (a && b) ≡ true → (c && d) ≡ true
@@ -131,20 +133,16 @@ cells_bridge p claims rising = record {
   store = λ cells records i r v held at. (rw (← at.is_for) (Holds-set cells claims records i at.claim v rising held.1 at.stands held.0), rw length-set held.1);
 }
 
--- where a body begins on the cells of a call
-abbrev pub cell_opening : Call → List ℕ → Scene
-cell_opening c cells = record { named = c.cells; args = c.args; locals = replicate MOST_LOCALS 0; records = cells; outputs = [] }
-
-opening_alike : (p : Proc) (c : Call) (cells records : List ℕ) (formed : IsWellFormed p) (made : IsCallOf p c) → length c.claims ≤ length cells → Holds cells c.claims records
-    → IsAlike (cells_bridge p c.claims (claims_rise p c made)) nothing_set (cell_opening c cells) (opening_scene p c records)
+opening_alike : (p : Proc) (c : Call) (cells records : List ℕ) (formed : IsWellFormed p) (made : IsCallOf (length records) p c) → length c.claims ≤ length cells → Holds cells c.claims records
+    → IsAlike (cells_bridge p c.claims (claims_rise (length records) p c made)) nothing_set (cell_opening c cells) (opening_scene p c records)
 opening_alike p c cells records formed made room holds =
     record { args = λ i lt. refl; named = key_place p c records formed made; locals = λ i is. refl; as_many = refl; values = (holds, room); outputs = refl }
 
 -- the body ends on the cells as on the records
-ends_alike : (p : Proc) (c : Call) (cells records : List ℕ) (formed : IsWellFormed p) (made : IsCallOf p c) → length c.claims ≤ length cells → Holds cells c.claims records
-    → EndAlike (cells_bridge p c.claims (claims_rise p c made)) (body_set_behind p.body nothing_set) (in_turn (map effect p.body) (cell_opening c cells)) (body p c records)
+ends_alike : (p : Proc) (c : Call) (cells records : List ℕ) (formed : IsWellFormed p) (made : IsCallOf (length records) p c) → length c.claims ≤ length cells → Holds cells c.claims records
+    → EndAlike (cells_bridge p c.claims (claims_rise (length records) p c made)) (body_set_behind p.body nothing_set) (in_turn (map effect p.body) (cell_opening c cells)) (in_turn (map effect p.body) (opening_scene p c records))
 ends_alike p c cells records formed made room holds =
-    alike_in_turn (cells_bridge p c.claims (claims_rise p c made)) nothing_set p.body (cell_opening c cells) (opening_scene p c records)
+    alike_in_turn (cells_bridge p c.claims (claims_rise (length records) p c made)) nothing_set p.body (cell_opening c cells) (opening_scene p c records)
     (opening_alike p c cells records formed made room holds) (formed.known_keys, formed.known_args, formed.set_locals)
 
 -- what an end on cells says of the end on records
@@ -159,14 +157,43 @@ told_by_end p claims rising set cells records (Err why) (Err reason) holds h = (
 told_by_end p claims rising set cells records (Ok s) (Err why) holds h = absurd h
 told_by_end p claims rising set cells records (Err why) (Ok t) holds h = absurd h
 
-pub told_on : (p : Proc) (c : Call) (cells records : List ℕ) → IsWellFormed p → IsCallOf p c → length c.claims ≤ length cells → Holds cells c.claims records
-    → ToldBy cells c.claims (in_turn (map effect p.body) (cell_opening c cells)) (applied p c records)
-told_on p c cells records formed made room holds =
-    told_by_end p c.claims (claims_rise p c made) (body_set_behind p.body nothing_set) cells records (in_turn (map effect p.body) (cell_opening c cells)) (body p c records) holds
-    (ends_alike p c cells records formed made room holds)
+-- what was found has moved on the cells if it has on the records
+moves_alike : (p : Proc) (c : Call) (cells records : List ℕ) → IsWellFormed p → IsCallOf (length records) p c → Holds cells c.claims records
+    → has_moved (source_of p.keys) c.found (cell_opening c cells) ≡ has_moved (source_of p.keys) c.found (opening_scene p c records)
+moves_alike p c cells records formed made holds = moves (source_of p.keys) c.found (λ i is. source_within p i formed is)
+  where
+    moves : (source found : Option ℕ) → ((i : ℕ) → source ≡ Some i → i < length p.keys) → has_moved source found (cell_opening c cells) ≡ has_moved source found (opening_scene p c records)
+    moves None found within = refl
+    moves (Some i) None within = refl
+    moves (Some i) (Some v) within =
+        let at = key_place p c records formed made i (within i refl) in
+        ap (λ (x : ℕ). not (x == v)) ((holds (slice_index c.cells i) at.claim at.stands).1 ∙ ap (slice_index records) at.is_for)
 
-pub told : (p : Proc) (c : Call) (cells records : List ℕ) (r : Result Scene Reason) → IsWellFormed p → IsCallOf p c → length cells ≡ MOST_CLAIMS
-    → in_turn (map effect p.body) (cell_opening c cells) ≡ r → Holds cells c.claims records → ToldBy cells c.claims r (applied p c records)
+-- what a body ends with on cells, if it begins there
+abbrev pub cell_body : Proc → Call → List ℕ → Result Scene Reason
+cell_body p c cells = and_then (unless_moved p c (cell_opening c cells)) (in_turn (map effect p.body))
+
+-- a body begins on the cells unless what was found has moved
+pub begins_on : (p : Proc) (c : Call) (cells : List ℕ) (r : Result Scene Reason) → has_moved (source_of p.keys) c.found (cell_opening c cells) ≡ false → in_turn (map effect p.body) (cell_opening c cells) ≡ r → cell_body p c cells ≡ r
+begins_on p c cells r stays e = rw stays e
+
+pub ends_moved : (p : Proc) (c : Call) (cells : List ℕ) → has_moved (source_of p.keys) c.found (cell_opening c cells) ≡ true → cell_body p c cells ≡ Err Moved
+ends_moved p c cells moved = rw moved refl
+
+pub told_on : (p : Proc) (c : Call) (cells records : List ℕ) → IsWellFormed p → IsCallOf (length records) p c → length c.claims ≤ length cells → Holds cells c.claims records
+    → ToldBy cells c.claims (cell_body p c cells) (applied p c records)
+told_on p c cells records formed made room holds =
+    begun (has_moved (source_of p.keys) c.found (cell_opening c cells)) refl
+  where
+    begun : (moved : Bool) → has_moved (source_of p.keys) c.found (cell_opening c cells) ≡ moved → ToldBy cells c.claims (cell_body p c cells) (applied p c records)
+    begun true is = rw (is, ← moves_alike p c cells records formed made holds, is) (refl, holds)
+    begun false is =
+        rw (is, ← moves_alike p c cells records formed made holds, is)
+        (told_by_end p c.claims (claims_rise (length records) p c made) (body_set_behind p.body nothing_set) cells records (in_turn (map effect p.body) (cell_opening c cells)) (in_turn (map effect p.body) (opening_scene p c records)) holds
+        (ends_alike p c cells records formed made room holds))
+
+pub told : (p : Proc) (c : Call) (cells records : List ℕ) (r : Result Scene Reason) → IsWellFormed p → IsCallOf (length records) p c → length cells ≡ MOST_CLAIMS
+    → cell_body p c cells ≡ r → Holds cells c.claims records → ToldBy cells c.claims r (applied p c records)
 told p c cells records r formed made whole e holds =
-    let few = claims_few p c formed made in
+    let few = claims_few (length records) p c formed made in
     rw (← e) (told_on p c cells records formed made (omega arith) holds)

@@ -1,5 +1,6 @@
 -- The call of a procedure with given arguments.
-use Rattle.std.specs.Prelude.{◌≡◌, ℕ, suc, ◌==◌, List, [], ◌∷◌, map, length, take, Option, Some, None, if◌then◌else◌}
+use Rattle.std.specs.Prelude.{◌≡◌, ℕ, suc, ◌==◌, Bool, true, false, List, [], ◌∷◌, map, length, take, Option, Some, None, if◌then◌else◌}
+use Rattle.std.specs.List.{list_all}
 use Rattle.vll_record.specs.declared.claims.TheConstants.{MOST_CLAIMS}
 use Rattle.vll_proc.specs.declared.limits.TheConstants.{MOST_ARGS}
 use Rattle.vll_record.specs.declared.claim.Claim.{Claim}
@@ -7,6 +8,8 @@ use Rattle.vll_record.specs.declared.claim.Mode.{Mode}
 use Rattle.vll_record.specs.Claim.{claims_of}
 use Rattle.vll_record.specs.Canon.{laid}
 use Rattle.vll_proc.specs.declared.call.Call.{Call}
+use Rattle.vll_proc.specs.declared.syntax.KeyAt.{KeyAt}
+use Rattle.vll_proc.specs.declared.syntax.KeyAt.TheVariants as at
 use Rattle.vll_proc.specs.declared.syntax.KeyDecl.{KeyDecl}
 use Rattle.vll_proc.specs.declared.syntax.Proc.{Proc}
 use Rattle.vll_proc.specs.Meaning.{record_named}
@@ -16,14 +19,14 @@ abbrev pub asking : Mode → Option ℕ → List Claim → List Claim
 asking m (Some r) others = record { id = r; mode = m } ∷ others
 asking m None others = others
 
--- what key positions ask for
-abbrev pub asked_by : List ℕ → List KeyDecl → List Claim
-asked_by args [] = []
-asked_by args (k ∷ ks) = asking k.mode (record_named args k.at) (asked_by args ks)
+-- what key positions ask for, where there are so many records
+abbrev pub asked_by : ℕ → List ℕ → Option ℕ → List KeyDecl → List Claim
+asked_by count args found [] = []
+asked_by count args found (k ∷ ks) = asking k.mode (record_named count args found k.at) (asked_by count args found ks)
 
 -- what a procedure's key positions ask for
-abbrev pub asked : Proc → List ℕ → List Claim
-asked p args = asked_by args p.keys
+abbrev pub asked : ℕ → Proc → List ℕ → Option ℕ → List Claim
+asked count p args found = asked_by count args found p.keys
 
 -- the place of a record's claim
 abbrev pub place_of : List Claim → ℕ → ℕ
@@ -35,17 +38,26 @@ abbrev pub place_for : List Claim → Option ℕ → ℕ
 place_for cs (Some r) = place_of cs r
 place_for cs None = 0
 
--- the call of procedure number n with these arguments: its claims are those of its key positions
-abbrev pub call_of : ℕ → Proc → List ℕ → Call
-call_of n p args = record {
+-- the call of procedure number n with these arguments and this value found, where there are so many records: its claims are those of its key positions
+abbrev pub call_of : ℕ → ℕ → Proc → List ℕ → Option ℕ → Call
+call_of count n p args found = record {
   number = n;
   arg_count = length args;
   args = laid MOST_ARGS 0 args;
-  claims = claims_of (asked p args);
-  cells = laid MOST_CLAIMS 0 (map (λ (k : KeyDecl). place_for (claims_of (asked p args)) (record_named args k.at)) p.keys);
+  found = found;
+  claims = claims_of (asked count p args found);
+  cells = laid MOST_CLAIMS 0 (map (λ (k : KeyDecl). place_for (claims_of (asked count p args found)) (record_named count args found k.at)) p.keys);
 }
 
--- a call that was made for the procedure
-pub record IsCallOf (p : Proc) (c : Call) : Type 0 where
+-- a key position names a record, as far as this hangs on what was found
+abbrev pub is_led : Option ℕ → KeyAt → Bool
+is_led found (at.Fixed r) = true
+is_led found (at.Arg i) = true
+is_led None (at.Through i) = false
+is_led (Some v) (at.Through i) = true
+
+-- a call that was made for the procedure where there are so many records, and has found what it needs
+pub record IsCallOf (records : ℕ) (p : Proc) (c : Call) : Type 0 where
   pub count : c.arg_count ≡ p.args
-  pub made : c ≡ call_of c.number p (take c.arg_count c.args)
+  pub made : c ≡ call_of records c.number p (take c.arg_count c.args) c.found
+  pub led : list_all (λ (k : KeyDecl). is_led c.found k.at) p.keys ≡ true

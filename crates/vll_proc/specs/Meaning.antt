@@ -1,9 +1,9 @@
 -- What a procedure's body means on a whole map of records: by cases on the syntax, operands from left to right, and the first reason ends the call.
-use Rattle.std.specs.Prelude.{ℕ, ◌+◌, ◌-◌, ◌*◌, ◌/◌, ◌%◌, ◌^◌, ◌==◌, min, max, Bool, List, [], ◌∷◌, ◌++◌, length, map, replicate, Result, Ok, Err, nat_lt, if◌then◌else◌, Option, Some, None, slice_get, slice_index, slice_set}
+use Rattle.std.specs.Prelude.{ℕ, ◌+◌, ◌-◌, ◌*◌, ◌/◌, ◌%◌, ◌^◌, ◌==◌, min, max, not, Bool, false, List, [], ◌∷◌, ◌++◌, length, map, replicate, Result, Ok, Err, nat_lt, if◌then◌else◌, Option, Some, None, slice_get, slice_index, slice_set}
 use Rattle.vll_proc.specs.declared.limits.TheConstants.{MOST_LOCALS}
 use Rattle.vll_proc.specs.declared.call.Call.{Call}
 use Rattle.vll_proc.specs.declared.call.Reason.{Reason}
-use Rattle.vll_proc.specs.declared.call.Reason.TheVariants.{Code, Overflow, Underflow, ZeroDivisor}
+use Rattle.vll_proc.specs.declared.call.Reason.TheVariants.{Code, Overflow, Underflow, ZeroDivisor, Moved}
 use Rattle.vll_proc.specs.declared.syntax.KeyAt.{KeyAt}
 use Rattle.vll_proc.specs.declared.syntax.KeyAt.TheVariants as at
 use Rattle.vll_proc.specs.declared.syntax.KeyDecl.{KeyDecl}
@@ -114,10 +114,16 @@ abbrev mutual
   list_effect end_of-Stmt s = Ok s
   list_effect (more_of-Stmt st rest) s = and_then (effect st s) (list_effect rest)
 
--- the record that a key position names, and `None` where it names none
-abbrev pub record_named : List ℕ → KeyAt → Option ℕ
-record_named args (at.Fixed r) = Some r
-record_named args (at.Arg i) = slice_get args i
+-- the record that a value leads to, where there are so many records
+abbrev pub led_to : ℕ → Option ℕ → Option ℕ
+led_to count None = None
+led_to count (Some v) = Some (v % count)
+
+-- the record that a key position names, where there are so many records, and `None` where it names none: an indirect one names the record that the value found leads to, and none while nothing is found
+abbrev pub record_named : ℕ → List ℕ → Option ℕ → KeyAt → Option ℕ
+record_named count args found (at.Fixed r) = Some r
+record_named count args found (at.Arg i) = slice_get args i
+record_named count args found (at.Through i) = led_to count found
 
 -- where a body finds that record: behind the last where there is none, and there it reads 0 and drops what it stores
 abbrev pub found_at : List ℕ → Option ℕ → ℕ
@@ -127,13 +133,39 @@ found_at records None = length records
 -- where the body of a procedure begins, for a call
 abbrev pub opening_scene : Proc → Call → List ℕ → Scene
 opening_scene p c records = record {
-  named = map (λ (k : KeyDecl). found_at records (record_named c.args k.at)) p.keys;
+  named = map (λ (k : KeyDecl). found_at records (record_named (length records) c.args c.found k.at)) p.keys;
   args = c.args;
   locals = replicate MOST_LOCALS 0;
   records = records;
   outputs = [];
 }
 
+-- the key position by whose record's value a position finds its own
+abbrev pub source_at : KeyAt → Option ℕ
+source_at (at.Fixed r) = None
+source_at (at.Arg i) = None
+source_at (at.Through i) = Some i
+
+-- the first of two, if there is one, and else the second
+abbrev pub or_else : Option ℕ → Option ℕ → Option ℕ
+or_else None b = b
+or_else (Some x) b = Some x
+
+-- the key position by whose record's value another one finds its own, if there is one
+abbrev pub source_of : List KeyDecl → Option ℕ
+source_of [] = None
+source_of (k ∷ ks) = or_else (source_at k.at) (source_of ks)
+
+-- the value that was found no longer stands in the record of that position
+abbrev pub has_moved : Option ℕ → Option ℕ → Scene → Bool
+has_moved None found s = false
+has_moved (Some i) None s = false
+has_moved (Some i) (Some v) s = not (slice_index s.records (slice_index s.named i) == v)
+
+-- a body begins if what was found still stands
+abbrev pub unless_moved : Proc → Call → Action
+unless_moved p c s = if has_moved (source_of p.keys) c.found s then Err Moved else Ok s
+
 -- the meaning of a procedure's body for a call, on a whole map of records
 abbrev pub body : Proc → Call → List ℕ → Result Scene Reason
-body p c records = in_turn (map effect p.body) (opening_scene p c records)
+body p c records = and_then (unless_moved p c (opening_scene p c records)) (in_turn (map effect p.body))

@@ -12,11 +12,29 @@ use Rattle.vll_proc.specs.declared.syntax.Stmt.{Stmt, Row_of-Stmt, end_of-Stmt, 
 
 -- a key that is placed by an argument names one of the declared arguments
 abbrev pub argument_is_declared : ℕ → KeyDecl → Bool
-argument_is_declared args k = elim k.at [ at.Fixed r ↦ true | at.Arg i ↦ nat_lt i args ]
+argument_is_declared args k = elim k.at [ at.Fixed r ↦ true | at.Arg i ↦ nat_lt i args | at.Through i ↦ true ]
 
 -- a fixed record is one of the records
 abbrev pub record_is_there : ℕ → KeyDecl → Bool
-record_is_there records k = elim k.at [ at.Fixed r ↦ nat_lt r records | at.Arg i ↦ true ]
+record_is_there records k = elim k.at [ at.Fixed r ↦ nat_lt r records | at.Arg i ↦ true | at.Through i ↦ true ]
+
+-- a key position that names its record by itself
+abbrev pub is_direct : Option KeyDecl → Bool
+is_direct None = false
+is_direct (Some k) = elim k.at [ at.Fixed r ↦ true | at.Arg i ↦ true | at.Through i ↦ false ]
+
+-- an indirect key position at this place among all finds its record by an earlier one, which names its own by itself
+abbrev pub has_source : List KeyDecl → ℕ → KeyDecl → Bool
+has_source all place k = elim k.at [ at.Fixed r ↦ true | at.Arg i ↦ true | at.Through i ↦ nat_lt i place && is_direct (slice_get all i) ]
+
+-- the same of the key positions from this place on
+abbrev pub have_sources : List KeyDecl → ℕ → List KeyDecl → Bool
+have_sources all place [] = true
+have_sources all place (k ∷ ks) = has_source all place k && have_sources all (suc place) ks
+
+-- 1 for an indirect key position
+abbrev pub indirect : KeyDecl → ℕ
+indirect k = elim k.at [ at.Fixed r ↦ 0 | at.Arg i ↦ 0 | at.Through i ↦ 1 ]
 
 -- a test holds of each number, argument, key position and local in an expression
 abbrev mutual
@@ -262,6 +280,12 @@ is_shallow p = nat_le (body_depth p.body) MOST_DEPTH
 abbrev pub is_short : Proc → Bool
 is_short p = nat_le (sum_by stmt_nodes p.body) MOST_NODES
 
+abbrev pub has_earlier_sources : Proc → Bool
+has_earlier_sources p = have_sources p.keys 0 p.keys
+
+abbrev pub has_one_indirect_key : Proc → Bool
+has_one_indirect_key p = nat_le (sum_by indirect p.keys) 1
+
 -- well-formed, whatever the number of records
 pub record IsWellFormed (p : Proc) : Type 0 where
   pub few_args : has_few_args p ≡ true
@@ -275,3 +299,5 @@ pub record IsWellFormed (p : Proc) : Type 0 where
   pub few_replies : has_few_replies p ≡ true
   pub shallow : is_shallow p ≡ true
   pub short : is_short p ≡ true
+  pub sources : has_earlier_sources p ≡ true
+  pub one_indirect : has_one_indirect_key p ≡ true

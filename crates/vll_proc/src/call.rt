@@ -15,6 +15,8 @@ pub enum Reason {
     Underflow,
     /// A division by 0.
     ZeroDivisor,
+    /// When the body began, another value stood in the record by whose value a key position's record was found.
+    Moved,
 }
 
 /// What a call answers: its outputs, or why it was aborted. An aborted call changes no record.
@@ -32,6 +34,9 @@ pub struct Call {
     pub arg_count: u8,
     /// The arguments, and then zeros.
     pub args: [u64; MOST_ARGS],
+    /// The value by which the record of an indirect key position was found. `None` where no position is indirect, and
+    /// as long as nothing is found: then that position names no record.
+    pub found: Option<u64>,
     /// The records that the key positions name, each once.
     pub claims: Claims,
     /// For each key position the place of its claim, and then zeros.
@@ -53,6 +58,7 @@ impl PartialEq for Call {
         self.number == other.number
             && self.arg_count == other.arg_count
             && self.args == other.args
+            && self.found == other.found
             && self.cells == other.cells
             && self.claims == other.claims
     }

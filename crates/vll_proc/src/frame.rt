@@ -3,10 +3,12 @@ ghost use Rattle.vll_proc.specs.declared.call.Reason.{Reason};
 ghost use Rattle.vll_proc.specs.declared.call.Reply.TheVariants.{Aborted};
 ghost use Rattle.vll_proc.specs.Cells.{Holds};
 ghost use Rattle.vll_proc.specs.Made.{IsCallOf};
+ghost use Rattle.vll_proc.specs.Meaning.{has_moved, source_of};
+ghost use Rattle.vll_proc.specs.Private.Running.{cell_opening};
 ghost use Rattle.vll_proc.specs.Serial.{applied};
 ghost use Rattle.vll_proc.specs.WellFormed.{IsWellFormed};
 
-use crate::call::{Call, Reply};
+use crate::call::{Call, Reason, Reply};
 use crate::limits::MOST_LOCALS;
 use crate::outputs::Outputs;
 use crate::run::Progress;
@@ -61,20 +63,27 @@ impl Frame {
     /// chooses one of its lists, and operands are evaluated from left to right, each expression
     /// once. The first reason ends the body: the procedure's own code by `Abort`, `Overflow` by a
     /// sum or a product, `Underflow` by a difference, `ZeroDivisor` by a quotient or a remainder.
+    /// Where a record was found by a value that its source's cell no longer holds, nothing of the
+    /// body is run, and the reason is `Moved`.
     /// After `Committed` the cells hold the records' new values, after `Aborted` they are as
     /// before. It takes no memory.
     pub fn run(&mut self, procedure: &Proc, call: &Call) -> Reply
         requires formed { IsWellFormed procedure.now }
-        requires made { IsCallOf procedure.now call.now }
-        ensures reply { (records : List ℕ) → Holds self.old call.now.claims records
+        requires made { (n : ℕ) × IsCallOf n procedure.now call.now }
+        ensures reply { (records : List ℕ) → IsCallOf (length records) procedure.now call.now
+            → Holds self.old call.now.claims records
             → result ≡ (applied procedure.now call.now records).reply }
-        ensures cells { (records : List ℕ) → Holds self.old call.now.claims records
+        ensures cells { (records : List ℕ) → IsCallOf (length records) procedure.now call.now
+            → Holds self.old call.now.claims records
             → Holds self.new call.now.claims (applied procedure.now call.now records).records }
         ensures aborted { (why : Reason) → result ≡ Aborted why → self.new ≡ self.old }
         ensures whole { length self.new ≡ MOST_CLAIMS }
     {
         // A contract sees the list of cells, and how long it is only where they are read.
         let _ = &self.cells;
+        if self.has_moved(procedure, call) {
+            return Reply::Aborted(Reason::Moved);
+        }
         let mut progress = Progress {
             cells: *self,
             locals: [0; MOST_LOCALS],
@@ -87,6 +96,21 @@ impl Frame {
             }
             Err(why) => Reply::Aborted(why),
         }
+    }
+
+    // Whether the value by which a record was found no longer stands in its source's cell.
+    fn has_moved(&self, procedure: &Proc, call: &Call) -> bool
+        requires formed { IsWellFormed procedure.now }
+        requires made { (n : ℕ) × IsCallOf n procedure.now call.now }
+        ensures { result ≡ has_moved (source_of procedure.now.keys) call.now.found (cell_opening call.now self.now) }
+    {
+        let Some(value) = call.found else {
+            return false;
+        };
+        let Some(source) = procedure.source() else {
+            return false;
+        };
+        self.get(call.cells[source as usize] as usize) != value
     }
 }
 

@@ -14,7 +14,7 @@ ghost use Rattle.vll_proc.specs.WellFormed.{IsWellFormed};
 
 /// A call changes no record that it does not claim for writing.
 pub fn changes_claimed_records_alone()
-    ensures { (p : Proc) (c : Call) (records : List ℕ) → IsWellFormed p → IsCallOf p c
+    ensures { (p : Proc) (c : Call) (records : List ℕ) → IsWellFormed p → IsCallOf (length records) p c
         → (r : ℕ) → mode_on c.claims r ≢ Some Write
         → slice_index (applied p c records).records r ≡ slice_index records r }
 {}
@@ -28,10 +28,10 @@ pub fn keeps_the_number_of_records()
 /// What a call answers, and the values that it leaves in the records of its claims, depend on the
 /// values of those records alone.
 pub fn depends_on_claimed_records_alone()
-    ensures replies { (p : Proc) (c : Call) (m n : List ℕ) → IsWellFormed p → IsCallOf p c
-        → AgreeAt c.claims m n → (applied p c m).reply ≡ (applied p c n).reply }
-    ensures values { (p : Proc) (c : Call) (m n : List ℕ) → IsWellFormed p → IsCallOf p c
-        → AgreeAt c.claims m n
+    ensures replies { (p : Proc) (c : Call) (m n : List ℕ) → IsWellFormed p → IsCallOf (length m) p c
+        → IsCallOf (length n) p c → AgreeAt c.claims m n → (applied p c m).reply ≡ (applied p c n).reply }
+    ensures values { (p : Proc) (c : Call) (m n : List ℕ) → IsWellFormed p → IsCallOf (length m) p c
+        → IsCallOf (length n) p c → AgreeAt c.claims m n
         → AgreeAt c.claims (applied p c m).records (applied p c n).records }
 {}
 

@@ -1,4 +1,5 @@
 ghost use Rattle.std.specs.Prelude.{◌≡◌, string_bytes};
+ghost use Rattle.vll_proc.specs.Meaning.{source_of};
 
 use sqlite_items::{Boxed, Items};
 use std::marker::Model;
@@ -59,6 +60,9 @@ pub enum KeyAt {
     Fixed(u32),
     /// The record whose number is this argument, by its place from 0.
     Arg(u8),
+    /// The record that is found by the value of another key position's record: that value modulo the number of records.
+    /// The other position, by its place from 0, stands before this one and names its record by itself.
+    Through(u8),
 }
 
 /// A key position: the record it names, and how a call claims that record.
@@ -75,6 +79,28 @@ pub struct Proc {
     pub args: u8,
     pub keys: Items<KeyDecl>,
     pub body: Items<Stmt>,
+}
+
+impl Proc {
+    /// The key position by whose record's value another one's record is found, by its place from 0, if there is one.
+    pub fn source(&self) -> Option<u8>
+        ensures { result ≡ source_of self.now.keys }
+    {
+        source_of(self.keys.as_slice())
+    }
+}
+
+// The same of a list of key positions.
+fn source_of(keys: &[KeyDecl]) -> Option<u8>
+    ensures { result ≡ source_of keys.now }
+{
+    match keys {
+        [] => None,
+        [key, others @ ..] => match key.at {
+            KeyAt::Through(i) => Some(i),
+            KeyAt::Fixed(_) | KeyAt::Arg(_) => source_of(others),
+        },
+    }
 }
 
 /// A `String` that contracts see as its bytes.

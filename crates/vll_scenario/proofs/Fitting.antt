@@ -10,9 +10,8 @@ use Rattle.std.proofs.lemmas.List.Sums.{sum_by-cons}
 use Rattle.vll_proc.specs.declared.call.Call.{Call}
 use Rattle.vll_proc.specs.declared.syntax.Proc.{Proc}
 use Rattle.vll_check.specs.declared.fault.CallFault.{CallFault}
-use Rattle.vll_check.specs.Calls.{CallsProcedure, Fits, call_made}
-use Rattle.vll_check.specs.Catalog.{Catalog, IsCatalog}
-use Rattle.vll_check.proofs.Fitting.{fits_well}
+use Rattle.vll_check.specs.Calls.{Fits, call_made}
+use Rattle.vll_check.specs.Catalog.{Catalog}
 use Rattle.vll_core.specs.declared.config.TheConstants.{MOST_CALLS}
 use Rattle.vll_core.specs.declared.event.Event.{Event}
 use Rattle.vll_scenario.specs.declared.reading.asked.Asked.{Asked}
@@ -36,10 +35,6 @@ in_call-ok client index (Err why) c e = cc
 
 fits_at : (catalog : Catalog) (client index : ℕ) (a : Asked) (c : Call) → call_at catalog client index a ≡ Ok c → Fits catalog c
 fits_at catalog client index a c e = (a.name, a.args, in_call-ok client index (call_made catalog a.name a.args) c e)
-
--- what is known of a call of a script that fits
-pub call_fits : (c : Catalog) (script : List Call) (i : ℕ) (call : Call) → IsCatalog c → All (Fits c) script → i < length script → call ≡ get_or script i call → CallsProcedure c call
-call_fits c script i call kept fits within is = fits_well c call kept (subst (Fits c) (sym is) (fits i call within))
 
 -- what is found is there, and it is what is looked for
 pub found_there : {A : Type 0} (o : Option (Bor A)) (found : Option A) (x : A) → option_map (λ (p : Bor A). p.now) o ≡ found → found ≡ Some x → IsSome o

@@ -2,7 +2,7 @@
 use Rattle.std.specs.Prelude.{ℕ, List, [], ◌∷◌, Option, None, option_map, codes}
 use Rattle.serde_json.specs.Data.{Data, string, array, no_items, item}
 use Rattle.vll_core.specs.declared.event.Event.{Event}
-use Rattle.vll_core.specs.declared.event.Event.TheVariants.{Enter, Claim, Admit, Front, Scan, Load, Store, Release, Finish}
+use Rattle.vll_core.specs.declared.event.Event.TheVariants.{Find, Enter, Claim, Admit, Front, Scan, Load, Store, Release, Finish}
 use Rattle.vll_scenario.specs.Tree.{u32_at}
 use Rattle.vll_scenario.specs.Syntax.{◌>>=◌, Table, find_word}
 
@@ -12,7 +12,7 @@ words_alone = (codes "claim", Claim) ∷ (codes "admit", Admit) ∷ (codes "fron
 
 -- the words that a client or a ticket follows
 abbrev pub words_with_number : Table (ℕ → Event)
-words_with_number = (codes "enter", Enter) ∷ (codes "load", Load) ∷ (codes "store", Store) ∷ (codes "release", Release) ∷ (codes "finish", Finish) ∷ []
+words_with_number = (codes "find", Find) ∷ (codes "enter", Enter) ∷ (codes "load", Load) ∷ (codes "store", Store) ∷ (codes "release", Release) ∷ (codes "finish", Finish) ∷ []
 
 -- ["enter", client], ["load", ticket] and the like
 abbrev pub event_with : List ℕ → Option ℕ → Option Event

@@ -110,9 +110,11 @@ abbrev mutual
 abbrev pub mode_at : List ℕ → Option Mode
 mode_at word = if bytes_eq word (codes "read") then Some Read else (if bytes_eq word (codes "write") then Some Write else None)
 
--- where a key is placed: "arg" with an index, or "fixed" with a record
+-- where a key is placed: "arg" or "through" with an index, or "fixed" with a record
 abbrev pub place_at : List ℕ → Data → Option KeyAt
-place_at word d = if bytes_eq word (codes "arg") then option_map at.Arg (index_at d) else (if bytes_eq word (codes "fixed") then option_map at.Fixed (u32_at d) else None)
+place_at word d =
+    if bytes_eq word (codes "arg") then option_map at.Arg (index_at d) else
+    (if bytes_eq word (codes "through") then option_map at.Through (index_at d) else (if bytes_eq word (codes "fixed") then option_map at.Fixed (u32_at d) else None))
 
 abbrev pub key_of : Mode → KeyAt → KeyDecl
 key_of mode place = record { mode = mode; at = place }

@@ -1,8 +1,8 @@
 -- The tokens that a run is handed, and the calls that have entered once they are back.
-use Rattle.std.proofs.Common.{◌≡◌, ℕ, zero, suc, ◌+◌, ◌-◌, ◌<◌, ◌≤◌, ◌==◌, List, [], ◌∷◌, ◌++◌, map, length, take, reverse, Option, Some, None, refl, ap, ap₂, ◌∙◌, sym, arith, slice_get, slice_index, subst, append_assoc, zero-add, nat_eq, false}
+use Rattle.std.proofs.Common.{◌≡◌, ℕ, zero, suc, ◌+◌, ◌-◌, ◌<◌, ◌≤◌, ◌==◌, List, [], ◌∷◌, ◌++◌, map, length, take, reverse, Option, Some, None, refl, ap, ap₂, ◌∙◌, sym, arith, slice_get, slice_index, subst, append_assoc, zero-add, nat_eq, Bool, true, false, if◌then◌else◌}
 use Rattle.std.specs.Global.{Vec}
 use Rattle.std.specs.Prelude.{unwrap_or}
-use Rattle.std.specs.List.{All, AllByRecursion, IsDistinct}
+use Rattle.std.specs.List.{All, AllByRecursion, IsDistinct, filter}
 use Rattle.std.specs.List.Sorted.{IsStrictlyIncreasing}
 use Rattle.std.specs.Option.{option_map}
 use Rattle.std.proofs.Math.Nat.{sub-zero}
@@ -10,14 +10,16 @@ use Rattle.std.proofs.Math.Seq.{take-length}
 use Rattle.std.proofs.lemmas.Bool.{cond-false, ne_eqb}
 use Rattle.std.proofs.lemmas.Bool.Decides.{nat_tests}
 use Rattle.std.proofs.lemmas.List.{length-map, map-append, reverse-append}
-use Rattle.std.proofs.lemmas.List.Elements.{All-map}
+use Rattle.std.proofs.lemmas.List.Elements.{All-cons, All-map}
 use Rattle.std.proofs.lemmas.List.Sorted.{length_permutation}
 use Rattle.std.proofs.lemmas.Map.Keys.{IsDistinct-cons, IsDistinct-from_apart}
 use Rattle.std.proofs.lemmas.Option.{get_or_from_slice_get, same_Some, slice_get-map, slice_get_past, slice_get_within}
 use Rattle.atomic_table.specs.Seated.{TableId}
 use Rattle.vll_proc.specs.declared.call.Call.{Call}
 use Rattle.vll_proc.specs.Serial.{Made}
-use Rattle.vll_check.specs.Calls.{Fits}
+use Rattle.vll_check.specs.Calls.{bares, Fits, IsReady}
+use Rattle.vll_check.specs.Catalog.{Catalog}
+use Rattle.vll_check.proofs.Fitting.{are_found}
 use Rattle.vll_core.specs.declared.line.Line.{Line}
 use Rattle.vll_core.proofs.MachineState.{all_from}
 use Rattle.vll_core.proofs.Places.{all_at}
@@ -189,14 +191,14 @@ record IsHome (table : TableId) (scripts : List (List Call)) (t : TokenShown) : 
   table_is : t.session.table ≡ table
   whose : t.session.session.client ≡ t.client
   script : slice_get scripts t.client ≡ Some t.script
-  own : calls_by t.client t.session.session.seen ≡ t.script
+  own : bares (calls_by t.client t.session.session.seen) ≡ bares t.script
 
 is_home : (table : TableId) (scripts : List (List Call)) (t : TokenShown) → IsOf (tokens_from table 0 scripts) t → IsThrough t → IsHome table scripts t
 is_home table scripts t of through = record {
   table_is = of.table ∙ ap (λ (u : TokenShown). u.session.table) new.is;
   whose = of.whose ∙ ap (λ (u : TokenShown). u.session.session.client) new.is ∙ sym client;
   script = subst (λ n. slice_get scripts n ≡ Some t.script) (sym place) (new.script ∙ ap Some (sym of.script));
-  own = ap (λ n. calls_by n t.session.session.seen) whose_old ∙ of.gained.own ∙ ap₂ (λ xs ys. xs ++ ys) none whole ∙ sym of.script;
+  own = ap (λ n. bares (calls_by n t.session.session.seen)) whose_old ∙ of.gained.own ∙ ap bares (ap₂ (λ xs ys. xs ++ ys) none whole ∙ sym of.script);
 }
   where
     new : IsNew table 0 scripts of.index of.old
@@ -269,23 +271,40 @@ no_calls clients c (l ∷ lines) past all =
     ap (λ (ms : List Made). map (λ (m : Made). m.1) ms) (cond-false (l.client == c) _ _ (ne_eqb l.client c other))
     ∙ no_calls clients c lines past (λ i d within. all (suc i) d (omega (arith, within)))
 
+-- where each call is ready, each of a client's is
+ready_by : (library : Catalog) (c : ℕ) (lines : List Line) → All (λ (l : Line). IsReady library l.call) lines → All (IsReady library) (calls_by c (calls_in lines))
+ready_by library c [] all = λ i d within. absurd (omega (arith, within))
+ready_by library c (l ∷ lines) all = by_client (l.client == c) (all 0 l (omega arith)) (ready_by library c lines (λ i d within. all (suc i) d (omega (arith, within))))
+  where
+    by_client : (own : Bool) → IsReady library l.call → All (IsReady library) (calls_by c (calls_in lines))
+        → All (IsReady library) (map (λ (m : Made). m.1) (if own then (l.client, l.call) ∷ filter (λ (m : Made). m.0 == c) (calls_in lines) else filter (λ (m : Made). m.0 == c) (calls_in lines)))
+    by_client false first rest = rest
+    by_client true first rest = All-cons (IsReady library) l.call (calls_by c (calls_in lines)) first rest
+
 -- the journal's calls are the scripts', each client's in its own order
 pub merged : (table : TableId) (scripts : List (List Call)) (back : List TokenShown) (lines : List Line) → AreBack (tokens_from table 0 scripts) back → All IsThrough back
-    → All (λ (l : Line). l.client < length scripts) lines → All (λ (s : SessionShown). HasItsCalls (calls_in lines) s.session) (sessions_in back) → IsMerge (calls_in lines) scripts
-merged table scripts back lines h through clients seen c = by_token (slice_get back c) refl
+    → All (λ (l : Line). l.client < length scripts) lines → All (λ (s : SessionShown). HasItsCalls (calls_in lines) s.session) (sessions_in back)
+    → (library : Catalog) → All (All (Fits library)) scripts → All (λ (l : Line). IsReady library l.call) lines → IsMerge library (calls_in lines) scripts
+merged table scripts back lines h through clients seen library fits ready c =
+    are_found library (unwrap_or (slice_get scripts c) []) (calls_by c (calls_in lines)) (script_fits (slice_get scripts c) refl) (ready_by library c lines ready) (by_token (slice_get back c) refl)
   where
+    script_fits : (o : Option (List Call)) → slice_get scripts c ≡ o → All (Fits library) (unwrap_or o [])
+    script_fits None at = λ i d within. absurd (omega (arith, within))
+    script_fits (Some script) at = all_at (All (Fits library)) scripts c script fits at
+
     homes : AreHome table scripts back
     homes = are_home table scripts back h through
 
-    by_token : (o : Option TokenShown) → slice_get back c ≡ o → calls_by c (calls_in lines) ≡ unwrap_or (slice_get scripts c) []
+    by_token : (o : Option TokenShown) → slice_get back c ≡ o → bares (calls_by c (calls_in lines)) ≡ bares (unwrap_or (slice_get scripts c) [])
     by_token None none =
         let past = slice_get_none back c none in
         let beyond : length scripts ≤ c = omega (arith, past, homes.count) in
-        no_calls (length scripts) c lines beyond clients ∙ ap (λ (o : Option (List Call)). unwrap_or o []) (sym (slice_get_past scripts c beyond))
+        ap bares (no_calls (length scripts) c lines beyond clients ∙ ap (λ (o : Option (List Call)). unwrap_or o []) (sym (slice_get_past scripts c beyond)))
     by_token (Some t) at =
         let home = homes.each c t at in
         let place = homes.place c t at in
         let here : slice_get (sessions_in back) c ≡ Some t.session = slice_get-map (λ (u : TokenShown). u.session) back c ∙ ap (option_map (λ (u : TokenShown). u.session)) at in
         let its = all_at (λ (s : SessionShown). HasItsCalls (calls_in lines) s.session) (sessions_in back) c t.session seen here in
-        let entered : calls_by t.client (calls_in lines) ≡ t.script = ap (λ n. calls_by n (calls_in lines)) (sym home.whose) ∙ sym its.own ∙ ap (λ n. calls_by n t.session.session.seen) home.whose ∙ home.own in
-        subst (λ n. calls_by n (calls_in lines) ≡ unwrap_or (slice_get scripts n) []) place (entered ∙ ap (λ (o : Option (List Call)). unwrap_or o []) (sym home.script))
+        let entered : bares (calls_by t.client (calls_in lines)) ≡ bares t.script =
+        ap bares (ap (λ n. calls_by n (calls_in lines)) (sym home.whose) ∙ sym its.own ∙ ap (λ n. calls_by n t.session.session.seen) home.whose) ∙ home.own in
+        subst (λ n. bares (calls_by n (calls_in lines)) ≡ bares (unwrap_or (slice_get scripts n) [])) place (entered ∙ ap (λ (o : Option (List Call)). bares (unwrap_or o [])) (sym home.script))

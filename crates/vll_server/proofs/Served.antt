@@ -14,6 +14,8 @@ use Rattle.vll_engine.specs.Closed.{IsSerial}
 use Rattle.vll_engine.specs.Shown.{Named, library_of}
 use Rattle.vll_server.specs.declared.fault.ServeFault.{ServeFault}
 use Rattle.vll_server.specs.Merge.{IsMerge}
+use Rattle.vll_core.specs.State.{Base}
+use Rattle.vll_engine.specs.Found.{AreFoundThere}
 use Rattle.vll_server.specs.Serve.{Serves}
 use Rattle.vll_scenario.specs.Setup.{Setup, catalog_of}
 use Rattle.vll_server.specs.Text.{answer_text, closed_text, line_words, outcome_text, serial_text}
@@ -48,10 +50,11 @@ closed_text-serial e c serial =
 
 -- what a run of the scripts left is a served outcome
 pub serves_closed : (s : Setup) (e : Named) (scripts : List (List Call)) (r : Result Closed ServeFault) → library_of e ≡ catalog_of s → e.base.records ≡ s.records → scripts ≡ s.scripts
-    → IfOk r (IsSerial e) → IfOk r (λ (c : Closed). IsMerge (calls_in c.journal.items) scripts) → IfOk r (λ (c : Closed). Serves s (λ text. closed_text c ≡ text))
+    → IfOk r (IsSerial e) → IfOk r (λ (c : Closed). IsMerge (library_of e) (calls_in c.journal.items) scripts) → IfOk r (λ (c : Closed). Serves s (λ text. closed_text c ≡ text))
 serves_closed s e scripts (Ok c) library records scripts_are serial merge = (
   calls_in c.journal.items,
-  subst (IsMerge (calls_in c.journal.items)) scripts_are merge,
+  subst (λ (x : Catalog × List (List Call)). IsMerge x.0 (calls_in c.journal.items) x.1) (λ i. (library i, scripts_are i)) merge,
+  subst (λ (b : Base). AreFoundThere b (calls_in c.journal.items)) (λ i. record { procs = (library i).procs; records = records i }) serial.found,
   closed_text-serial e c serial ∙ ap₂ (λ (ps : List Proc) (rs : List ℕ). serial_text ps rs (calls_in c.journal.items)) (ap (λ (l : Catalog). l.procs) library) records,
 )
 serves_closed s e scripts (Err why) library records scripts_are serial merge = tt

@@ -8,7 +8,7 @@ use Rattle.vll_sca.specs.declared.status.Status.{Status}
 use Rattle.vll_sca.specs.declared.status.Status.TheVariants.{Running, Waiting, Gone}
 use Rattle.vll_core.specs.declared.event.Event.{Event}
 use Rattle.vll_core.specs.declared.seen.Seen.{Seen}
-use Rattle.vll_core.specs.declared.seen.Seen.TheVariants.{Opened, Claimed, Free, Blocked, Run, Loaded, Stored, Released, Replied}
+use Rattle.vll_core.specs.declared.seen.Seen.TheVariants.{Found, Opened, Claimed, Free, Blocked, Run, Loaded, Stored, Released, Replied}
 use Rattle.vll_core.specs.declared.refusal.Refusal.{Refusal}
 use Rattle.vll_core.specs.declared.refusal.Refusal.TheVariants.{TurnOpen, NoTurn, NoCall, Spent, Busy, NotRunning, OutOfStep, Idle}
 use Rattle.vll_core.specs.State.{Base, Opening, Entered, State, reply_at, value, counter}
@@ -21,6 +21,7 @@ grant_text false = codes " denied"
 
 -- what an event saw
 abbrev pub seen_text : Seen → Text
+seen_text (Found v) = codes "found " ++ decimal v
 seen_text Opened = codes "opened"
 seen_text (Claimed old granted) = codes "claimed " ++ decimal old ++ grant_text granted
 seen_text (Free t) = codes "free " ++ decimal t

@@ -3,7 +3,7 @@ use Rattle.std.specs.Prelude.{ℕ, List, [], ◌∷◌, ◌++◌, map, replicate
 use Rattle.std.specs.List.{flat_map, enumerate_from, zip}
 use Rattle.std.specs.Fmt.{decimal}
 use Rattle.vll_proc.specs.declared.call.Reason.{Reason}
-use Rattle.vll_proc.specs.declared.call.Reason.TheVariants.{Code, Overflow, Underflow, ZeroDivisor}
+use Rattle.vll_proc.specs.declared.call.Reason.TheVariants.{Code, Overflow, Underflow, ZeroDivisor, Moved}
 use Rattle.vll_proc.specs.declared.call.Reply.{Reply}
 use Rattle.vll_proc.specs.declared.call.Reply.TheVariants.{Committed, Aborted}
 use Rattle.vll_proc.specs.declared.syntax.Proc.{Proc}
@@ -19,6 +19,7 @@ reason_text Overflow = codes "overflow"
 reason_text Underflow = codes "underflow"
 reason_text ZeroDivisor = codes "zero divisor"
 reason_text (Code n) = codes "code " ++ decimal n
+reason_text Moved = codes "moved"
 
 -- an output, behind a space
 abbrev pub output_text : ℕ → Text

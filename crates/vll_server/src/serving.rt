@@ -150,7 +150,7 @@ fn run_named<N: Name + Send + Sync, R: Threads + Wait + Sync, W: Wait + Sync, G:
     requires short { All (λ script. length script.items < 2 ^ 32) scripts.items }
     requires fits { All (λ script. All (Fits (library_of N.engine)) script.items) scripts.items }
     ensures serial { IfOk result (IsSerial N.engine) }
-    ensures merge { IfOk result (λ closed. IsMerge (calls_in closed.journal.items) (lists_of scripts.items)) }
+    ensures merge { IfOk result (λ closed. IsMerge (library_of N.engine) (calls_in closed.journal.items) (lists_of scripts.items)) }
     ensures before { ¬ (result ≡ Err ServeFault.Write) }
 {
     let (engine, sessions) = opening.start::<N>();

@@ -19,6 +19,7 @@ fn push_reason(text: &mut String, why: Reason) -> Result<(), AllocError>
         Reason::Overflow => text.push_str("overflow"),
         Reason::Underflow => text.push_str("underflow"),
         Reason::ZeroDivisor => text.push_str("zero divisor"),
+        Reason::Moved => text.push_str("moved"),
     }
 }
 

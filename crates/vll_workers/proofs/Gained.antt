@@ -7,15 +7,16 @@ use Rattle.std.proofs.lemmas.List.Elements.{filter-append}
 use Rattle.std.proofs.lemmas.Option.{slice_get-get_or}
 use Rattle.vll_proc.specs.declared.call.Call.{Call}
 use Rattle.vll_proc.specs.Serial.{Made}
+use Rattle.vll_check.specs.Calls.{bare, bares, with_found}
 use Rattle.vll_core.proofs.Places.{take_next}
 use Rattle.vll_counters.specs.declared.views.SessionView.{SessionView}
 use Rattle.vll_counters.specs.Shown.{SessionShown}
 use Rattle.vll_counters.specs.Views.{Begins, calls_by}
 use Rattle.vll_engine.specs.declared.begun.Begun.{Begun}
 use Rattle.vll_engine.specs.declared.begun.Begun.TheVariants.{Free, Blocked, Refused}
-use Rattle.vll_engine.specs.Begin.{Begins as BeginsWith}
+use Rattle.vll_engine.specs.Begin.{Begins as BeginsWith, FindsAndBegins}
 use Rattle.vll_engine.specs.Sessions.{SawOthers, SawOwn}
-use Rattle.vll_engine.specs.Shown.{Named}
+use Rattle.vll_engine.specs.Shown.{Named, library_of}
 use Rattle.vll_workers.specs.Private.Begin.{begun_token}
 use Rattle.vll_workers.specs.Shown.{TokenShown}
 use Rattle.vll_workers.specs.Tokens.{Gained, IsOf, calls_between}
@@ -59,7 +60,7 @@ between_none at script =
 gained_none : (g : SessionView) → Gained g g []
 gained_none g = record {
   begins = ([], sym (append-nil g.seen));
-  own = sym (append-nil (calls_by g.client g.seen));
+  own = ap bares (sym (append-nil (calls_by g.client g.seen)));
 }
 
 begins_later : (old now more : List Made) → Begins old now → Begins old (now ++ more)
@@ -70,26 +71,32 @@ gained_others : (old now new : SessionView) (calls : List Call) → Gained old n
 gained_others old now new calls gained whose saw = record {
   begins = subst (Begins old.seen) (sym saw.seen) (begins_later old.seen now.seen saw.others gained.begins);
   own =
-      ap (calls_by old.client) saw.seen
+      ap bares
+      (ap (calls_by old.client) saw.seen
       ∙ calls_by-append old.client now.seen saw.others
       ∙ ap (λ (l : List Call). calls_by old.client now.seen ++ l) (ap (λ (n : ℕ). calls_by n saw.others) (sym whose) ∙ saw.not_own)
-      ∙ append-nil (calls_by old.client now.seen)
+      ∙ append-nil (calls_by old.client now.seen))
       ∙ gained.own;
 }
 
--- a call of its own is gained
-gained_own : (old now new : SessionView) (calls : List Call) (call : Call) (ticket : ℕ) → Gained old now calls → now.client ≡ old.client → SawOwn now new call ticket → Gained old new (calls ++ call ∷ [])
-gained_own old now new calls call ticket gained whose saw =
+-- a call of its own is gained, with what it has found
+gained_own : (old now new : SessionView) (calls : List Call) (call entering : Call) (ticket : ℕ) → Gained old now calls → now.client ≡ old.client → bare entering ≡ bare call → SawOwn now new entering ticket
+    → Gained old new (calls ++ call ∷ [])
+gained_own old now new calls call entering ticket gained whose same saw =
     let mid : SessionView = record now { seen = now.seen ++ saw.others } in
     let others : Gained old mid calls = gained_others old now mid calls gained whose (record { client = refl; others = saw.others; not_own = saw.not_own; seen = refl }) in
     record {
-      begins = subst (Begins old.seen) (sym saw.seen) (begins_later old.seen mid.seen ((now.client, call) ∷ []) others.begins);
+      begins = subst (Begins old.seen) (sym saw.seen) (begins_later old.seen mid.seen ((now.client, entering) ∷ []) others.begins);
       own =
-          ap (calls_by old.client) saw.seen
-          ∙ calls_by-append old.client mid.seen ((now.client, call) ∷ [])
-          ∙ (λ i. others.own i ++ calls_by old.client ((whose i, call) ∷ []))
-          ∙ ap (λ (l : List Call). (calls_by old.client old.seen ++ calls) ++ l) (own_call old.client call)
-          ∙ append_assoc (calls_by old.client old.seen) calls (call ∷ []);
+          ap bares
+          (ap (calls_by old.client) saw.seen
+          ∙ calls_by-append old.client mid.seen ((now.client, entering) ∷ [])
+          ∙ (λ i. calls_by old.client mid.seen ++ calls_by old.client ((whose i, entering) ∷ []))
+          ∙ ap (λ (l : List Call). calls_by old.client mid.seen ++ l) (own_call old.client entering))
+          ∙ map-append bare (calls_by old.client mid.seen) (entering ∷ [])
+          ∙ (λ i. others.own i ++ same i ∷ [])
+          ∙ sym (map-append bare (calls_by old.client old.seen ++ calls) (call ∷ []))
+          ∙ ap bares (append_assoc (calls_by old.client old.seen) calls (call ∷ []));
     }
 
 -- ---- a token of those that were handed in
@@ -126,9 +133,9 @@ of_others handed t s of table saw = record {
 }
 
 -- its next call has entered
-of_own : (handed : List TokenShown) (t : TokenShown) (s : SessionShown) (call : Call) (ticket : ℕ) → IsOf handed t → slice_get t.script t.next ≡ Some call → s.table ≡ t.session.table
-    → SawOwn t.session.session s.session call ticket → IsOf handed (record t { next = suc t.next; session = s })
-of_own handed t s call ticket of next table saw =
+of_own : (handed : List TokenShown) (t : TokenShown) (s : SessionShown) (call entering : Call) (ticket : ℕ) → IsOf handed t → slice_get t.script t.next ≡ Some call → s.table ≡ t.session.table
+    → bare entering ≡ bare call → SawOwn t.session.session s.session entering ticket → IsOf handed (record t { next = suc t.next; session = s })
+of_own handed t s call entering ticket of next table same saw =
     let at : slice_get of.old.script t.next ≡ Some call = ap (λ (calls : List Call). slice_get calls t.next) (sym of.script) ∙ next in
     let on : of.old.next ≤ t.next = of.on in
     record {
@@ -141,12 +148,16 @@ of_own handed t s call ticket of next table saw =
       table = table ∙ of.table;
       whose = saw.client ∙ of.whose;
       gained = subst (Gained of.old.session.session s.session) (sym (between_next of.old.next t.next of.old.script call on at))
-          (gained_own of.old.session.session t.session.session s.session (calls_between of.old.next t.next of.old.script) call ticket of.gained of.whose saw);
+          (gained_own of.old.session.session t.session.session s.session (calls_between of.old.next t.next of.old.script) call entering ticket of.gained of.whose same saw);
     }
 
 -- its next call has begun, or was refused
+begun_of : (e : Named) (handed : List TokenShown) (t new : TokenShown) (call entering : Call) (begun : Begun) → IsOf handed t → slice_get t.script t.next ≡ Some call
+    → new ≡ begun_token t new.session begun → bare entering ≡ bare call → BeginsWith e t.session.session new.session.session entering begun → new.session.table ≡ t.session.table → IsOf handed new
+begun_of e handed t new call entering (Free pass) of next is same begins table = subst (IsOf handed) (sym is) (of_own handed t new.session call entering pass.pass.ticket of next table same begins.0)
+begun_of e handed t new call entering (Blocked ticket) of next is same begins table = subst (IsOf handed) (sym is) (of_own handed t new.session call entering ticket of next table same begins)
+begun_of e handed t new call entering (Refused why) of next is same begins table = subst (IsOf handed) (sym is) (of_others handed t new.session of table begins.0)
+
 pub of_begun : (e : Named) (handed : List TokenShown) (t new : TokenShown) (call : Call) (begun : Begun) → IsOf handed t → slice_get t.script t.next ≡ Some call
-    → new ≡ begun_token t new.session begun → BeginsWith e t.session.session new.session.session call begun → new.session.table ≡ t.session.table → IsOf handed new
-of_begun e handed t new call (Free pass) of next is begins table = subst (IsOf handed) (sym is) (of_own handed t new.session call pass.pass.ticket of next table begins.0)
-of_begun e handed t new call (Blocked ticket) of next is begins table = subst (IsOf handed) (sym is) (of_own handed t new.session call ticket of next table begins)
-of_begun e handed t new call (Refused why) of next is begins table = subst (IsOf handed) (sym is) (of_others handed t new.session of table begins.0)
+    → new ≡ begun_token t new.session begun → FindsAndBegins e t.session.session new.session.session call begun → new.session.table ≡ t.session.table → IsOf handed new
+of_begun e handed t new call begun of next is begins table = begun_of e handed t new call (with_found (library_of e) call begins.value) begun of next is begins.same begins.begins table

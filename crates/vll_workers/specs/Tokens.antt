@@ -2,7 +2,7 @@
 use Rattle.std.specs.Prelude.{◌≡◌, ◌≤◌, ℕ, ◌-◌, List, ◌++◌, All, drop, length, map, take, Some, slice_get, IsPermutation}
 use Rattle.std.specs.List.Sorted.{IsStrictlyIncreasing}
 use Rattle.vll_proc.specs.declared.call.Call.{Call}
-use Rattle.vll_check.specs.Calls.{Fits}
+use Rattle.vll_check.specs.Calls.{bares, Fits}
 use Rattle.vll_counters.specs.declared.views.SessionView.{SessionView}
 use Rattle.vll_counters.specs.Views.{Begins, calls_by}
 use Rattle.vll_engine.specs.Shown.{Named, library_of}
@@ -20,10 +20,10 @@ AreFit e tokens = All (IsFit e) tokens
 abbrev pub calls_between : ℕ → ℕ → List Call → List Call
 calls_between from to script = take (to - from) (drop from script)
 
--- of its client's calls, a session has seen just these enter since it was that one
+-- of its client's calls, a session has seen just these enter since it was that one, each with what it has found
 pub record Gained (old new : SessionView) (calls : List Call) : Type 0 where
   pub begins : Begins old.seen new.seen
-  pub own : calls_by old.client new.seen ≡ calls_by old.client old.seen ++ calls
+  pub own : bares (calls_by old.client new.seen) ≡ bares (calls_by old.client old.seen ++ calls)
 
 -- a token of those that were handed in: its client's, with its script; the calls of its client that have entered since are those of the
 -- script from the old next one to the new one, in order

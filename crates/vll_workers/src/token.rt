@@ -1,7 +1,7 @@
 ghost use Rattle.std.specs.Prelude.{◌≡◌, ◌<◌, ◌≤◌, ◌==◌, ◌^◌, All, IfSome, IfNone, Some, length, slice_get};
 ghost use Rattle.std.specs.Option.{option_map};
 ghost use Rattle.vll_check.specs.Calls.{Fits};
-ghost use Rattle.vll_engine.specs.Begin.{Begins};
+ghost use Rattle.vll_engine.specs.Begin.{FindsAndBegins};
 ghost use Rattle.vll_engine.specs.Shown.{library_of};
 ghost use Rattle.vll_workers.specs.Shown.{token};
 ghost use Rattle.vll_workers.specs.Private.Begin.{begun_token};
@@ -105,7 +105,7 @@ impl Token {
         requires fits { Fits (library_of N.engine) call }
         requires call { slice_get self.old.script self.old.next ≡ Some call }
         ensures token { self.new ≡ begun_token self.old self.new.session result }
-        ensures answer { Begins N.engine self.old.session.session self.new.session.session call result }
+        ensures answer { FindsAndBegins N.engine self.old.session.session self.new.session.session call result }
         ensures given { self.new.session.session.given ≡ self.old.session.session.given }
         ensures session { self.new.session.table ≡ self.old.session.table }
     {

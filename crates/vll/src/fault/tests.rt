@@ -20,6 +20,14 @@ fn refused_scenario_ends_with_2(rt: HostRuntime) -> Result<(), Fail> {
         index: 0,
         fault: CheckFault::TooManyReplies,
     };
+    let through = ScenarioFault::Check {
+        index: 1,
+        fault: CheckFault::ThroughKey,
+    };
+    let two_through = ScenarioFault::Check {
+        index: 2,
+        fault: CheckFault::TwoThrough,
+    };
     let call = ScenarioFault::Call {
         client: 1,
         index: 2,
@@ -30,6 +38,8 @@ fn refused_scenario_ends_with_2(rt: HostRuntime) -> Result<(), Fail> {
         (ScenarioFault::Json, "vll: scenario: json"),
         (ScenarioFault::Shape(spot), "vll: scenario: shape procs 3"),
         (check, "vll: scenario: check 0 10"),
+        (through, "vll: scenario: check 1 13"),
+        (two_through, "vll: scenario: check 2 14"),
         (call, "vll: scenario: call 1 2 3"),
         (ScenarioFault::Size, "vll: scenario: size"),
         (ScenarioFault::NoMemory, "vll: scenario: no memory"),

@@ -1,8 +1,8 @@
 use super::check;
 use crate::fault::CheckFault;
 use crate::fault::CheckFault::{
-    FixedRecord, KeyArg, NotWritable, TooDeep, TooLong, TooManyArgs, TooManyKeys, TooManyReplies,
-    UnknownArg, UnknownKey, UnknownLocal, UnsetLocal,
+    FixedRecord, KeyArg, NotWritable, ThroughKey, TooDeep, TooLong, TooManyArgs, TooManyKeys,
+    TooManyReplies, TwoThrough, UnknownArg, UnknownKey, UnknownLocal, UnsetLocal,
 };
 use sqlite_items::{Boxed, Items};
 use std::alloc::{AllocError, Global};
@@ -239,5 +239,34 @@ fn lowest_number_is_answered(rt: HostRuntime) -> Result<(), Fail> {
     let mut body = lets(alloc, 512)?;
     body.push(Stmt::Reply(nots(alloc, 31)?))?;
     assert_eq!(rt; fault(alloc, 0, &[], body)?, Some(TooDeep));
+    Ok(())
+}
+
+#[test]
+fn indirect_key_follows_the_one_that_it_is_found_by(rt: HostRuntime) -> Result<(), Fail> {
+    let alloc = rt.alloc();
+    let arg = key(Mode::Read, KeyAt::Arg(0));
+    let fixed = key(Mode::Write, KeyAt::Fixed(1));
+    let through = |i| key(Mode::Read, KeyAt::Through(i));
+    for (case, keys, want) in [
+        ("at position 0", &[through(0)][..], Some(ThroughKey)),
+        ("by itself", &[arg, through(1)], Some(ThroughKey)),
+        (
+            "by a later one",
+            &[arg, through(2), fixed],
+            Some(ThroughKey),
+        ),
+        ("by none", &[arg, through(255)], Some(ThroughKey)),
+        ("by an argument's", &[arg, through(0)], None),
+        ("by a fixed one", &[arg, fixed, through(1)], None),
+        ("two", &[arg, through(0), through(0)], Some(TwoThrough)),
+        (
+            "by an indirect one",
+            &[arg, through(0), through(1)],
+            Some(ThroughKey),
+        ),
+    ] {
+        assert!(rt; fault(alloc, 1, keys, Vec::new(alloc))? == want, "{case}");
+    }
     Ok(())
 }

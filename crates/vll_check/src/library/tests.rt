@@ -38,6 +38,24 @@ fn transfer(alloc: Global) -> Result<Checked, Fail>
     Ok(check(procedure, 2)?)
 }
 
+// A procedure whose argument places a key to be read, by which one to be written is found, checked for so many records.
+fn via(alloc: Global, records: u32) -> Result<Checked, Fail>
+    ensures { IfOk result (λ c. c.records ≡ records) }
+{
+    let indirect = KeyDecl {
+        mode: Mode::Write,
+        at: KeyAt::Through(0),
+    };
+    let keys = [key(Mode::Read, 0), indirect];
+    let procedure = Proc {
+        name: Text::new(String::from_str(alloc, "via")?),
+        args: 1,
+        keys: Items::from_slice(alloc, &keys)?,
+        body: Items::new(alloc),
+    };
+    Ok(check(procedure, records)?)
+}
+
 fn key(mode: Mode, argument: u8) -> KeyDecl {
     KeyDecl {
         mode,
@@ -202,5 +220,71 @@ fn made_call_fits_and_no_other(rt: HostRuntime) -> Result<(), Fail> {
     {
         assert!(rt; !library.fits(other), "{case}");
     }
+    Ok(())
+}
+
+#[test]
+fn indirect_key_names_the_record_found(rt: HostRuntime) -> Result<(), Fail> {
+    let alloc = rt.alloc();
+    let library = Library::new(3, vec![in alloc; via(alloc, 3)?]?)?;
+    let call = library.call("via", &[0])?;
+    assert_eq!(rt; call.found, None);
+    assert_eq!(rt; call.claims.len(), 1);
+    assert_eq!(rt; call.claims.get(0), Some(claim(0, Mode::Read)));
+    assert!(rt; call.cells == [0; 16]);
+    if !library.fits(&call) {
+        panic!(&rt; "the library makes the call");
+    }
+    assert_eq!(rt; library.source(&call), Some(RecordId(0)));
+    assert!(rt; !library.is_ready(&call));
+    for value in [2, 5] {
+        let found = library.with_found(&call, value);
+        assert_eq!(rt; found.found, Some(value));
+        assert_eq!(rt; found.claims.len(), 2);
+        assert_eq!(rt; found.claims.get(0), Some(claim(0, Mode::Read)));
+        assert_eq!(rt; found.claims.get(1), Some(claim(2, Mode::Write)));
+        assert!(rt; found.cells == [0, 1, 0, 0, 0, 0, 0, 0, 0, 0, 0, 0, 0, 0, 0, 0]);
+        assert!(rt; library.is_ready(&found));
+        assert!(rt; !library.fits(&found));
+    }
+    Ok(())
+}
+
+#[test]
+fn record_found_may_be_the_source(rt: HostRuntime) -> Result<(), Fail> {
+    let alloc = rt.alloc();
+    let library = Library::new(1, vec![in alloc; via(alloc, 1)?]?)?;
+    let call = library.call("via", &[0])?;
+    if !library.fits(&call) {
+        panic!(&rt; "the library makes the call");
+    }
+    let found = library.with_found(&call, 7);
+    assert_eq!(rt; found.claims.len(), 1);
+    assert_eq!(rt; found.claims.get(0), Some(claim(0, Mode::Write)));
+    assert!(rt; found.cells == [0; 16]);
+    let other = Call {
+        found: Some(8),
+        ..call
+    };
+    assert!(rt; !library.is_ready(&other));
+    Ok(())
+}
+
+#[test]
+fn call_without_an_indirect_key_is_ready(rt: HostRuntime) -> Result<(), Fail> {
+    let alloc = rt.alloc();
+    let library = Library::new(2, vec![in alloc; transfer(alloc)?]?)?;
+    let call = library.call("transfer", &[1, 0, 7])?;
+    if !library.fits(&call) {
+        panic!(&rt; "the library makes the call");
+    }
+    assert_eq!(rt; library.source(&call), None);
+    assert!(rt; library.is_ready(&call));
+    assert!(rt; library.with_found(&call, 5) == call);
+    let other = Call {
+        found: Some(5),
+        ..call
+    };
+    assert!(rt; !library.is_ready(&other));
     Ok(())
 }

@@ -6,11 +6,11 @@ use Rattle.vll_sca.specs.Status.{is_waiting, is_gone}
 use Rattle.vll_core.specs.declared.event.Event.{Event}
 use Rattle.vll_core.specs.State.{Opening, Entered, Turn, State, writes}
 use Rattle.vll_core.specs.Machine.{step}
-use Rattle.vll_core.specs.Drain.{is_enter_or_scan}
+use Rattle.vll_core.specs.Drain.{begins_or_scans}
 
--- an event that is not refused, and neither Enter nor Scan
+-- an event that is not refused, and none of Find, Enter and Scan
 pub record IsNext (o : Opening) (s : State) (e : Event) : Type 0 where
-  pub other : is_enter_or_scan e ≡ false
+  pub other : begins_or_scans e ≡ false
   pub taken : IsOk (step o s e)
 
 -- the steps that a call has left: to begin, its loads, stores and releases, and to end

@@ -3,7 +3,7 @@ use Rattle.std.specs.Prelude.{◌≡◌, ℕ, ◌≤◌, true, List, length, map
 use Rattle.std.specs.Global.{Vec}
 use Rattle.vll_proc.specs.declared.call.Call.{Call}
 use Rattle.vll_proc.specs.Serial.{Made, before}
-use Rattle.vll_check.specs.Calls.{Fits}
+use Rattle.vll_check.specs.Calls.{Fits, IsReady}
 use Rattle.vll_check.specs.Catalog.{Catalog, IsCatalog}
 use Rattle.vll_core.specs.declared.config.TheConstants.{MOST_RECORDS}
 use Rattle.vll_core.specs.declared.machine.OpenTurn.{OpenTurn}
@@ -31,7 +31,7 @@ abbrev pub AreReplied : List QueueEntry → List Work → Type 0
 AreReplied es ws =
     (t : ℕ) (e : QueueEntry) (w : Work) → slice_get es t ≡ Some e → slice_get ws t ≡ Some w → is_gone e.status ≡ true → e.line.reply ≡ w.reply
 
--- the state is one that lawful moves reach, the words are those of the state, the library makes each call, each call's work is done on the records before it, and while a turn is open there is room for one more call to wait
+-- the state is one that lawful moves reach, the words are those of the state, each call that has entered or is about to is ready and the library makes those of the scripts, each call's work is done on the records before it, and while a turn is open there is room for one more call to wait
 pub record IsMachine {H : Type 0} (place : H → ℕ → ℕ) (c : Inside H) : Type 0 where
   pub reached : IsReached (opening_of place (shown c)) (shown c).state
   pub words : AreWords (shown c).base (shown c).state c.words.items
@@ -43,8 +43,9 @@ pub record IsMachine {H : Type 0} (place : H → ℕ → ℕ) (c : Inside H) : T
   pub works : length c.work.items ≡ length c.queue.entries
   pub room : c.queue.limit ≤ vec_capacity c.work
   pub nexts : length c.next.items ≡ length c.scripts.items
-  pub entries_fit : All (λ (e : QueueEntry). Fits c.library.value e.line.call) c.queue.entries
-  pub turn_fits : IfSome c.turn (λ (t : OpenTurn). Fits c.library.value t.call)
+  pub kepts : length c.kept.items ≡ length c.scripts.items
+  pub entries_ready : All (λ (e : QueueEntry). IsReady c.library.value e.line.call) c.queue.entries
+  pub turn_ready : IfSome c.turn (λ (t : OpenTurn). IsReady c.library.value t.call)
   pub scripts_fit : All (λ (v : Vec Call). All (Fits c.library.value) v.items) c.scripts.items
   pub at_work : AreAtWork c.library.value c.opening.value.items c.queue.entries c.work.items
   pub replied : AreReplied c.queue.entries c.work.items

@@ -35,5 +35,5 @@ shown c = record {
   limit = c.queue.limit;
   bits = c.queue.bits;
   hash = c.queue.hash;
-  state = record { entries = entries_of c.queue.entries c.work.items; turn = turn_of c.turn; scripts = left_of c.scripts.items c.next.items };
+  state = record { entries = entries_of c.queue.entries c.work.items; turn = turn_of c.turn; scripts = left_of c.scripts.items c.next.items; kept = c.kept.items };
 }

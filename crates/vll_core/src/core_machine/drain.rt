@@ -12,7 +12,7 @@ use vll_sca::Place;
 impl<H: Place> Core<H> {
     /// Closes an open turn by Claim and Admit, and then brings the lowest ticket that is not gone to its end, by Front
     /// and its own steps, until all are gone; the answer is how many events that took. Each of them is one that `step`
-    /// takes, and none is Enter or Scan, so no state is stuck. They are at most three for each claim of a call that is
+    /// takes, and none is Find, Enter or Scan, so no state is stuck. They are at most three for each claim of a call that is
     /// not gone, and two for the call; and four for each claim of the open turn's call, and three. It takes no memory.
     pub fn drain(&mut self) -> u64
         ensures drained { IsDrained (opening_of H.place_of self.old) self.old.state self.new.state result }

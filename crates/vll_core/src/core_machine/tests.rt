@@ -2,6 +2,7 @@ mod acts;
 mod blocking;
 mod crowd;
 mod draining;
+mod finding;
 mod handing;
 mod opening;
 mod procedures;

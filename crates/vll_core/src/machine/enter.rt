@@ -1,7 +1,7 @@
-// A turn opens, for the next call of a script or for one that is handed in.
-ghost use Rattle.std.specs.Prelude.{◌≡◌, ◌<◌, ◌≤◌, ◌↔◌, Err, Ok, length};
-ghost use Rattle.vll_check.specs.Calls.{Fits};
-ghost use Rattle.vll_core.specs.Machine.{entered, step, told, waiting};
+// The source of a script's next call is loaded, and a turn opens, for the next call of a script or for one that is handed in.
+ghost use Rattle.std.specs.Prelude.{◌≡◌, ◌<◌, ◌≤◌, ◌↔◌, Err, Ok, IfSome, length};
+ghost use Rattle.vll_check.specs.Calls.{Fits, IsReady};
+ghost use Rattle.vll_core.specs.Machine.{entered, is_turn_of, next_call, ready, step, told, waiting};
 ghost use Rattle.vll_core.specs.Moves.{hand, move};
 ghost use Rattle.vll_core.specs.Shown.{after, library_of, opening_of};
 ghost use Rattle.vll_core.specs.declared.event.Event.TheVariants as event;
@@ -12,16 +12,17 @@ use crate::refusal::Refusal;
 use crate::seen::Seen;
 use vll_check::Library;
 use vll_proc::Call;
+use vll_record::value_word;
 use vll_sca::Place;
 
 impl<H: Place> Machine<H> {
     /// Opens a turn for a call that is handed in, for a client that has a script, an empty one too; the script
-    /// stays as it is. Refused, in this order, by `TurnOpen`, `Spent` and `Busy`, as Enter is. A refusal
+    /// and what is kept for it stay as they are. Refused, in this order, by `TurnOpen`, `Spent` and `Busy`, as Enter is. A refusal
     /// changes nothing. The library is the one of the opening. It takes no memory.
     pub fn enter(&mut self, library: &Library, client: u32, call: Call) -> Result<(), Refusal>
         requires same { library.now ≡ library_of self.old }
         requires client { client < length self.old.state.scripts }
-        requires fits { Fits (library_of self.old) call }
+        requires ready { IsReady (library_of self.old) call }
         ensures answer { result ≡ entered (move (opening_of H.place_of self.old) self.old.state (hand client call)) }
         ensures state { self.new ≡ after self.old (move (opening_of H.place_of self.old) self.old.state (hand client call)) }
     {
@@ -39,32 +40,87 @@ impl<H: Place> Machine<H> {
         Ok(())
     }
 
+    // The source of the next call of a client's script is loaded, and its value kept for the call.
+    pub(crate) fn find(&mut self, library: &Library, client: u32) -> Result<Seen, Refusal>
+        requires same { library.now ≡ library_of self.old }
+        ensures answer { result ≡ told (step (opening_of H.place_of self.old) self.old.state (event.Find client)) }
+        ensures state { self.new ≡ after self.old (step (opening_of H.place_of self.old) self.old.state (event.Find client)) }
+    {
+        if self.is_turn_of(client) {
+            return Err(Refusal::TurnOpen);
+        }
+        let Some(call) = self.next_call(client) else {
+            return Err(Refusal::NoCall);
+        };
+        let Some(source) = library.source(&call) else {
+            return Err(Refusal::OutOfStep);
+        };
+        let value = self.words[value_word(source)];
+        self.kept[client as usize] = Some(value);
+        Ok(Seen::Found(value))
+    }
+
     // A turn opens for the next call of a client's script.
-    pub(crate) fn enter_next(&mut self, client: u32) -> Result<Seen, Refusal>
+    pub(crate) fn enter_next(&mut self, library: &Library, client: u32) -> Result<Seen, Refusal>
+        requires same { library.now ≡ library_of self.old }
         ensures answer { result ≡ told (step (opening_of H.place_of self.old) self.old.state (event.Enter client)) }
         ensures state { self.new ≡ after self.old (step (opening_of H.place_of self.old) self.old.state (event.Enter client)) }
     {
         if self.turn.is_some() {
             return Err(Refusal::TurnOpen);
         }
-        let index = client as usize;
-        let Some(script) = self.scripts.get(index) else {
+        let Some(call) = self.next_call(client) else {
             return Err(Refusal::NoCall);
         };
-        let next = self.next[index];
-        let Some(call) = script.get(next) else {
-            return Err(Refusal::NoCall);
-        };
-        let call = *call;
         self.room()?;
+        let Some(call) = self.ready(library, client, &call) else {
+            return Err(Refusal::OutOfStep);
+        };
         self.turn = Some(OpenTurn {
             client,
             call,
             requested: 0,
             granted: true,
         });
-        self.next[index] = next + 1;
+        let index = client as usize;
+        self.next[index] += 1;
+        self.kept[index] = None;
         Ok(Seen::Opened)
+    }
+
+    // Whether the open turn is that of a client.
+    fn is_turn_of(&self, client: u32) -> bool
+        ensures { result ≡ is_turn_of client self.now.state.turn }
+    {
+        match self.turn {
+            Some(turn) => turn.client == client,
+            None => false,
+        }
+    }
+
+    // The next call of a client's script, if there is such a client and a call left.
+    fn next_call(&self, client: u32) -> Option<Call>
+        ensures call { result ≡ next_call self.now.state client }
+        ensures fits { IfSome result (Fits (library_of self.now)) }
+    {
+        let index = client as usize;
+        let script = self.scripts.get(index)?;
+        script.get(self.next[index]).copied()
+    }
+
+    // The next call of a client's script as it enters, and `None` where it has an indirect key and no value is kept for it.
+    fn ready(&self, library: &Library, client: u32, call: &Call) -> Option<Call>
+        requires same { library.now ≡ library_of self.now }
+        requires fits { Fits library.now call.now }
+        requires client { client < length self.now.state.scripts }
+        ensures call { result ≡ ready self.now.base self.now.state client call.now }
+        ensures ready { IfSome result (IsReady library.now) }
+    {
+        let value = self.kept[client as usize];
+        if library.source(call).is_none() {
+            return Some(*call);
+        }
+        Some(library.with_found(call, value?))
     }
 
     // Whether one more call may enter, and why not: as many as the limit have entered, or as many as the cap wait.

@@ -24,6 +24,7 @@ fn writes(number: u32, record: u32) -> Call {
         number,
         arg_count: 0,
         args: [0; MOST_ARGS],
+        found: None,
         claims,
         cells: [0; MOST_CLAIMS],
     }

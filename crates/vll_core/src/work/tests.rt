@@ -1,7 +1,7 @@
-ghost use Rattle.std.specs.Prelude.{◌≡◌, IfOk};
+ghost use Rattle.std.specs.Prelude.{◌≡◌, ℕ, IfOk};
 ghost use Rattle.vll_proc.specs.Made.{IsCallOf};
 ghost use Rattle.vll_proc.specs.WellFormed.{IsWellFormed};
-ghost use Rattle.vll_check.specs.Calls.{Fits};
+ghost use Rattle.vll_check.specs.Calls.{IsReady};
 
 use self::Act::{
     Code, HasAborted, HasLoaded, HasReply, HasStored, Load, NextLoad, NextRelease, NextStore,
@@ -96,11 +96,11 @@ fn library(alloc: Global) -> Result<Library, Fail> {
     Ok(Library::new(2, procs)?)
 }
 
-// The procedure of a call that the library made.
+// The procedure of a call that is ready.
 fn procedure_of<'a>(library: &'a Library, call: &Call) -> Result<&'a Proc, CallFault>
-    requires { Fits library.now call.now }
+    requires { IsReady library.now call.now }
     ensures formed { IfOk result (λ p. IsWellFormed p.now) }
-    ensures made { IfOk result (λ p. IsCallOf p.now call.now) }
+    ensures made { IfOk result (λ p. (n : ℕ) × IsCallOf n p.now call.now) }
 {
     match library.proc(call.number) {
         Some(procedure) => Ok(procedure),
@@ -110,7 +110,7 @@ fn procedure_of<'a>(library: &'a Library, call: &Call) -> Result<&'a Proc, CallF
 
 fn begun(call: &Call, procedure: &Proc) -> Work
     requires formed { IsWellFormed procedure.now }
-    requires made { IsCallOf procedure.now call.now }
+    requires made { (n : ℕ) × IsCallOf n procedure.now call.now }
 {
     Work::new(call, procedure)
 }
@@ -118,7 +118,7 @@ fn begun(call: &Call, procedure: &Proc) -> Work
 // Makes the next load where one is left.
 fn load(work: &mut Work, call: &Call, procedure: &Proc, value: u64)
     requires formed { IsWellFormed procedure.now }
-    requires made { IsCallOf procedure.now call.now }
+    requires made { (n : ℕ) × IsCallOf n procedure.now call.now }
 {
     if work.next_load(call).is_some() {
         work.load(call, procedure, value);
@@ -182,7 +182,7 @@ fn next_store(work: &Work, call: &Call) -> Option<(u32, u64)> {
 
 fn perform(rt: &impl Abort, work: &mut Work, call: &Call, procedure: &Proc, act: Act)
     requires formed { IsWellFormed procedure.now }
-    requires made { IsCallOf procedure.now call.now }
+    requires made { (n : ℕ) × IsCallOf n procedure.now call.now }
 {
     match act {
         Load(value) => load(work, call, procedure, value),
@@ -208,7 +208,7 @@ fn run(
     acts: &[Act],
 ) -> Result<(), Fail> {
     let library = library(rt.alloc())?;
-    let call = library.call(name, args)?;
+    let call = library.with_found(&library.call(name, args)?, 0);
     let procedure = procedure_of(&library, &call)?;
     let mut work = begun(&call, procedure);
     for act in acts {

@@ -1,21 +1,21 @@
-ghost use Rattle.std.specs.Prelude.{◌≡◌, ◌<◌, ◌∷◌, [], false, IfSome, None, length};
-ghost use Rattle.vll_check.specs.Calls.{Fits};
-ghost use Rattle.vll_record.specs.Claim.{is_write};
+ghost use Rattle.std.specs.Prelude.{◌≡◌, ◌<◌, ◌∷◌, [], true, IfOk, IfSome, None, length};
+ghost use Rattle.vll_check.specs.Calls.{IsReady};
 ghost use Rattle.vll_sca.specs.declared.status.Status.TheVariants as Status;
 ghost use Rattle.vll_counters.specs.Shown.{AreNewSessions, library_of, shown_queue};
 ghost use Rattle.vll_counters.specs.Steps.{first_queue};
+ghost use Rattle.vll_counters.specs.Told.{has_stored_pass};
 
 use super::Words;
 use crate::pass_seat::PassSeat;
 use crate::queue_seat::QueueSeat;
 use crate::session_seat::SessionSeat;
-use sqlite_items::Items;
+use sqlite_items::{Boxed, Items};
 use std::alloc::{AllocError, Global};
 use std::process::Abort;
 use std::test::*;
-use vll_check::{Library, check};
+use vll_check::{CallFault, Library, check};
 use vll_core::Ticket;
-use vll_proc::{Call, Expr, KeyAt, KeyDecl, Proc, Stmt, Text};
+use vll_proc::{Call, Expr, Frame, KeyAt, KeyDecl, Proc, Reply, Stmt, Text};
 use vll_record::{Claim, Mode, granted};
 
 fn shares<T: Send + Sync>() {}
@@ -55,18 +55,45 @@ fn read(alloc: Global) -> Result<Proc, AllocError> {
     })
 }
 
-// The claim of a call that has one, which reads record 0.
-fn read_claim(call: &Call) -> Option<Claim>
-    ensures { IfSome result (λ claim. (call.now.claims ≡ claim ∷ []) × (is_write claim ≡ false) × (claim.id ≡ 0)) }
+// Adds 1 to a record.
+fn bump(alloc: Global) -> Result<Proc, AllocError> {
+    let key = KeyDecl {
+        mode: Mode::Write,
+        at: KeyAt::Arg(0),
+    };
+    let sum = Expr::Add(
+        Boxed::new(alloc, Expr::Key(0))?,
+        Boxed::new(alloc, Expr::Num(1))?,
+    );
+    let body = vec![in alloc; Stmt::Set(0, sum)]?;
+    Ok(Proc {
+        name: Text::new(String::from_str(alloc, "bump")?),
+        args: 1,
+        keys: Items::from_slice(alloc, &[key])?,
+        body: Items::from_vec(body),
+    })
+}
+
+// The call of a procedure on record 0. It has nothing to find.
+fn ready_call(rt: &impl Abort, library: &Library, name: &str) -> Result<Call, CallFault>
+    ensures { IfOk result (IsReady library.now) }
+{
+    let call = library.call(name, &[0])?;
+    if !library.is_ready(&call) {
+        panic!(rt; "the call is not ready");
+    }
+    Ok(call)
+}
+
+// The claim of a call that has one, on record 0.
+fn only_claim(call: &Call) -> Option<Claim>
+    ensures { IfSome result (λ claim. (call.now.claims ≡ claim ∷ []) × (claim.id ≡ 0)) }
 {
     let claim = call.claims.get(0)?;
     if call.claims.len() != 1 || claim.id.0 != 0 {
         return None;
     }
-    match claim.mode {
-        Mode::Read => Some(claim),
-        Mode::Write => None,
-    }
+    Some(claim)
 }
 
 // The one session.
@@ -79,7 +106,7 @@ fn only_session(table: &Words, sessions: Vec<SessionSeat>) -> Option<SessionSeat
     sessions.pop()
 }
 
-// The first call enters and runs: what its request found, and its pass.
+// The first call enters and runs: what its request found, its pass, and its session.
 fn enter(
     rt: &impl Abort,
     words: &Words,
@@ -87,10 +114,10 @@ fn enter(
     session: SessionSeat,
     call: &Call,
     claim: &Claim,
-) -> (u64, PassSeat)
+) -> (u64, PassSeat, SessionSeat)
     requires queue { queue.old ≡ shown_queue words.now.table (first_queue 1) }
     requires session { session.table ≡ words.now.table }
-    requires fits { Fits (library_of words.now) call.now }
+    requires ready { IsReady (library_of words.now) call.now }
     requires claim { call.now.claims ≡ claim.now ∷ [] }
     requires there { claim.now.id < length words.now.base.records }
     ensures same { queue.new.table ≡ words.now.table }
@@ -98,48 +125,117 @@ fn enter(
     ensures runs { queue.new.statuses ≡ Status.Running ∷ [] }
     ensures pass { result.1.table ≡ words.now.table }
     ensures fresh { (result.1.pass.call ≡ call.now) × (result.1.pass.loads ≡ 0) × (result.1.pass.stores ≡ 0) × (result.1.pass.releases ≡ 0) × (result.1.pass.ticket ≡ 0) }
+    ensures session { result.2.table ≡ words.now.table }
 {
     words.join_session(queue, session, Some(*call));
     let requested = words.request(queue, *claim);
     if !granted(claim.mode, requested) {
-        panic!(rt; "no call writes");
+        panic!(rt; "another call has the record");
     }
     let pass = words.give_pass(queue, Ticket(0));
-    words.give_session(queue, None);
-    (requested, pass)
+    let session = words.give_session(queue, None);
+    (requested, pass, session)
 }
 
-// A running call that reads one record loads and releases it, and ends: what its load and its release found.
-fn end(words: &Words, queue: &mut QueueSeat, pass: PassSeat, claim: &Claim) -> (u64, u64)
+// A running call that reads one record loads it: what it found.
+fn load(rt: &impl Abort, words: &Words, pass: &mut PassSeat, claim: &Claim) -> u64
+    requires same { pass.old.table ≡ words.now.table }
+    requires fresh { (pass.old.pass.loads ≡ 0) × (pass.old.pass.stores ≡ 0) }
+    requires claim { pass.old.pass.call.claims ≡ claim.now ∷ [] }
+    requires there { claim.now.id < length words.now.base.records }
+    ensures same { pass.new.table ≡ words.now.table }
+    ensures stored { has_stored_pass words.now.base pass.new.pass ≡ true }
+    ensures left { (pass.new.pass.call ≡ pass.old.pass.call) × (pass.new.pass.releases ≡ pass.old.pass.releases) × (pass.new.pass.ticket ≡ pass.old.pass.ticket) }
+{
+    let Mode::Read = claim.mode else {
+        panic!(rt; "the call writes");
+    };
+    words.load(pass, claim.id)
+}
+
+// A running call that writes one record loads it, runs its body on it and stores it.
+fn change(
+    rt: &impl Abort,
+    words: &Words,
+    library: &Library,
+    pass: &mut PassSeat,
+    call: &Call,
+    claim: &Claim,
+)
+    requires same { pass.old.table ≡ words.now.table }
+    requires library { library_of words.now ≡ library.now }
+    requires ready { IsReady library.now call.now }
+    requires fresh { (pass.old.pass.call ≡ call.now) × (pass.old.pass.loads ≡ 0) × (pass.old.pass.stores ≡ 0) }
+    requires claim { call.now.claims ≡ claim.now ∷ [] }
+    requires there { claim.now.id < length words.now.base.records }
+    ensures same { pass.new.table ≡ words.now.table }
+    ensures stored { has_stored_pass words.now.base pass.new.pass ≡ true }
+    ensures left { (pass.new.pass.call ≡ call.now) × (pass.new.pass.releases ≡ pass.old.pass.releases) × (pass.new.pass.ticket ≡ pass.old.pass.ticket) }
+{
+    let Mode::Write = claim.mode else {
+        panic!(rt; "the call reads");
+    };
+    let Some(procedure) = library.proc(call.number) else {
+        panic!(rt; "no procedure");
+    };
+    let mut frame = Frame::new();
+    frame.put(0, words.load(pass, claim.id));
+    let Reply::Committed(_) = frame.run(procedure, call) else {
+        panic!(rt; "the call aborts");
+    };
+    words.store(pass, claim.id, frame.get(0));
+}
+
+// A running call that has made its stores releases its one claim, and ends: what its release found.
+fn end(words: &Words, queue: &mut QueueSeat, pass: PassSeat, claim: &Claim) -> u64
     requires same { (queue.old.table ≡ words.now.table) × (pass.table ≡ words.now.table) }
     requires closed { queue.old.turn ≡ None }
     requires runs { queue.old.statuses ≡ Status.Running ∷ [] }
-    requires fresh { (pass.pass.loads ≡ 0) × (pass.pass.stores ≡ 0) × (pass.pass.releases ≡ 0) × (pass.pass.ticket ≡ 0) }
+    requires stored { has_stored_pass words.now.base pass.pass ≡ true }
+    requires first { (pass.pass.releases ≡ 0) × (pass.pass.ticket ≡ 0) }
     requires claim { pass.pass.call.claims ≡ claim.now ∷ [] }
-    requires reads { is_write claim.now ≡ false }
     requires there { claim.now.id < length words.now.base.records }
     ensures same { queue.new.table ≡ words.now.table }
     ensures closed { queue.new.turn ≡ None }
     ensures gone { queue.new.statuses ≡ Status.Gone ∷ [] }
 {
     let mut pass = pass;
-    let loaded = words.load(&mut pass, claim.id);
     let released = words.release(&mut pass, *claim);
     words.join_pass(queue, pass);
-    (loaded, released)
+    released
 }
 
 #[test]
 fn a_read_finds_the_record_and_leaves_no_claim(rt: HostRuntime) -> Result<(), Fail> {
     let alloc = rt.alloc();
     let library = Library::new(1, vec![in alloc; check(read(alloc)?, 1)?]?)?;
-    let call = library.call("read", &[0])?;
+    let call = ready_call(&rt, &library, "read")?;
     let (words, mut queue, sessions) = Words::open(alloc, &[5], &library, 1)?;
     let session = only_session(&words, sessions).expect(&rt, "a session");
-    let claim = read_claim(&call).expect(&rt, "a claim");
-    let (requested, pass) = enter(&rt, &words, &mut queue, session, &call, &claim);
-    let (loaded, released) = end(&words, &mut queue, pass, &claim);
+    let claim = only_claim(&call).expect(&rt, "a claim");
+    let (requested, mut pass, _) = enter(&rt, &words, &mut queue, session, &call, &claim);
+    let loaded = load(&rt, &words, &mut pass, &claim);
+    let released = end(&words, &mut queue, pass, &claim);
     assert_eq!(rt; (requested, loaded, released), (0, 5, 1));
     assert_eq!(rt; words.close(queue).as_slice(), [0, 5, 0].as_slice());
+    Ok(())
+}
+
+#[test]
+fn a_session_finds_what_a_pass_has_stored(rt: HostRuntime) -> Result<(), Fail> {
+    let alloc = rt.alloc();
+    let library = Library::new(1, vec![in alloc; check(bump(alloc)?, 1)?]?)?;
+    let call = ready_call(&rt, &library, "bump")?;
+    let (words, mut queue, sessions) = Words::open(alloc, &[5], &library, 1)?;
+    let mut session = only_session(&words, sessions).expect(&rt, "a session");
+    let claim = only_claim(&call).expect(&rt, "a claim");
+    let first = words.find(&mut session, claim.id);
+    let (_, mut pass, mut session) = enter(&rt, &words, &mut queue, session, &call, &claim);
+    let entered = words.find(&mut session, claim.id);
+    change(&rt, &words, &library, &mut pass, &call, &claim);
+    let stored = words.find(&mut session, claim.id);
+    end(&words, &mut queue, pass, &claim);
+    assert_eq!(rt; (first, entered, stored), (5, 5, 6));
+    assert_eq!(rt; words.close(queue).as_slice(), [0, 6, 0].as_slice());
     Ok(())
 }

@@ -1,15 +1,18 @@
 -- What the type of the locked value keeps.
 use Rattle.std.specs.Prelude.{◌≡◌, ℕ, ◌<◌, List, All, None}
-use Rattle.vll_check.specs.Calls.{Fits}
+use Rattle.vll_check.specs.Calls.{IsReady}
 use Rattle.vll_core.specs.declared.line.Line.{Line}
 use Rattle.vll_core.specs.Queue.{Queued, lines, statuses}
 use Rattle.vll_counters.specs.Shown.{QueueShown}
+use Rattle.vll_counters.specs.Views.{calls_in}
+use Rattle.vll_engine.specs.Found.{AreFoundThere}
 use Rattle.vll_engine.specs.Shown.{Named, library_of}
 
--- each call is one that the library makes, of a client of the engine
+-- each call is one that may enter, of a client of the engine, and has found what was there
 pub record AreOwn (e : Named) (ls : List Line) : Type 0 where
-  pub fits : All (λ (l : Line). Fits (library_of e) l.call) ls
+  pub ready : All (λ (l : Line). IsReady (library_of e) l.call) ls
   pub clients : All (λ (l : Line). l.client < e.clients) ls
+  pub found : AreFoundThere e.base (calls_in ls)
 
 -- the queue is that of the queue's seat of the engine's words, with no open turn and no session at it, and was opened with what the name tells
 pub record IsKept {H : Type 0} (e : Named) (place : H → ℕ → ℕ) (seat : QueueShown) (q : Queued H) : Type 0 where

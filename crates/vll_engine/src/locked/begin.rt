@@ -1,12 +1,13 @@
 ghost use Rattle.std.specs.Prelude.{◌≡◌, ◌<◌, All, Some, None, count_by, length};
 ghost use Rattle.vll_record.specs.declared.claim.Claim.{Claim};
-ghost use Rattle.vll_check.specs.Calls.{Fits};
+ghost use Rattle.vll_check.specs.Calls.{IsReady};
 ghost use Rattle.vll_check.specs.Catalog.{IsCatalog};
 ghost use Rattle.vll_core.specs.Queue.{IsQueued, lines, statuses};
 ghost use Rattle.vll_sca.specs.Status.{is_waiting};
 ghost use Rattle.vll_counters.specs.Views.{calls_in};
 ghost use Rattle.vll_engine.specs.Begin.{Begins, refusal};
 ghost use Rattle.vll_engine.specs.Private.Begun.{IsRefusedBy, asked_turn, begun_by, first_turn};
+ghost use Rattle.vll_engine.specs.Private.Looked.{IsLookedUp};
 ghost use Rattle.vll_engine.specs.Sessions.{SawOthers};
 ghost use Rattle.vll_engine.specs.Shown.{library_of, words_of};
 
@@ -32,7 +33,8 @@ impl<N: Name, H: Place> Locked<N, H> {
         requires session { session.table ≡ N.engine.table }
         requires client { session.session.client ≡ client }
         requires catalog { IsCatalog (library_of N.engine) }
-        requires fits { Fits (library_of N.engine) call.now }
+        requires ready { IsReady (library_of N.engine) call.now }
+        requires looked_up { IsLookedUp N.engine session.session call.now }
         ensures answer { Begins N.engine session.session result.1.session call.now result.0 }
         ensures queue { self.new ≡ begun_by self.old client call.now result.0 }
         ensures refused { IsRefusedBy (refusal self.old) result.0 }
@@ -88,7 +90,8 @@ impl<N: Name, H: Place> Locked<N, H> {
         requires session { session.table ≡ N.engine.table }
         requires client { session.session.client ≡ client }
         requires catalog { IsCatalog (library_of N.engine) }
-        requires fits { Fits (library_of N.engine) call.now }
+        requires ready { IsReady (library_of N.engine) call.now }
+        requires looked_up { IsLookedUp N.engine session.session call.now }
         requires room { refusal self.old ≡ None }
         requires kept { IsQueued self.old }
         ensures answer { Begins N.engine session.session result.1.session call.now result.0 }

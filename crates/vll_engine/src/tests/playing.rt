@@ -118,7 +118,22 @@ pub(super) fn begins_blocked<N: Name, R: Wait + Abort>(
     requires { session.old.table ≡ N.engine.table }
     ensures { session.new.table ≡ N.engine.table }
 {
-    let call = bump_of(rt, engine.library(), record);
+    call_is_blocked(rt, engine, session, "bump", record, ticket);
+}
+
+// The call of a procedure for a record is blocked under a ticket.
+pub(super) fn call_is_blocked<N: Name, R: Wait + Abort>(
+    rt: &R,
+    engine: &Engine<N, Placing>,
+    session: &mut Session,
+    name: &str,
+    record: u64,
+    ticket: u32,
+)
+    requires { session.old.table ≡ N.engine.table }
+    ensures { session.new.table ≡ N.engine.table }
+{
+    let call = call_of(rt, engine.library(), name, record);
     match engine.begin(rt, session, call) {
         Begun::Free(pass) => {
             finishes(rt, engine, pass, 0);

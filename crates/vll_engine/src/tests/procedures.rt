@@ -45,6 +45,31 @@ fn read(alloc: Global) -> Result<Proc, AllocError> {
     })
 }
 
+// By a record's value finds another one, adds 1 to that, and replies the sum.
+fn via(alloc: Global) -> Result<Proc, AllocError> {
+    let keys = [
+        KeyDecl {
+            mode: Mode::Read,
+            at: KeyAt::Arg(0),
+        },
+        KeyDecl {
+            mode: Mode::Write,
+            at: KeyAt::Through(0),
+        },
+    ];
+    let sum = Expr::Add(
+        Boxed::new(alloc, Expr::Key(1))?,
+        Boxed::new(alloc, Expr::Num(1))?,
+    );
+    let body = vec![in alloc; Stmt::Set(1, sum), Stmt::Reply(Expr::Key(1))]?;
+    Ok(Proc {
+        name: Text::new(String::from_str(alloc, "via")?),
+        args: 1,
+        keys: Items::from_slice(alloc, &keys)?,
+        body: Items::from_vec(body),
+    })
+}
+
 // The library of these procedures, for a number of records.
 fn library(alloc: Global, records: u32) -> Result<Library, Fail>
     ensures { IfOk result (λ l. l.records ≡ records) }
@@ -52,6 +77,7 @@ fn library(alloc: Global, records: u32) -> Result<Library, Fail>
     let procs = vec![in alloc;
         check(bump(alloc)?, records)?,
         check(read(alloc)?, records)?,
+        check(via(alloc)?, records)?,
     ]?;
     Ok(Library::new(records, procs)?)
 }
@@ -84,4 +110,21 @@ pub(super) fn opening(
         bits: 64,
     };
     Ok(opening_of(alloc, records, config, Placing::Modulo, clients)??)
+}
+
+// An opening over three records with these values, for as many calls as may wait.
+pub(super) fn opening_over(
+    alloc: Global,
+    values: [u64; 3],
+    limit: u32,
+) -> Result<Opening<Placing>, Fail> {
+    let library = library(alloc, 3)?;
+    let values = vec![in alloc; values[0], values[1], values[2]]?;
+    let config = Config {
+        cap: limit,
+        limit,
+        bits: 64,
+    };
+    let hash = Placing::Modulo;
+    Ok(Opening::new(alloc, values, library, config, hash, 1)?)
 }

@@ -1,6 +1,7 @@
 -- Where a body stands while it runs on a call's cells, as a scene of its meaning.
-use Rattle.std.specs.Prelude.{ℕ, ◌<◌, Result, Ok, Err, Option, Some, None, slice_index}
+use Rattle.std.specs.Prelude.{ℕ, ◌<◌, List, [], replicate, Result, Ok, Err, Option, Some, None, slice_index}
 use Rattle.vll_record.specs.declared.claims.TheConstants.{MOST_CLAIMS}
+use Rattle.vll_proc.specs.declared.limits.TheConstants.{MOST_LOCALS}
 use Rattle.vll_proc.specs.declared.call.Call.{Call}
 use Rattle.vll_proc.specs.declared.call.Reason.{Reason}
 use Rattle.vll_proc.specs.declared.run.Progress.{Progress}
@@ -10,6 +11,10 @@ use Rattle.vll_proc.specs.Meaning.{Scene, sum, difference, product, quotient, re
 -- the scene whose records are the cells: each key position names its claim's cell
 abbrev pub scene_of : Call → Progress → Scene
 scene_of c p = record { named = c.cells; args = c.args; locals = p.locals; records = p.cells; outputs = p.outputs }
+
+-- where a body begins on the cells of a call
+abbrev pub cell_opening : Call → List ℕ → Scene
+cell_opening c cells = record { named = c.cells; args = c.args; locals = replicate MOST_LOCALS 0; records = cells; outputs = [] }
 
 -- each key position of a call has one of the cells
 abbrev pub HasCells : Call → Type 0

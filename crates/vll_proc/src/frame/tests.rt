@@ -1,4 +1,4 @@
-ghost use Rattle.std.specs.Prelude.{◌≡◌, ◌∷◌, [], ◌<◌, IfOk};
+ghost use Rattle.std.specs.Prelude.{◌≡◌, ◌∷◌, [], ◌<◌, IfOk, ℕ};
 ghost use Rattle.vll_record.specs.Claim.{with_claim};
 ghost use Rattle.vll_proc.specs.Made.{IsCallOf};
 ghost use Rattle.vll_proc.specs.WellFormed.{IsWellFormed};
@@ -176,7 +176,7 @@ fn to_the_other(procedure: &Proc, amount: u64) -> Call
     requires args { procedure.now.args ≡ 3 }
     requires keys { procedure.now.keys
         ≡ record { mode = Mode.Write; at = KeyAt.Arg 0 } ∷ record { mode = Mode.Write; at = KeyAt.Arg 1 } ∷ [] }
-    ensures { IsCallOf procedure.now result }
+    ensures { (n : ℕ) × IsCallOf n procedure.now result }
 {
     let mut claims = Claims::new();
     claims.add(claim(1, Mode::Write));
@@ -185,6 +185,7 @@ fn to_the_other(procedure: &Proc, amount: u64) -> Call
         number: 0,
         arg_count: procedure.args,
         args: [0, 1, amount, 0, 0, 0, 0, 0],
+        found: None,
         claims,
         cells: [0, 1, 0, 0, 0, 0, 0, 0, 0, 0, 0, 0, 0, 0, 0, 0],
     }
@@ -195,7 +196,7 @@ fn to_itself(procedure: &Proc, amount: u64) -> Call
     requires args { procedure.now.args ≡ 3 }
     requires keys { procedure.now.keys
         ≡ record { mode = Mode.Write; at = KeyAt.Arg 0 } ∷ record { mode = Mode.Write; at = KeyAt.Arg 1 } ∷ [] }
-    ensures { IsCallOf procedure.now result }
+    ensures { (n : ℕ) × IsCallOf n procedure.now result }
 {
     let mut claims = Claims::new();
     claims.add(claim(0, Mode::Write));
@@ -204,6 +205,7 @@ fn to_itself(procedure: &Proc, amount: u64) -> Call
         number: 0,
         arg_count: procedure.args,
         args: [0, 0, amount, 0, 0, 0, 0, 0],
+        found: None,
         claims,
         cells: [0; 16],
     }
@@ -214,7 +216,7 @@ fn of_record_5(procedure: &Proc) -> Call
     requires args { procedure.now.args ≡ 1 }
     requires keys { procedure.now.keys
         ≡ record { mode = Mode.Write; at = KeyAt.Arg 0 } ∷ [] }
-    ensures { IsCallOf procedure.now result }
+    ensures { (n : ℕ) × IsCallOf n procedure.now result }
 {
     let mut claims = Claims::new();
     claims.add(claim(5, Mode::Write));
@@ -222,6 +224,7 @@ fn of_record_5(procedure: &Proc) -> Call
         number: 1,
         arg_count: procedure.args,
         args: [5, 0, 0, 0, 0, 0, 0, 0],
+        found: None,
         claims,
         cells: [0; 16],
     }
@@ -232,7 +235,7 @@ fn of_records_4_and_2(procedure: &Proc) -> Call
     requires args { procedure.now.args ≡ 2 }
     requires keys { procedure.now.keys
         ≡ record { mode = Mode.Read; at = KeyAt.Arg 0 } ∷ record { mode = Mode.Read; at = KeyAt.Arg 1 } ∷ [] }
-    ensures { IsCallOf procedure.now result }
+    ensures { (n : ℕ) × IsCallOf n procedure.now result }
 {
     let mut claims = Claims::new();
     claims.add(claim(2, Mode::Read));
@@ -241,6 +244,7 @@ fn of_records_4_and_2(procedure: &Proc) -> Call
         number: 2,
         arg_count: procedure.args,
         args: [4, 2, 0, 0, 0, 0, 0, 0],
+        found: None,
         claims,
         cells: [1, 0, 0, 0, 0, 0, 0, 0, 0, 0, 0, 0, 0, 0, 0, 0],
     }
@@ -251,7 +255,7 @@ fn of_record_3(procedure: &Proc, amount: u64) -> Call
     requires args { procedure.now.args ≡ 2 }
     requires keys { procedure.now.keys
         ≡ record { mode = Mode.Write; at = KeyAt.Arg 0 } ∷ [] }
-    ensures { IsCallOf procedure.now result }
+    ensures { (n : ℕ) × IsCallOf n procedure.now result }
 {
     let mut claims = Claims::new();
     claims.add(claim(3, Mode::Write));
@@ -259,6 +263,7 @@ fn of_record_3(procedure: &Proc, amount: u64) -> Call
         number: 3,
         arg_count: procedure.args,
         args: [3, amount, 0, 0, 0, 0, 0, 0],
+        found: None,
         claims,
         cells: [0; 16],
     }
@@ -268,12 +273,13 @@ fn of_record_3(procedure: &Proc, amount: u64) -> Call
 fn of_no_record(procedure: &Proc, argument: u64) -> Call
     requires args { procedure.now.args ≡ 1 }
     requires keys { procedure.now.keys ≡ [] }
-    ensures { IsCallOf procedure.now result }
+    ensures { (n : ℕ) × IsCallOf n procedure.now result }
 {
     Call {
         number: 4,
         arg_count: procedure.args,
         args: [argument, 0, 0, 0, 0, 0, 0, 0],
+        found: None,
         claims: Claims::new(),
         cells: [0; 16],
     }

@@ -72,6 +72,7 @@ fn event_with(word: &str, value: &Value) -> Result<Event, Misread>
 {
     let number = u32_of(value)?;
     match word {
+        "find" => Ok(Event::Find(number)),
         "enter" => Ok(Event::Enter(number)),
         "load" => Ok(Event::Load(Ticket(number))),
         "store" => Ok(Event::Store(Ticket(number))),

@@ -88,6 +88,7 @@ fn place_of(word: &str, value: &Value) -> Result<KeyAt, Misread>
 {
     match word {
         "arg" => Ok(KeyAt::Arg(index_of(value)?)),
+        "through" => Ok(KeyAt::Through(index_of(value)?)),
         "fixed" => Ok(KeyAt::Fixed(u32_of(value)?)),
         _ => Err(Misread::Faulty),
     }

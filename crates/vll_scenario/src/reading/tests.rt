@@ -4,6 +4,7 @@ use crate::plain::Plain;
 use std::alloc::{AllocError, Global};
 use std::test::Fail;
 use vll_core::Event;
+use vll_record::{Claim, MOST_CLAIMS, Mode, RecordId};
 use vll_sca::Placing;
 
 // What is chosen in the scenario that a text is: the cap, the limit and the number of bits.
@@ -87,5 +88,58 @@ fn hash_and_schedule_are_kept(rt: HostRuntime) -> Result<(), Fail> {
         scenario.schedule.as_slice(),
         [Event::Enter(1), Event::Claim].as_slice()
     );
+    Ok(())
+}
+
+// A scenario of two records whose second procedure has these keys; no client has a call of it.
+fn text_with_keys(alloc: Global, keys: &str) -> Result<String, AllocError> {
+    format!(in alloc;
+        r#"{{"version":1,"records":[0,0],"procs":[{{"name":"seven","args":0,"keys":[],"body":[["reply",7]]}},
+            {{"name":"via","args":1,"keys":[{keys}],"body":[]}}],"clients":[]}}"#
+    )
+}
+
+#[test]
+fn faulty_indirect_key_is_told_with_its_number(rt: HostRuntime) -> Result<(), Fail> {
+    for (keys, line) in [
+        (r#"["read","through",0]"#, "check 1 13"),
+        (r#"["write","through",1],["read","arg",0]"#, "check 1 13"),
+        (r#"["read","arg",0],["write","through",255]"#, "check 1 13"),
+        (
+            r#"["read","arg",0],["read","through",0],["write","through",1]"#,
+            "check 1 13",
+        ),
+        (
+            r#"["read","arg",0],["read","through",0],["write","through",0]"#,
+            "check 1 14",
+        ),
+        (r#"["read","arg",1],["write","through",2]"#, "check 1 3"),
+    ] {
+        let text = text_with_keys(rt.alloc(), keys)?;
+        let Err(fault) = read_scenario(rt.alloc(), &mut Plain::new(text.as_bytes())) else {
+            return Err("a fault".into());
+        };
+        assert_eq!(rt; fault.to_string(rt.alloc())?.as_str(), line, "{keys}");
+    }
+    Ok(())
+}
+
+#[test]
+fn call_with_an_indirect_key_claims_what_its_other_keys_name(rt: HostRuntime) -> Result<(), Fail> {
+    let text = r#"{"version":1,"records":[2,0,7],"procs":[{"name":"via","args":1,
+        "keys":[["read","arg",0],["write","through",0]],
+        "body":[["set",1,["add",["key",1],1]],["reply",["key",1]]]}],
+        "clients":[[{"proc":"via","args":[1]}]]}"#;
+    let scenario = read_scenario(rt.alloc(), &mut Plain::new(text.as_bytes()))?;
+    let script = scenario.scripts.get(0).ok_or("script")?;
+    let call = script.get(0).ok_or("call")?;
+    assert_eq!(rt; call.found, None);
+    assert_eq!(rt; call.claims.len(), 1);
+    let claim = Claim {
+        id: RecordId(1),
+        mode: Mode::Read,
+    };
+    assert_eq!(rt; call.claims.get(0), Some(claim));
+    assert_eq!(rt; call.cells, [0; MOST_CLAIMS]);
     Ok(())
 }

@@ -26,6 +26,7 @@ fn push_seen(text: &mut String, seen: &Seen) -> Result<(), AllocError>
     ensures { OnOk result (string_bytes text.new ≡ string_bytes text.old ++ seen_text seen.now) }
 {
     match seen {
+        Seen::Found(value) => write!(text, "found {value}"),
         Seen::Opened => text.push_str("opened"),
         Seen::Claimed { old, granted } => push_claimed(text, *old, *granted),
         Seen::Free(ticket) => push_ticket(text, "free", *ticket),

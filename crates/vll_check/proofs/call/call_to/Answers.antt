@@ -1,4 +1,4 @@
-use Rattle.std.proofs.Common.{◌≡◌, ℕ, true, ◌<◌, ◌^◌, rules}
+use Rattle.std.proofs.Common.{◌≡◌, ℕ, true, ◌<◌, ◌^◌, None, rules}
 use Rattle.std.specs.List.{list_all}
 use Rattle.vll_check.specs.Calls.{place_is_there}
 use Rattle.vll_check.proofs.Passed.{all_placed}
@@ -9,4 +9,4 @@ call_of-requires-clause-placed c k d lt =
     let records : ℕ = c.args.records in
     let few : records < 2 ^ 32 = search rules in
     let given : list_all (place_is_there records c.args.args.now) c.args.procedure.now.keys ≡ true = search rules in
-    all_placed records c.args.procedure.now c.args.args.now few c.requires c.if-args-procedure.false given k d lt
+    all_placed records c.args.procedure.now c.args.args.now None few c.requires c.if-args-procedure.false given tt k d lt

@@ -8,5 +8,7 @@ pub add-requires : goal.add-requires
 add-requires t c =
     let keys = c.args.keys.now in
     let others = take (length keys - 1) (drop 1 keys) in
-    let args = c.args.args.now in
-    inl (omega (arith, ap length c.claims_of-claims.ensures, length-claims_of-le (asked_by args others), length-asked_by-le args others, length-take (length keys - 1) (drop 1 keys), length-drop 1 keys))
+    let n = c.args.naming.records in
+    let args = c.args.naming.args.now in
+    let found = c.args.naming.found in
+    inl (omega (arith, ap length c.claims_of-claims.ensures, length-claims_of-le (asked_by n args found others), length-asked_by-le n args found others, length-take (length keys - 1) (drop 1 keys), length-drop 1 keys))

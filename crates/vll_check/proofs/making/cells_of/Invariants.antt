@@ -5,4 +5,4 @@ use Rattle.vll_check.specs.Private.Making.{cell_of}
 use Rattle.vll_check.proofs.making.cells_of.Given as goal
 
 abbrev pub invariant-loop-i : goal.invariant-loop-i
-invariant-loop-i l = l.cells ≡ laid MOST_CLAIMS 0 (map (cell_of l.claims l.args) (take l.i l.keys))
+invariant-loop-i l = l.cells ≡ laid MOST_CLAIMS 0 (map (cell_of l.naming.records l.claims l.naming.args.now l.naming.found) (take l.i l.keys))

@@ -18,6 +18,7 @@ pub(super) type Refusals<'a> = &'a [(&'a [Step], &'a str)];
 // An event, in which a ticket is its number.
 #[derive(Clone, Copy, Debug)]
 pub(super) enum Step {
+    Find(u32),
     Enter(u32),
     Claim,
     Admit,
@@ -31,6 +32,7 @@ pub(super) enum Step {
 
 pub(super) fn event(step: Step) -> Event {
     match step {
+        Step::Find(client) => Event::Find(client),
         Step::Enter(client) => Event::Enter(client),
         Step::Claim => Event::Claim,
         Step::Admit => Event::Admit,

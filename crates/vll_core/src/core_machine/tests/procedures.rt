@@ -1,6 +1,6 @@
 // The procedures that the tests call.
 ghost use Rattle.std.specs.Prelude.{◌≡◌, All, IfOk};
-ghost use Rattle.vll_check.specs.Calls.{Fits};
+ghost use Rattle.vll_check.specs.Calls.{Fits, IsReady};
 
 use crate::config::Config;
 use crate::core_machine::Core;
@@ -17,6 +17,14 @@ fn key(mode: Mode, argument: u8) -> KeyDecl {
     KeyDecl {
         mode,
         at: KeyAt::Arg(argument),
+    }
+}
+
+// A key whose record is found by the value of the record of an earlier key.
+fn through(mode: Mode, source: u8) -> KeyDecl {
+    KeyDecl {
+        mode,
+        at: KeyAt::Through(source),
     }
 }
 
@@ -133,7 +141,24 @@ fn seven(alloc: Global) -> Result<Proc, AllocError> {
     named(alloc, "seven", 0, &[], body)
 }
 
-// The procedure of a number below 6.
+// Adds 1 to the record that another one's value leads to, and replies the sum.
+fn via(alloc: Global) -> Result<Proc, AllocError> {
+    let mut body = Items::new(alloc);
+    push(
+        &mut body,
+        Stmt::Set(1, add(alloc, Expr::Key(1), Expr::Num(1))?),
+    )?;
+    push(&mut body, Stmt::Reply(Expr::Key(1)))?;
+    named(
+        alloc,
+        "via",
+        1,
+        &[key(Mode::Read, 0), through(Mode::Write, 0)],
+        body,
+    )
+}
+
+// The procedure of a number below 7.
 fn numbered(alloc: Global, number: u32) -> Result<Proc, AllocError> {
     match number {
         0 => transfer(alloc),
@@ -141,7 +166,8 @@ fn numbered(alloc: Global, number: u32) -> Result<Proc, AllocError> {
         2 => sum2(alloc),
         3 => read(alloc),
         4 => take(alloc),
-        _ => seven(alloc),
+        5 => seven(alloc),
+        _ => via(alloc),
     }
 }
 
@@ -156,7 +182,7 @@ pub(super) fn library(alloc: Global, records: u32) -> Result<Library, Fail>
     ensures { IfOk result (λ l. l.records ≡ records) }
 {
     let mut procs = Vec::new(alloc);
-    for number in 0..6 {
+    for number in 0..7 {
         procs.push(checked(numbered(alloc, number)?, records)?)?;
     }
     Ok(Library::new(records, procs)?)
@@ -166,6 +192,14 @@ pub(super) fn made(library: &Library, name: &str, args: &[u64]) -> Result<Call, 
     ensures { IfOk result (Fits library.now) }
 {
     library.call(name, args)
+}
+
+// The call of that name, with the value 0 found if it has an indirect key.
+pub(super) fn ready(library: &Library, name: &str, args: &[u64]) -> Result<Call, CallFault>
+    ensures { IfOk result (IsReady library.now) }
+{
+    let call = made(library, name, args)?;
+    Ok(library.with_found(&call, 0))
 }
 
 // The script of these calls, each a name and its arguments.

@@ -1,11 +1,18 @@
 // Before each step of a schedule every event that is refused there is tried: each is refused by the lowest refusal that
 // stands, and all else goes on as it would have.
 use super::acts::Act::{Play, RefuseAll, Stands};
-use super::acts::Step::{self, Admit, Claim, Enter, Finish, Front, Load, Release, Scan, Store};
+use super::acts::Step::{
+    self, Admit, Claim, Enter, Find, Finish, Front, Load, Release, Scan, Store,
+};
 use super::acts::{Refusals, run};
 use std::test::Fail;
 
 const ENTERS: &[Step] = &[Enter(0), Enter(1), Enter(2)];
+
+const FINDS: &[Step] = &[Find(0), Find(1), Find(2)];
+
+// Clients of whom there is no script.
+const OF_NO_CLIENT: &[Step] = &[Enter(1), Enter(2), Find(1), Find(2)];
 
 const FINISHES: &[Step] = &[Finish(0), Finish(1), Finish(2)];
 
@@ -21,7 +28,8 @@ const STEPS_OF_2: &[Step] = &[Load(2), Store(2), Release(2)];
 
 // No call has entered.
 const NONE_ENTERED: Refusals<'static> = &[
-    (&[Enter(1), Enter(2)], "refused no call"),
+    (OF_NO_CLIENT, "refused no call"),
+    (&[Find(0)], "refused out of step"),
     (OF_A_TURN, "refused no turn"),
     (OF_THE_QUEUE, "refused idle"),
     (STEPS_OF_0, "refused not running"),
@@ -33,6 +41,8 @@ const NONE_ENTERED: Refusals<'static> = &[
 // A turn is open, and no call has entered.
 const FIRST_TURN: Refusals<'static> = &[
     (ENTERS, "refused turn open"),
+    (&[Find(0)], "refused turn open"),
+    (&[Find(1), Find(2)], "refused no call"),
     (OF_THE_QUEUE, "refused turn open"),
     (STEPS_OF_0, "refused not running"),
     (STEPS_OF_1, "refused not running"),
@@ -42,7 +52,8 @@ const FIRST_TURN: Refusals<'static> = &[
 
 // Ticket 0 has done nothing, and the second call has not entered.
 const FIRST_RUNS: Refusals<'static> = &[
-    (&[Enter(1), Enter(2)], "refused no call"),
+    (OF_NO_CLIENT, "refused no call"),
+    (&[Find(0)], "refused out of step"),
     (OF_A_TURN, "refused no turn"),
     (OF_THE_QUEUE, "refused idle"),
     (&[Store(0), Release(0), Finish(0)], "refused out of step"),
@@ -54,6 +65,8 @@ const FIRST_RUNS: Refusals<'static> = &[
 // The turn of the second call is open, and ticket 0 has done nothing.
 const SECOND_TURN: Refusals<'static> = &[
     (ENTERS, "refused turn open"),
+    (&[Find(0)], "refused turn open"),
+    (&[Find(1), Find(2)], "refused no call"),
     (OF_THE_QUEUE, "refused turn open"),
     (&[Store(0), Release(0)], "refused out of step"),
     (STEPS_OF_1, "refused not running"),
@@ -64,6 +77,7 @@ const SECOND_TURN: Refusals<'static> = &[
 // Both calls have entered, and ticket 0 runs: all but the steps of ticket 0.
 const FIRST_BLOCKS: Refusals<'static> = &[
     (ENTERS, "refused no call"),
+    (FINDS, "refused no call"),
     (OF_A_TURN, "refused no turn"),
     (OF_THE_QUEUE, "refused idle"),
     (STEPS_OF_1, "refused not running"),
@@ -74,6 +88,7 @@ const FIRST_BLOCKS: Refusals<'static> = &[
 // Ticket 0 is gone, and ticket 1 waits.
 const SECOND_WAITS: Refusals<'static> = &[
     (ENTERS, "refused no call"),
+    (FINDS, "refused no call"),
     (OF_A_TURN, "refused no turn"),
     (STEPS_OF_0, "refused not running"),
     (STEPS_OF_1, "refused not running"),
@@ -84,6 +99,7 @@ const SECOND_WAITS: Refusals<'static> = &[
 // Ticket 0 is gone, and ticket 1 runs: all but the steps of ticket 1.
 const SECOND_RUNS: Refusals<'static> = &[
     (ENTERS, "refused no call"),
+    (FINDS, "refused no call"),
     (OF_A_TURN, "refused no turn"),
     (OF_THE_QUEUE, "refused idle"),
     (STEPS_OF_0, "refused not running"),

@@ -14,6 +14,7 @@ fn push_reason(text: &mut String, why: Reason) -> Result<(), AllocError> {
         Reason::Overflow => text.push_str("overflow"),
         Reason::Underflow => text.push_str("underflow"),
         Reason::ZeroDivisor => text.push_str("zero divisor"),
+        Reason::Moved => text.push_str("moved"),
     }
 }
 
@@ -51,6 +52,7 @@ fn push_ticket(text: &mut String, answer: &str, ticket: Ticket) -> Result<(), Al
 
 fn push_seen(text: &mut String, seen: &Seen) -> Result<(), AllocError> {
     match seen {
+        Seen::Found(value) => write!(text, "found {value}"),
         Seen::Opened => text.push_str("opened"),
         Seen::Claimed { old, granted } => push_request(text, *old, *granted),
         Seen::Free(ticket) => push_ticket(text, "free", *ticket),

@@ -24,7 +24,7 @@ run-reply-requires-clause-formed g c =
 pub run-reply-requires-clause-made : goal.run-reply-requires-clause-made
 run-reply-requires-clause-made g c =
     let fresh = subst (IsFresh g.N.Name.engine) (sym c.pass.view_is) c.requires.pass in
-    (has_procedure g.N.Name.engine c.args.library.now c.pass.inside.seat.table c.pass.inside.seat.pass c.pass.inside.call c.proc.result c.unwrap-procedure.result c.proc.ensures.catalog fresh.of c.requires.library c.pass.invariant.1 c.proc.ensures.procedure c.unwrap-procedure.ensures).made
+    (c.args.library.now.records, (has_procedure g.N.Name.engine c.args.library.now c.pass.inside.seat.table c.pass.inside.seat.pass c.pass.inside.call c.proc.result c.unwrap-procedure.result c.proc.ensures.catalog fresh.of c.requires.library c.pass.invariant.1 c.proc.ensures.procedure c.unwrap-procedure.ensures).made)
 
 pub store_all-requires-clause-there : goal.store_all-requires-clause-there
 store_all-requires-clause-there g c =

@@ -341,6 +341,23 @@ fn transfer_scenario_is_read_whole(rt: HostRuntime) -> Result<(), Fail> {
 }
 
 #[test]
+fn keys_are_read_with_their_modes_and_places(rt: HostRuntime) -> Result<(), Fail> {
+    let text = r#"{"version":1,"records":[0],"procs":[{"name":"p","args":1,"keys":[["read","arg",0],
+        ["write","through",0],["read","fixed",7],["read","through",255]],"body":[]}],"clients":[]}"#;
+    let parts = parts_of(rt.alloc(), text)?;
+    let procedure = parts.procs.get(0).ok_or("procedure")?;
+    let keys = [
+        (Mode::Read, KeyAt::Arg(0)),
+        (Mode::Write, KeyAt::Through(0)),
+        (Mode::Read, KeyAt::Fixed(7)),
+        (Mode::Read, KeyAt::Through(255)),
+    ]
+    .map(|(mode, at)| KeyDecl { mode, at });
+    assert_eq!(rt; procedure.keys.as_slice(), keys.as_slice());
+    Ok(())
+}
+
+#[test]
 fn operands_and_operations_keep_their_places(rt: HostRuntime) -> Result<(), Fail> {
     let parts = parts_of(rt.alloc(), TRANSFER)?;
     let transfer = parts.procs.get(0).ok_or("transfer")?;

@@ -135,6 +135,15 @@ fn key_has_one_of_its_forms(rt: HostRuntime) -> Result<(), Fail> {
             r#"["read","fixed",4294967296]"#,
             r#"["read","fixed",-1]"#,
             r#"["read","fixed",1.0]"#,
+            r#"["read","through"]"#,
+            r#"["read","through",0,0]"#,
+            r#"["read","Through",0]"#,
+            r#"["through","read",0]"#,
+            r#"["write","through",256]"#,
+            r#"["write","through",-1]"#,
+            r#"["write","through",1.0]"#,
+            r#"["write","through","0"]"#,
+            r#"["write","through",["arg",0]]"#,
         ],
     )?;
     check(
@@ -146,6 +155,8 @@ fn key_has_one_of_its_forms(rt: HostRuntime) -> Result<(), Fail> {
             r#"["write","arg",255]"#,
             r#"["read","fixed",4294967295]"#,
             r#"["write","fixed",0]"#,
+            r#"["read","through",0]"#,
+            r#"["write","through",255]"#,
         ],
     )
 }

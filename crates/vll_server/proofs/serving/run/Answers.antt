@@ -23,7 +23,7 @@ returns-clause-closed g c =
     let opened = c.in_ok-opening.ensures.opened in
     let scripts = lists_of c.in_ok-opening.scripts.items in
     let serial : IfOk c.run_named.result (IsSerial engine) = c.run_named.ensures.serial in
-    let merge : IfOk c.run_named.result (λ (closed : Closed). IsMerge (calls_in closed.journal.items) scripts) = c.run_named.ensures.merge in
+    let merge : IfOk c.run_named.result (λ (closed : Closed). IsMerge (library_of engine) (calls_in closed.journal.items) scripts) = c.run_named.ensures.merge in
     serves_closed c.args.scenario engine scripts c.run_named.result (ap (λ (o : OpeningShown Placing). library_of (name_of placing o)) opened) (ap (λ (o : OpeningShown Placing). o.records) opened) c.in_ok-opening.ensures.scripts serial merge
 
 -- its library makes the calls

@@ -2,11 +2,14 @@ use Rattle.std.proofs.Common.{◌≡◌, ◌<◌, ◌∙◌, List, sym, subst, l
 use Rattle.std.specs.Global.{Vec}
 use Rattle.std.specs.List.{All, IsDistinct}
 use Rattle.std.proofs.lemmas.List.{length-map}
+use Rattle.std.proofs.lemmas.List.Elements.{All-map}
 use Rattle.vll_proc.specs.declared.call.Call.{Call}
+use Rattle.vll_check.specs.Calls.{Fits}
 use Rattle.vll_core.specs.declared.line.Line.{Line}
 use Rattle.vll_counters.specs.Shown.{SessionShown}
 use Rattle.vll_counters.specs.Views.{calls_in}
 use Rattle.vll_engine.specs.Sessions.{HasItsCalls}
+use Rattle.vll_engine.specs.Shown.{library_of}
 use Rattle.vll_workers.specs.Shown.{TokenShown}
 use Rattle.vll_workers.specs.Tokens.{AreBack, AreFit, clients_of}
 use Rattle.vll_scenario.specs.Setup.{lists_of}
@@ -55,4 +58,5 @@ returns-in-Ok-close-clause-merge g c =
     let clients : All (λ (l : Line). l.client < length scripts) lines =
     subst (λ n. All (λ (l : Line). l.client < n) lines) (c.requires.clients ∙ sym (length-map c.args.scripts.items (λ (v : Vec Call). v.items))) c.in-Ok-close.ensures.serial.clients in
     let seen = subst (λ (ss : List SessionShown). All (λ (s : SessionShown). HasItsCalls (calls_in lines) s.session) ss) c.into_sessions.ensures c.in-Ok-close.ensures.sessions in
-    merged table scripts back lines handed c.in-Ok.ensures.ok.1 clients seen
+    let fits = All-map (All (Fits (library_of g.N.Name.engine))) (λ (v : Vec Call). v.items) c.args.scripts.items c.requires.fits in
+    merged table scripts back lines handed c.in-Ok.ensures.ok.1 clients seen (library_of g.N.Name.engine) fits c.in-Ok-close.ensures.serial.ready

@@ -7,4 +7,4 @@ pub returns-clause-write : goal.returns-clause-write
 returns-clause-write g c failed =
     let served = c.in_ok-closed.ensures.closed in
     let written = c.write_outcome.ensures.write (c.in-Err-Write.is ∙ ap Err c.in-Err-Write.field-0-is) in
-    (served.0, served.1, subst (AppendsBeginning (g.S.Sink.contents c.args.writer.now) (g.S.Sink.contents c.write_outcome.new.writer)) served.2 written)
+    (served.0, served.1, served.2, subst (AppendsBeginning (g.S.Sink.contents c.args.writer.now) (g.S.Sink.contents c.write_outcome.new.writer)) served.3 written)

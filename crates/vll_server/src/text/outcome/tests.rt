@@ -17,6 +17,7 @@ fn line(client: u32, reply: Option<Reply>) -> Line {
         number: 0,
         arg_count: 0,
         args: [0; 8],
+        found: None,
         claims: Claims::new(),
         cells: [0; 16],
     };

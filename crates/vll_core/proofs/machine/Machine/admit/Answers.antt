@@ -3,7 +3,7 @@ use Rattle.std.proofs.Common.{◌≡◌, ◌∙◌, sym, ap, subst, arith, refl,
 use Rattle.vll_core.specs.Queue.{Queued}
 use Rattle.vll_core.specs.Private.View.{shown}
 use Rattle.vll_core.specs.Private.MachineKept.{IsMachine}
-use Rattle.vll_core.proofs.Admitting.{HasWork, ticket_seen, turn_procedure, turn_room, turn_idle, taken_admit, core_admit}
+use Rattle.vll_core.proofs.Admitting.{HasWork, ticket_seen, turn_procedure, made_among, turn_room, turn_idle, taken_admit, core_admit}
 use Rattle.vll_core.proofs.MachineSteps.{taken_told, taken_shown}
 use Rattle.vll_core.proofs.machine.Machine.admit.Goals.{then-turn, else-turn}
 use Rattle.vll_core.proofs.machine.Machine.admit.Goals as goal
@@ -14,7 +14,7 @@ new-requires-clause-formed g c =
 
 pub new-requires-clause-made : goal.new-requires-clause-made
 new-requires-clause-made g c =
-    (turn_procedure _ _ _ _ _ _ c.self.invariant c.self.view_is c.requires.same c.in-Some.is c.proc.ensures.procedure c.unwrap-procedure.ensures).made
+    (_, (turn_procedure _ _ _ _ _ _ c.self.invariant c.self.view_is c.requires.same c.in-Some.is c.proc.ensures.procedure c.unwrap-procedure.ensures).made)
 
 pub push_reserved-requires : goal.push_reserved-requires
 push_reserved-requires g c =
@@ -37,7 +37,7 @@ has_work g c =
       loads = c.new.ensures.loads;
       stores = c.new.ensures.stores;
       releases = c.new.ensures.releases;
-      at_work = λ records within. c.new.ensures.at_work _ records p.found within;
+      at_work = λ records long within. c.new.ensures.at_work _ records p.found (made_among _ _ _ p records long) within;
     }
 
 pub invariant_of-self : goal.invariant_of-self

@@ -8,7 +8,7 @@ use Rattle.vll_core.specs.declared.seen.Seen.TheVariants.{Loaded}
 use Rattle.vll_core.specs.State.{value as value_of}
 use Rattle.vll_core.specs.Private.View.{shown}
 use Rattle.vll_core.specs.Private.MachineKept.{IsMachine}
-use Rattle.vll_core.proofs.RunningCalls.{RunsAt, runs_told, read_work, work_there, read_at_work, lent_here, procedure_lent, procedure_is}
+use Rattle.vll_core.proofs.RunningCalls.{RunsAt, runs_told, read_work, work_there, read_at_work, lent_here, procedure_lent, procedure_is, made_now}
 use Rattle.vll_core.proofs.MachineSteps.{Refuses, refused_told, refused_stays, taken_told, taken_shown}
 use Rattle.vll_core.proofs.Loading.{LoadsNext, HasLoaded, refused_load, value_there, read_value, sees_serial, next_again, load_left, with_work, taken_load, core_load}
 use Rattle.vll_core.proofs.machine.Machine.load.Goals.{In-Some, In-Some-next_load, In_default-next_load, After-proc, After-index_mut, After-load}
@@ -75,7 +75,7 @@ load-requires-clause-formed g c =
 pub load-requires-clause-made : goal.load-requires-clause-made
 load-requires-clause-made g c =
     let at = goal.at.load-requires-clause-made g c in
-    (procedure_is c.self.inside _ _ _ _ (runs g at.In-Some) (lent g at.After-proc) c.unwrap-procedure.ensures).1.1
+    (_, (procedure_is c.self.inside _ _ _ _ (runs g at.In-Some) (lent g at.After-proc) c.unwrap-procedure.ensures).1.1)
 
 pub load-requires-clause-left : goal.load-requires-clause-left
 load-requires-clause-left g c =
@@ -88,10 +88,10 @@ invariant_of-self g c =
     let r = runs g at.In-Some in
     let l = next g at.In-Some-next_load r in
     let p = put g at.After-index_mut l in
+    let is = procedure_is c.self.inside _ _ _ _ r (lent g at.After-proc) c.unwrap-procedure.ensures in
     subst (λ (t : ℕ). IsMachine g.H.Place.place_of (with_work c.self.inside t c.load.new.self)) (sym c.ticket.view_is)
     (core_load c.self.inside _ _ _ _ _ c.self.invariant p (loaded g at.After-load)
-    (c.load.ensures.at_work _ _ _
-    (procedure_is c.self.inside _ _ _ _ r (lent g at.After-proc) c.unwrap-procedure.ensures).0 r.within p.next
+    (c.load.ensures.at_work _ _ _ is.0 (made_now c.self.inside _ _ r _ is.1.1) r.within p.next
     (value g at.After-load l ∙ sees_serial c.self.inside _ _ _ _ c.self.invariant l) (read_at_work c.self.inside _ _ p.runs _ p.work)))
 
 pub returns-clause-answer : goal.returns-clause-answer

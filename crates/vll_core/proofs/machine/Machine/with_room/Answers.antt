@@ -12,7 +12,7 @@ use Rattle.vll_core.specs.Queue.{empty}
 use Rattle.vll_core.specs.Private.FirstWords.{AreFirstWords}
 use Rattle.vll_core.specs.Shown.{begun}
 use Rattle.vll_core.proofs.Entries.{shown_queued}
-use Rattle.vll_core.proofs.Begun.{IsFresh, filled, shown_begun, core_begun}
+use Rattle.vll_core.proofs.Begun.{IsFresh, filled, none_alone, shown_begun, core_begun}
 use Rattle.vll_core.proofs.machine.Machine.with_room.Goals as goal
 
 abbrev made : (g : Over) → goal.After-of-2 g → Inside g.row.H.Denot
@@ -25,6 +25,7 @@ made g c = record {
   turn = None;
   scripts = c.args.scripts;
   next = c.in_ok-next.next;
+  kept = c.in_ok-kept.kept;
 }
 
 queue_is : (g : Over) (c : goal.After-of-2 g) → c.in_ok-queue.queue ≡ empty c.args.config c.args.hash
@@ -35,8 +36,9 @@ records_are g c = ap (λ (v : Vec ℕ). v.items) c.of-2.ensures
 
 fresh : (g : Over) (c : goal.After-of-2 g) → IsFresh c.args.config c.args.hash (made g c)
 fresh g c =
-    let full = filled c.len.result c.vec.result c.vec.ensures.items_if_clones_equal in
-    record { queue = queue_is g c; work = search rules; turn = refl; nexts = search rules }
+    let full = filled 0 c.len.result c.vec.result c.vec.ensures.items_if_clones_equal (λ y e. e) in
+    let none = filled None c.len-2.result c.vec-2.result c.vec-2.ensures.items_if_clones_equal (none_alone _ (λ n e. e)) in
+    record { queue = queue_is g c; work = search rules; turn = refl; nexts = search rules; kepts = search rules }
 
 pub invariant_of-result : goal.invariant_of-result
 invariant_of-result g c =

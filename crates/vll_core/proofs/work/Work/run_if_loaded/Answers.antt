@@ -6,7 +6,7 @@ use Rattle.vll_core.proofs.AtWork.{holds_all}
 use Rattle.vll_core.proofs.work.Work.run_if_loaded.Goals as goal
 
 pub returns-then-has_loaded-clause-at_work : goal.returns-then-has_loaded-clause-at_work
-returns-then-has_loaded-clause-at_work c = λ procs records is known loading.
+returns-then-has_loaded-clause-at_work c = λ procs records is made known loading.
     let work = c.args.self.now in
     let call = c.args.call.now in
     let all : work.loads ≡ length call.claims = exact_unsigned_eq work.loads (length call.claims) (sym c.has_loaded.ensures ∙ c.if-has_loaded.true) in
@@ -17,6 +17,6 @@ returns-then-has_loaded-clause-at_work c = λ procs records is known loading.
       whole = c.run-reply.ensures.whole;
       loaded = λ left. absurd (omega (arith, left, all));
       pending = λ left. absurd (omega (arith, left, all));
-      ran = λ done. rw found (ap Some (c.run-reply.ensures.reply records held));
-      holds = λ done. rw found (c.run-reply.ensures.cells records held);
+      ran = λ done. rw found (ap Some (c.run-reply.ensures.reply records made held));
+      holds = λ done. rw found (c.run-reply.ensures.cells records made held);
     }

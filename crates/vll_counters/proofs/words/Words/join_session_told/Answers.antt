@@ -24,7 +24,7 @@ load-requires g c =
       j.0 ∙ queue,
       omega (arith, words),
       opens_at _ _ _ _ _ _ _ c.args.call _ base c.requires.told.0 c.requires.told.1 (j.1 ∙ c.queue.invariant.0) (j.2 ∙ joined_session _ _ _ _ me other) c.requires.closed
-          (may_open _ _ _ _ c.self.invariant.catalog (library_is _ _ _ base c.self.invariant.records) c.requires.fits c.requires.room),
+          (may_open _ _ _ _ c.self.invariant.catalog (library_is _ _ _ base c.self.invariant.records) c.requires.ready c.requires.room),
     )
 
 pub returns-clause-session : goal.returns-clause-session

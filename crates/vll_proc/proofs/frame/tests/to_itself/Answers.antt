@@ -3,7 +3,11 @@ use Rattle.std.proofs.Common.{refl}
 use Rattle.vll_proc.proofs.frame.tests.to_itself.Goals as goal
 
 pub returns : goal.returns
-returns c = record {
-  count = refl;
-  made = rw (c.requires.args, c.requires.keys, c.add-2.ensures, c.add.ensures, c.claim.ensures, c.claim-2.ensures, c.new-claims.ensures) refl;
-}
+returns c = (
+  6,
+  record {
+    count = refl;
+    made = rw (c.requires.args, c.requires.keys, c.add-2.ensures, c.add.ensures, c.claim.ensures, c.claim-2.ensures, c.new-claims.ensures) refl;
+    led = rw (c.requires.keys) refl;
+  },
+)

@@ -17,7 +17,7 @@ fn events_are_read_in_their_order(rt: HostRuntime) -> Result<(), Fail> {
     let text = text_with(
         rt.alloc(),
         r#"[["enter",0],["claim"],["admit"],["front"],["scan"],["load",1],["store",2],["release",3],
-            ["finish",4294967295],["claim"],["enter",4294967295]]"#,
+            ["finish",4294967295],["claim"],["enter",4294967295],["find",1],["find",4294967295]]"#,
     )?;
     let parts = parts_of(rt.alloc(), text.as_str())?;
     let events = [
@@ -32,6 +32,8 @@ fn events_are_read_in_their_order(rt: HostRuntime) -> Result<(), Fail> {
         Event::Finish(Ticket(4_294_967_295)),
         Event::Claim,
         Event::Enter(4_294_967_295),
+        Event::Find(1),
+        Event::Find(4_294_967_295),
     ];
     assert_eq!(rt; parts.schedule.as_slice(), events.as_slice());
     Ok(())
@@ -73,6 +75,11 @@ fn first_faulty_event_is_named(rt: HostRuntime) -> Result<(), Fail> {
             (r#"[["enter",0],["enter",-1]]"#, Some(1)),
             (r#"[["enter",0],["enter",4294967296]]"#, Some(1)),
             (r#"[["finish",4294967296]]"#, Some(0)),
+            (r#"[["find"]]"#, Some(0)),
+            (r#"[["find",0],["find",0,0]]"#, Some(1)),
+            (r#"[["find",4294967296]]"#, Some(0)),
+            (r#"[["find",-1]]"#, Some(0)),
+            (r#"[["find",0],["Find",0]]"#, Some(1)),
             (r#"[["load","0"]]"#, Some(0)),
             (r#"[["load",1.0]]"#, Some(0)),
             (r#"[["release",null]]"#, Some(0)),
