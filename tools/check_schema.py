@@ -17,8 +17,8 @@ from pathlib import Path
 TOP = Path(__file__).resolve().parent.parent
 MOST_BYTES = 1 << 20
 
-# Checks 1, 2 and 8 are a ninth argument, a seventeenth key and a local over 7.
-MUST_REFUSE = re.compile(r'vll: scenario: (shape|size|check \d+ (1|2|8)\n)')
+# Checks 1, 2, 8 and 14 are a ninth argument, a seventeenth key, a local over 7 and a second indirect key.
+MUST_REFUSE = re.compile(r'vll: scenario: (shape|size|check \d+ (1|2|8|14)\n)')
 
 # Scenarios that the program refuses by such a line, and the schema cannot: the reason, and their names.
 UNTOLD = {
@@ -26,7 +26,7 @@ UNTOLD = {
         bits_with_a_point bits_with_an_exponent cap_with_a_point cap_with_an_exponent
         client_with_a_sign index_with_a_point limit_with_a_point limit_with_an_exponent
         record_minus_zero record_with_a_point record_with_a_small_exponent record_with_an_exponent
-        ticket_with_a_point ticket_with_an_exponent version_with_a_point
+        through_index_with_a_point ticket_with_a_point ticket_with_an_exponent version_with_a_point
     ''',
 }
 
@@ -34,7 +34,11 @@ UNTOLD = {
 TOLD = {
     'a fixed record past every record': 'largest_fixed_record',
     'more arguments than any procedure has': 'call_of_nine_arguments',
-    'a fault that the program tells later': 'lowest_faulty_procedure undeclared_argument_before_unknown_local',
+    'a source past every key': 'through_key_255',
+    'a fault that the program tells later': '''
+        lowest_faulty_procedure undeclared_argument_before_unknown_local through_an_indirect_key
+        through_itself_before_two_indirect_keys too_long_before_two_indirect_keys
+    ''',
 }
 
 

@@ -8,6 +8,8 @@
 The first prints a scenario with a schedule of up to N events, mostly ones that can be taken, the second one with
 up to N calls; with --options it prints the options of 'vll run' that go with the seed instead. With --statistics
 it prints what occurs in the scenarios of COUNT seeds from FROM on, and in what comes of them, and how often.
+
+Of three seeds that follow each other one has procedures with indirect keys, and finds in its schedule.
 """
 import argparse
 import json
@@ -20,6 +22,7 @@ from random_procedures import MOST_KEYS, any_call, any_number, any_procedures
 from replay_model import Machine
 
 SIZES = {'replay': 240, 'run': 60}
+CLIENT_WORDS = ['enter', 'find']
 TICKET_WORDS = ['load', 'store', 'release', 'finish']
 LARGEST = 4294967295
 # Enough draws to find an event that can be taken, if there is one.
@@ -44,10 +47,16 @@ REFUSALS = [
     *((word, 'out of step') for word in TICKET_WORDS * 4),
 ]
 
+# The same where procedures have indirect keys.
+FIND_REFUSALS = [
+    *REFUSALS, *[('find', 'turn open')] * 3, ('find', 'no call'), *[('find', 'out of step')] * 2,
+    *[('enter', 'out of step')] * 3,
+]
+
 
 def any_event(rng, machine, word):
     """An event of this word, with the number of a client or a ticket where it needs one."""
-    if word == 'enter':
+    if word in CLIENT_WORDS:
         clients = len(machine.scripts)
         return [word, rng.randrange(clients) if clients and rng.random() < 0.9 else rng.choice([clients, LARGEST])]
     if word in TICKET_WORDS:
@@ -56,6 +65,10 @@ def any_event(rng, machine, word):
         numbers = [*machine.unfinished(), *recent] if rng.random() < 0.9 else [tickets, tickets + 1, LARGEST]
         return [word, rng.choice(numbers or [0])]
     return [word]
+
+
+def has_indirect_key(scenario):
+    return any(at == 'through' for procedure in scenario['procs'] for _, at, _ in procedure['keys'])
 
 
 def next_step(machine, ticket):
@@ -72,14 +85,18 @@ def lawful_event(rng, machine, phase):
             event = next_step(machine, rng.choice(running)) if running else None
         else:
             event = any_event(rng, machine, word)
-        if event and machine.refusal(event) is None:
+        reason = machine.refusal(event) if event else None
+        if word == 'enter' and reason == 'out of step':
+            # it has an indirect key, and nothing was found for it
+            return ['find', event[1]]
+        if event and reason is None:
             return event
     return None
 
 
 def refused_event(rng, machine):
     """An event that is refused, for any of the reasons that hold now."""
-    for word, reason in rng.choices(REFUSALS, k=TRIES):
+    for word, reason in rng.choices(FIND_REFUSALS if has_indirect_key(machine.scenario) else REFUSALS, k=TRIES):
         for _ in range(3):
             event = any_event(rng, machine, word)
             if machine.refusal(event) == reason:
@@ -91,6 +108,8 @@ def next_event(rng, machine, phase, refused):
     """An event that can be taken, if one is found; at times one that is refused, or that may be."""
     if rng.random() < refused:
         return refused_event(rng, machine)
+    if has_indirect_key(machine.scenario) and rng.random() < 0.05:
+        return any_event(rng, machine, 'find')
     if machine.waiting() and machine.turn is None and rng.random() < 0.2:
         return any_event(rng, machine, rng.choice(['scan', 'enter']))
     return lawful_event(rng, machine, phase)
@@ -130,14 +149,14 @@ def add_choices(rng, scenario, calls):
         scenario['limit'] = scenario['cap'] + 1
 
 
-def any_scenario(rng, calls, clients):
+def any_scenario(rng, calls, clients, has_indirect_keys):
     """A scenario without a schedule, with up to so many calls of up to so many clients."""
     records = rng.choice([1, 2, 3, 4, 5, 6, 8, 20]) if rng.random() < 0.995 else 4200
     is_tame = rng.random() < 0.8
     scenario = {
         'version': 1,
         'records': [any_number(rng, is_tame) for _ in range(records)],
-        'procs': any_procedures(rng, records, most_keys=rng.choice([1, 1, 2, 3, MOST_KEYS])),
+        'procs': any_procedures(rng, records, rng.choice([1, 1, 2, 3, MOST_KEYS]), has_indirect_keys),
         'clients': [[] for _ in range(rng.randint(1, clients) if rng.random() < 0.96 else 0)],
     }
     for _ in range(rng.randint(calls // 4, calls) if scenario['clients'] else 0):
@@ -150,7 +169,7 @@ def any_scenario(rng, calls, clients):
 def replay_scenario(seed, size=SIZES['replay']):
     """The scenario of a replay, with its schedule."""
     rng = random.Random(f'replay {seed} {size}')
-    scenario = any_scenario(rng, calls=max(2, size // 4), clients=5)
+    scenario = any_scenario(rng, calls=max(2, size // 4), clients=5, has_indirect_keys=seed % 3 == 2)
     add_choices(rng, scenario, sum(map(len, scenario['clients'])))
     if rng.random() < 0.96:
         scenario['schedule'] = any_schedule(rng, scenario, size)
@@ -160,7 +179,7 @@ def replay_scenario(seed, size=SIZES['replay']):
 def run_scenario(seed, size=SIZES['run']):
     """The scenario of a run, and the options that go with it."""
     rng = random.Random(f'run {seed} {size}')
-    scenario = any_scenario(rng, calls=size, clients=12)
+    scenario = any_scenario(rng, calls=size, clients=12, has_indirect_keys=seed % 3 == 2)
     add_choices(rng, scenario, sum(map(len, scenario['clients'])))
     if rng.random() < 0.1:
         scenario['schedule'] = [['enter', 0], ['scan']]

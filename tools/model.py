@@ -3,6 +3,8 @@
 A procedure and a call are the objects of the scenario's JSON tree. The judges of runs and of replays, and the
 generator of random scenarios, all take the language's meaning from here.
 """
+from typing import NamedTuple
+
 MOST = (1 << 64) - 1
 LOCALS = 8
 
@@ -42,15 +44,40 @@ OPERATORS = {
 }
 
 
-def records_of(procedure, args):
+class Found(NamedTuple):
+    """The value that was found for the indirect key of a call, where there are so many records."""
+    value: int
+    records: int
+
+    @property
+    def record(self):
+        """The record of the indirect key."""
+        return self.value % self.records
+
+
+def record_of(key, args, found):
+    """The record of a key of a call."""
+    _, at, place = key
+    if at == 'through':
+        return found.record
+    return place if at == 'fixed' else args[place]
+
+
+def records_of(procedure, args, found=None):
     """The record of each key of a call, by the key's index."""
-    return [place if at == 'fixed' else args[place] for _, at, place in procedure['keys']]
+    return [record_of(key, args, found) for key in procedure['keys']]
 
 
-def claims_of(procedure, args):
+def source_of(procedure, args):
+    """The record by whose value that of a call's indirect key is found, if the call has such a key."""
+    keys = procedure['keys']
+    return next((record_of(keys[place], args, None) for _, at, place in keys if at == 'through'), None)
+
+
+def claims_of(procedure, args, found=None):
     """The claims of a call in rising order of the records: each is a record, and whether it is for writing."""
     is_for_writing = {}
-    for (mode, _, _), record in zip(procedure['keys'], records_of(procedure, args)):
+    for (mode, _, _), record in zip(procedure['keys'], records_of(procedure, args, found)):
         is_for_writing[record] = is_for_writing.get(record, False) or mode == 'write'
     return sorted(is_for_writing.items())
 
@@ -58,9 +85,11 @@ def claims_of(procedure, args):
 class Body:
     """Runs the body of one call over the values of its records."""
 
-    def __init__(self, procedure, args, values):
+    def __init__(self, procedure, args, values, found=None):
         self.args = args
-        self.records = records_of(procedure, args)
+        self.records = records_of(procedure, args, found)
+        self.source = source_of(procedure, args)
+        self.found = found
         self.held = dict(values)
         self.locals = [0] * LOCALS
         self.replies = []
@@ -82,6 +111,16 @@ class Body:
         right = self.value(parts[1])
         return OPERATORS[word](left, right)
 
+    def has_moved(self):
+        """Whether the source of the indirect key no longer holds the value by which the key's record was found."""
+        return self.source is not None and self.held[self.source] != self.found.value
+
+    def make(self, statements):
+        """Runs the whole body, if the source of the indirect key still holds what was found."""
+        if self.has_moved():
+            raise Aborted('moved')
+        self.run(statements)
+
     def run(self, statements):
         for word, *parts in statements:
             if word == 'let':
@@ -98,22 +137,35 @@ class Body:
                 raise ValueError(f'there is no statement {word}')
 
 
-def make(procedure, args, values):
+def make(procedure, args, values, found=None):
     """Runs a call's body on the values of its records, which are a map from records.
 
     Answers its reply as it is printed, and the values as they are behind it: an aborted call changes none.
     """
-    body = Body(procedure, args, values)
+    body = Body(procedure, args, values, found)
     try:
-        body.run(procedure['body'])
+        body.make(procedure['body'])
     except Aborted as reason:
         return f'aborted {reason}', values
     return ' '.join(['committed', *map(str, body.replies)]), body.held
 
 
-def make_on(records, procedure, args):
-    """Makes a call on the list of all records, which it changes, and answers its reply as it is printed."""
-    reply, values = make(procedure, args, {record: records[record] for record in records_of(procedure, args)})
-    for record, value in values.items():
-        records[record] = value
+def found_on(records, procedure, args, value=None):
+    """What a call's indirect key has found by this value of its source, or by the present one, if it has such a key."""
+    source = source_of(procedure, args)
+    if source is None:
+        return None
+    return Found(records[source] if value is None else value, len(records))
+
+
+def make_on(records, procedure, args, value=None):
+    """Makes a call on the list of all records, which it changes, and answers its reply as it is printed.
+
+    The record of its indirect key, if it has one, was found by this value, or is found by the present one.
+    """
+    found = found_on(records, procedure, args, value)
+    values = {record: records[record] for record in records_of(procedure, args, found)}
+    reply, values = make(procedure, args, values, found)
+    for record, held in values.items():
+        records[record] = held
     return reply

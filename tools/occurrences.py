@@ -4,13 +4,18 @@ IN_REPLAYS and IN_RUNS are the names that have to occur among the scenarios of s
 """
 from collections import Counter
 
-from model import OPERATORS, Aborted, Body, claims_of, make_on, records_of
+from model import OPERATORS, Aborted, Body, Found, claims_of, found_on, make_on, records_of, source_of
 from replay_model import Machine
 
+MODES = {'read': 'reading', 'write': 'writing'}
 NOT_RUNNING = ['there is no such call', 'it is waiting', 'it is finished']
 EVENTS = [
     'enter: opened', 'enter: refused turn open', 'enter: refused no call, there is no such client',
-    'enter: refused no call, none is left', 'enter: refused spent', 'enter: refused busy',
+    'enter: refused no call, none is left', 'enter: refused spent', 'enter: refused busy', 'enter: refused out of step',
+    'enter: opened by a value that a refusal has left',
+    'find: found', 'find: found the same value again', 'find: found another value again',
+    'find: refused turn open', 'find: refused no call, there is no such client',
+    'find: refused no call, none is left', 'find: refused out of step',
     'claim: granted for reading', 'claim: granted for writing', 'claim: denied for reading',
     'claim: denied for writing', 'claim: refused no turn', 'claim: refused out of step',
     'admit: free', 'admit: free without claims', 'admit: blocked', 'admit: refused no turn',
@@ -26,11 +31,12 @@ EVENTS = [
     'release: refused out of step, stores are left', 'release: refused out of step, all are made',
     'finish: committed', 'finish: refused turn open', 'finish: refused out of step, loads are left',
     'finish: refused out of step, stores are left', 'finish: refused out of step, releases are left',
-    *(f'finish: aborted {reason}' for reason in ('overflow', 'underflow', 'zero divisor', 'code')),
+    *(f'finish: aborted {reason}' for reason in ('overflow', 'underflow', 'zero divisor', 'code', 'moved')),
     *(f'{word}: refused not running, {why}' for word in ('load', 'store', 'release', 'finish') for why in NOT_RUNNING),
-    *(f'{word} while a turn is open' for word in ('load', 'store', 'release')),
+    *(f'{word} while a turn is open' for word in ('find', 'load', 'store', 'release')),
 ]
 ENDS = ['end: a turn is open', 'end: a call is running', 'end: a call is waiting', 'end: all have finished']
+MOVES = ['moved to the same record', 'moved to another record', 'moved, and else committed', 'moved, and else aborted']
 BODIES = [
     *(f'statement {word}' for word in ('let', 'set', 'if', 'abort', 'reply')),
     *(f'expression {word}' for word in ('number', 'arg', 'key', 'local', *OPERATORS, 'not')),
@@ -39,8 +45,13 @@ BODIES = [
     'a call of 8 replies', 'a call of 8 arguments',
 ]
 KEYS = [
-    *(f'key {mode} {at}' for mode in ('read', 'write') for at in ('arg', 'fixed')), 'a call without claims',
+    *(f'key {mode} {at}' for mode in ('read', 'write') for at in ('arg', 'fixed', 'through')), 'a call without claims',
     'a call with a claim for several keys', 'a record of a read and a write key', 'a call of 16 keys',
+    'a call of 16 keys and an indirect one among them',
+    *(f'an indirect key for {mode} by {place}' for mode in MODES.values() for place in ('arg', 'fixed')),
+    *(f'an indirect key for {mode} of its source for {other}' for mode in MODES.values() for other in MODES.values()),
+    'an indirect key of the record of another key', 'an indirect key of a record of its own',
+    'a found value that is a record', 'a found value past every record',
 ]
 MEMBERS = [
     *(f'{member} is {value}' for member in ('cap', 'bits') for value in ('absent', 'one', 'more')),
@@ -48,15 +59,15 @@ MEMBERS = [
     'a client without calls', 'no client', 'several clients',
 ]
 OPTIONS = [f'{option} is {value}' for option in ('--workers', '--cap', '--bits') for value in ('absent', 'one', 'more')]
-IN_REPLAYS = [*EVENTS, *ENDS, *BODIES, *KEYS, *MEMBERS, 'schedule is absent', 'schedule is there']
+IN_REPLAYS = [*EVENTS, *ENDS, *MOVES, *BODIES, *KEYS, *MEMBERS, 'schedule is absent', 'schedule is there']
 IN_RUNS = [*BODIES, *KEYS, *MEMBERS, *OPTIONS, 'schedule is absent', 'schedule is there']
 
 
 class Traced(Body):
     """Runs a body, and keeps the names of what was run."""
 
-    def __init__(self, procedure, args, values):
-        super().__init__(procedure, args, values)
+    def __init__(self, procedure, args, values, found):
+        super().__init__(procedure, args, values, found)
         self.names = []
         self.has_ended = False
 
@@ -77,11 +88,11 @@ class Traced(Body):
             super().run([statement])
 
 
-def in_body(procedure, args, values):
+def in_body(procedure, args, values, found):
     """What occurs in a call whose body is run on these values."""
-    body = Traced(procedure, args, values)
+    body = Traced(procedure, args, values, found)
     try:
-        body.run(procedure['body'])
+        body.make(procedure['body'])
     except Aborted:
         body.replies = []
     yield from body.names
@@ -89,12 +100,12 @@ def in_body(procedure, args, values):
         yield 'a call of 8 replies'
     if procedure['args'] == 8:
         yield 'a call of 8 arguments'
-    yield from in_keys(procedure, args)
+    yield from in_keys(procedure, args, found)
 
 
-def in_keys(procedure, args):
+def in_keys(procedure, args, found):
     """What occurs in the keys of a call."""
-    keys, records, claims = procedure['keys'], records_of(procedure, args), claims_of(procedure, args)
+    keys, records, claims = procedure['keys'], records_of(procedure, args, found), claims_of(procedure, args, found)
     for mode, at, _ in keys:
         yield f'key {mode} {at}'
     if not claims:
@@ -104,7 +115,23 @@ def in_keys(procedure, args):
     if len({(record, key[0]) for record, key in zip(records, keys)}) > len(claims):
         yield 'a record of a read and a write key'
     if len(keys) == 16:
-        yield 'a call of 16 keys'
+        yield f'a call of 16 keys{" and an indirect one among them" if found else ""}'
+    if found:
+        yield from in_indirect_key(keys, records, found)
+
+
+def in_indirect_key(keys, records, found):
+    """What occurs in the indirect key of a call."""
+    place = next(place for place, (_, at, _) in enumerate(keys) if at == 'through')
+    mode, _, source = keys[place]
+    yield f'an indirect key for {MODES[mode]} by {keys[source][1]}'
+    yield f'a found value {"that is a record" if found.value < found.records else "past every record"}'
+    if records[place] == records[source]:
+        yield f'an indirect key for {MODES[mode]} of its source for {MODES[keys[source][0]]}'
+    elif records.count(records[place]) > 1:
+        yield 'an indirect key of the record of another key'
+    else:
+        yield 'an indirect key of a record of its own'
 
 
 def size_of(value):
@@ -172,7 +199,7 @@ def in_answer(machine, event, answer):
         yield f'finish: {"committed" if "committed" in answer else answer[len("replied "):].rstrip(" 0123456789")}'
     else:
         yield f'{word}: {answer.split()[0]}'
-    if word in ('load', 'store', 'release') and machine.turn:
+    if word in ('find', 'load', 'store', 'release') and machine.turn:
         yield f'{word} while a turn is open'
     if answer.startswith('free') and not machine.calls[-1].claims:
         yield 'admit: free without claims'
@@ -182,19 +209,54 @@ def in_answer(machine, event, answer):
             yield f'scan: run behind a {status} call'
 
 
+def in_found(machine, event, reason, left):
+    """What becomes of the values that clients have found, where an event is about to be taken or refused.
+
+    The clients whose enter was refused while a value was kept are those of `left`.
+    """
+    word, client = event[0], event[-1]
+    if word not in ('find', 'enter') or client not in machine.found:
+        return
+    if reason is None:
+        if word == 'find':
+            is_changed = machine.found[client] != machine.values[machine.next_source(client)]
+            yield f'find: found {"another" if is_changed else "the same"} value again'
+        elif client in left:
+            yield 'enter: opened by a value that a refusal has left'
+        left.discard(client)
+    elif word == 'enter':
+        left.add(client)
+
+
+def in_moved(call):
+    """What occurs in a call that was aborted as moved."""
+    now = Found(call.loaded[source_of(call.procedure, call.args)], call.found.records)
+    yield f'moved to {"the same" if now.record == call.found.record else "another"} record'
+    body = Body(call.procedure, call.args, call.loaded, call.found)
+    try:
+        body.run(call.procedure['body'])
+        yield 'moved, and else committed'
+    except Aborted:
+        yield 'moved, and else aborted'
+
+
 def in_replay(scenario):
     """What occurs in a replay."""
     machine = Machine(scenario)
+    left = set()
     yield from in_members(scenario)
     for event in scenario.get('schedule', []):
         reason = machine.refusal(event)
+        yield from in_found(machine, event, reason, left)
         if reason is not None:
             yield f'{event[0]}: refused {reason}{detail(machine, event, reason)}'
         else:
             yield from in_answer(machine, event, machine.take(event))
     for call in machine.calls:
         if call.reply is not None:
-            yield from in_body(call.procedure, call.args, call.loaded)
+            yield from in_body(call.procedure, call.args, call.loaded, call.found)
+        if call.reply == 'aborted moved':
+            yield from in_moved(call)
     unfinished = {machine.calls[ticket].status for ticket in machine.unfinished()}
     yield from (f'end: a call is {status}' for status in sorted(unfinished))
     if machine.turn:
@@ -214,7 +276,7 @@ def in_run(scenario, options):
     records = list(scenario['records'])
     for call in [call for script in scenario['clients'] for call in script]:
         procedure, args = procedures[call['proc']], call['args']
-        yield from in_body(procedure, args, dict(enumerate(records)))
+        yield from in_body(procedure, args, dict(enumerate(records)), found_on(records, procedure, args))
         make_on(records, procedure, args)
 
 

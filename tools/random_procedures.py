@@ -175,13 +175,23 @@ def any_keys(rng, args, records, most_keys):
     return keys
 
 
-def any_procedures(rng, records, most_keys):
-    """Some procedures for so many records, with at most so many keys each."""
+def with_indirect_key(rng, records, keys):
+    """These keys with an indirect one among them; where there are as many as may be, the last gives way to it."""
+    keys = keys[:MOST_KEYS - 1] or [[rng.choice(['read', 'write']), 'fixed', rng.randrange(records)]]
+    source = rng.randrange(len(keys))
+    keys.insert(rng.randint(source + 1, len(keys)), [rng.choice(['read', 'write']), 'through', source])
+    return keys
+
+
+def any_procedures(rng, records, most_keys, has_indirect_keys=False):
+    """Some procedures for so many records, with at most so many keys each, and at times an indirect one beside them."""
     names = rng.sample(NAMES, 3) + [f'procedure {number}' for number in range(5)]
     procedures = []
     for name in names[rng.randrange(3):rng.randint(4, 8)]:
         args = rng.choice([0, 1, 1, 2, 2, 3, MOST_ARGS])
         keys = any_keys(rng, args, records, most_keys)
+        if has_indirect_keys and rng.random() < 0.6:
+            keys = with_indirect_key(rng, records, keys)
         procedures.append({'name': name, 'args': args, 'keys': keys, 'body': any_body(rng, args, keys)})
     return procedures
 

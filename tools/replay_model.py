@@ -9,7 +9,7 @@ tools/judge_replay.py compares what was printed with it.
 import sys
 
 from judging import DEEPEST, read_scenario
-from model import claims_of, make
+from model import Found, claims_of, make, source_of
 
 FOR_WRITING = 1 << 32
 SPREAD = 11400714819323198485
@@ -19,11 +19,12 @@ DEFAULTS = {'cap': 1024, 'bits': 4096, 'hash': 'modulo', 'schedule': []}
 class Call:
     """A call that is entering or has entered, and how far it is."""
 
-    def __init__(self, client, procedure, args):
+    def __init__(self, client, procedure, args, found):
         self.client = client
         self.procedure = procedure
         self.args = args
-        self.claims = claims_of(procedure, args)
+        self.found = found
+        self.claims = claims_of(procedure, args, found)
         self.written = [record for record, is_for_writing in self.claims if is_for_writing]
         self.status = 'entering'
         self.requested = 0
@@ -41,7 +42,7 @@ class Call:
     def run_if_loaded(self):
         """Runs the body once no load is left."""
         if len(self.loaded) == len(self.claims):
-            self.reply, self.values = make(self.procedure, self.args, self.loaded)
+            self.reply, self.values = make(self.procedure, self.args, self.loaded, self.found)
 
     def has_aborted(self):
         return self.reply is not None and self.reply.startswith('aborted')
@@ -71,11 +72,29 @@ class Machine:
         self.values = list(scenario['records'])
         self.pairs = [0] * len(self.values)
         self.entered = [0] * len(self.scripts)
+        # what each client has found for its next call
+        self.found = {}
         self.calls = []
         self.turn = None
 
     def has_call_left(self, client):
         return client < len(self.scripts) and self.entered[client] < len(self.scripts[client])
+
+    def next_call(self, client):
+        """The procedure and the arguments of a client's next call."""
+        asked = self.scripts[client][self.entered[client]]
+        return self.procedures[asked['proc']], asked['args']
+
+    def next_source(self, client):
+        """The record by whose value the indirect key of a client's next call is found, if it has such a key."""
+        return source_of(*self.next_call(client))
+
+    def is_ready(self, client):
+        """Whether a client's next call has no indirect key, or has found a value for it."""
+        return self.next_source(client) is None or client in self.found
+
+    def is_turn_of(self, client):
+        return self.turn is not None and self.turn.client == client
 
     def is_running(self, ticket):
         return ticket < len(self.calls) and self.calls[ticket].status == 'running'
@@ -117,6 +136,8 @@ class Machine:
         """The reasons for which an event is refused, in their order, each with whether it holds now."""
         if word in ('enter', 'front', 'scan', 'finish'):
             yield 'turn open', self.turn is not None
+        if word == 'find':
+            yield 'turn open', self.is_turn_of(number)
         if word in ('claim', 'admit'):
             yield 'no turn', self.turn is None
         if word in ('load', 'store', 'release', 'finish'):
@@ -125,6 +146,10 @@ class Machine:
             yield 'no call', not self.has_call_left(number)
             yield 'spent', len(self.calls) == self.limit
             yield 'busy', self.waiting() == self.cap
+            yield 'out of step', not self.is_ready(number)
+        elif word == 'find':
+            yield 'no call', not self.has_call_left(number)
+            yield 'out of step', self.next_source(number) is None
         elif word == 'claim':
             yield 'out of step', self.turn.requested == len(self.turn.claims)
         elif word == 'admit':
@@ -155,10 +180,15 @@ class Machine:
         """Takes an event that is not refused, and answers what is printed of it."""
         return getattr(self, f'take_{event[0]}')(*event[1:])
 
+    def take_find(self, client):
+        value = self.found[client] = self.values[self.next_source(client)]
+        return f'found {value}'
+
     def take_enter(self, client):
-        asked = self.scripts[client][self.entered[client]]
+        procedure, args = self.next_call(client)
+        value = self.found.pop(client, None)
         self.entered[client] += 1
-        self.turn = Call(client, self.procedures[asked['proc']], asked['args'])
+        self.turn = Call(client, procedure, args, None if value is None else Found(value, len(self.values)))
         return 'opened'
 
     def take_claim(self):

@@ -18,11 +18,11 @@ import judge_outcome
 import judge_replay
 from generate import SIZES, replay_scenario, run_scenario, scenario_of, text_of
 from judging import DEEPEST, Unlawful, read_scenario, read_text
-from model import OPERATORS, Aborted, Body, make, make_on
+from model import OPERATORS, Aborted, Body, Found, claims_of, make, make_on, records_of, source_of
 from occurrences import counts_of
 from random_procedures import nodes_of
 from replay_model import FOR_WRITING, Machine, replay_text
-from wrong_machines import WRONG, WRONG_OPERATORS
+from wrong_machines import WRONG, WRONG_CALLS, WRONG_OPERATORS
 
 TOOLS = Path(__file__).resolve().parent
 SCENARIOS = TOOLS.parent / 'scenarios'
@@ -38,19 +38,57 @@ def worked_replays():
                 yield args.stem, read_scenario(files[0]), read_text(files[1])
 
 
+class AnyRun:
+    """Makes the calls of a scenario in some order that keeps each client's own, and prints the outcome of that.
+
+    A client finds what its call needs after its previous call has entered. A source that was found is in a state from
+    before one of the calls that have entered by then, and no earlier one than when it was found before.
+    """
+
+    def __init__(self, scenario, rng):
+        self.scenario = scenario
+        self.rng = rng
+        self.procedures = {procedure['name']: procedure for procedure in scenario['procs']}
+        self.made = Counter()
+        self.found = {}
+        # the records before each call, and for each source up to which of these lists it was found
+        self.states = [list(scenario['records'])]
+        self.reached = Counter()
+
+    def find(self, client, procedure, args):
+        source = source_of(procedure, args)
+        if source is not None:
+            self.reached[source] = self.rng.randint(self.reached[source], len(self.states) - 1)
+            self.found[client] = self.value(source)
+
+    def value(self, source):
+        return self.states[self.reached[source]][source]
+
+    def enter(self, client, procedure, args):
+        self.made[client] += 1
+        self.states.append(list(self.states[-1]))
+        return make_on(self.states[-1], procedure, args, self.found.pop(client, None))
+
+    def text(self):
+        scripts = self.scenario['clients']
+        # each client finds and enters in turn
+        moments = [client for client, script in enumerate(scripts) for _ in script for _ in range(2)]
+        self.rng.shuffle(moments)
+        lines = []
+        for at, client in enumerate(moments):
+            call = scripts[client][self.made[client]]
+            procedure, args = self.procedures[call['proc']], call['args']
+            if moments[:at].count(client) % 2 == 0:
+                self.find(client, procedure, args)
+            else:
+                lines.append(f'call {len(lines)} client {client} {self.enter(client, procedure, args)}\n')
+        records = enumerate(self.states[-1])
+        return ''.join(lines + [f'record {record} value {value} pair 0\n' for record, value in records])
+
+
 def lawful_outcome(scenario, rng):
-    """What a run prints if the calls enter in some order that keeps each client's own."""
-    procedures = {procedure['name']: procedure for procedure in scenario['procs']}
-    records = list(scenario['records'])
-    order = [client for client, script in enumerate(scenario['clients']) for _ in script]
-    rng.shuffle(order)
-    lines, made = [], Counter()
-    for ticket, client in enumerate(order):
-        call = scenario['clients'][client][made[client]]
-        made[client] += 1
-        reply = make_on(records, procedures[call['proc']], call['args'])
-        lines.append(f'call {ticket} client {client} {reply}\n')
-    return ''.join(lines + [f'record {record} value {value} pair 0\n' for record, value in enumerate(records)])
+    """What a run may print."""
+    return AnyRun(scenario, rng).text()
 
 
 def doctored(text, rng):
@@ -99,6 +137,24 @@ class Language(unittest.TestCase):
                 (['add', ['div', 1, 0], ['sub', 0, 1]], 'zero divisor'), (['mul', 0, ['sub', 0, 1]], 'underflow')]:
             self.assertEqual(self.value(expression), value, expression)
 
+    def test_record_of_an_indirect_key(self):
+        largest = 18446744073709551615
+        for value, records, record in [(2, 3, 2), (3, 3, 0), (5, 2, 1), (0, 1, 0), (9, 1, 0), (largest, 4, 3)]:
+            self.assertEqual(Found(value, records).record, record)
+        procedure = {'keys': [['read', 'fixed', 1], ['read', 'arg', 0], ['write', 'through', 1]]}
+        self.assertEqual(source_of(procedure, [3]), 3)
+        self.assertEqual(records_of(procedure, [3], Found(6, 4)), [1, 3, 2])
+        self.assertEqual(claims_of(procedure, [3], Found(6, 4)), [(1, False), (2, True), (3, False)])
+        self.assertEqual(claims_of(procedure, [3], Found(7, 4)), [(1, False), (3, True)])
+
+    def test_moved_call_runs_nothing(self):
+        keys = [['read', 'fixed', 0], ['write', 'through', 0]]
+        for body in [[], [['abort', 7]], [['set', 1, 9], ['reply', ['sub', 0, 1]]]]:
+            procedure = {'keys': keys, 'body': body}
+            self.assertEqual(make(procedure, [], {0: 1, 2: 5}, Found(2, 3)), ('aborted moved', {0: 1, 2: 5}))
+        procedure = {'keys': [['write', 'fixed', 0], ['read', 'through', 0]], 'body': [['set', 0, 7]]}
+        self.assertEqual(make(procedure, [], {0: 2, 2: 5}, Found(2, 3)), ('committed', {0: 7, 2: 5}))
+
     def test_aborted_call_changes_nothing(self):
         body = [['set', 0, 9], ['reply', 1], ['abort', 7], ['set', 0, 8]]
         procedure = {'keys': [['write', 'fixed', 0]], 'body': body}
@@ -135,6 +191,34 @@ class Replays(unittest.TestCase):
                         judge_replay.judge(scenario, wrong)
 
 
+VIA = {'name': 'via', 'args': 1, 'keys': [['read', 'arg', 0], ['write', 'through', 0]],
+       'body': [['set', 1, ['add', ['key', 1], 1]], ['reply', ['key', 1]]]}
+BUMP = {'name': 'bump', 'args': 1, 'keys': [['write', 'arg', 0]],
+        'body': [['set', 0, ['add', ['key', 0], 1]], ['reply', ['key', 0]]]}
+# Replies what the record has held.
+SET = {'name': 'set', 'args': 2, 'keys': [['write', 'arg', 0]], 'body': [['reply', ['key', 0]], ['set', 0, ['arg', 1]]]}
+
+# Runs that find what no source has held, or what it holds no longer.
+WRONG_FINDS = {
+    'a find tells 1 more than the source holds': lambda self, source: (self.states[-1][source] + 1) % (1 << 64),
+    'a find loads the record in front of the source': lambda self, source: self.states[-1][source - 1],
+    'a find loads the opening records, or the present ones': lambda self, source: (
+        self.states[0 if self.rng.random() < 0.5 else -1][source]),
+}
+
+
+def call(name, *args):
+    return {'proc': name, 'args': list(args)}
+
+
+def is_unlawful(scenario, text):
+    try:
+        judge_outcome.judge(scenario, text)
+    except Unlawful:
+        return True
+    return False
+
+
 class Outcomes(unittest.TestCase):
 
     def test_doctored_outcomes_are_wrong(self):
@@ -147,6 +231,79 @@ class Outcomes(unittest.TestCase):
                 if wrong != text:
                     with self.subTest(how, wrong=wrong), self.assertRaises(Unlawful):
                         judge_outcome.judge(scenario, wrong)
+
+    def assert_lawful(self, clients, told, ends, is_lawful):
+        """Judges calls and replies, on the records 1, 10 and 20; each call of `told` has a client in front."""
+        scenario = {'records': [1, 10, 20], 'procs': [VIA, BUMP, SET], 'clients': clients}
+        lines = [f'call {ticket} client {line}\n' for ticket, line in enumerate(told)]
+        lines += [f'record {record} value {value} pair 0\n' for record, value in enumerate(ends)]
+        if is_lawful:
+            judge_outcome.judge(scenario, ''.join(lines))
+        else:
+            with self.subTest(lines), self.assertRaises(Unlawful):
+                judge_outcome.judge(scenario, ''.join(lines))
+
+    def test_call_is_moved_if_its_source_held_another_value(self):
+        clients = [[call('via', 0)], [call('bump', 0)]]
+        for told, ends, is_lawful in [
+                (['0 committed 11', '1 committed 2'], [2, 11, 20], True),
+                (['0 aborted moved', '1 committed 2'], [2, 10, 20], False),
+                (['0 committed 21', '1 committed 2'], [2, 10, 21], False),
+                (['1 committed 2', '0 committed 21'], [2, 10, 21], True),
+                (['1 committed 2', '0 aborted moved'], [2, 10, 20], True),
+                (['1 committed 2', '0 aborted moved'], [2, 10, 21], False),
+                (['1 committed 2', '0 aborted moved'], [2, 11, 20], False),
+                (['1 committed 2', '0 committed 11'], [2, 11, 20], False),
+                (['1 aborted moved', '0 committed 11'], [1, 11, 20], False),
+                (['1 aborted moved', '0 aborted moved'], [1, 10, 20], False)]:
+            self.assert_lawful(clients, told, ends, is_lawful)
+
+    def test_calls_of_one_client_need_not_have_ended(self):
+        clients = [[call('bump', 0), call('via', 0)]]
+        self.assert_lawful(clients, ['0 committed 2', '0 committed 21'], [2, 10, 21], True)
+        self.assert_lawful(clients, ['0 committed 2', '0 aborted moved'], [2, 10, 20], True)
+
+    def test_source_that_is_as_before_has_not_moved(self):
+        clients = [[call('set', 0, 2), call('set', 0, 1)], [call('via', 0)]]
+        begun = ['0 committed 1', '0 committed 2']
+        self.assert_lawful(clients, [*begun, '1 committed 11'], [1, 11, 20], True)
+        self.assert_lawful(clients, [*begun, '1 aborted moved'], [1, 10, 20], True)
+        self.assert_lawful(clients, [*begun, '1 committed 21'], [1, 10, 21], False)
+        clients = [[call('set', 0, 1), call('set', 0, 1)], [call('via', 0)]]
+        self.assert_lawful(clients, ['0 committed 1', '0 committed 1', '1 committed 11'], [1, 11, 20], True)
+        self.assert_lawful(clients, ['0 committed 1', '0 committed 1', '1 aborted moved'], [1, 10, 20], False)
+
+    def test_finds_come_one_after_the_other(self):
+        clients = [[call('via', 0), call('via', 0)], [call('bump', 0)]]
+        for told, ends, is_lawful in [
+                (['0 committed 21', '0 committed 22'], [2, 10, 22], True),
+                (['0 aborted moved', '0 committed 21'], [2, 10, 21], True),
+                (['0 aborted moved', '0 aborted moved'], [2, 10, 20], True),
+                (['0 committed 21', '0 aborted moved'], [2, 10, 21], False)]:
+            self.assert_lawful(clients, ['1 committed 2', *told], ends, is_lawful)
+
+    def test_find_comes_behind_those_of_calls_before_the_previous_one(self):
+        """Client 2 has entered a call behind the one that has found 2, so that it no longer finds 1."""
+        begun = ['1 committed 2', '0 committed 21']
+        clients = [[call('via', 0)], [call('bump', 0)], [call('bump', 1), call('via', 0)]]
+        self.assert_lawful(clients, [*begun, '2 committed 11', '2 committed 22'], [2, 11, 22], True)
+        self.assert_lawful(clients, [*begun, '2 committed 11', '2 aborted moved'], [2, 11, 21], False)
+        told = ['2 committed 11', *begun, '2 aborted moved']
+        self.assert_lawful(clients, told, [2, 11, 21], True)
+        clients = [[call('via', 0)], [call('bump', 0)], [call('via', 0)]]
+        self.assert_lawful(clients, [*begun, '2 aborted moved'], [2, 10, 21], True)
+
+    def test_wrong_runs_are_found_out(self):
+        """By runs of calls with an indirect key that do these one thing wrong."""
+        made = [run_scenario(seed, 12)[0] for seed in SEEDS]
+        changes = {what: mock.patch.object(*change) for what, change in WRONG_CALLS.items()}
+        changes |= {what: mock.patch.object(AnyRun, 'value', value) for what, value in WRONG_FINDS.items()}
+        for what, change in changes.items():
+            rng = random.Random(3)
+            with change:
+                texts = [lawful_outcome(scenario, rng) for scenario in made]
+            with self.subTest(what):
+                self.assertTrue(any(is_unlawful(scenario, text) for scenario, text in zip(made, texts)))
 
 
 def depth_of(tree):

@@ -1,10 +1,11 @@
-"""Machines that are wrong, each in one point, which random replays have to find out."""
+"""Machines that are wrong, each in one point, which random replays have to find out, and random runs some of them."""
 from types import SimpleNamespace
 
-from model import MOST, OPERATORS, Body
+from model import MOST, OPERATORS, Aborted, Body, Found
 from replay_model import Call, Machine
 
 MEETS, TAKE_CLAIM, REFUSAL = Machine.meets, Machine.take_claim, Machine.refusal
+STEP, TAKE_FIND, TAKE_ENTER, TAKE_STORE = Machine.step, Machine.take_find, Machine.take_enter, Machine.take_store
 VALUE = Body.value
 
 
@@ -77,6 +78,68 @@ def value_of_a_product(self, expression):
     return VALUE(self, expression)
 
 
+def body_before_the_test_of_moved(self, statements):
+    """The source is compared with what was found behind the last statement."""
+    self.run(statements)
+    if self.has_moved():
+        raise Aborted('moved')
+
+
+def moved_to_another_record(self):
+    """The source may hold another value, if that finds the same record."""
+    return self.source is not None and self.held[self.source] % self.found.records != self.found.record
+
+
+def find_in_the_opening_records(self, client):
+    value = self.found[client] = self.scenario['records'][self.next_source(client)]
+    return f'found {value}'
+
+
+def find_that_keeps_the_first(self, client):
+    kept = dict(self.found)
+    answer = TAKE_FIND(self, client)
+    self.found |= kept
+    return answer
+
+
+def enter_that_keeps_the_value(self, client):
+    kept = dict(self.found)
+    answer = TAKE_ENTER(self, client)
+    self.found = kept
+    return answer
+
+
+def enter_that_finds_again(self, client):
+    source = self.next_source(client)
+    if source is not None:
+        self.found[client] = self.values[source]
+    return TAKE_ENTER(self, client)
+
+
+def enter_without_a_find(self, event):
+    """Finds for an enter that would be refused for want of a value."""
+    reason = REFUSAL(self, event)
+    if event[0] == 'enter' and reason == 'out of step':
+        self.found[event[1]] = self.values[self.next_source(event[1])]
+        return None
+    return reason
+
+
+def step_that_drops_the_value_of_a_refused_enter(self, event):
+    answer = STEP(self, event)
+    if event[0] == 'enter' and answer.startswith('refused'):
+        self.found.pop(event[1], None)
+    return answer
+
+
+def store_that_drops_what_was_found(self, ticket):
+    call = self.calls[ticket]
+    record = call.written[call.stored]
+    for client in [client for client in self.found if self.next_source(client) == record]:
+        del self.found[client]
+    return TAKE_STORE(self, ticket)
+
+
 # Operators that are wrong, each in the place of a right one.
 WRONG_OPERATORS = {
     'add': lambda left, right: min(left + right, MOST),
@@ -88,6 +151,14 @@ WRONG_OPERATORS = {
     'max': min,
     'equal': lambda left, right: int(left != right),
     'less': lambda left, right: int(left <= right),
+}
+
+# What is wrong with calls that have an indirect key, in runs too, and what stands in the place of a right one.
+WRONG_CALLS = {
+    'the record of an indirect key is not taken modulo the records': (
+        Found, 'record', property(lambda self: min(self.value, self.records - 1))),
+    'no source is tested for another value': (Body, 'has_moved', lambda self: False),
+    'the source is tested behind the body': (Body, 'make', body_before_the_test_of_moved),
 }
 
 # Machines that are wrong: what each does, and the function that stands in the place of a right one.
@@ -113,4 +184,20 @@ WRONG = {
     'calls finish in an open turn': (Machine, 'refusal', taken_in_an_open_turn('finish')),
     'front goes on in an open turn': (Machine, 'refusal', taken_in_an_open_turn('front')),
     'the scan goes on in an open turn': (Machine, 'refusal', taken_in_an_open_turn('scan')),
-}
+    'a source that finds the same record has not moved': (Body, 'has_moved', moved_to_another_record),
+    'an enter finds once more': (Machine, 'take_enter', enter_that_finds_again),
+    'an enter finds what it lacks': (Machine, 'refusal', enter_without_a_find),
+    'an enter does not use up what was found': (Machine, 'take_enter', enter_that_keeps_the_value),
+    'a refused enter drops what was found': (Machine, 'step', step_that_drops_the_value_of_a_refused_enter),
+    'a store of the source drops what was found': (Machine, 'take_store', store_that_drops_what_was_found),
+    'a second find keeps the value of the first': (Machine, 'take_find', find_that_keeps_the_first),
+    'a find loads the opening records': (Machine, 'take_find', find_in_the_opening_records),
+    'a find goes on in the turn of its client': (Machine, 'is_turn_of', lambda self, client: False),
+    'a find is refused in each open turn': (Machine, 'is_turn_of', lambda self, client: self.turn is not None),
+    'a find tells no call before turn open': (Machine, 'refusal', told_before(
+        'no call', 'turn open', lambda self, event: event[0] == 'find' and not self.has_call_left(event[1]))),
+    'enter tells that nothing was found before busy': (Machine, 'refusal', told_before(
+        'out of step', 'busy', lambda self, event: not self.is_ready(event[1]))),
+    'enter tells that nothing was found before spent': (Machine, 'refusal', told_before(
+        'out of step', 'spent', lambda self, event: not self.is_ready(event[1]))),
+} | WRONG_CALLS
