@@ -2,6 +2,7 @@
 ghost use Rattle.std.specs.Prelude.{◌≡◌, ◌↔◌, ◌<◌, ℕ, List, Some, None, Ok, IsTrue, IfSome};
 ghost use Rattle.std.specs.List.{list_all};
 ghost use Rattle.vll_proc.specs.declared.call.Call.{Call};
+ghost use Rattle.vll_proc.specs.Meaning.{source_of};
 ghost use Rattle.vll_check.specs.Calls.{call_to, found_by, place_is_there, source_by};
 ghost use Rattle.vll_check.specs.Faults.{check_fault};
 ghost use Rattle.vll_check.specs.Private.Making.{IsMadeFor};
@@ -67,14 +68,15 @@ pub(crate) fn is_made_for(records: u32, procedure: &Proc, call: &Call) -> bool
     }
 }
 
-// The record by whose value a call of this procedure finds the record of its indirect key, if it has one.
-pub(crate) fn source_for(records: u32, procedure: &Proc, call: &Call) -> Option<RecordId>
+// The record by whose value a call of this procedure finds the record of its indirect key, if that value's key position
+// stands at this place.
+pub(crate) fn source_for(records: u32, procedure: &Proc, place: u8, call: &Call) -> Option<RecordId>
+    requires place { source_of procedure.now.keys ≡ Some place }
     requires checked { check_fault records procedure.now ≡ None }
     requires made { IsMadeFor records procedure.now call.now }
     ensures source { result ≡ source_by records (Some procedure.now) call.now }
     ensures within { IfSome result (λ r. r < records) }
 {
-    let place = procedure.source()?;
     let key = procedure.keys.get(place as usize)?;
     let naming = Naming {
         records,

@@ -1,5 +1,6 @@
 ghost use Rattle.std.specs.Prelude.{◌≡◌, None};
 ghost use Rattle.vll_check.specs.Faults.{check_fault};
+ghost use Rattle.vll_proc.specs.Meaning.{source_of};
 
 use std::marker::Model;
 use vll_proc::Proc;
@@ -13,6 +14,8 @@ pub struct Checked {
     // place of the procedure whose number is this place.
     pub(crate) number: u32,
     pub(crate) place: u32,
+    // The key position by whose record's value another one's record is found, so that no call has to look for it.
+    pub(crate) source: Option<u8>,
 }
 
 impl Model for Checked {
@@ -39,6 +42,13 @@ impl Checked {
         ensures passed { check_fault self.now.records self.now.procedure ≡ None }
     {
         &self.procedure
+    }
+
+    /// The key position by whose record's value another one's record is found, if there is one.
+    pub(crate) fn source(&self) -> Option<u8>
+        ensures { result ≡ source_of self.now.procedure.keys }
+    {
+        self.source
     }
 
     /// The number of records for which it was checked.

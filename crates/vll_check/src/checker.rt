@@ -22,12 +22,16 @@ pub fn check(procedure: Proc, records: u32) -> Result<Checked, CheckFault>
 {
     match fault_of(&procedure, records) {
         Some(fault) => Err(fault),
-        None => Ok(Checked {
-            procedure,
-            records,
-            number: 0,
-            place: 0,
-        }),
+        None => {
+            let source = procedure.source();
+            Ok(Checked {
+                procedure,
+                records,
+                number: 0,
+                place: 0,
+                source,
+            })
+        }
     }
 }
 

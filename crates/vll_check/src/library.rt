@@ -63,8 +63,16 @@ impl Library {
         ensures procedure { option_map (λ p. p.now) result ≡ slice_get self.now.procs number }
         ensures catalog { IsCatalog self.now }
     {
+        Some(self.checked(number)?.proc())
+    }
+
+    // The same with what was noted when it was checked.
+    fn checked(&self, number: u32) -> Option<&Checked>
+        ensures procedure { option_map (λ c. c.now.procedure) result ≡ slice_get self.now.procs number }
+        ensures catalog { IsCatalog self.now }
+    {
         let entry = self.procs.get(number as usize)?;
-        Some(self.procs[entry.place() as usize].proc())
+        Some(&self.procs[entry.place() as usize])
     }
 
     /// The procedure with a name, after its number. It takes no memory, and about log n comparisons for n procedures.
@@ -112,8 +120,9 @@ impl Library {
         ensures within { IfSome result (λ r. r < self.now.records) }
         ensures ready { IfNone result (IsReady self.now call.now) }
     {
-        let procedure = self.proc(call.number)?;
-        source_for(self.records(), procedure, call)
+        let checked = self.checked(call.number)?;
+        let place = checked.source()?;
+        source_for(self.records(), checked.proc(), place, call)
     }
 
     /// The call with a value that was found: its indirect key names the record whose number is the value's remainder by the

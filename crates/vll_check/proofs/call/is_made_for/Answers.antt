@@ -1,4 +1,4 @@
-use Rattle.std.proofs.Common.{◌≡◌, ◌∙◌, Some, Ok, ap, sym, take, IsTrue, rules}
+use Rattle.std.proofs.Common.{◌≡◌, ◌∙◌, Some, Ok, ap, sym, take, rules}
 use Rattle.vll_check.specs.Calls.{call_to}
 use Rattle.vll_check.proofs.Fitting.{made_for}
 use Rattle.vll_check.proofs.call.is_made_for.Goals as goal

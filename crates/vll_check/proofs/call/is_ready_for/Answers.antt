@@ -1,4 +1,4 @@
-use Rattle.std.proofs.Common.{◌≡◌, ◌∙◌, ℕ, Some, Ok, Err, ap, sym, take, IsTrue, rules}
+use Rattle.std.proofs.Common.{◌≡◌, ◌∙◌, ℕ, Some, Ok, Err, ap, sym, take, rules}
 use Rattle.std.proofs.lemmas.Bool.{false≢true}
 use Rattle.vll_check.specs.Calls.{call_to, found_by}
 use Rattle.vll_check.proofs.Fitting.{any, any_is, fault_made, made_number, ready_own, same_Ok}

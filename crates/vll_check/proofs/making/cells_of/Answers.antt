@@ -1,4 +1,4 @@
-use Rattle.std.proofs.Common.{◌∙◌, ap, sym, set, arith}
+use Rattle.std.proofs.Common.{◌∙◌, ap, set, arith}
 use Rattle.vll_record.specs.declared.claims.TheConstants.{MOST_CLAIMS}
 use Rattle.vll_proc.specs.Made.{place_for}
 use Rattle.vll_check.specs.Private.Making.{cell_of}

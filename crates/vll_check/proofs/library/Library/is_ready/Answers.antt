@@ -1,10 +1,10 @@
-use Rattle.std.proofs.Common.{◌≡◌, ◌∙◌, ℕ, Some, ap, sym, subst, slice_get, IsTrue}
+use Rattle.std.proofs.Common.{◌≡◌, ◌∙◌, ℕ, Some, ap, sym, subst, IsTrue}
 use Rattle.std.specs.Prelude.{◌↔◌}
 use Rattle.vll_proc.specs.declared.call.Call.{Call}
 use Rattle.vll_check.specs.Calls.{found_by}
 use Rattle.vll_check.specs.Faults.{check_fault}
 use Rattle.vll_check.specs.Private.Making.{IsMadeFor}
-use Rattle.vll_check.proofs.Fitting.{found_passed, found_number, ready_iff_made}
+use Rattle.vll_check.proofs.Fitting.{found_passed, ready_iff_made}
 use Rattle.vll_check.proofs.library.Library.is_ready.Goals as goal
 
 pub is_ready_for-requires : goal.is_ready_for-requires
