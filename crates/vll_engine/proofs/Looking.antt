@@ -1,5 +1,5 @@
 -- What a session knows once it has looked for the record of a call's indirect key, and what is known when the call has begun then.
-use Rattle.std.proofs.Common.{◌≡◌, ℕ, ◌+◌, ◌<◌, ◌≤◌, true, List, [], ◌∷◌, ◌++◌, length, All, Option, Some, None, slice_get, slice_index, refl, sym, ap, ◌∙◌, subst, arith}
+use Rattle.std.proofs.Common.{◌≡◌, ℕ, ◌<◌, ◌≤◌, List, [], ◌∷◌, ◌++◌, length, All, Some, None, slice_get, slice_index, refl, sym, ap, ◌∙◌, subst, arith}
 use Rattle.std.proofs.lemmas.List.{append-nil, append_assoc, append_cancel_left, length-append}
 use Rattle.std.proofs.lemmas.Option.{none-some, same_Some, slice_get-get_or}
 use Rattle.vll_record.specs.declared.claim.Claim.{Claim}
@@ -13,7 +13,6 @@ use Rattle.vll_core.proofs.SerialRun.{later_leave_states}
 use Rattle.vll_counters.specs.declared.views.SessionView.{SessionView}
 use Rattle.vll_counters.specs.Views.{calls_by}
 use Rattle.vll_counters.specs.Shown.{WordsShown}
-use Rattle.vll_counters.specs.Steps.{told}
 use Rattle.vll_counters.specs.Told.{HasFound, WasThere}
 use Rattle.vll_counters.proofs.Places.{get_longer}
 use Rattle.vll_engine.specs.declared.begun.Begun.{Begun}
@@ -152,3 +151,12 @@ begins_found e old mid new call entering begun looked h same = record {
   begins = subst (λ (c : Call). Begins e old new c begun) looked.is (begins_more e old mid new entering begun looked.others h);
   found = λ r is. let there = looked.found r is in found_begun e mid new entering begun r looked.value h same there.0 there.1;
 }
+
+-- a call without a source begins as it is
+pub begins_without : (e : Named) (old new : SessionView) (call : Call) (begun : Begun) → IsCatalog (library_of e) → Fits (library_of e) call → source (library_of e) call ≡ None → Begins e old new call begun → new.given ≡ old.given
+    → FindsAndBegins e old new call begun
+begins_without e old new call begun catalog fits none h same = begins_found e old old new call call begun (looked_nowhere e old call catalog fits none) h same
+
+-- and its session has nothing to look up
+pub nothing_to_look_up : (e : Named) (g : SessionView) (call : Call) → source (library_of e) call ≡ None → IsLookedUp e g call
+nothing_to_look_up e g call none r is = absurd (none-some r (sym none ∙ is))

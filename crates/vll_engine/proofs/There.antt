@@ -15,7 +15,6 @@ use Rattle.vll_counters.specs.declared.views.SessionView.{SessionView}
 use Rattle.vll_counters.specs.Rule.{HasSeen}
 use Rattle.vll_counters.specs.Views.{calls_in}
 use Rattle.vll_engine.specs.Found.{FoundThere, AreFoundThere}
-use Rattle.vll_engine.specs.Private.Looked.{IsLookedUp}
 use Rattle.vll_engine.specs.Shown.{Named}
 
 -- what was there is there with more calls behind

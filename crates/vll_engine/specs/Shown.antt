@@ -1,5 +1,5 @@
 -- What an engine's name tells, and what contracts see of an opening and of a session.
-use Rattle.std.specs.Prelude.{ℕ, length, List, [], Option, Some, None}
+use Rattle.std.specs.Prelude.{ℕ, List, [], Option, Some, None}
 use Rattle.atomic_table.specs.Seated.{TableId}
 use Rattle.vll_check.specs.Catalog.{Catalog}
 use Rattle.vll_core.specs.declared.config.Config.{Config}

@@ -1,5 +1,5 @@
 ghost use Rattle.std.specs.Prelude.{◌≡◌, ◌<◌, ◌+◌, ◌++◌, ◌∷◌, [], All, IfErr, IfNone, IfOk, IfSome, IsSome, Some, length, slice_get};
-ghost use Rattle.vll_check.specs.Calls.{Fits};
+ghost use Rattle.vll_check.specs.Calls.{Fits, source as source_in};
 ghost use Rattle.vll_check.specs.Catalog.{IsCatalog};
 ghost use Rattle.vll_proc.specs.Serial.{answer};
 ghost use Rattle.vll_counters.specs.Views.{calls_in};
@@ -25,6 +25,7 @@ use vll_check::Library;
 use vll_core::Ticket;
 use vll_counters::Words;
 use vll_proc::{Call, Reply};
+use vll_record::RecordId;
 use vll_sca::Place;
 
 /// The engine. Many threads may share it; each call that takes `wait` holds the lock once, and no other call takes it.
@@ -105,10 +106,31 @@ impl<N: Name, H: Place + Send + Drop> Engine<N, H> {
         ensures given { session.new.session.given ≡ session.old.session.given }
         ensures session { session.new.table ≡ session.old.table }
     {
-        match find::<N>(&self.words, &self.library, session, &call) {
-            Some(call) => self.hold(wait).begin_ready(session, &call),
+        match self.library.source(&call) {
             None => self.hold(wait).begin_ready(session, &call),
+            Some(source) => self.find_and_begin(wait, session, &call, source),
         }
+    }
+
+    // The same for a call whose indirect key's record is found by this one.
+    #[inline(never)]
+    fn find_and_begin(
+        &self,
+        wait: &impl Wait,
+        session: &mut Session,
+        call: &Call,
+        source: RecordId,
+    ) -> Begun
+        requires session { session.old.table ≡ N.engine.table }
+        requires fits { Fits (library_of N.engine) call.now }
+        requires source { source_in (library_of N.engine) call.now ≡ Some source }
+        requires there { source < (library_of N.engine).records }
+        ensures answer { FindsAndBegins N.engine session.old.session session.new.session call.now result }
+        ensures given { session.new.session.given ≡ session.old.session.given }
+        ensures session { session.new.table ≡ session.old.table }
+    {
+        let call = find::<N>(&self.words, &self.library, session, call, source);
+        self.hold(wait).begin_ready(session, &call)
     }
 
     /// A pass for the lowest ticket that is not gone, if it waits: all before it are gone.

@@ -1,6 +1,6 @@
 // Before a call enters it finds the record of its indirect key, under no lock.
-ghost use Rattle.std.specs.Prelude.{◌≡◌, unwrap_or};
-ghost use Rattle.vll_check.specs.Calls.{Fits, IsReady};
+ghost use Rattle.std.specs.Prelude.{◌≡◌, ◌<◌, Some};
+ghost use Rattle.vll_check.specs.Calls.{Fits, IsReady, source as source_in};
 ghost use Rattle.vll_check.specs.Catalog.{IsCatalog};
 ghost use Rattle.vll_engine.specs.Private.Looked.{HasLooked, IsLookedUp};
 ghost use Rattle.vll_engine.specs.Shown.{library_of, words_of};
@@ -10,28 +10,31 @@ use crate::session::Session;
 use vll_check::Library;
 use vll_counters::Words;
 use vll_proc::Call;
+use vll_record::RecordId;
 
-// The call with the value that its source has, and `None` if it has no indirect key and enters as it is.
+// The call with the value that its source has.
 pub(crate) fn find<N: Name>(
     words: &Words,
     library: &Library,
     session: &mut Session,
     call: &Call,
-) -> Option<Call>
+    source: RecordId,
+) -> Call
     requires words { words.now ≡ words_of N.engine }
     requires library { library.now ≡ library_of N.engine }
     requires catalog { IsCatalog (library_of N.engine) }
     requires session { session.old.table ≡ N.engine.table }
     requires fits { Fits (library_of N.engine) call.now }
+    requires source { source_in (library_of N.engine) call.now ≡ Some source }
+    requires there { source < (library_of N.engine).records }
     ensures session { session.new.table ≡ session.old.table }
-    ensures looked { HasLooked N.engine session.old.session session.new.session call.now (unwrap_or result call.now) }
-    ensures looked_up { IsLookedUp N.engine session.new.session (unwrap_or result call.now) }
-    ensures ready { IsReady (library_of N.engine) (unwrap_or result call.now) }
+    ensures looked { HasLooked N.engine session.old.session session.new.session call.now result }
+    ensures looked_up { IsLookedUp N.engine session.new.session result }
+    ensures ready { IsReady (library_of N.engine) result }
 {
-    let source = library.source(call)?;
     let Some(seat) = &mut session.seat else {
         unreachable!()
     };
     let value = words.find(seat, source);
-    Some(library.with_found(call, value))
+    library.with_found(call, value)
 }

@@ -1,5 +1,5 @@
-ghost use Rattle.std.specs.Prelude.{◌≡◌, ◌++◌, ◌∷◌, [], IfNone, IfSome, IsSome, Some, slice_get};
-ghost use Rattle.vll_check.specs.Calls.{Fits, IsReady};
+ghost use Rattle.std.specs.Prelude.{◌≡◌, ◌<◌, ◌++◌, ◌∷◌, [], IfNone, IfSome, IsSome, Some, slice_get};
+ghost use Rattle.vll_check.specs.Calls.{Fits, IsReady, source as source_in};
 ghost use Rattle.vll_check.specs.Catalog.{IsCatalog};
 ghost use Rattle.vll_proc.specs.Serial.{answer};
 ghost use Rattle.vll_engine.specs.Begin.{Begins, FindsAndBegins};
@@ -20,6 +20,7 @@ use vll_check::Library;
 use vll_core::Ticket;
 use vll_counters::Words;
 use vll_proc::{Call, Reply};
+use vll_record::RecordId;
 use vll_sca::Place;
 
 /// An engine's lock, kept for as many calls as a program makes under it: it can finish a call, look for the next that
@@ -67,10 +68,26 @@ impl<'a, N: Name, H: Place + Send + Drop> Hold<'a, N, H> {
         ensures given { session.new.session.given ≡ session.old.session.given }
         ensures session { session.new.table ≡ session.old.table }
     {
-        match find::<N>(self.words, self.library, session, &call) {
-            Some(call) => self.begin_ready(session, &call),
+        match self.library.source(&call) {
             None => self.begin_ready(session, &call),
+            Some(source) => self.find_and_begin(session, &call, source),
         }
+    }
+
+    // The same for a call whose indirect key's record is found by this one. It stands apart so that other calls do not
+    // make room for what is found.
+    #[inline(never)]
+    fn find_and_begin(&mut self, session: &mut Session, call: &Call, source: RecordId) -> Begun
+        requires session { session.old.table ≡ N.engine.table }
+        requires fits { Fits (library_of N.engine) call.now }
+        requires source { source_in (library_of N.engine) call.now ≡ Some source }
+        requires there { source < (library_of N.engine).records }
+        ensures answer { FindsAndBegins N.engine session.old.session session.new.session call.now result }
+        ensures given { session.new.session.given ≡ session.old.session.given }
+        ensures session { session.new.table ≡ session.old.table }
+    {
+        let call = find::<N>(self.words, self.library, session, call, source);
+        self.begin_ready(session, &call)
     }
 
     // The session's client enters a call that is ready, or is refused.

@@ -1,16 +1,13 @@
-use Rattle.std.proofs.Common.{◌≡◌, Option, Some, None, ap, sym, subst}
-use Rattle.std.specs.Prelude.{unwrap_or}
-use Rattle.vll_proc.specs.declared.call.Call.{Call}
-use Rattle.vll_engine.specs.Private.Looked.{HasLooked}
-use Rattle.vll_engine.proofs.Looking.{begins_found}
+use Rattle.std.proofs.Common.{◌≡◌, ◌∙◌, None, ap, sym}
+use Rattle.vll_check.specs.Calls.{source}
+use Rattle.vll_check.specs.Catalog.{Catalog}
+use Rattle.vll_engine.specs.Shown.{library_of}
+use Rattle.vll_engine.proofs.Looking.{begins_without}
 use Rattle.vll_engine.proofs.hold.Hold.begin.Goals as goal
-
-pub returns-in-Some-clause-answer : goal.returns-in-Some-clause-answer
-returns-in-Some-clause-answer g c =
-    let looked = subst (λ (o : Option Call). HasLooked g.N.Name.engine c.args.session.now.session c.find.new.session.session c.args.call (unwrap_or o c.args.call)) c.in-Some.is c.find.ensures.looked in
-    begins_found g.N.Name.engine c.args.session.now.session c.find.new.session.session c.begin_ready.new.session.session c.args.call c.in-Some.call c.begin_ready.result looked c.begin_ready.ensures.answer c.begin_ready.ensures.given
 
 pub returns-in-None-clause-answer : goal.returns-in-None-clause-answer
 returns-in-None-clause-answer g c =
-    let looked = subst (λ (o : Option Call). HasLooked g.N.Name.engine c.args.session.now.session c.find.new.session.session c.args.call (unwrap_or o c.args.call)) c.in-None.is c.find.ensures.looked in
-    begins_found g.N.Name.engine c.args.session.now.session c.find.new.session.session c.begin_ready-in-None.new.session.session c.args.call c.args.call c.begin_ready-in-None.result looked c.begin_ready-in-None.ensures.answer c.begin_ready-in-None.ensures.given
+    let e = g.N.Name.engine in
+    let call = c.args.call in
+    let none : source (library_of e) call ≡ None = sym (ap (λ (l : Catalog). source l call) c.args.self.now.library_is) ∙ sym c.source.ensures.source ∙ c.in-None.is in
+    begins_without e c.args.session.now.session c.begin_ready.new.session.session call c.begin_ready.result c.args.self.now.catalog c.requires.fits none c.begin_ready.ensures.answer c.begin_ready.ensures.given

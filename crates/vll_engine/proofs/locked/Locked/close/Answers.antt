@@ -1,5 +1,4 @@
-use Rattle.std.proofs.Common.{◌<◌, List, All, ap, subst, sym, ◌∙◌}
-use Rattle.vll_core.specs.declared.line.Line.{Line}
+use Rattle.std.proofs.Common.{ap, subst, sym, ◌∙◌}
 use Rattle.vll_counters.specs.Shown.{QueueShown, WordsShown}
 use Rattle.vll_counters.specs.Told.{IsAtEnd}
 use Rattle.vll_engine.specs.Private.Kept.{AreOwn}
