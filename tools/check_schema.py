@@ -1,5 +1,5 @@
 #!/usr/bin/env python3
-"""Checks scenario.schema.json against scenarios/, and prints a line for each scenario that disagrees.
+"""Checks scenario.schema.json against scenarios/ and examples/, and prints a line for each scenario that disagrees.
 
 A scenario that the program runs has to be accepted by the schema. One that it refuses has to be refused
 by the schema where the schema can tell, and accepted where it cannot: MUST_REFUSE has the lines that it
@@ -10,11 +10,10 @@ The status is 0 where all agree, 1 where one disagrees, and 3 where python3 has 
 """
 import json
 import re
-import subprocess
 import sys
-from pathlib import Path
 
-TOP = Path(__file__).resolve().parent.parent
+from cases import TOP, bytes_of, read_cases
+
 MOST_BYTES = 1 << 20
 
 # Checks 1, 2, 8 and 14 are a ninth argument, a seventeenth key, a local over 7 and a second indirect key.
@@ -46,61 +45,52 @@ def names_of(exceptions):
     return {name for names in exceptions.values() for name in names.split()}
 
 
-def bytes_of(path):
-    """What stands in a file or is printed by its script, as far as one byte past the limit."""
-    if path.exists():
-        with open(path, 'rb') as file:
-            return file.read(MOST_BYTES + 1)
-    script = subprocess.Popen(['bash', f'{path}.sh'], stdout=subprocess.PIPE, stderr=subprocess.DEVNULL)
-    made = script.stdout.read(MOST_BYTES + 1)
-    script.stdout.close()
-    script.wait()
-    return made
-
-
 def is_left_out(line, text):
     return re.match(r'vll: (command line|scenario: (json|read))\n', line) or len(text) > MOST_BYTES
 
 
-def first_line(args):
-    """The first line that is to be printed, and no text where an outcome is judged: that scenario runs."""
-    if args.with_suffix('.judge').exists():
-        return ''
-    return bytes_of(args.with_suffix('.out')).decode().partition('\n')[0] + '\n'
-
-
 def scenarios():
-    """Each scenario that the schema can be asked for: its name, its tree, and the first line that is to be printed."""
-    for args in sorted(TOP.glob('scenarios/*.args')):
-        line = first_line(args)
-        text = bytes_of(args.with_suffix('.json'))
+    """Each scenario that the schema can be asked for: its name, its tree, and the first line that is to be printed.
+
+    That is no line where an outcome is judged: such a scenario runs.
+    """
+    for case in read_cases()[0]:
+        line = case.line().decode()
+        text = bytes_of(case.text, MOST_BYTES + 1)
         if not is_left_out(line, text):
-            yield args.stem, json.loads(text), line
+            yield case.name, json.loads(text), line
 
 
-def main():
-    try:
-        from jsonschema import Draft202012Validator
-    except ImportError:
-        print('python3 has no jsonschema of draft 2020-12 (in Debian: the package python3-jsonschema)')
-        return 3
-    sys.setrecursionlimit(20000)
-    schema = json.loads((TOP / 'docs/scenario.schema.json').read_text())
+def schema_of_scenarios():
+    return json.loads((TOP / 'docs/scenario.schema.json').read_text())
+
+
+def disagreements(schema, asked):
+    """A line for each of the scenarios that disagrees with a schema, and for each exception that is no scenario."""
+    from jsonschema import Draft202012Validator
     Draft202012Validator.check_schema(schema)
     validator = Draft202012Validator(schema)
     untold, told = names_of(UNTOLD), names_of(TOLD)
-    seen, wrong = set(), 0
-    for name, tree, line in scenarios():
-        seen.add(name)
+    for name, tree, line in asked:
         wanted = name in told or bool(MUST_REFUSE.match(line)) and name not in untold
         if validator.is_valid(tree) == wanted:
-            wrong += 1
-            print(f'{name} is not {"refused" if wanted else "accepted"} by the schema')
-    for name in sorted((untold | told) - seen):
-        wrong += 1
-        print(f'{name} is named as an exception, and is no scenario')
-    print(f'{len(seen)} scenarios, {wrong} disagree')
-    return 1 if wrong or not seen else 0
+            yield f'{name} is not {"refused" if wanted else "accepted"} by the schema'
+    for name in sorted((untold | told) - {name for name, _, _ in asked}):
+        yield f'{name} is named as an exception, and is no scenario'
+
+
+def main():
+    sys.setrecursionlimit(20000)
+    asked = list(scenarios())
+    try:
+        wrong = list(disagreements(schema_of_scenarios(), asked))
+    except ImportError:
+        print('python3 has no jsonschema of draft 2020-12 (in Debian: the package python3-jsonschema)')
+        return 3
+    for line in wrong:
+        print(line)
+    print(f'{len(asked)} scenarios, {len(wrong)} disagree')
+    return 1 if wrong or not asked else 0
 
 
 if __name__ == '__main__':

@@ -16,8 +16,9 @@ from unittest import mock
 
 import judge_outcome
 import judge_replay
+from cases import bytes_of, is_script, read_cases, status_of
 from generate import SIZES, replay_scenario, run_scenario, scenario_of, text_of
-from judging import DEEPEST, Unlawful, read_scenario, read_text
+from judging import DEEPEST, Unlawful
 from model import OPERATORS, Aborted, Body, Found, claims_of, make, make_on, records_of, source_of
 from occurrences import counts_of
 from random_procedures import nodes_of
@@ -25,17 +26,15 @@ from replay_model import FOR_WRITING, Machine, replay_text
 from wrong_machines import WRONG, WRONG_CALLS, WRONG_OPERATORS
 
 TOOLS = Path(__file__).resolve().parent
-SCENARIOS = TOOLS.parent / 'scenarios'
 SEEDS = range(300)
 
 
 def worked_replays():
-    """The replays of scenarios/ whose text was worked out by hand: the scenario and the text."""
-    for args in sorted(SCENARIOS.glob('*.args')):
-        files = [args.with_suffix(suffix) for suffix in ('.json', '.out')]
-        if args.read_bytes() == b'replay\n' and args.with_suffix('.status').read_text() == '0\n':
-            if all(file.exists() for file in files):
-                yield args.stem, read_scenario(files[0]), read_text(files[1])
+    """The replays of scenarios/ and examples/ whose text was worked out by hand: the name, the scenario and the text."""
+    for case in read_cases()[0]:
+        is_kept = not is_script(case.text) and not is_script(case.printed)
+        if case.words == [b'replay'] and is_kept and status_of(case.wanted()) == 0:
+            yield case.name, json.loads(bytes_of(case.text)), case.wanted().decode()
 
 
 class AnyRun:

@@ -1,2 +1,0 @@
-# The same calls as in contended_aliases.
-bash "${0%/*}/contended_aliases.json.sh"

@@ -1,2 +1,0 @@
-# The same calls as in contended.
-bash "${0%/*}/contended.json.sh"

@@ -1,4 +1,0 @@
-# One event more than there may be, although a run makes none of them.
-printf '{"version":1,"records":[0],"procs":[],"clients":[],"schedule":['
-yes '["claim"]' | head -n 1048577 | paste -sd, -
-printf ']}'
