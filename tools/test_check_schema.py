@@ -1,0 +1,79 @@
+#!/usr/bin/env python3
+"""Tests that tools/check_schema.py finds out schemas that are wrong, each in one point. Status 3: python3 has no jsonschema.
+
+    python3 tools/test_check_schema.py
+"""
+import copy
+import json
+import sys
+import unittest
+
+from check_schema import disagreements, scenarios, schema_of_scenarios
+
+try:
+    import jsonschema
+except ImportError:
+    print('python3 has no jsonschema')
+    sys.exit(3)
+
+# Larger scenarios take long, and tell no more.
+MOST_LETTERS = 2000
+
+# What stands in the schema at a path, and what stands there in a wrong one; nothing if it is left out.
+WRONG = [
+    (['additionalProperties'], None),
+    (['required'], ['version', 'records', 'procs']),
+    (['properties', 'records', 'minItems'], None),
+    (['properties', 'records', 'minItems'], 2),
+    (['properties', 'cap', 'maximum'], 65537),
+    (['properties', 'bits', 'maximum'], 1048575),
+    (['properties', 'limit', 'minimum'], 0),
+    (['properties', 'hash', 'oneOf'], [{'const': 'modulo'}]),
+    (['$defs', 'number', 'maximum'], None),
+    (['$defs', 'procedure', 'properties', 'args', 'maximum'], 9),
+    (['$defs', 'key', 'items'], None),
+    (['$defs', 'key', 'minItems'], 2),
+    (['$defs', 'local', 'maximum'], 6),
+    (['$defs', 'statements', 'type'], None),
+    (['$defs', 'statement', 'allOf'], None),
+    (['$defs', 'expression', 'allOf'], None),
+    (['$defs', 'event', 'allOf'], None),
+]
+
+
+class Schemas(unittest.TestCase):
+
+    @classmethod
+    def setUpClass(cls):
+        sys.setrecursionlimit(20000)
+        cls.asked = [asked for asked in scenarios() if len(json.dumps(asked[1])) <= MOST_LETTERS]
+
+    def disagrees(self, schema):
+        """Whether a scenario disagrees with a schema."""
+        return any(line.endswith('by the schema') for line in disagreements(schema, self.asked))
+
+    def test_right_schema_agrees(self):
+        self.assertGreater(len(self.asked), 400)
+        self.assertFalse(self.disagrees(schema_of_scenarios()))
+
+    def test_wrong_schemas_are_found_out(self):
+        for path, other in WRONG:
+            schema = copy.deepcopy(schema_of_scenarios())
+            place = schema
+            for step in path[:-1]:
+                place = place[step]
+            self.assertNotEqual(place[path[-1]], other)
+            if other is None:
+                del place[path[-1]]
+            else:
+                place[path[-1]] = other
+            with self.subTest(path, other=other):
+                self.assertTrue(self.disagrees(schema))
+
+    def test_exception_that_is_no_scenario_is_told(self):
+        told = [line for line in disagreements(schema_of_scenarios(), self.asked[:1]) if 'named as an exception' in line]
+        self.assertIn('call_of_nine_arguments is named as an exception, and is no scenario', told)
+
+
+if __name__ == '__main__':
+    unittest.main()
