@@ -1,0 +1,172 @@
+#!/usr/bin/env python3
+"""Tests that `./vll --unproved` prints what the program prints, and is never chosen silently.
+
+    python3 tools/test_unproved.py             with a stand-in for rt; about a second
+    python3 tools/test_unproved.py --with-rt   with rt itself on some scenarios; some minutes
+
+The last line is `unproved: N passed, M failed`, and the status is 1 where one failed.
+"""
+import os
+import shutil
+import subprocess
+import sys
+import tempfile
+import unittest
+from pathlib import Path
+
+TOP = Path(__file__).resolve().parent.parent
+TRANSFER = TOP / 'scenarios/transfer.json'
+OUTCOME = b'call 0 client 0 committed 70\nrecord 0 value 70 pair 0\n'
+
+# In place of rt: it notes how it was called, and prints as `rt try` and `rt run` do.
+RT = '''#!/usr/bin/env bash
+printf '%s\\n' "$PWD" "$@" >"$ROOM/words"
+cat >"$ROOM/input"
+[[ -f /dev/stdin ]] || printf 'no file\\n' >"$ROOM/no_file"
+cat "$ROOM/printed"
+cat "$ROOM/said" >&2
+exit "$(<"$ROOM/status")"
+'''
+
+
+class WithStandIn(unittest.TestCase):
+    """A copy of ./vll over a folder of its own, with a stand-in for rt on the PATH."""
+
+    def setUp(self):
+        self.room = Path(tempfile.mkdtemp())
+        self.addCleanup(shutil.rmtree, self.room)
+        (self.room / 'crates/vll/src').mkdir(parents=True)
+        (self.room / 'bin').mkdir()
+        shutil.copy(TOP / 'vll', self.room / 'vll')
+        (self.room / 'bin/rt').write_text(RT)
+        (self.room / 'bin/rt').chmod(0o755)
+        self.answer(OUTCOME, 0)
+
+    def answer(self, printed, status, last=None):
+        """What the stand-in prints, and the status of the program that it ran."""
+        ended = f'run=ended status={status} runners=1 races=unchecked proved=no\n'
+        (self.room / 'printed').write_bytes(printed)
+        (self.room / 'said').write_text('checked: something\n' + (ended if last is None else last))
+        (self.room / 'status').write_text(f'{status}\n')
+
+    def build(self, printed):
+        """A program that counts as proved, and prints this."""
+        program = self.room / 'crates/vll/out/vll'
+        program.parent.mkdir()
+        program.write_text(f'#!/usr/bin/env bash\nprintf {printed}\n')
+        program.chmod(0o755)
+
+    def vll(self, *words, given=b''):
+        path = f'{self.room / "bin"}:{os.environ["PATH"]}'
+        env = {**os.environ, 'PATH': path, 'ROOM': str(self.room)}
+        return subprocess.run([self.room / 'vll', *words], input=given, capture_output=True, env=env, check=False)
+
+    def words(self):
+        return (self.room / 'words').read_text().splitlines()[1:]
+
+    def test_words_and_input_reach_the_program(self):
+        given = TRANSFER.read_bytes()
+        self.vll('--unproved', 'run', '--workers', '3', given=given)
+        self.assertEqual(self.words(), ['try', '--', 'run', '--workers', '3'])
+        self.assertEqual((self.room / 'input').read_bytes(), given)
+        self.assertEqual((self.room / 'words').read_text().splitlines()[0], str(self.room / 'crates/vll'))
+
+    def test_input_comes_from_a_file(self):
+        self.vll('--unproved', 'replay', given=b'{}')
+        self.assertFalse((self.room / 'no_file').exists())
+
+    def test_outcome_is_printed_byte_for_byte(self):
+        for printed in OUTCOME, b'', b'no end of the line', b'\0\xff\n\n':
+            self.answer(printed, 0)
+            self.assertEqual(self.vll('--unproved', 'run').stdout, printed)
+
+    def test_help_names_the_program(self):
+        usage = b'Runs it\n\nUsage: program run [OPTIONS]\n'
+        self.answer(usage, 0)
+        self.assertEqual(self.vll('--unproved', 'run', '--help').stdout, usage.replace(b'program', b'vll'))
+        self.assertEqual(self.vll('--unproved', 'run').stdout, usage)
+
+    def test_each_run_says_that_it_is_unproved(self):
+        for words in ('run',), ('replay',), ('--help',), ():
+            said = self.vll('--unproved', *words).stderr
+            self.assertIn(b'UNPROVED', said)
+            self.assertNotIn(b'checked: something', said)
+
+    def test_status_is_the_programs(self):
+        for status in 0, 1, 2:
+            self.answer(b'vll: scenario: json\n', status)
+            ran = self.vll('--unproved', 'run')
+            self.assertEqual((ran.returncode, ran.stdout), (status, b'vll: scenario: json\n'))
+
+    def test_no_outcome_is_status_3(self):
+        for last in 'run=no-answer proved=no\n', 'run=none proved=no\n', 'error: expected `;`\n', '':
+            self.answer(b'half of an outcome\n', 4, last)
+            ran = self.vll('--unproved', 'run')
+            self.assertEqual((ran.returncode, ran.stdout), (3, b''))
+            self.assertIn(b'checked: something', ran.stderr)
+
+    def test_a_line_of_the_program_is_not_taken_for_the_last(self):
+        self.answer(b'', 4, 'run=ended status=0 proved=no\nrun=no-answer proved=no\n')
+        self.assertEqual(self.vll('--unproved', 'run').returncode, 3)
+
+    def test_input_is_left_where_the_program_reads_none(self):
+        for words in ('--help',), ('run', '--help'), ('replay', '-h'), ('other',), ():
+            self.vll('--unproved', *words, given=b'left as it is')
+            self.assertEqual((self.room / 'input').read_bytes(), b'')
+
+    def test_input_that_cannot_be_read_is_status_3(self):
+        path = f'{self.room / "bin"}:{os.environ["PATH"]}'
+        env = {**os.environ, 'PATH': path, 'ROOM': str(self.room)}
+        folder = os.open(self.room, os.O_RDONLY)
+        self.addCleanup(os.close, folder)
+        words = [self.room / 'vll', '--unproved', 'run']
+        ran = subprocess.run(words, stdin=folder, capture_output=True, env=env, check=False)
+        self.assertEqual((ran.returncode, ran.stdout), (3, b''))
+
+    def test_it_is_not_chosen_silently(self):
+        self.build('proved')
+        ran = self.vll('run')
+        self.assertEqual((ran.stdout, ran.stderr), (b'proved', b''))
+        self.assertFalse((self.room / 'words').exists())
+
+    def test_a_missing_program_is_proved_and_built(self):
+        self.vll('run')
+        self.assertEqual(self.words(), ['run', '--', '--help'])
+
+    def test_the_word_counts_in_the_first_place_alone(self):
+        self.build('"$*"')
+        self.assertEqual(self.vll('run', '--unproved').stdout, b'run --unproved')
+
+
+class WithRt(unittest.TestCase):
+    """The repository's own ./vll, and rt: each run compiles all sources."""
+
+    def check(self, words, given, printed, status):
+        ran = subprocess.run([TOP / 'vll', '--unproved', *words], input=given, capture_output=True, check=False)
+        self.assertEqual((ran.stdout, ran.returncode), (printed, status), ran.stderr.decode())
+
+    def test_a_run(self):
+        printed = TRANSFER.with_suffix('.out').read_bytes()
+        self.check(['run', '--workers', '3'], TRANSFER.read_bytes(), printed, 0)
+
+    def test_a_refused_scenario(self):
+        self.check(['replay'], b'{', b'vll: scenario: json\n', 2)
+
+    def test_a_refused_command_line(self):
+        self.check(['run', '--workers', '0'], b'', b'vll: command line\n', 2)
+
+
+def main():
+    if sys.argv[1:] not in ([], ['--with-rt']):
+        print(__doc__.strip(), file=sys.stderr)
+        return 2
+    cases = WithRt if sys.argv[1:] else WithStandIn
+    suite = unittest.defaultTestLoader.loadTestsFromTestCase(cases)
+    result = unittest.TextTestRunner(verbosity=0).run(suite)
+    failed = len(result.failures) + len(result.errors)
+    print(f'unproved: {result.testsRun - failed} passed, {failed} failed')
+    return 1 if failed else 0
+
+
+if __name__ == '__main__':
+    sys.exit(main())
