@@ -1,0 +1,167 @@
+"""What the sources declare: the definitions of specs/, and the types, functions and clauses of src/."""
+import re
+from functools import cache
+
+# A declaration of a definition, behind the words that may stand before its name.
+DECLARATION = re.compile(r'\s*(?:(?:abbrev|unfoldable|opaque|pub|record|data) )+(?!(?:mod|mutual)\b)([A-Za-z_]\w*)')
+USE = re.compile(r'use Rattle\.(\w+)\.specs\.([\w.]+)\.\{(.*)\}')
+ITEM = re.compile(r'\s*(?:pub(?:\(\w+\))? )?(?:struct|enum|trait|const|type|fn) (\w+)')
+MEMBER = re.compile(r'    (?:(?:pub(?:\(\w+\))? )?([a-z_]\w*):|([A-Z]\w*)(?:\(.*\)| \{.*)?,?$)')
+FUNCTION = re.compile(r'(\s*)(?:pub(?:\(\w+\))? )?(?:const )?fn (\w+)')
+TRAIT = re.compile(r'(?:pub )?trait (\w+)')
+CLAUSE = re.compile(r'\s*(?:ensures|requires)\b\s*(\w*)')
+COMMENT = re.compile(r'\s*(?:--|//|$)')
+
+
+def self_type(head):
+    """The type of an `impl`, from what stands behind that word."""
+    depth, end = 0, 0
+    if head.startswith('<'):
+        for end, letter in enumerate(head):
+            depth += (letter == '<') - (letter == '>' and head[end - 1] not in '-=')
+            if depth == 0:
+                break
+        head = head[end + 1:]
+    found = re.match(r'[&\s]*(\w+)', re.split(r' for ', head)[-1])
+    return found[1] if found else ''
+
+
+class Sources:
+    """The files of all crates. A file is named by its crate and its path in it, as `vll_sca/specs/Scan.antt`."""
+
+    def __init__(self, top):
+        self.files = {}
+        for path in sorted([*top.glob('crates/*/specs/**/*.antt'), *top.glob('crates/*/src/**/*.rt')]):
+            self.files[str(path.relative_to(top / 'crates'))] = path.read_text().splitlines()
+
+    @cache
+    def names_of(self, file):
+        """What a file declares, with the fields and variants of its types."""
+        kinds = (DECLARATION,) if file.endswith('.antt') else (ITEM, MEMBER)
+        found = (kind.match(line) for line in self.files.get(file, ()) for kind in kinds)
+        return {name for each in found if each for name in each.groups() if name}
+
+    @cache
+    def names(self, crate):
+        """What a crate declares, or all of them, with the crates' own names."""
+        inside = [file for file in self.files if crate in (None, file.split('/')[0])]
+        return {name for file in inside for name in (*self.names_of(file), file.split('/')[0])}
+
+    def is_declared(self, name, crate):
+        return name in self.names(crate)
+
+    @cache
+    def functions(self, crate):
+        """The clauses of each function, by `Type::name` or by `name`."""
+        found = {}
+        for file, lines in self.files.items():
+            if file.endswith('.rt') and crate in (None, file.split('/')[0]):
+                for name, clauses in functions_of(lines):
+                    found.setdefault(name, set()).update(clauses)
+        return found
+
+    def clauses_of(self, name, crate):
+        """The names of a function's clauses, and None if there is no such function."""
+        return self.functions(crate).get(name)
+
+    @cache
+    def is_type(self, name):
+        return any(function.startswith(f'{name}::') for function in self.functions(None))
+
+    def has_lines(self, wanted):
+        """A file has these lines, one behind the other, but for comments, empty lines and the space before each."""
+        return bool(wanted) and any(has_run(lines, wanted) for lines in self.bare())
+
+    @cache
+    def bare(self):
+        """The lines of each file without comments, empty lines and the space before each."""
+        return [[line.strip() for line in lines if not COMMENT.match(line)] for lines in self.files.values()]
+
+
+def has_run(lines, wanted):
+    return any(lines[at:at + len(wanted)] == wanted for at, line in enumerate(lines) if line == wanted[0])
+
+
+def functions_of(lines):
+    """Each function of a file, with the names of its clauses."""
+    found_all, group, clauses = [], '', None
+    for line in lines:
+        if line.startswith('impl'):
+            group = self_type(line[4:].strip())
+        elif TRAIT.match(line):
+            group = TRAIT.match(line)[1]
+        elif line.startswith('}'):
+            group = ''
+        found = FUNCTION.match(line)
+        if found:
+            clauses = set()
+            found_all.append((f'{group}::{found[2]}' if group and found[1] else found[2], clauses))
+        elif clauses is not None and CLAUSE.match(line):
+            clauses.add(CLAUSE.match(line)[1])
+    return found_all
+
+
+class Specs:
+    """The definitions of specs/, and which of them each one cites."""
+
+    def __init__(self, top):
+        self.imports = {}
+        self.texts = {}
+        for path in sorted(top.glob('crates/*/specs/**/*.antt')):
+            crate, _, *inside = path.relative_to(top / 'crates').with_suffix('').parts
+            self.read((crate, '.'.join(inside)), path.read_text().splitlines())
+
+    def read(self, file, lines):
+        self.imports[file] = {}
+        name, group = None, -1
+        for line in lines:
+            words = line.strip()
+            indent = len(line) - len(line.lstrip())
+            if not words or words.startswith('--'):
+                continue
+            if words.startswith('use '):
+                self.import_all(file, words)
+                continue
+            if group >= 0 and indent <= group:
+                group = -1
+            if re.match(r'(?:abbrev mutual|module)\b', words):
+                group, name = indent, None
+                continue
+            if indent == group + 2 if group >= 0 else indent == 0:
+                name = self.name_at(file, words, name)
+            if name:
+                self.texts.setdefault((*file, name), []).append(words)
+
+    def import_all(self, file, words):
+        found = USE.fullmatch(words)
+        for each in found[3].split(',') if found else ():
+            name, _, alias = each.strip().partition(' as ')
+            self.imports[file][alias or name] = (found[1], found[2], name)
+
+    def name_at(self, file, words, name):
+        """The definition to which a line at the outermost place belongs, if the last one was `name`."""
+        found = DECLARATION.match(words)
+        if found:
+            return found[1]
+        first = re.match(r'[A-Za-z_]\w*', words)
+        return first[0] if first and (*file, first[0]) in self.texts else name
+
+    def cited_by(self, key):
+        crate, inside, name = key
+        text = re.sub(r'"[^"]*"', '', ' '.join(self.texts[key]))
+        for word in set(re.findall(r"(?<![\w.])[A-Za-z_][\w']*", text)) - {name}:
+            at = (crate, inside, word)
+            at = at if at in self.texts else self.imports[crate, inside].get(word)
+            if at in self.texts:
+                yield at
+
+    def reached_from(self, root):
+        """The names of what a definition cites, of what that cites, and so on, with its own."""
+        left = [key for key in self.texts if key[2] == root]
+        reached = set(left)
+        while left:
+            for key in self.cited_by(left.pop()):
+                if key not in reached:
+                    reached.add(key)
+                    left.append(key)
+        return {name for _, _, name in reached}
