@@ -100,7 +100,7 @@ fn options_of(matches: &ArgMatches<'_>) -> Result<RunOptions, Fault> {
     })
 }
 
-// The number that an option gives, where it is there.
+// The number that an option gives, if it is there.
 fn number_of<const MOST: u32>(
     matches: &ArgMatches<'_>,
     name: &str,

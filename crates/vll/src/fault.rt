@@ -16,7 +16,7 @@ pub(crate) enum Fault {
 }
 
 impl Fault {
-    /// The program's exit status: 2 where what was given is refused, and 1 where the run or the replay failed.
+    /// The program's exit status: 2 if what was given is refused, and 1 if the run or the replay failed.
     pub(crate) fn status(&self) -> u8 {
         match self {
             Fault::CommandLine | Fault::Scenario(_) | Fault::Replay(ReplayFault::Scenario(_)) => 2,

@@ -23,7 +23,7 @@ fn main(rt: HostRuntime) -> ExitCode {
     match work(&rt) {
         Ok(()) => ExitCode::SUCCESS,
         Err(fault) => {
-            // Where standard output itself has failed, the status alone tells of the fault.
+            // If standard output itself has failed, the status alone tells of the fault.
             let _ = println!(rt; "{fault}");
             ExitCode::from(fault.status())
         }

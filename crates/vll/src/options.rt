@@ -40,7 +40,7 @@ impl<const MOST: u32> Model for UpTo<MOST> {
 }
 
 impl<const MOST: u32> UpTo<MOST> {
-    /// The number, or `None` where it is 0 or greater than `MOST`.
+    /// The number, or `None` if it is 0 or greater than `MOST`.
     pub(crate) fn new(number: u32) -> Option<UpTo<MOST>>
         ensures some { IsSome result ↔ ((1 ≤ number) × (number ≤ MOST)) }
         ensures value { IfSome result (λ n. n ≡ number) }

@@ -20,7 +20,7 @@ const CALLS: u32 = MOST_CALLS;
 // How often they are made. The fastest counts, since other work disturbs the others.
 const REPEATS: u32 = 5;
 
-/// Prints how many nanoseconds of processor time a bump takes from `begin` to `finish`, where one thread makes one
+/// Prints how many nanoseconds of processor time a bump takes from `begin` to `finish`, when one thread makes one
 /// call after the other.
 pub(crate) fn measure_engine<R: Wait + CpuClock + Print + AllocGlobal>(
     rt: &R,

@@ -17,13 +17,13 @@ pub(crate) enum Fault {
     Call(CallFault),
     Open(OpenFault),
     Event(Refusal),
-    /// A call was blocked or refused, or did not run, where it is alone.
+    /// A call was blocked or refused, or did not run, although it is alone.
     Refused,
     Scenario(ScenarioFault),
     Run(RunFault),
     /// Calls were left after a run.
     Unfinished,
-    /// A scan found a call where each is held back.
+    /// A scan found a call although each is held back.
     Found,
     /// A call claims a record that is not there.
     NoRecord,

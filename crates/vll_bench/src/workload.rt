@@ -36,7 +36,7 @@ impl Workload {
         }
     }
 
-    /// How many events so many calls take: 3 to enter, 4 to run, and 1 more where a call waits.
+    /// How many events so many calls take: 3 to enter, 4 to run, and 1 more if a call waits.
     pub(crate) fn events(self, calls: u32) -> u64 {
         let calls = u64::from(calls);
         match self {

@@ -15,7 +15,7 @@ begins_or_scans (event.Enter client) = true
 begins_or_scans event.Scan = true
 begins_or_scans other = false
 
--- so many events lead from a state to another: none of them is Find, Enter or Scan, and none is refused
+-- a number of events leads from one state to another: none of them is Find, Enter or Scan, and none is refused
 pub record IsDrained (o : Opening) (s next : State) (made : ℕ) : Type 0 where
   pub events : List Event
   pub number : length events ≡ made

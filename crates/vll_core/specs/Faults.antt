@@ -17,11 +17,11 @@ config_fault config =
     (if is_up_to MOST_WAITING config.cap then (if is_up_to MOST_BITS config.bits then None else Some Bits) else Some Cap)
     else Some Limit
 
--- why no machine can be opened over so many records: the lowest fault that stands
+-- why no machine can be opened over this many records: the lowest fault that stands
 abbrev pub open_fault : ℕ → Config → Option OpenFault
 open_fault records config = if is_up_to MOST_RECORDS records then config_fault config else Some Records
 
--- where a fault stands, it is answered; where none stands, only memory can be refused
+-- if a fault stands, it is returned; if none stands, only memory can be refused
 abbrev pub Refuses : {A : Type 0} → Option OpenFault → Result A OpenFault → Type 0
 Refuses (Some fault) result = result ≡ Err fault
 Refuses None (Ok opened) = Unit {0}

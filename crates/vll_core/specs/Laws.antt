@@ -51,7 +51,7 @@ OpenTurnsHaveRoom =
 abbrev pub WaitingStaysWithinTheCap : Type 0
 WaitingStaysWithinTheCap = (o : Opening) (s : State) → IsReached o s → waiting s ≤ o.cap
 
--- a load by ticket t gives the record as it is before ticket t, where the calls run one at a time
+-- a load by ticket t gives the record as it is before ticket t, if the calls run one at a time
 abbrev pub LoadsSeeTheSerialState : Type 0
 LoadsSeeTheSerialState =
     (o : Opening) (s next : State) (t v : ℕ) (e : Entered) (c : Claim)
@@ -64,7 +64,7 @@ CountersChangeByDeltas =
     (o : Opening) (s next : State) (m : Move) (seen : Seen) (r : ℕ)
     → move o s m ≡ Ok (seen, next) → counter next r + delta_if r (released_by s m) ≡ counter s r + delta_if r (requested_by s m)
 
--- a store by ticket t makes the record what it is behind ticket t, where the calls run one at a time
+-- a store by ticket t makes the record what it is behind ticket t, if the calls run one at a time
 abbrev pub StoresMakeTheSerialState : Type 0
 StoresMakeTheSerialState =
     (o : Opening) (s next : State) (t : ℕ) (e : Entered) (c : Claim) (seen : Seen)
@@ -77,7 +77,7 @@ OtherValuesStay =
     (o : Opening) (s next : State) (m : Move) (seen : Seen) (r : ℕ)
     → IsReached o s → move o s m ≡ Ok (seen, next) → is_on r (stored_by s m) ≡ false → value o.base next r ≡ value o.base s r
 
--- a move changes no record before a ticket that has been given or comes next, where the calls run one at a time
+-- a move changes no record before a ticket that has been given or comes next, if the calls run one at a time
 abbrev pub SerialStatesStay : Type 0
 SerialStatesStay =
     (o : Opening) (s next : State) (m : Move) (seen : Seen) (t : ℕ)
@@ -91,7 +91,7 @@ CountersStayWithinTheLimit =
     × (count_by is_write (claims_on r (open_claims s)) ≤ o.limit)
     × (count_by (λ c. not (is_write c)) (claims_on r (open_claims s)) ≤ o.limit)
 
--- where no turn is open and no call waits or runs, each call is gone, each record is what the calls make of it one at a time in order of entry, and each counter is 0
+-- if no turn is open and no call waits or runs, each call is gone, each record is what the calls make of it one at a time in order of entry, and each counter is 0
 abbrev pub FinishedMachinesHaveTheSerialEnd : Type 0
 FinishedMachinesHaveTheSerialEnd =
     (o : Opening) (s : State)
@@ -117,7 +117,7 @@ LaterCallsLeaveSerialStates =
     (procs : List Proc) (calls more : List Made) (records : List ℕ) (i : ℕ)
     → i ≤ length calls → before procs (calls ++ more) records i ≡ before procs calls records i
 
--- what a call of a list answers is the same whatever calls come behind the list
+-- what a call of a list replies is the same whatever calls come behind the list
 abbrev pub LaterCallsLeaveSerialAnswers : Type 0
 LaterCallsLeaveSerialAnswers =
     (procs : List Proc) (calls more : List Made) (records : List ℕ) (i : ℕ)

@@ -21,12 +21,12 @@ use Rattle.vll_core.specs.State.{Base, catalog_of, Opening, Entered, Turn, State
 abbrev pub Outcome : Type 0
 Outcome = Result (Seen × State) Refusal
 
--- refused where a test holds
+-- refused if a test holds
 abbrev pub refuse_if : {A E : Type 0} → Bool → E → Result A E → Result A E
 refuse_if true why go = Err why
 refuse_if false why go = go
 
--- refused where there is nothing to go on with
+-- refused if there is nothing to go on with
 abbrev pub or_refuse : {A B E : Type 0} → Option A → E → (A → Result B E) → Result B E
 or_refuse None why go = Err why
 or_refuse (Some a) why go = go a
@@ -71,7 +71,7 @@ kept_for s c = elim (slice_get s.kept c) [ None ↦ None | Some v ↦ v ]
 abbrev pub keeping : State → ℕ → Option ℕ → List (Option ℕ)
 keeping s c v = slice_set s.kept c v
 
--- a client's call as it enters: with the value that is kept for it, if it has an indirect key; it does not enter where none is kept
+-- a client's call as it enters: with the value that is kept for it, if it has an indirect key; it does not enter if none is kept
 abbrev pub ready : Base → State → ℕ → Call → Option Call
 ready o s c call = elim (source (catalog_of o) call) [ None ↦ Some call | Some r ↦ option_map (with_found (catalog_of o) call) (kept_for s c) ]
 
@@ -92,7 +92,7 @@ with_entry s t e = record s { entries = slice_set s.entries t e }
 abbrev pub with_status : State → ℕ → Status → State
 with_status s t status = elim (slice_get s.entries t) [ None ↦ s | Some e ↦ with_entry s t (record e { status = status }) ]
 
--- the lowest ticket that is not Gone, where it is Waiting
+-- the lowest ticket that is not Gone, if it is Waiting
 abbrev pub front : State → Option ℕ
 front s = elim (position (λ (e : Entered). not (is_gone e.status)) s.entries) [
   | None ↦ None
@@ -120,7 +120,7 @@ enter o s c entering scripts kept =
     (or_refuse entering OutOfStep (λ call.
     Ok (Opened, record s { turn = Some (record { client = c; call = call; requested = 0; granted = true }); scripts = scripts; kept = kept }))))
 
--- a request is granted where no open claim conflicts with it
+-- a request is granted if no open claim conflicts with it
 abbrev pub request : State → Turn → Claim → Outcome
 request s turn c =
     let granted = not (conflict (open_claims s) (c ∷ [])) in
@@ -174,7 +174,7 @@ abbrev pub state_after : State → Outcome → State
 state_after s (Ok seen) = seen.1
 state_after s (Err why) = s
 
--- what is told of an outcome
+-- what an outcome shows
 abbrev pub told : Outcome → Result Seen Refusal
 told (Ok seen) = Ok seen.0
 told (Err why) = Err why

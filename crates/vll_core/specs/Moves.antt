@@ -21,7 +21,7 @@ pub record IsProper (o : Base) (call : Call) : Type 0 where
   pub rising : IsRising call.claims
   pub changes_its_own : (records : List ℕ) (r : ℕ) → length records ≡ length o.records → mode_on call.claims r ≢ Some Write → slice_index (apply o.procs call records).records r ≡ slice_index records r
 
--- a call is proper as it enters: as it is, or with whatever value is found where it has an indirect key
+-- a call is proper as it enters: as it is, or with whatever value is found if it has an indirect key
 abbrev pub EntersProper : Base → Call → Type 0
 EntersProper o call = elim (source (catalog_of o) call) [ None ↦ IsProper o call | Some r ↦ ((v : ℕ) → IsProper o (with_found (catalog_of o) call v)) ]
 

@@ -41,7 +41,7 @@ abbrev pub is_left : Status → Bool
 is_left s = not (is_gone s)
 
 -- what is true of every queue: the limit, the cap and the number of bits are within their bounds, the limit and the cap are kept,
--- and a line has a reply exactly where its call is gone
+-- and a line has a reply exactly if its call is gone
 pub record IsQueued {H : Type 0} (q : Queued H) : Type 0 where
   pub some_calls : 1 ≤ q.limit
   pub few_calls : q.limit ≤ MOST_CALLS
@@ -57,7 +57,7 @@ pub record IsQueued {H : Type 0} (q : Queued H) : Type 0 where
 abbrev pub empty : {H : Type 0} → Config → H → Queued H
 empty config hash = record { cap = config.cap; limit = config.limit; bits = config.bits; hash = hash; entries = [] }
 
--- a call that enters, without a reply: it runs where all its requests were granted, else it waits
+-- a call that enters, without a reply: it runs if all its requests were granted, else it waits
 abbrev pub entry : ℕ → Call → Bool → QueueEntry
 entry client call free =
     record { line = record { client = client; call = call; reply = None }; status = if free then Running else Waiting }
@@ -66,7 +66,7 @@ entry client call free =
 abbrev pub admitted : {H : Type 0} → Queued H → QueueEntry → Queued H
 admitted q e = record q { entries = q.entries ++ e ∷ [] }
 
--- an entry is changed at its place; where there is none, nothing is
+-- an entry is changed at its place; if there is none, nothing is
 abbrev pub changed_at : List QueueEntry → ℕ → (QueueEntry → QueueEntry) → List QueueEntry
 changed_at es t change = elim (slice_get es t) [ None ↦ es | Some e ↦ slice_set es t (change e) ]
 
@@ -79,21 +79,21 @@ abbrev pub finished : {H : Type 0} → Queued H → ℕ → Reply → Queued H
 finished q t reply =
     record q { entries = changed_at q.entries t (λ e. record { line = record e.line { reply = Some reply }; status = Gone }) }
 
--- a ticket, where its call waits
+-- a ticket, if its call waits
 abbrev pub waiting_ticket : ℕ → Option Status → Option ℕ
 waiting_ticket t None = None
 waiting_ticket t (Some s) = if is_waiting s then Some t else None
 
--- the lowest ticket that is not gone, where it waits
+-- the lowest ticket that is not gone, if it waits
 abbrev pub front_among : List Status → Option ℕ
 front_among ss = elim (position is_left ss) [ None ↦ None | Some t ↦ waiting_ticket t (slice_get ss t) ]
 
--- the queue after a ticket was found: where there is one, its call runs
+-- the queue after a ticket was found: if there is one, its call runs
 abbrev pub started_if : {H : Type 0} → Queued H → Option ℕ → Queued H
 started_if q None = q
 started_if q (Some t) = started q t
 
--- the queue after its front was asked for: where there is one, it runs
+-- the queue after its front was asked for: if there is one, it runs
 abbrev pub fronted : {H : Type 0} → Queued H → Queued H
 fronted q = started_if q (front_among (statuses q))
 
@@ -105,6 +105,6 @@ analysed e = record { claims = e.line.call.claims; status = e.status }
 abbrev pub found_by : {H : Type 0} → (H → ℕ → ℕ) → Queued H → Option ℕ
 found_by place q = scan (place q.hash) q.bits (map analysed q.entries)
 
--- the queue after it was scanned: where a ticket is found, its call runs
+-- the queue after it was scanned: if a ticket is found, its call runs
 abbrev pub scanned : {H : Type 0} → (H → ℕ → ℕ) → Queued H → Queued H
 scanned place q = started_if q (found_by place q)

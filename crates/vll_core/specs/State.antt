@@ -92,15 +92,15 @@ is_aborted (Committed outputs) = false
 is_aborted (Aborted why) = true
 
 module _ (o : Base) where
-  -- the records before ticket t, where the calls run one at a time
+  -- the records before ticket t, if the calls run one at a time
   abbrev pub records_before : State → ℕ → List ℕ
   records_before s t = before o.procs (entered s) o.records t
 
-  -- what the call at ticket t answers, where the calls run one at a time
+  -- what the call at ticket t replies, if the calls run one at a time
   abbrev pub reply_at : State → ℕ → Entered → Reply
   reply_at s t e = (apply o.procs e.call (records_before s t)).reply
 
-  -- a call has aborted from its last load on, where its answer is Aborted
+  -- a call has aborted from its last load on, if its answer is Aborted
   abbrev pub has_aborted : State → ℕ → Entered → Bool
   has_aborted s t e = (e.loads == length e.call.claims) && is_aborted (reply_at s t e)
 
@@ -109,7 +109,7 @@ module _ (o : Base) where
   will_store s r (t, e) =
       list_any (λ (c : Claim). c.id == r) (drop e.stores (writes e.call)) && not (has_aborted s t e)
 
-  -- the lowest ticket that is yet to store r, or the number of tickets where there is none
+  -- the lowest ticket that is yet to store r, or the number of tickets if there is none
   abbrev pub unstored : State → ℕ → ℕ
   unstored s r = position_or_len (will_store s r) (enumerate_from 0 s.entries)
 

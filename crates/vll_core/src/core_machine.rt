@@ -48,8 +48,8 @@ impl<H: Place> Model for Core<H> {
 }
 
 impl<H: Place + Drop> Core<H> {
-    /// A machine over these records with nothing entered. The lowest fault that stands is answered, as `open_fault`
-    /// tells it: `Records`, `Limit`, `Cap` or `Bits`; where none stands, `NoMemory` is the only one. All memory is
+    /// A machine over these records with nothing entered. The lowest fault that stands is returned, as `open_fault`
+    /// says: `Records`, `Limit`, `Cap` or `Bits`; if none stands, `NoMemory` is the only one. All memory is
     /// taken here, and that of the list handed in is given back.
     pub fn open(
         alloc: Global,
@@ -100,7 +100,7 @@ impl<H: Place> Core<H> {
         (machine, library)
     }
 
-    /// Where the call of a ticket stands, and `None` exactly where no call has the ticket.
+    /// Where the call of a ticket stands, and `None` exactly if no call has the ticket.
     pub fn state(&self, ticket: Ticket) -> Option<Status>
         ensures { result ≡ option_map (λ (e : Entered). e.status) (slice_get self.now.state.entries ticket) }
     {
@@ -121,8 +121,8 @@ impl<H: Place> Core<H> {
         self.machine.running()
     }
 
-    /// The journal: each entered call with its client, in order of entry. Where a call is finished its line has
-    /// the reply that it answers where the calls run one at a time in this order, and else no reply.
+    /// The journal: each entered call with its client, in order of entry. If a call is finished its line has
+    /// the reply that it gives when the calls run one at a time in this order, and else none.
     pub fn journal(&self) -> &[Line]
         ensures lines { result.now ≡ journal_of self.now.base self.now.state }
         ensures few { length result.now ≤ MOST_CALLS }

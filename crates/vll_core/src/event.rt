@@ -14,7 +14,7 @@ pub enum Event {
     Claim,
     /// The call of the open turn gets the next ticket, and the turn closes.
     Admit,
-    /// The lowest ticket that is not gone, where it waits, begins to run.
+    /// The lowest ticket that is not gone, if it waits, begins to run.
     Front,
     /// The first waiting call that is in hash conflict with no earlier one that runs or waits begins to run.
     Scan,

@@ -39,7 +39,7 @@ pub fn waiting_stays_within_the_cap()
     ensures { WaitingStaysWithinTheCap }
 {}
 
-/// A load by ticket t answers the record as it is before ticket t, where the entered calls run one
+/// A load by ticket t returns the record as it is before ticket t, if the entered calls run one
 /// at a time.
 #[tactic(auto, using(crate::proofs::Reached::load_reached))]
 pub fn loads_see_the_serial_state()
@@ -52,7 +52,7 @@ pub fn counters_change_by_deltas()
     ensures { CountersChangeByDeltas }
 {}
 
-/// A store by ticket t makes its record what it is behind ticket t, where the entered calls run one
+/// A store by ticket t makes its record what it is behind ticket t, if the entered calls run one
 /// at a time.
 #[tactic(auto, using(crate::proofs::Values::store_reached))]
 pub fn stores_make_the_serial_state()
@@ -65,7 +65,7 @@ pub fn other_values_stay()
     ensures { OtherValuesStay }
 {}
 
-/// What the records are before a ticket, where the entered calls run one at a time, never changes
+/// What the records are before a ticket, if the entered calls run one at a time, never changes
 /// once the lower tickets are given.
 #[tactic(auto, using(crate::proofs::Reached::serial_stays))]
 pub fn serial_states_stay()
@@ -78,20 +78,20 @@ pub fn counters_stay_within_the_limit()
     ensures { CountersStayWithinTheLimit }
 {}
 
-/// Where no turn is open and no call waits or runs, each call is gone, each record is what the
+/// If no turn is open and no call waits or runs, each call is gone, each record is what the
 /// entered calls make of it one at a time in order of entry, and each counter is 0.
 pub fn finished_machines_have_the_serial_end()
     ensures { FinishedMachinesHaveTheSerialEnd }
 {}
 
 /// Calls that are ready are proper, and those that a library makes are so as they enter, so a machine over its procedures
-/// meets what the laws ask for: where a call is handed in, and in its scripts.
+/// meets what the laws ask for: when a call is handed in, and in its scripts.
 pub fn fitting_calls_are_proper()
     ensures call { ReadyCallIsProper }
     ensures scripts { FittingScriptsAreProper }
 {}
 
-/// Where calls run one at a time, what the records are before a call of a list and what the call
+/// If calls run one at a time, what the records are before a call of a list and what the call
 /// answers is the same whatever calls come behind the list.
 pub fn later_calls_leave_serial_runs()
     ensures states { LaterCallsLeaveSerialStates }

@@ -104,7 +104,7 @@ impl<H: Place + Drop> Machine<H> {
         }
     }
 
-    // A machine in which nothing is entered, where nothing but memory can be refused.
+    // A machine in which nothing is entered. Nothing but memory can be refused.
     fn with_room(
         alloc: Global,
         records: &Vec<u64>,
@@ -170,7 +170,7 @@ impl<H: Place> Machine<H> {
         }
     }
 
-    /// Where the call of a ticket stands, and `None` exactly where no call has the ticket.
+    /// Where the call of a ticket stands, and `None` exactly if no call has the ticket.
     pub fn state(&self, ticket: Ticket) -> Option<Status>
         ensures { result ≡ option_map (λ (e : Entered). e.status) (slice_get self.now.state.entries ticket) }
     {
@@ -191,8 +191,8 @@ impl<H: Place> Machine<H> {
         self.queue.running()
     }
 
-    /// The journal: each entered call with its client, in order of entry. Where a call is finished its line has
-    /// the reply that it answers where the calls run one at a time in this order, and else no reply.
+    /// The journal: each entered call with its client, in order of entry. If a call is finished its line has
+    /// the reply that it gives when the calls run one at a time in this order, and else none.
     pub fn journal(&self) -> &[Line]
         ensures lines { result.now ≡ journal_of self.now.base self.now.state }
         ensures few { length result.now ≤ MOST_CALLS }

@@ -6,7 +6,7 @@ use crate::config::{Config, MOST_CALLS, MOST_RECORDS, MOST_WAITING, OpenFault};
 use vll_sca::MOST_BITS;
 
 /// Why nothing can be opened with so many records and this configuration: the lowest fault that stands, and `None`
-/// where none does. `NoMemory` is not among these.
+/// if none does. `NoMemory` is not among these.
 pub fn open_fault(records: usize, config: Config) -> Option<OpenFault>
     ensures { result ≡ open_fault records config }
 {

@@ -52,8 +52,8 @@ impl<H: Place> Model for Queue<H> {
 
 impl<H: Place + Drop> Queue<H> {
     /// A queue in which nothing is entered, with room for `limit` calls, each place of which is written once, so that
-    /// the system has mapped it before the first call. The lowest fault that stands is answered: `Limit`, `Cap` or
-    /// `Bits`, before any memory is asked for; where none stands, `NoMemory` is the only one.
+    /// the system has mapped it before the first call. The lowest fault that stands is returned: `Limit`, `Cap` or
+    /// `Bits`, before any memory is asked for; if none stands, `NoMemory` is the only one.
     pub fn open(alloc: Global, config: Config, hash: H) -> Result<Queue<H>, OpenFault>
         ensures refused { Refuses (config_fault config) result }
         ensures opened { IfOk result (λ q. q ≡ empty config hash) }
@@ -64,7 +64,7 @@ impl<H: Place + Drop> Queue<H> {
         }
     }
 
-    // A queue in which nothing is entered, where the configuration has no fault.
+    // A queue in which nothing is entered, for a configuration without a fault.
     pub(crate) fn with_room(alloc: Global, config: Config, hash: H) -> Result<Queue<H>, AllocError>
         requires { config_fault config ≡ None }
         ensures { IfOk result (λ q. q ≡ empty config hash) }
@@ -129,14 +129,14 @@ impl<H: Place> Queue<H> {
         self.running
     }
 
-    /// Where the call of a ticket stands. `None` exactly where there is no such ticket yet.
+    /// Where the call of a ticket stands. `None` exactly if there is no such ticket yet.
     pub fn status(&self, ticket: Ticket) -> Option<Status>
         ensures { result ≡ slice_get (statuses self.now) ticket }
     {
         self.statuses.get(ticket.0 as usize).copied()
     }
 
-    /// The line of a ticket. `None` exactly where there is no such ticket yet.
+    /// The line of a ticket. `None` exactly if there is no such ticket yet.
     pub fn line(&self, ticket: Ticket) -> Option<&Line>
         ensures { option_copied result ≡ slice_get (lines self.now) ticket }
     {
@@ -151,7 +151,7 @@ impl<H: Place> Queue<H> {
         &self.journal
     }
 
-    /// Enters a call at the end, without a reply, and answers its ticket. It runs where it is free, else it waits.
+    /// Enters a call at the end, without a reply, and returns its ticket. It runs if it is free, else it waits.
     /// The queue must be neither spent nor busy. No memory is taken.
     pub fn admit(&mut self, client: u32, call: Call, free: bool) -> Ticket
         requires unspent { length self.old.entries < self.old.limit }
@@ -186,8 +186,8 @@ impl<H: Place> Queue<H> {
         Some(Ticket(self.window.front()?))
     }
 
-    /// Where the lowest ticket that is not gone waits, its call begins to run, and the ticket is answered.
-    /// Else the answer is `None`, and nothing changes.
+    /// If the lowest ticket that is not gone waits, its call begins to run, and the ticket is returned.
+    /// Else the result is `None`, and nothing changes.
     pub fn front(&mut self) -> Option<Ticket>
         ensures ticket { result ≡ front_among (statuses self.old) }
         ensures fronted { self.new ≡ fronted self.old }
@@ -200,9 +200,9 @@ impl<H: Place> Queue<H> {
         Some(front)
     }
 
-    /// Where the contention analysis finds a waiting call that is in hash conflict with no earlier one that runs or
-    /// waits, the first such call begins to run, and its ticket is answered. Else the answer is `None`, and nothing
-    /// changes. It walks over the calls that run or wait, and over no more that are gone; and over none, where the last
+    /// If the contention analysis finds a waiting call that is in hash conflict with no earlier one that runs or
+    /// waits, the first such call begins to run, and its ticket is returned. Else the result is `None`, and nothing
+    /// changes. It walks over the calls that run or wait, and over no more that are gone; and over none, if the last
     /// scan found none and since then no call was removed and none entered that waits. No memory is taken.
     pub fn scan(&mut self) -> Option<Ticket>
         ensures ticket { result ≡ found_by H.place_of self.old }

@@ -22,6 +22,6 @@ pub enum Seen {
     Stored,
     /// To Release: the pair word before the release.
     Released(u64),
-    /// To Finish: what the call answers.
+    /// To Finish: the call's reply.
     Replied(Reply),
 }

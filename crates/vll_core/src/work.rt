@@ -60,7 +60,7 @@ impl Work {
         }
     }
 
-    /// The claim whose record is to be loaded next. `None` exactly where all loads are made.
+    /// The claim whose record is to be loaded next. `None` exactly if all loads are made.
     pub(crate) fn next_load(&self, call: &Call) -> Option<Claim>
         ensures { result ≡ slice_get call.now.claims self.now.loads }
     {
@@ -89,7 +89,7 @@ impl Work {
         self.run_if_loaded(call, procedure);
     }
 
-    // Runs the body where all loads are made.
+    // Runs the body if all loads are made.
     fn run_if_loaded(&mut self, call: &Call, procedure: &Proc)
         requires formed { IsWellFormed procedure.now }
         requires made { (n : ℕ) × IsCallOf n procedure.now call.now }
@@ -123,7 +123,7 @@ impl Work {
         matches!(self.reply, Some(Reply::Aborted(_)))
     }
 
-    /// The Write claim whose record is to be stored next, with the value of its cell. `None` exactly where all
+    /// The Write claim whose record is to be stored next, with the value of its cell. `None` exactly if all
     /// Write claims are stored.
     pub(crate) fn next_store(&self, call: &Call) -> Option<(Claim, u64)>
         ensures claim { option_map (λ (p : Claim × ℕ). p.0) result ≡ slice_get (writes call.now) self.now.stores }
@@ -161,7 +161,7 @@ impl Work {
             && (self.has_aborted() || self.stores == count_of_writes(&call.claims))
     }
 
-    /// The claim that is to be released next. `None` exactly where all releases are made.
+    /// The claim that is to be released next. `None` exactly if all releases are made.
     pub(crate) fn next_release(&self, call: &Call) -> Option<Claim>
         ensures { result ≡ slice_get call.now.claims self.now.releases }
     {
@@ -179,7 +179,7 @@ impl Work {
     }
 }
 
-// The index of a Write claim, by its number among the Write claims, and `None` where there are not so many.
+// The index of a Write claim, by its number among the Write claims, and `None` if there are fewer.
 fn index_of_write(claims: &Claims, number: u8) -> Option<usize>
     ensures claim { option_and_then (slice_get claims.now) result ≡ slice_get (filter writes_record claims.now) number }
     ensures within { IfSome result (λ i. i < MOST_CLAIMS) }

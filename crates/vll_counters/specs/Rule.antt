@@ -29,11 +29,11 @@ widest base = record { base = base; cap = MOST_WAITING; limit = MOST_CALLS; bits
 abbrev pub turn_view : Option Turn → Option TurnView
 turn_view turn = option_map (λ (t : Turn). record { client = t.client; call = t.call; requested = t.requested; granted = t.granted }) turn
 
--- the values of claimed records before ticket t, where these calls run one at a time
+-- the values of claimed records before ticket t, if these calls run one at a time
 abbrev pub values_before : Base → List Made → ℕ → List Claim → List ℕ
 values_before base calls t claims = map (λ (c : Claim). slice_index (before base.procs calls base.records t) c.id) claims
 
--- what the pass of an entry knows, where these are the entered calls
+-- what the pass of an entry knows, if these are the entered calls
 abbrev pub pass_for : Base → List Made → ℕ → Entered → PassView
 pass_for base calls t e = record {
   ticket = t;

@@ -153,11 +153,11 @@ released p = record p { releases = p.releases + 1 }
 -- ---- a pass that has come to the queue ends
 
 module _ (base : Base) where
-  -- the records before the pass's ticket, where the entered calls run one at a time
+  -- the records before the pass's ticket, if the entered calls run one at a time
   abbrev pub records_before_pass : PassView → List ℕ
   records_before_pass p = before base.procs p.seen base.records p.ticket
 
-  -- what its call answers then
+  -- what its call replies then
   abbrev pub reply_of_pass : PassView → Reply
   reply_of_pass p = (apply base.procs p.call (records_before_pass p)).reply
 

@@ -64,7 +64,7 @@ pub record IsCounterNow (base : Base) (q : QueueView) (r n : ℕ) : Type 0 where
   pub now : QueueMoment base q
   pub counts : n ≡ counter now.rule.state r
 
--- this is the record's present value at a moment of the pass, and the value before the pass's ticket, where the entered calls run one at a time
+-- this is the record's present value at a moment of the pass, and the value before the pass's ticket, if the entered calls run one at a time
 pub record IsValueNow (base : Base) (p : PassView) (r n : ℕ) : Type 0 where
   pub now : PassMoment base p
   pub present : n ≡ value base now.rule.state r
@@ -79,7 +79,7 @@ pub record IsCountedNow (base : Base) (p : PassView) (r n : ℕ) : Type 0 where
 abbrev pub is_claimed_by : Call → ℕ → Bool
 is_claimed_by call r = list_any (λ (c : Claim). c.id == r) call.claims
 
--- a value that a record had: where these calls run one at a time it is the record's before some ticket up to a bound, and behind each of these given tickets whose call claims the record
+-- a value that a record had: if these calls run one at a time it is the record's before some ticket up to a bound, and behind each of these given tickets whose call claims the record
 pub record WasThere (base : Base) (calls : List Made) (given : List ℕ) (bound r v : ℕ) : Type 0 where
   pub ticket : ℕ
   pub within : ticket ≤ bound
@@ -102,13 +102,13 @@ abbrev pub AreReplied : Base → QueueView → Type 0
 AreReplied base q =
     (t : ℕ) (l : Line) → slice_get q.lines t ≡ Some l → slice_get q.statuses t ≡ Some Gone → l.reply ≡ answer base.procs (calls_in q.lines) base.records t
 
--- what the queue's seat is told of the session that has come, and of its own lines
+-- what the queue's seat learns of the session that has come, and of its own lines
 pub record KnowsSession (base : Base) (q : QueueView) (g : SessionView) : Type 0 where
   pub client : g.client < q.clients
   pub has_seen : HasSeen (calls_in q.lines) q.statuses g
   pub replied : AreReplied base q
 
--- what the queue's seat is told of the pass that has come: its ticket runs, and it has seen the calls up to its own
+-- what the queue's seat learns of the pass that has come: its ticket runs, and it has seen the calls up to its own
 pub record KnowsPass (q : QueueView) (p : PassView) : Type 0 where
   pub line : Line
   pub at : slice_get q.lines p.ticket ≡ Some line
@@ -138,7 +138,7 @@ pub record EntersFree (turn : TurnView) (lines : List Line) (t : ℕ) : Type 0 w
   pub asked : length turn.call.claims ≤ turn.requested
   pub granted : turn.granted ≡ true
 
--- a ticket may begin to run: it is that of the open turn, or where no turn is open one that waits
+-- a ticket may begin to run: it is that of the open turn, or if no turn is open one that waits
 abbrev pub MayRun : List Line → List Status → Option TurnView → ℕ → Type 0
 MayRun lines statuses None t = MayStart lines statuses t
 MayRun lines statuses (Some turn) t = EntersFree turn lines t

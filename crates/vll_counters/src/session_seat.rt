@@ -53,7 +53,7 @@ impl Words {
 
     /// A session loads a record, by one load of its value word, which needs no lock. The value is the record's present
     /// one, and with it the session has seen all calls that have entered so far, no more of its client's than before.
-    /// Where these run one at a time the record has the value before some ticket, behind each one whose reply the
+    /// If these run one at a time the record has the value before some ticket, behind each one whose reply the
     /// session was given and whose call claims the record.
     pub fn find(&self, session: &mut SessionSeat, id: RecordId) -> u64
         requires same { session.old.table ≡ self.now.table }

@@ -3,7 +3,7 @@ use crate::views::View;
 use atomic_table::{Join, Play, Split};
 use std::marker::{Brand, PhantomData};
 
-/// What a step is told beside the view of its seat. Each call picks it.
+/// What a step knows beside the view of its seat. Each call picks it.
 pub trait Told {
     ghost use Rattle.std.specs.Prelude.{ℕ, Option};
     ghost use Rattle.vll_record.specs.declared.claim.Claim.{Claim};

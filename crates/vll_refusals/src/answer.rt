@@ -1,7 +1,7 @@
-/// What a call answered, and whether all else is as it should be then.
+/// What a call returned, and whether all else is as it should be then.
 #[derive(Clone, Copy, PartialEq, Eq, Debug)]
 pub(crate) enum Answer {
-    /// What it answers with ample memory.
+    /// What it returns with ample memory.
     Ample,
     /// Its own `NoMemory`. Nothing was written, and what it hands back is as it came.
     NoMemory,

@@ -1,4 +1,4 @@
-//! Makes one of the calls that take memory, on a small input, and says whether it answers it lawfully, also if memory
+//! Makes one of the calls that take memory, on a small input, and says whether its answer is lawful, also if memory
 //! is refused. tools/refused_memory refuses it each allocation in turn.
 #![tactic(auto)]
 
@@ -34,7 +34,7 @@ fn main(rt: HostRuntime) -> ExitCode {
     }
 }
 
-// What the call answers that the command line names, if it names one.
+// What the call returns that the command line names, if it names one.
 fn answer_of<R: Env + Print + AllocGlobal + Threads + Wait + Sync>(
     rt: &R,
 ) -> Result<Option<Answer>, Unready> {

@@ -25,7 +25,7 @@ const CALLS: u32 = 3;
 
 const WORKERS: u32 = 8;
 
-/// How many starts of a thread `run_limited` may try: if the only one is refused, it answers `Spawn`.
+/// How many starts of a thread `run_limited` may try: if the only one is refused, it returns `Spawn`.
 pub(crate) const STARTS: u32 = 1;
 
 // Four clients that change one record three times each.

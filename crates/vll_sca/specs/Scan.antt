@@ -11,15 +11,15 @@ module _ (place : ℕ → ℕ) (bits : ℕ) where
   abbrev pub hashed : Claim → Claim
   hashed c = record c { id = place c.id % bits }
 
-  -- two entries are in hash conflict where their claims conflict, with each record replaced by its place
+  -- two entries are in hash conflict if their claims conflict, with each record replaced by its place
   abbrev pub hash_conflict : Entry → Entry → Bool
   hash_conflict a b = conflict (map hashed a.claims) (map hashed b.claims)
 
-  -- an entry holds another one back where it is Running or Waiting, and in hash conflict with it
+  -- an entry holds another one back if it is Running or Waiting, and in hash conflict with it
   abbrev pub holds_back : Entry → Entry → Bool
   holds_back d e = not (is_gone d.status) && hash_conflict d e
 
-  -- the entry at place i may run where it is Waiting, and no earlier entry holds it back
+  -- the entry at place i may run if it is Waiting, and no earlier entry holds it back
   abbrev pub may_run : List Entry → ℕ × Entry → Bool
   may_run entries (i, e) = is_waiting e.status && not (list_any (λ d. holds_back d e) (take i entries))
 
@@ -27,6 +27,6 @@ module _ (place : ℕ → ℕ) (bits : ℕ) where
   abbrev pub scan : List Entry → Option ℕ
   scan entries = position (may_run entries) (enumerate_from 0 entries)
 
-  -- the number of the entry that the scan finds, where each entry stands beside a number
+  -- the number of the entry that the scan finds, if each entry stands beside a number
   abbrev pub scan_numbered : List (ℕ × Entry) → Option ℕ
   scan_numbered numbered = elim (scan (map (λ x. x.1) numbered)) [ None ↦ None | Some i ↦ slice_get (map (λ x. x.0) numbered) i ]

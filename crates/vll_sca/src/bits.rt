@@ -41,7 +41,7 @@ pub enum BitsFault {
 }
 
 impl Bits {
-    /// Room for scans over this many bits. `Size` comes exactly where the number is not 1 to `MOST_BITS`, before
+    /// Room for scans over this many bits. `Size` comes exactly if the number is not 1 to `MOST_BITS`, before
     /// any memory is asked for. The only other fault is `NoMemory`.
     pub fn new(alloc: Global, n: u32) -> Result<Bits, BitsFault>
         ensures size { result ≡ Err BitsFault.Size ↔ ¬ ((1 ≤ n) × (n ≤ MOST_BITS)) }
@@ -55,7 +55,7 @@ impl Bits {
     }
 
     /// The place of the first waiting entry that is in hash conflict with no earlier entry that is running or
-    /// waiting, and `None` where there is none. Two entries are in hash conflict where a claim of one and a
+    /// waiting, and `None` if there is none. Two entries are in hash conflict if a claim of one and a
     /// claim of the other have the same place, modulo the number of bits, and at least one of the two is Write.
     /// So a collision can only hold an entry back. What an earlier scan left has no effect; no memory is taken.
     /// What it costs grows with the entries that it passes, and not with the number of bits.

@@ -2,7 +2,7 @@
 use Rattle.std.specs.Prelude.{◌≡◌, ℕ, ◌+◌, ◌*◌, ◌<◌, List, length, slice_index}
 use Rattle.vll_record.specs.Word.{value_word_of, pair_word_of_record}
 
--- the words where nothing is entered: each record's value, with no open claim
+-- the words when nothing is entered: each record's value, with no open claim
 pub record AreFirstWords (records words : List ℕ) : Type 0 where
   pub long : length words ≡ 1 + 2 * length records
   pub turn : slice_index words 0 ≡ 0

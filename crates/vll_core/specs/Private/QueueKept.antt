@@ -26,7 +26,7 @@ abbrev pub kept : {H : Type 0} → Inside H → Queued H
 kept a = record { cap = a.cap; limit = a.limit; bits = a.bits; hash = a.hash; entries = paired a.journal.items a.statuses.items }
 
 -- the window has the entries that are left, the counts are those of the statuses, there is room up to the limit, and the
--- analysis, by the places that the hash gives to records, finds nothing where the queue remembers a scan that found nothing
+-- analysis, by the places that the hash gives to records, finds nothing if the queue remembers a scan that found nothing
 pub record IsKept {H : Type 0} (place : H → ℕ → ℕ) (a : Inside H) : Type 0 where
   pub some_calls : 1 ≤ a.limit
   pub few_calls : a.limit ≤ MOST_CALLS

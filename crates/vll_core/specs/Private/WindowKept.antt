@@ -14,7 +14,7 @@ numbered a = zip a.tickets.items a.entries.items
 abbrev pub kept : Inside → Windowed
 kept a = record { room = a.room; next = a.next; left = left_of (numbered a) }
 
--- the tickets rise to the next one, the first entry that is left is known, and there is the room that is told
+-- the tickets rise to the next one, the first entry that is left is known, and there is the room that is named
 pub record IsKept (a : Inside) : Type 0 where
   pub as_many : length a.entries.items ≡ length a.tickets.items
   pub within : length a.tickets.items ≤ a.next

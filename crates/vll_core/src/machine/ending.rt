@@ -16,7 +16,7 @@ use vll_sca::Place;
 
 impl<H: Place> Machine<H> {
     // A request or the admission of the open turn's call; else, of the lowest ticket that is not gone, Front or its next
-    // step. `None` exactly where no turn is open and every call is gone.
+    // step. `None` exactly if no turn is open and every call is gone.
     pub(crate) fn next_event(&self) -> Option<Event>
         ensures next { IfSome result (IsNext (opening_of H.place_of self.now) self.now.state) }
         ensures end { result ≡ None → IsAtEnd self.now.base self.now.state }
@@ -33,7 +33,7 @@ impl<H: Place> Machine<H> {
         })
     }
 
-    // The next step of a running call, where no turn is open.
+    // The next step of a running call, while no turn is open.
     fn next_step(&self, ticket: Ticket, call: &Call) -> Event
         requires closed { self.now.state.turn ≡ None }
         requires runs { Some call.now ≡ option_map (λ (e : Entered). e.call) (running self.now.state ticket) }

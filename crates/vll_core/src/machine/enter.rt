@@ -108,7 +108,7 @@ impl<H: Place> Machine<H> {
         script.get(self.next[index]).copied()
     }
 
-    // The next call of a client's script as it enters, and `None` where it has an indirect key and no value is kept for it.
+    // The next call of a client's script as it enters, and `None` if it has an indirect key and no value is kept for it.
     fn ready(&self, library: &Library, client: u32, call: &Call) -> Option<Call>
         requires same { library.now ≡ library_of self.now }
         requires fits { Fits library.now call.now }

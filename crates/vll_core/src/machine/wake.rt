@@ -10,7 +10,7 @@ use crate::seen::Seen;
 use vll_sca::Place;
 
 impl<H: Place> Machine<H> {
-    // The front of the queue begins to run, where it waits.
+    // The front of the queue begins to run, if it waits.
     pub(crate) fn front(&mut self) -> Result<Seen, Refusal>
         ensures answer { result ≡ told (step (opening_of H.place_of self.old) self.old.state event.Front) }
         ensures state { self.new ≡ after self.old (step (opening_of H.place_of self.old) self.old.state event.Front) }

@@ -37,7 +37,7 @@ fn code(reply: Option<Reply>) -> Option<u16> {
     }
 }
 
-// Enters a call where the queue is neither spent nor busy.
+// Enters a call if the queue is neither spent nor busy.
 fn enter(queue: &mut Queue<Placing>, client: u32, call: Call, free: bool) -> Option<Ticket> {
     if queue.is_spent() || queue.is_busy() {
         return None;
@@ -45,7 +45,7 @@ fn enter(queue: &mut Queue<Placing>, client: u32, call: Call, free: bool) -> Opt
     Some(queue.admit(client, call, free))
 }
 
-// Removes a call where it runs.
+// Removes a call if it runs.
 fn finish(queue: &mut Queue<Placing>, ticket: Ticket, code: u16) -> bool {
     match queue.status(ticket) {
         Some(Status::Running) => {
@@ -56,7 +56,7 @@ fn finish(queue: &mut Queue<Placing>, ticket: Ticket, code: u16) -> bool {
     }
 }
 
-// What is done to a queue. A step answers a ticket or none.
+// What is done to a queue. A step returns a ticket or none.
 #[derive(Clone, Copy, Debug)]
 enum Step {
     // A call of a client enters, which has this number and writes one record.
@@ -71,7 +71,7 @@ enum Step {
 // What is done to a queue, and what has to come of it.
 #[derive(Clone, Copy)]
 enum Act<'a> {
-    // Each of these steps in turn answers this ticket.
+    // Each of these steps in turn returns this ticket.
     Steps(&'a [(Step, Option<u32>)]),
     // As many calls run, and as many wait.
     Counts(u32, u32),
@@ -123,7 +123,7 @@ fn perform(rt: &impl Abort, queue: &mut Queue<Placing>, act: Act) {
     }
 }
 
-// Goes through these acts in turn, with a queue that has nothing entered. Answers how many lines the journal has.
+// Goes through these acts in turn, with a queue that has nothing entered. Returns how many lines the journal has.
 fn run(rt: &(impl AllocGlobal + Abort), config: Config, acts: &[Act]) -> Result<usize, OpenFault> {
     let mut queue = Queue::open(rt.alloc(), config, Placing::Modulo)?;
     for act in acts {

@@ -146,7 +146,7 @@ fn first_left(entries: &[Entry], from: usize) -> usize
     entries.len()
 }
 
-// Moves the entries that are left to the front, with their tickets, and answers how many they are.
+// Moves the entries that are left to the front, with their tickets, and returns how many they are.
 fn gather_left(tickets: &mut [u32], entries: &mut [Entry]) -> usize
     requires { length tickets.old ≡ length entries.old }
     ensures left { zip (take result tickets.new) (take result entries.new) ≡ left_of (zip tickets.old entries.old) }

@@ -31,7 +31,7 @@ fn push(body: &mut Items<Stmt>, statement: Stmt) -> Result<(), AllocError> {
     body.push(statement)
 }
 
-// Aborts with code 7 where the first record is 0.
+// Aborts with code 7 if the first record is 0.
 fn refuse(alloc: Global) -> Result<Stmt, AllocError> {
     let nothing = boxed(alloc, Expr::Key(0))?;
     let mut abort = Items::new(alloc);
@@ -61,7 +61,7 @@ fn named(
     })
 }
 
-// Adds the first record to the second, and replies the sum; aborts with code 7 where the first is 0.
+// Adds the first record to the second, and replies the sum; aborts with code 7 if the first is 0.
 fn collect(alloc: Global) -> Result<Proc, AllocError> {
     let mut body = Items::new(alloc);
     push(&mut body, refuse(alloc)?)?;
@@ -115,7 +115,7 @@ fn begun(call: &Call, procedure: &Proc) -> Work
     Work::new(call, procedure)
 }
 
-// Makes the next load where one is left.
+// Makes the next load if one is left.
 fn load(work: &mut Work, call: &Call, procedure: &Proc, value: u64)
     requires formed { IsWellFormed procedure.now }
     requires made { (n : ℕ) × IsCallOf n procedure.now call.now }

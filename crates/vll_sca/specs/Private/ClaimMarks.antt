@@ -43,6 +43,6 @@ abbrev pub claims_left : List Entry → List Claim
 claims_left [] = []
 claims_left (e ∷ es) = (if is_gone e.status then [] else e.claims) ++ claims_left es
 
--- the entries before the one that is found, and all where none is
+-- the entries before the one that is found, and all if none is
 abbrev pub passed : Option ℕ → List Entry → List Entry
 passed found entries = take (unwrap_or found (length entries)) entries

@@ -61,7 +61,7 @@ fn value_is_found_before_the_call_enters(rt: HostRuntime) -> Result<(), Fail> {
     )
 }
 
-// Record 5 leads to record 1 of two. One call may wait, and one waits where client 0 is refused.
+// Record 5 leads to record 1 of two. One call may wait, and one waits when client 0 is refused.
 #[test]
 fn refused_enter_keeps_the_value_and_a_lawful_one_uses_it_up(rt: HostRuntime) -> Result<(), Fail> {
     run_capped(

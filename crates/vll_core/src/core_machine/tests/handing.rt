@@ -24,7 +24,7 @@ enum Turn {
     Then(Step),
 }
 
-// What a core answers where the call is handed in.
+// What a core answers when the call is handed in.
 fn handed(core: &mut Core<Placing>, call: &Call) -> &'static str
     requires client { 0 < length core.old.state.scripts }
     requires ready { IsReady (library_of core.old) call.now }
@@ -99,13 +99,13 @@ fn run_with(
     play(rt, &mut core, &bump, turns)
 }
 
-// The same where the script is empty.
+// The same if the script is empty.
 fn run(rt: &(impl AllocGlobal + Abort), limit: u32, turns: &[(Turn, &str)]) -> Result<(), Fail> {
     let alloc = rt.alloc();
     run_with(rt, library(alloc, 1)?, Vec::new(alloc), limit, turns)
 }
 
-// Where as many calls as the limit are entered, that is told, also if as many as the cap wait.
+// If as many calls as the limit are entered, that is reported, also if as many as the cap wait.
 #[test]
 fn cap_and_limit_hold_of_calls_that_are_handed_in(rt: HostRuntime) -> Result<(), Fail> {
     for (limit, last) in [(2, "refused spent"), (3, "refused busy")] {

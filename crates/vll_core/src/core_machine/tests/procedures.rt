@@ -114,7 +114,7 @@ fn read(alloc: Global) -> Result<Proc, AllocError> {
     named(alloc, "read", 1, &[key(Mode::Read, 0)], body)
 }
 
-// Aborts with code 7 where a record is less than an argument.
+// Aborts with code 7 if a record is less than an argument.
 fn refuse(alloc: Global) -> Result<Stmt, AllocError> {
     let is_less = less(alloc, Expr::Key(0), Expr::Arg(1))?;
     let mut abort = Items::new(alloc);
@@ -122,7 +122,7 @@ fn refuse(alloc: Global) -> Result<Stmt, AllocError> {
     Ok(Stmt::If(is_less, abort, Items::new(alloc)))
 }
 
-// Takes an amount from a record, and replies what is left; aborts with code 7 where there is less.
+// Takes an amount from a record, and replies what is left; aborts with code 7 if there is less.
 fn take(alloc: Global) -> Result<Proc, AllocError> {
     let mut body = Items::new(alloc);
     push(&mut body, refuse(alloc)?)?;
