@@ -16,8 +16,9 @@ from cases import TOP, bytes_of, read_cases
 
 MOST_BYTES = 1 << 20
 
-# Checks 1, 2, 8 and 14 are a ninth argument, a seventeenth key, a local over 7 and a second indirect key.
-MUST_REFUSE = re.compile(r'vll: scenario: (shape|size|check \d+ (1|2|8|14)\n)')
+# Checks 1, 2, 8, 14 and 15 are a ninth argument, a key too many, a local over 7, a second indirect key and a repeat of more
+# than 64 turns.
+MUST_REFUSE = re.compile(r'vll: scenario: (shape|size|check \d+ (1|2|8|14|15)\n)')
 
 # Scenarios that the program refuses by such a line, and the schema cannot: the reason, and their names.
 UNTOLD = {
@@ -25,7 +26,8 @@ UNTOLD = {
         bits_with_a_point bits_with_an_exponent cap_with_a_point cap_with_an_exponent
         client_with_a_sign index_with_a_point limit_with_a_point limit_with_an_exponent
         record_minus_zero record_with_a_point record_with_a_small_exponent record_with_an_exponent
-        through_index_with_a_point ticket_with_a_point ticket_with_an_exponent version_with_a_point
+        repeat_count_with_a_point through_index_with_a_point ticket_with_a_point ticket_with_an_exponent
+        version_two_with_a_point version_with_a_point
     ''',
 }
 
@@ -36,7 +38,8 @@ TOLD = {
     'a source past every key': 'through_key_255',
     'a fault that the program tells later': '''
         lowest_faulty_procedure undeclared_argument_before_unknown_local through_an_indirect_key
-        through_itself_before_two_indirect_keys too_long_before_two_indirect_keys
+        through_itself_before_turns through_itself_before_two_indirect_keys too_long_before_two_indirect_keys
+        too_many_replies_before_turns unset_local_before_turns
     ''',
 }
 

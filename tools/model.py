@@ -129,6 +129,9 @@ class Body:
                 self.held[self.records[parts[0]]] = self.value(parts[1])
             elif word == 'if':
                 self.run(parts[1] if self.value(parts[0]) != 0 else parts[2])
+            elif word == 'repeat':
+                for _ in range(parts[0]):
+                    self.run(parts[1])
             elif word == 'abort':
                 raise Aborted(f'code {parts[0]}')
             elif word == 'reply':

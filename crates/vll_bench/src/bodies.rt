@@ -8,7 +8,7 @@ use sqlite_items::Items;
 use std::alloc::Global;
 use std::time::CpuClock;
 use vll_check::{Library, check};
-use vll_proc::{Call, Frame, KeyAt, KeyDecl, Proc, Text};
+use vll_proc::{Call, Edition, Frame, KeyAt, KeyDecl, Proc, Text};
 use vll_record::Mode;
 
 // The bodies: by size, then by what they are made of.
@@ -152,6 +152,7 @@ fn library(alloc: Global, shape: Shape) -> Result<Library, Fault> {
         at: KeyAt::Fixed(0),
     };
     let procedure = Proc {
+        edition: Edition::One,
         name: Text::new(String::from_str(alloc, "body")?),
         args: 0,
         keys: Items::from_slice(alloc, &[key])?,

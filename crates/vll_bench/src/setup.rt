@@ -7,7 +7,7 @@ use std::alloc::{AllocError, Global};
 use vll_check::{Library, check};
 use vll_core::{Config, Core, MOST_WAITING};
 use vll_engine::Opening;
-use vll_proc::{Call, Expr, KeyAt, KeyDecl, Proc, Stmt, Text};
+use vll_proc::{Call, Edition, Expr, KeyAt, KeyDecl, Proc, Stmt, Text};
 use vll_record::Mode;
 use vll_sca::Placing;
 
@@ -51,6 +51,7 @@ fn bump(alloc: Global) -> Result<Proc, AllocError> {
     );
     let body = vec![in alloc; Stmt::Set(0, sum), Stmt::Reply(Expr::Key(0))]?;
     Ok(Proc {
+        edition: Edition::One,
         name: Text::new(String::from_str(alloc, "bump")?),
         args: 1,
         keys: Items::from_slice(alloc, &[key])?,

@@ -1,5 +1,6 @@
 pub mod Pairs
 pub mod Counts
+pub mod Shares
 pub mod Both
 pub mod Passed
 pub mod ShortLists

@@ -35,7 +35,9 @@ passed_all records p e =
     let eleven = passed _ _ _ ten.1 in
     let twelve = passed _ _ _ eleven.1 in
     let thirteen = passed _ _ _ twelve.1 in
-    let fourteen = passed _ _ _ thirteen.1 in (
+    let fourteen = passed _ _ _ thirteen.1 in
+    let fifteen = passed _ _ _ fourteen.1 in
+    let sixteen = passed _ _ _ fifteen.1 in (
       record {
         few_args = one.0;
         few_keys = two.0;
@@ -50,6 +52,8 @@ passed_all records p e =
         short = twelve.0;
         sources = thirteen.0;
         one_indirect = fourteen.0;
+        few_turns = fifteen.0;
+        light = sixteen.0;
       },
       four.0,
     )

@@ -1,9 +1,9 @@
 -- Which fault a procedure has: the lowest number whose test fails.
 use Rattle.std.specs.Prelude.{ℕ, Bool, true, false, Option, Some, None, Result, Ok, Err}
 use Rattle.vll_proc.specs.declared.syntax.Proc.{Proc}
-use Rattle.vll_proc.specs.WellFormed.{has_few_args, has_few_keys, has_declared_key_args, has_records, has_known_keys, has_writable_keys, has_known_args, has_known_locals, reads_set_locals, has_few_replies, is_shallow, is_short, has_earlier_sources, has_one_indirect_key}
+use Rattle.vll_proc.specs.WellFormed.{has_few_args, has_few_keys, has_declared_key_args, has_records, has_known_keys, has_writable_keys, has_known_args, has_known_locals, reads_set_locals, has_few_replies, is_shallow, is_short, has_earlier_sources, has_one_indirect_key, has_few_turns, is_light}
 use Rattle.vll_check.specs.declared.fault.CheckFault.{CheckFault}
-use Rattle.vll_check.specs.declared.fault.CheckFault.TheVariants.{TooManyArgs, TooManyKeys, KeyArg, FixedRecord, UnknownKey, NotWritable, UnknownArg, UnknownLocal, UnsetLocal, TooManyReplies, TooDeep, TooLong, ThroughKey, TwoThrough}
+use Rattle.vll_check.specs.declared.fault.CheckFault.TheVariants.{TooManyArgs, TooManyKeys, KeyArg, FixedRecord, UnknownKey, NotWritable, UnknownArg, UnknownLocal, UnsetLocal, TooManyReplies, TooDeep, TooLong, ThroughKey, TwoThrough, Turns, TooMuchWork}
 
 -- the fault of a test that fails, or what comes behind it
 abbrev pub fault_unless : Bool → CheckFault → Option CheckFault → Option CheckFault
@@ -26,7 +26,9 @@ check_fault records p =
     (fault_unless (is_shallow p) TooDeep
     (fault_unless (is_short p) TooLong
     (fault_unless (has_earlier_sources p) ThroughKey
-    (fault_unless (has_one_indirect_key p) TwoThrough None)))))))))))))
+    (fault_unless (has_one_indirect_key p) TwoThrough
+    (fault_unless (has_few_turns p) Turns
+    (fault_unless (is_light p) TooMuchWork None)))))))))))))))
 
 -- the fault that an answer tells
 abbrev pub fault_in : {A : Type 0} → Result A CheckFault → Option CheckFault

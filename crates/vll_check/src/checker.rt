@@ -6,10 +6,14 @@ ghost use Rattle.vll_check.specs.Faults.{check_fault, fault_in};
 use crate::checked::Checked;
 use crate::fault::CheckFault;
 use crate::locals::{Locals, list_set_behind};
-use crate::measure::{is_within, nodes_left, replies_left};
+use crate::measure::{is_within, nodes_left, replies_left, weight_left};
 use crate::places::{KnownArgs, KnownKeys, KnownLocals, WritableKeys};
+use crate::turns::list_turns_are_few;
 use crate::walk::list_throughout;
-use vll_proc::{KeyAt, KeyDecl, MOST_ARGS, MOST_DEPTH, MOST_NODES, MOST_OUTPUTS, Proc};
+use vll_proc::{
+    Edition, FIRST_MOST_KEYS, KeyAt, KeyDecl, MOST_ARGS, MOST_DEPTH, MOST_NODES, MOST_OUTPUTS,
+    MOST_WEIGHT, Proc,
+};
 use vll_record::MOST_CLAIMS;
 
 /// Tests whether a procedure is well-formed for a number of records.
@@ -42,7 +46,7 @@ fn fault_of(procedure: &Proc, records: u32) -> Option<CheckFault>
     if procedure.args as usize > MOST_ARGS {
         return Some(CheckFault::TooManyArgs);
     }
-    if procedure.keys.len() > MOST_CLAIMS {
+    if procedure.keys.len() > most_keys(procedure.edition) {
         return Some(CheckFault::TooManyKeys);
     }
     if !has_declared_key_args(procedure) {
@@ -81,7 +85,24 @@ fn fault_of(procedure: &Proc, records: u32) -> Option<CheckFault>
     if !has_one_indirect_key(procedure) {
         return Some(CheckFault::TwoThrough);
     }
+    if !has_few_turns(procedure) {
+        return Some(CheckFault::Turns);
+    }
+    if !is_light(procedure) {
+        return Some(CheckFault::TooMuchWork);
+    }
     None
+}
+
+// How many key positions a procedure of this edition declares at most.
+fn most_keys(edition: Edition) -> usize
+    ensures value { result ≡ formed.most_keys edition }
+    ensures few { result ≤ MOST_CLAIMS }
+{
+    match edition {
+        Edition::One => FIRST_MOST_KEYS,
+        Edition::Two => MOST_CLAIMS,
+    }
 }
 
 fn has_declared_key_args(procedure: &Proc) -> bool
@@ -228,6 +249,18 @@ fn indirect_keys(keys: &[KeyDecl]) -> usize
             KeyAt::Through(_) => 1 + indirect_keys(others),
         },
     }
+}
+
+fn has_few_turns(procedure: &Proc) -> bool
+    ensures { result ≡ formed.has_few_turns procedure.now }
+{
+    list_turns_are_few(procedure.body.as_slice(), procedure.edition)
+}
+
+fn is_light(procedure: &Proc) -> bool
+    ensures { result ≡ formed.is_light procedure.now }
+{
+    weight_left(procedure.body.as_slice(), MOST_WEIGHT).is_some()
 }
 
 #[cfg(test)]

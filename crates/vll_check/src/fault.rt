@@ -6,7 +6,7 @@ pub enum CheckFault {
     /// More than `MOST_ARGS` arguments.
     #[error("1")]
     TooManyArgs,
-    /// More than `MOST_CLAIMS` key positions.
+    /// More key positions than the edition has: over `FIRST_MOST_KEYS` in edition One, over `MOST_CLAIMS` in edition Two.
     #[error("2")]
     TooManyKeys,
     /// A key is placed by an argument that is not declared.
@@ -46,6 +46,12 @@ pub enum CheckFault {
     /// More than one key position whose record is found by another's value.
     #[error("14")]
     TwoThrough,
+    /// A `Repeat` of more than `MOST_TURNS` turns, or any `Repeat` in edition One.
+    #[error("15")]
+    Turns,
+    /// A body whose weight is over `MOST_WEIGHT`.
+    #[error("16")]
+    TooMuchWork,
 }
 
 /// Why a call cannot be made: the lowest number that stands.

@@ -12,6 +12,7 @@ mod making;
 mod measure;
 mod order;
 mod places;
+mod turns;
 mod walk;
 
 pub use checked::Checked;

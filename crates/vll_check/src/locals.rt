@@ -106,5 +106,9 @@ fn set_behind(statement: &Stmt, before: Locals) -> Option<Locals>
             Some(behind_first.both(&behind_second))
         }
         Stmt::Abort(_) => Some(before),
+        Stmt::Repeat(turns, list) => {
+            let behind = list_set_behind(list.as_slice(), before)?;
+            Some(if *turns == 0 { before } else { behind })
+        }
     }
 }

@@ -1,7 +1,7 @@
 //! Limits of a body. They are counted down, so no count overflows, and each walk stops where a limit
-//! is passed.
+//! is passed. The turns of a `Repeat` share what is left of a limit, so its list is walked once.
 ghost use Rattle.std.specs.Prelude.{◌≡◌, ◌+◌, ◌<◌, nat_le, sum_by, IfSome, IfNone};
-ghost use Rattle.vll_proc.specs.WellFormed.{depth, stmt_depth, body_depth, nodes, stmt_nodes, replies};
+ghost use Rattle.vll_proc.specs.WellFormed.{depth, stmt_depth, body_depth, nodes, stmt_nodes, replies, weight};
 
 use vll_proc::{Expr, Stmt};
 
@@ -18,7 +18,8 @@ pub(crate) fn replies_left(statements: &[Stmt], limit: u32) -> Option<u32>
     Some(left)
 }
 
-// The same behind a statement: a call runs one of the two lists of an `If`.
+// The same behind a statement: a call runs one of the two lists of an `If`, and the list of a `Repeat`
+// in each turn.
 #[cycle(replies)]
 #[tactic(auto, using(vll_proc::proofs::Lists::branches))]
 fn statement_replies_left(statement: &Stmt, limit: u32) -> Option<u32>
@@ -33,6 +34,14 @@ fn statement_replies_left(statement: &Stmt, limit: u32) -> Option<u32>
         }
         Stmt::Reply(_) => limit.checked_sub(1),
         Stmt::Let(_, _) | Stmt::Set(_, _) | Stmt::Abort(_) => Some(limit),
+        Stmt::Repeat(turns, list) => {
+            let turns = *turns as u32;
+            let Some(share) = limit.checked_div(turns) else {
+                return Some(limit);
+            };
+            let taken = share - replies_left(list.as_slice(), share)?;
+            Some(limit - turns * taken)
+        }
     }
 }
 
@@ -67,6 +76,49 @@ fn statement_nodes_left(statement: &Stmt, limit: u32) -> Option<u32>
             nodes_left(second.as_slice(), left)
         }
         Stmt::Abort(_) => Some(left),
+        Stmt::Repeat(_, list) => nodes_left(list.as_slice(), left),
+    }
+}
+
+// How much weight is left of a limit behind a list, and `None` if it has more.
+#[cycle(weight)]
+pub(crate) fn weight_left(statements: &[Stmt], limit: u32) -> Option<u32>
+    ensures enough { IfSome result (λ left. left + sum_by weight statements.now ≡ limit) }
+    ensures over { IfNone result (limit < sum_by weight statements.now) }
+{
+    let mut left = limit;
+    for statement in statements {
+        left = statement_weight_left(statement, left)?;
+    }
+    Some(left)
+}
+
+// The same behind a statement: a `Repeat` weighs as much as its list in each turn, and 1.
+#[cycle(weight)]
+#[tactic(auto, using(vll_proc::proofs::Lists::branches))]
+fn statement_weight_left(statement: &Stmt, limit: u32) -> Option<u32>
+    ensures enough { IfSome result (λ left. left + weight statement.now ≡ limit) }
+    ensures over { IfNone result (limit < weight statement.now) }
+{
+    let left = limit.checked_sub(1)?;
+    match statement {
+        Stmt::Let(_, expression) | Stmt::Set(_, expression) | Stmt::Reply(expression) => {
+            expression_nodes_left(expression, left)
+        }
+        Stmt::If(condition, first, second) => {
+            let left = expression_nodes_left(condition, left)?;
+            let left = weight_left(first.as_slice(), left)?;
+            weight_left(second.as_slice(), left)
+        }
+        Stmt::Abort(_) => Some(left),
+        Stmt::Repeat(turns, list) => {
+            let turns = *turns as u32;
+            let Some(share) = left.checked_div(turns) else {
+                return Some(left);
+            };
+            let taken = share - weight_left(list.as_slice(), share)?;
+            Some(left - turns * taken)
+        }
     }
 }
 
@@ -127,6 +179,7 @@ fn statement_is_within(statement: &Stmt, limit: u32) -> bool
                 && is_within(second.as_slice(), below)
         }
         Stmt::Abort(_) => true,
+        Stmt::Repeat(_, list) => is_within(list.as_slice(), below),
     }
 }
 

@@ -74,5 +74,6 @@ fn throughout<T: Test>(test: &T, statement: &Stmt) -> bool
         }
         Stmt::Abort(_) => true,
         Stmt::Reply(expression) => all_leaves(test, expression),
+        Stmt::Repeat(_, list) => list_throughout(test, list.as_slice()),
     }
 }

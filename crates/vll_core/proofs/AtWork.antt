@@ -7,6 +7,7 @@ use Rattle.std.proofs.lemmas.List.{get_or-set_same, get_or-set_other, length-set
 use Rattle.std.proofs.lemmas.Option.{slice_get_within, same_Some}
 use Rattle.std.proofs.lemmas.List.Sums.{length-filter, count_by-le-length}
 use Rattle.vll_record.specs.declared.claim.Claim.{Claim}
+use Rattle.vll_record.specs.declared.claims.TheConstants.{MOST_CLAIMS}
 use Rattle.vll_record.specs.Claim.{is_write}
 use Rattle.vll_proc.specs.declared.call.Call.{Call}
 use Rattle.vll_proc.specs.declared.syntax.Proc.{Proc}
@@ -31,7 +32,7 @@ procedure_ready c call p catalog ready at =
     (subst IsWellFormed same called.formed, subst (λ (q : Proc). IsCallOf c.records q call) same called.made)
 
 -- a call that has done nothing is loading
-pub loading_first : (claims : List Claim) (records : List ℕ) (w : Work) → w.loads ≡ 0 → w.frame ≡ replicate 16 0 → w.reply ≡ None → IsLoading claims records w
+pub loading_first : (claims : List Claim) (records : List ℕ) (w : Work) → w.loads ≡ 0 → w.frame ≡ replicate MOST_CLAIMS 0 → w.reply ≡ None → IsLoading claims records w
 loading_first claims records w none blank silent = record {
   within = omega (arith, none);
   whole = rw blank refl;
@@ -44,7 +45,7 @@ pub loading_of : (procs : List Proc) (call : Call) (records : List ℕ) (w : Wor
 loading_of procs call records w at left = record { within = at.within; whole = at.whole; loaded = at.loaded left; pending = at.pending left }
 
 -- the next value goes to the place of its claim
-pub loading_next : (claims : List Claim) (records : List ℕ) (w next : Work) (value : ℕ) (c : Claim) → length claims ≤ 16 → IsLoading claims records w → slice_get claims w.loads ≡ Some c → value ≡ slice_index records c.id
+pub loading_next : (claims : List Claim) (records : List ℕ) (w next : Work) (value : ℕ) (c : Claim) → length claims ≤ MOST_CLAIMS → IsLoading claims records w → slice_get claims w.loads ≡ Some c → value ≡ slice_index records c.id
     → next.loads ≡ w.loads + 1 → next.frame ≡ slice_set w.frame w.loads value → next.reply ≡ w.reply → IsLoading claims records next
 loading_next claims records w next value c few loading here is more put silent =
     let low : w.loads < length claims = slice_get_within claims w.loads c here in

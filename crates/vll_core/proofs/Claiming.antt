@@ -4,6 +4,7 @@ use Rattle.std.specs.Global.{Vec}
 use Rattle.std.proofs.lemmas.Bool.{eq-eqb, ne_eqb, cond-true, cond-false}
 use Rattle.std.proofs.lemmas.Option.{slice_get_within}
 use Rattle.vll_record.specs.declared.claim.Claim.{Claim}
+use Rattle.vll_record.specs.declared.claims.TheConstants.{MOST_CLAIMS}
 use Rattle.vll_record.specs.Claim.{conflict}
 use Rattle.vll_record.specs.Counter.{claims_on, delta_of, is_granted}
 use Rattle.vll_record.specs.Word.{pair_word_of_record}
@@ -91,7 +92,7 @@ pub record Finds {H : Type 0} (places : H → ℕ → ℕ) (a : Inside H) (turn 
   pub record_there : c.id < length a.opening.value.items
   pub word_there : pair_word_of_record c.id < length a.words.items
   pub is_counter : slice_index a.words.items (pair_word_of_record c.id) ≡ counter (shown a).state c.id
-  pub few : turn.requested < 16
+  pub few : turn.requested < MOST_CLAIMS
   pub reached : IsReached (opening_of places (shown a)) (shown a).state
   pub open_turn : (shown a).state.turn ≡ turn_of (Some turn)
   pub limit : a.queue.limit ≤ 65536

@@ -1,5 +1,5 @@
 -- The event that brings a machine nearer to its end is not refused, and where there is none the machine is at its end.
-use Rattle.std.proofs.Common.{◌≡◌, ℕ, ◌<◌, ◌≤◌, ◌^◌, ◌==◌, not, nat_lt, Bool, true, false, List, length, All, slice_get, get_or, Option, Some, None, is_some, is_ok, cond, if◌then◌else◌, refl, sym, ap, ◌∙◌, subst, arith}
+use Rattle.std.proofs.Common.{◌≡◌, ℕ, ◌+◌, ◌*◌, ◌<◌, ◌≤◌, ◌^◌, ◌==◌, not, nat_lt, Bool, true, false, List, length, All, slice_get, get_or, Option, Some, None, is_some, is_ok, cond, if◌then◌else◌, refl, sym, ap, ◌∙◌, subst, arith}
 use Rattle.std.specs.Option.{option_map, IfSome}
 use Rattle.std.specs.List.{position, position_or_len}
 use Rattle.std.proofs.lemmas.Bool.{or_from}
@@ -7,6 +7,7 @@ use Rattle.std.proofs.lemmas.List.Sums.{sum_by-le, fails_before_first, passes_at
 use Rattle.std.proofs.lemmas.Map.Views.{exact_unsigned_eq}
 use Rattle.std.proofs.lemmas.Option.{same_Some, slice_get-map, slice_get-get_or, slice_get_within, get_or_from_slice_get}
 use Rattle.vll_record.specs.declared.claim.Claim.{Claim}
+use Rattle.vll_record.specs.declared.claims.TheConstants.{MOST_CLAIMS}
 use Rattle.vll_proc.specs.declared.call.Call.{Call}
 use Rattle.vll_proc.proofs.Called.{claims_few}
 use Rattle.vll_check.specs.Calls.{IsReady, CallsProcedure}
@@ -195,33 +196,33 @@ ends_here {H} {places} a core closed none =
 
 -- ---- how much is left
 
-few_claims : (c : Catalog) (call : Call) → IsCatalog c → IsReady c call → length call.claims ≤ 16
+few_claims : (c : Catalog) (call : Call) → IsCatalog c → IsReady c call → length call.claims ≤ MOST_CLAIMS
 few_claims c call catalog ready = let well : CallsProcedure c call = ready_well c call catalog ready in claims_few c.records well.procedure call well.formed well.made
 
-few_steps : (e : Entered) → length e.call.claims ≤ 16 → steps_left e ≤ 50
+few_steps : (e : Entered) → length e.call.claims ≤ MOST_CLAIMS → steps_left e ≤ 3 * MOST_CLAIMS + 2
 few_steps e few = let most = entry_most e in let fit = most_fits e.status in omega (arith, most, fit)
   where
-    most_fits : (s : Status) → most_of (record e { status = s }) ≤ 50
+    most_fits : (s : Status) → most_of (record e { status = s }) ≤ 3 * MOST_CLAIMS + 2
     most_fits Running = omega (arith, few)
     most_fits Waiting = omega (arith, few)
     most_fits Gone = omega arith
 
 pub few_left : {H : Type 0} (places : H → ℕ → ℕ) (a : Inside H) → IsMachine places a → left (shown a).state < 2 ^ 32
 few_left {H} places a core =
-    let total = sum_by-le steps_left 50 (shown a).state.entries each in
+    let total = sum_by-le steps_left (3 * MOST_CLAIMS + 2) (shown a).state.entries each in
     let within = (kept_reached (opening_of places (shown a)) (shown a).state core.reached).room in
     let few = core.queue.few_calls in
     let turn = turn_few a.turn core.turn_ready in
     omega (arith, total, within, few, turn)
   where
-    each : All (λ (e : Entered). steps_left e ≤ 50) (shown a).state.entries
+    each : All (λ (e : Entered). steps_left e ≤ 3 * MOST_CLAIMS + 2) (shown a).state.entries
     each k d lt =
         let at = slice_get-get_or (shown a).state.entries k d lt in
         let there = shown_at a.queue.entries a.work.items k _ at in
         let ready = all_at (λ (x : QueueEntry). IsReady a.library.value x.line.call) a.queue.entries k there.entry core.entries_ready there.at in
         few_steps (get_or (shown a).state.entries k d)
-        (subst (λ (x : Entered). length x.call.claims ≤ 16) (sym there.is) (few_claims a.library.value there.entry.line.call core.catalog ready))
+        (subst (λ (x : Entered). length x.call.claims ≤ MOST_CLAIMS) (sym there.is) (few_claims a.library.value there.entry.line.call core.catalog ready))
 
-    turn_few : (x : Option OpenTurn) → IfSome x (λ (u : OpenTurn). IsReady a.library.value u.call) → turn_left (turn_of x) ≤ 67
+    turn_few : (x : Option OpenTurn) → IfSome x (λ (u : OpenTurn). IsReady a.library.value u.call) → turn_left (turn_of x) ≤ 4 * MOST_CLAIMS + 3
     turn_few None ready = omega arith
     turn_few (Some u) ready = let few = few_claims a.library.value u.call core.catalog ready in omega (arith, few)

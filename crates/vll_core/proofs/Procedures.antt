@@ -3,6 +3,7 @@ use Rattle.std.proofs.Common.{ℕ, List, [], ◌∷◌, None}
 use Rattle.std.specs.Prelude.{codes}
 use Rattle.vll_record.specs.declared.claim.Mode.TheVariants.{Read, Write}
 use Rattle.vll_proc.specs.declared.call.Call.{Call}
+use Rattle.vll_proc.specs.declared.syntax.Edition.TheVariants.{One}
 use Rattle.vll_proc.specs.declared.syntax.KeyAt.TheVariants as at
 use Rattle.vll_proc.specs.declared.syntax.Proc.{Proc}
 use Rattle.vll_proc.specs.declared.syntax.Expr.{Num, Arg, Key, Add, Sub}
@@ -14,6 +15,7 @@ use Rattle.vll_core.specs.State.{Opening}
 
 abbrev pub transfer : Proc
 transfer = record {
+  edition = One;
   name = codes "transfer";
   args = 3;
   keys = record { mode = Write; at = at.Arg 0 } ∷ record { mode = Write; at = at.Arg 1 } ∷ [];
@@ -22,6 +24,7 @@ transfer = record {
 
 abbrev pub bump : Proc
 bump = record {
+  edition = One;
   name = codes "bump";
   args = 1;
   keys = record { mode = Write; at = at.Arg 0 } ∷ [];
@@ -30,6 +33,7 @@ bump = record {
 
 abbrev pub read : Proc
 read = record {
+  edition = One;
   name = codes "read";
   args = 1;
   keys = record { mode = Read; at = at.Arg 0 } ∷ [];
@@ -37,10 +41,11 @@ read = record {
 }
 
 abbrev pub seven : Proc
-seven = record { name = codes "seven"; args = 0; keys = []; body = Reply (Num 7) ∷ [] }
+seven = record { edition = One; name = codes "seven"; args = 0; keys = []; body = Reply (Num 7) ∷ [] }
 
 abbrev pub via : Proc
 via = record {
+  edition = One;
   name = codes "via";
   args = 1;
   keys = record { mode = Read; at = at.Arg 0 } ∷ record { mode = Write; at = at.Through 0 } ∷ [];

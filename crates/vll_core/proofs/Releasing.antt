@@ -4,6 +4,7 @@ use Rattle.std.specs.Global.{Vec}
 use Rattle.std.proofs.lemmas.List.{length-set}
 use Rattle.std.proofs.lemmas.Option.{slice_get_within}
 use Rattle.vll_record.specs.declared.claim.Claim.{Claim}
+use Rattle.vll_record.specs.declared.claims.TheConstants.{MOST_CLAIMS}
 use Rattle.vll_record.specs.Counter.{delta_of}
 use Rattle.vll_record.specs.Word.{pair_word_of_record}
 use Rattle.vll_proc.specs.declared.call.Call.{Call}
@@ -117,7 +118,7 @@ pub record Finds {H : Type 0} (a : Inside H) (call : Call) (w : Work) (c : Claim
   pub word_there : pair_word_of_record c.id < length a.words.items
   pub is_counter : slice_index a.words.items (pair_word_of_record c.id) ≡ counter (shown a).state c.id
   pub enough : delta_of c.mode ≤ counter (shown a).state c.id
-  pub few : w.releases < 16
+  pub few : w.releases < MOST_CLAIMS
 
 pub finds : {H : Type 0} {places : H → ℕ → ℕ} (a : Inside H) (t : ℕ) (call : Call) (w : Work) (c : Claim) → IsMachine places a → Runs a t call w → slice_get call.claims w.releases ≡ Some c → Finds a call w c
 finds a t call w c kept r at =

@@ -199,7 +199,7 @@ still_at_work procs call records w next n is at = subst (IsAtWork procs call rec
   holds = at.holds;
 })
 
--- a call has at most 16 stores
+-- a call has few stores
 pub few_stores : {H : Type 0} (a : Inside H) (t : ℕ) (call : Call) (w : Work) (c : Claim) → Runs a t call w → slice_get (writes call) w.stores ≡ Some c → w.stores < 255
 few_stores a t call w c r left =
     omega (arith, slice_get_within (writes call) w.stores c left, few_writes call.claims, claims_few a.library.value.records r.well.procedure call r.well.formed r.well.made)

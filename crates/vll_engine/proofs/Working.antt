@@ -6,6 +6,7 @@ use Rattle.std.proofs.lemmas.List.{append-nil}
 use Rattle.std.proofs.lemmas.List.Elements.{filter-append}
 use Rattle.atomic_table.specs.Seated.{TableId}
 use Rattle.vll_record.specs.declared.claim.Claim.{Claim}
+use Rattle.vll_record.specs.declared.claims.TheConstants.{MOST_CLAIMS}
 use Rattle.vll_record.specs.Claim.{is_write}
 use Rattle.vll_proc.specs.Cells.{Holds}
 use Rattle.vll_proc.specs.declared.call.Call.{Call}
@@ -56,7 +57,7 @@ next_write yielded rest left all c is next writes =
     behind (d ∷ cs) = behind cs
 
 -- the next value goes into the cell of its claim
-pub held_next : (cells : List ℕ) (claims : List Claim) (records : List ℕ) (n value : ℕ) (c : Claim) → length claims ≤ 16 → n ≤ length claims → length cells ≡ 16 → HoldsFirst n cells claims records
+pub held_next : (cells : List ℕ) (claims : List Claim) (records : List ℕ) (n value : ℕ) (c : Claim) → length claims ≤ MOST_CLAIMS → n ≤ length claims → length cells ≡ MOST_CLAIMS → HoldsFirst n cells claims records
     → slice_get claims n ≡ Some c → value ≡ slice_index records c.id → HoldsFirst (n + 1) (slice_set cells n value) claims records
 held_next cells claims records n value c few within whole first at is =
     (loading_next claims records (record { loads = n; stores = 0; releases = 0; frame = cells; reply = None }) (record { loads = n + 1; stores = 0; releases = 0; frame = slice_set cells n value; reply = None })

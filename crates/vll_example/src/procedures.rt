@@ -5,7 +5,7 @@ use crate::fault::Fault;
 use sqlite_items::{Boxed, Items};
 use std::alloc::{AllocError, Global};
 use vll_check::{Library, check};
-use vll_proc::{Expr, KeyAt, KeyDecl, Proc, Stmt, Text};
+use vll_proc::{Edition, Expr, KeyAt, KeyDecl, Proc, Stmt, Text};
 use vll_record::Mode;
 
 // A key whose record is the argument of the same place.
@@ -32,6 +32,7 @@ fn transfer(alloc: Global) -> Result<Proc, AllocError> {
         Stmt::Reply(Expr::Key(0)),
     ]?;
     Ok(Proc {
+        edition: Edition::Two,
         name: Text::new(String::from_str(alloc, "transfer")?),
         args: 3,
         keys: Items::from_slice(alloc, &[key(Mode::Write, 0), key(Mode::Write, 1)])?,
@@ -44,6 +45,7 @@ fn sum(alloc: Global) -> Result<Proc, AllocError> {
     let sum = add(alloc, Expr::Key(0), Expr::Key(1))?;
     let body = vec![in alloc; Stmt::Reply(sum)]?;
     Ok(Proc {
+        edition: Edition::Two,
         name: Text::new(String::from_str(alloc, "sum")?),
         args: 2,
         keys: Items::from_slice(alloc, &[key(Mode::Read, 0), key(Mode::Read, 1)])?,

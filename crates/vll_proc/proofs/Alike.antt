@@ -1,12 +1,13 @@
 -- A body means the same on two scenes that agree on what it can read: its key positions, its arguments, and the locals that are surely set.
 use Rattle.std.proofs.Common.{◌≡◌, ℕ, zero, suc, ◌<◌, ◌≤◌, Bool, true, false, ◌==◌, ◌&&◌, List, [], ◌∷◌, ◌++◌, length, map, get_or, Result, Ok, Err, slice_index, slice_set, refl, sym, ap, ◌∙◌, arith, ⊎_elim, ◌⊎◌, if◌then◌else◌}
 use Rattle.std.specs.List.{list_all}
+use Rattle.std.proofs.Math.Dec.{eqb-suc-zero}
 use Rattle.std.proofs.lemmas.Bool.{ltb-true, cases_eq, cases_lt, false≢true}
 use Rattle.std.proofs.lemmas.List.{get_or-set_same, get_or-set_other, get_or_past, length-set}
 use Rattle.vll_proc.specs.declared.call.Reason.{Reason}
 use Rattle.vll_proc.specs.declared.syntax.Expr.{Expr, Row_of-Expr, end_of-Expr, more_of-Expr, Num, Arg, Key, Local, Add', Sub', Mul', Div', Rem', Min', Max', Equal', Less', Not'}
-use Rattle.vll_proc.specs.declared.syntax.Stmt.{Stmt, Row_of-Stmt, end_of-Stmt, more_of-Stmt, Let, Set, If', Abort, Reply}
-use Rattle.vll_proc.specs.Meaning.{Scene, Value, Action, and_then, both, sum, difference, product, quotient, remainder, lesser, greater, equality, order, truth, value_of, operand, effect, list_effect, in_turn}
+use Rattle.vll_proc.specs.declared.syntax.Stmt.{Stmt, Row_of-Stmt, end_of-Stmt, more_of-Stmt, Let, Set, If', Abort, Reply, Repeat'}
+use Rattle.vll_proc.specs.Meaning.{Scene, Value, Action, and_then, both, sum, difference, product, quotient, remainder, lesser, greater, equality, order, truth, value_of, operand, effect, list_effect, in_turn, repeated}
 use Rattle.vll_proc.specs.WellFormed.{Locals, all_leaves, operand_leaves, throughout, list_throughout, key_is_below, arg_is_below, set_is_below, any_stmt, local_is_set, both_set, set_behind, list_set_behind, body_set_behind, reads_set, list_reads_set, body_reads_set}
 use Rattle.vll_proc.proofs.Copy.{both_true}
 
@@ -144,6 +145,62 @@ AgreeOnSet-set set m n i v as_many h j is =
         let right : length (slice_set n i v) ≤ i = rw (length-set, ← as_many) ge in
         get_or_past (slice_set m i v) i 0 left ∙ sym (get_or_past (slice_set n i v) i 0 right))
 
+both_set-in : (a b : Locals) (i : ℕ) → get_or a i false ≡ true → get_or b i false ≡ true → get_or (both_set a b) i false ≡ true
+both_set-in [] b i p q = p
+both_set-in (x ∷ xs) [] i p q = q
+both_set-in (x ∷ xs) (y ∷ ys) zero p q = rw (p, q) refl
+both_set-in (x ∷ xs) (y ∷ ys) (suc i) p q = both_set-in xs ys i p q
+
+still_set_by_let : (set : Locals) (j i : ℕ) → get_or set i false ≡ true → get_or (slice_set set j true) i false ≡ true
+still_set_by_let set j i h =
+    ⊎_elim
+    (λ (e : j ≡ i). rw e (here (cases_lt i (length set))))
+    (λ (ne : j ≡ i → ⊥). get_or-set_other set j i true false (λ e. ne (sym e)) ∙ h)
+    (cases_eq j i)
+  where
+    here : (i < length set) ⊎ (length set ≤ i) → get_or (slice_set set i true) i false ≡ true
+    here = ⊎_elim
+        (λ (lt : i < length set). get_or-set_same set i true false lt)
+        (λ (ge : length set ≤ i). absurd (false≢true (sym (get_or_past set i false ge) ∙ h)))
+
+still_set_by_choice : (none : Bool) (set behind : Locals) (i : ℕ) → get_or set i false ≡ true → get_or behind i false ≡ true → get_or (if none then set else behind) i false ≡ true
+still_set_by_choice true set behind i before later = before
+still_set_by_choice false set behind i before later = later
+
+-- what is surely set before a statement is surely set behind it
+mutual
+  still_set : (st : Stmt) (set : Locals) (i : ℕ) → get_or set i false ≡ true → get_or (set_behind st set) i false ≡ true
+  still_set (Let j e) set i h = still_set_by_let set j i h
+  still_set (Set j e) set i h = h
+  still_set (If' e m first n second) set i h = both_set-in (list_set_behind first set) (list_set_behind second set) i (list_still_set first set i h) (list_still_set second set i h)
+  still_set (Abort code) set i h = h
+  still_set (Reply e) set i h = h
+  still_set (Repeat' turns m list) set i h = still_set_by_choice (turns == 0) set (list_set_behind list set) i h (list_still_set list set i h)
+
+  list_still_set : {m : _} → (row : Row_of-Stmt m) (set : Locals) (i : ℕ) → get_or set i false ≡ true → get_or (list_set_behind row set) i false ≡ true
+  list_still_set end_of-Stmt set i h = h
+  list_still_set (more_of-Stmt st rest) set i h = list_still_set rest (set_behind st set) i (still_set st set i h)
+
+-- an action that ends alike from what is set before it and leaves more set
+record EndsAlikeEachTurn (b : Bridge) (set behind : Locals) (act : Action) : Type 0 where
+  still : (i : ℕ) → get_or set i false ≡ true → get_or behind i false ≡ true
+  turn : (s t : Scene) → IsAlike b set s t → EndAlike b behind (act s) (act t)
+
+-- further turns of it
+alike_more_turns : (b : Bridge) (set behind : Locals) (act : Action) (n : ℕ) (s t : Scene) → EndsAlikeEachTurn b set behind act → IsAlike b behind s t → EndAlike b behind (repeated n act s) (repeated n act t)
+alike_more_turns b set behind act zero s t each h = h
+alike_more_turns b set behind act (suc n) s t each h =
+    alike_then b behind behind (act s) (act t) (repeated n act) (repeated n act)
+    (each.turn s t (fewer b set behind (Ok s) (Ok t) each.still h))
+    (λ s' t' h'. alike_more_turns b set behind act n s' t' each h')
+
+alike_turns : (b : Bridge) (set behind : Locals) (act : Action) (n : ℕ) (s t : Scene) → EndsAlikeEachTurn b set behind act → IsAlike b set s t
+    → EndAlike b (if n == 0 then set else behind) (repeated n act s) (repeated n act t)
+alike_turns b set behind act zero s t each h = h
+alike_turns b set behind act (suc n) s t each h =
+    rw (eqb-suc-zero n) (alike_then b behind behind (act s) (act t) (repeated n act) (repeated n act) (each.turn s t h)
+    (λ s' t' h'. alike_more_turns b set behind act n s' t' each h'))
+
 -- what a statement reads and sets is known
 abbrev pub IsKnownStmt : Bridge → Locals → ((Expr → Bool) → (Stmt → Bool) → Bool) → Bool → Type 0
 IsKnownStmt b set all reads = (all (key_is_below b.keys) (set_is_below b.keys) ≡ true) × (all (arg_is_below b.args) any_stmt ≡ true) × (reads ≡ true)
@@ -211,6 +268,13 @@ mutual
         values = h.values;
         outputs = ap (λ (l : List ℕ). l ++ v ∷ []) h.outputs;
       })
+  alike_effect b set (Repeat' turns m list) s t h k =
+      alike_turns b set (list_set_behind list set) (list_effect list) turns s t
+      (record {
+        still = λ i is. list_still_set list set i is;
+        turn = λ s' t' h'. alike_list b set list s' t' h' k;
+      })
+      h
 
   alike_list : {m : _} → (b : Bridge) (set : Locals) (row : Row_of-Stmt m) (s t : Scene) → IsAlike b set s t → IsKnownStmt b set (λ leaf test. list_throughout leaf test row) (list_reads_set set row)
       → EndAlike b (list_set_behind row set) (list_effect row s) (list_effect row t)

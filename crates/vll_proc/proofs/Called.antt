@@ -1,5 +1,5 @@
 -- What a made call says of its procedure: each key position has the cell of its claim.
-use Rattle.std.proofs.Common.{◌≡◌, ℕ, zero, suc, ◌+◌, ◌-◌, ◌<◌, ◌≤◌, Bool, true, false, ◌==◌, List, [], ◌∷◌, ◌++◌, length, map, take, replicate, get_or, Option, Some, None, slice_index, refl, sym, ap, ap₂, unwrap_or, slice_get, ◌∙◌, arith, ⊎_elim, if◌then◌else◌}
+use Rattle.std.proofs.Common.{◌≡◌, ℕ, zero, suc, ◌-◌, ◌<◌, ◌≤◌, Bool, true, false, ◌==◌, List, [], ◌∷◌, length, map, take, replicate, get_or, Option, Some, None, slice_index, refl, sym, ap, ap₂, unwrap_or, slice_get, ◌∙◌, arith, ⊎_elim, if◌then◌else◌}
 use Rattle.std.specs.List.{list_all}
 use Rattle.std.proofs.lemmas.Bool.{ltb-true, cases_lt, leb-true, eq-eqb, cond-true, false≢true}
 use Rattle.std.proofs.lemmas.Map.Views.{exact_unsigned_eq}
@@ -13,14 +13,16 @@ use Rattle.vll_record.specs.declared.claim.Mode.TheVariants.{Read}
 use Rattle.vll_record.specs.Claim.{IsRising, mode_on, claims_of, stronger, stronger_of}
 use Rattle.vll_record.proofs.ClaimsOf.{mode_on-claims_of}
 use Rattle.vll_proc.specs.declared.call.Call.{Call}
+use Rattle.vll_proc.specs.declared.syntax.Edition.{Edition}
+use Rattle.vll_proc.specs.declared.syntax.Edition.TheVariants.{One, Two}
 use Rattle.vll_proc.specs.declared.syntax.KeyAt.{KeyAt}
 use Rattle.vll_proc.specs.declared.syntax.KeyAt.TheVariants as at
 use Rattle.vll_proc.specs.declared.syntax.KeyDecl.{KeyDecl}
 use Rattle.vll_proc.specs.declared.syntax.Proc.{Proc}
 use Rattle.vll_proc.specs.Made.{asking, asked_by, asked, is_led, place_of, place_for, IsCallOf}
 use Rattle.vll_proc.specs.Meaning.{found_at, led_to, or_else, record_named, source_at, source_of}
-use Rattle.vll_proc.specs.Private.Running.{HasCells}
-use Rattle.vll_proc.specs.WellFormed.{IsWellFormed, argument_is_declared, has_source, have_sources, is_direct}
+use Rattle.vll_proc.specs.Private.Running.{HasCells, HasCellsBelow}
+use Rattle.vll_proc.specs.WellFormed.{IsWellFormed, most_keys, argument_is_declared, has_source, have_sources, is_direct}
 use Rattle.vll_record.proofs.ClaimsOf.{IsRising-claims_of, length-claims_of-le}
 use Rattle.vll_proc.proofs.Copy.{IsPlaceFor, both_true}
 
@@ -138,9 +140,17 @@ claims_named n p c formed made =
 pub claims_rise : (n : ℕ) (p : Proc) (c : Call) → IsCallOf n p c → IsRising c.claims
 claims_rise n p c made = rw (claims_made n p c made) (IsRising-claims_of (asked n p (take c.arg_count c.args) c.found))
 
+-- in no edition are there more key positions than there may be claims
+pub keys_few : (p : Proc) → IsWellFormed p → length p.keys ≤ MOST_CLAIMS
+keys_few p formed = few p.edition (leb-true (length p.keys) (most_keys p.edition) formed.few_keys)
+  where
+    few : (edition : Edition) → length p.keys ≤ most_keys edition → length p.keys ≤ MOST_CLAIMS
+    few One le = omega arith
+    few Two le = le
+
 pub claims_few : (n : ℕ) (p : Proc) (c : Call) → IsWellFormed p → IsCallOf n p c → length c.claims ≤ MOST_CLAIMS
 claims_few n p c formed made =
-    let few = leb-true (length p.keys) MOST_CLAIMS formed.few_keys in
+    let few = keys_few p formed in
     let as_asked = length-claims_of-le (map (claim_named n (take c.arg_count c.args) c.found) p.keys) in
     rw (claims_named n p c formed made) (omega (arith, length-map p.keys (claim_named n (take c.arg_count c.args) c.found)))
 
@@ -183,13 +193,12 @@ pub key_place : (p : Proc) (c : Call) (records : List ℕ) → IsWellFormed p �
     → IsPlaceFor c.claims (slice_index c.cells k) (slice_index (map (λ (d : KeyDecl). found_at records (record_named (length records) c.args c.found d.at)) p.keys) k)
 key_place p c records formed made k lt = rw (key_record p c records formed made k lt) (cell_place (length records) p c formed made k lt)
 
--- each key position has one of the cells
-pub HasCells-made : (n : ℕ) (p : Proc) (c : Call) → IsWellFormed p → IsCallOf n p c → HasCells c
-HasCells-made n p c formed made k lt =
+-- each key position has one of the cells of the claims, and the first one if there are none
+pub HasCellsBelow-made : (n most : ℕ) (p : Proc) (c : Call) → IsWellFormed p → IsCallOf n p c → 0 < most → length c.claims ≤ most → HasCellsBelow most c
+HasCellsBelow-made n most p c formed made some few k lt =
     ⊎_elim
     (λ (within : k < length p.keys).
     let place = cell_place n p c formed made k within in
-    let few = claims_few n p c formed made in
     omega (arith, slice_get_within c.claims (slice_index c.cells k) place.claim place.stands))
     (λ (past : length p.keys ≤ k).
     let args : List ℕ = take c.arg_count c.args in
@@ -199,6 +208,9 @@ HasCells-made n p c formed made k lt =
     ∙ get_or_past (map cell p.keys) k 0 (omega (arith, length-map p.keys cell)) in
     omega arith)
     (cases_lt k (length p.keys))
+
+pub HasCells-made : (n : ℕ) (p : Proc) (c : Call) → IsWellFormed p → IsCallOf n p c → HasCells c
+HasCells-made n p c formed made = HasCellsBelow-made n MOST_CLAIMS p c formed made (omega arith) (claims_few n p c formed made)
 
 same_some : (a b : ℕ) → ◌≡◌ {A = Option ℕ} (Some a) (Some b) → a ≡ b
 same_some a b h = ap (λ (o : Option ℕ). unwrap_or o a) h

@@ -15,9 +15,9 @@ use Rattle.vll_proc.specs.declared.call.Reason.TheVariants.{Moved}
 use Rattle.vll_proc.specs.declared.syntax.Expr.{Expr}
 use Rattle.vll_proc.specs.declared.syntax.KeyDecl.{KeyDecl}
 use Rattle.vll_proc.specs.declared.syntax.Proc.{Proc}
-use Rattle.vll_proc.specs.declared.syntax.Stmt.{Stmt, Row_of-Stmt, end_of-Stmt, more_of-Stmt, Let, Set, If', Abort, Reply}
+use Rattle.vll_proc.specs.declared.syntax.Stmt.{Stmt, Row_of-Stmt, end_of-Stmt, more_of-Stmt, Let, Set, If', Abort, Reply, Repeat'}
 use Rattle.vll_proc.specs.Made.{IsCallOf}
-use Rattle.vll_proc.specs.Meaning.{Scene, Action, and_then, value_of, effect, list_effect, in_turn, record_named, found_at, has_moved, opening_scene, source_of, unless_moved, body}
+use Rattle.vll_proc.specs.Meaning.{Scene, Action, and_then, value_of, effect, list_effect, in_turn, repeated, record_named, found_at, has_moved, opening_scene, source_of, unless_moved, body}
 use Rattle.vll_proc.specs.Serial.{after, applied}
 use Rattle.vll_proc.specs.WellFormed.{IsWellFormed, key_is_below, set_is_below, any_leaf, throughout, list_throughout, is_not_read, sets_no_read_key}
 use Rattle.vll_proc.proofs.Called.{claims_named, claim_named, number_named, some_key, key_record}
@@ -40,6 +40,10 @@ goes_on_choice : (P : Scene → Type 0) (c : Bool) (r q : Result Scene Reason) �
 goes_on_choice P true r q f g = f
 goes_on_choice P false r q f g = g
 
+goes_on_repeated : (P : Scene → Type 0) (n : ℕ) (act : Action) (s : Scene) → P s → ((t : Scene) → P t → IfGoesOn P (act t)) → IfGoesOn P (repeated n act s)
+goes_on_repeated P zero act s h step = h
+goes_on_repeated P (suc n) act s h step = goes_on_then P P (act s) (repeated n act) (step s h) (λ t k. goes_on_repeated P n act t k step)
+
 -- the number of records
 abbrev HasLength : ℕ → Scene → Type 0
 HasLength n s = length s.records ≡ n
@@ -56,6 +60,8 @@ mutual
   keeps_length n (Abort code) s h = tt
   keeps_length n (Reply e) s h =
       goes_on_value (HasLength n) (value_of e s) (λ v. Ok (record s { outputs = s.outputs ++ v ∷ [] })) (λ v. h)
+  keeps_length n (Repeat' turns k list) s h =
+      goes_on_repeated (HasLength n) turns (list_effect list) s h (λ t same. list_keeps_length n list t same)
 
   list_keeps_length : {m : _} → (n : ℕ) (row : Row_of-Stmt m) (s : Scene) → HasLength n s → IfGoesOn (HasLength n) (list_effect row s)
   list_keeps_length n end_of-Stmt s h = h
@@ -66,6 +72,9 @@ all_keep_length : (n : ℕ) (sts : List Stmt) (s : Scene) → HasLength n s → 
 all_keep_length n [] s h = h
 all_keep_length n (st ∷ sts) s h =
     goes_on_then (HasLength n) (HasLength n) (effect st s) (in_turn (map effect sts)) (keeps_length n st s h) (λ t k. all_keep_length n sts t k)
+
+pub length-ended : (n : ℕ) (sts : List Stmt) (s t : Scene) → length s.records ≡ n → in_turn (map effect sts) s ≡ Ok t → length t.records ≡ n
+length-ended n sts s t h is = rw is at (all_keep_length n sts s h)
 
 -- a body begins at its scene, if it begins
 begins : (P : Scene → Type 0) (p : Proc) (c : Call) (s : Scene) → P s → IfGoesOn P (unless_moved p c s)
@@ -115,6 +124,8 @@ mutual
   keeps_value r v keys named (Abort code) s apart k h = tt
   keeps_value r v keys named (Reply e) s apart k h =
       goes_on_value (StaysAt r v named) (value_of e s) (λ x. Ok (record s { outputs = s.outputs ++ x ∷ [] })) (λ x. record { value = h.value; names = h.names })
+  keeps_value r v keys named (Repeat' turns m list) s apart k h =
+      goes_on_repeated (StaysAt r v named) turns (list_effect list) s h (λ t stays. list_keeps_value r v keys named list t apart k stays)
 
   list_keeps_value : {m : _} → (r v : ℕ) (keys : List KeyDecl) (named : List ℕ) (row : Row_of-Stmt m) (s : Scene) → NamesNot r keys named → IsAllowed keys (λ leaf test. list_throughout leaf test row)
       → StaysAt r v named s → IfGoesOn (StaysAt r v named) (list_effect row s)

@@ -1,6 +1,7 @@
 pub mod Equations
 pub mod Noted
 pub mod Lists
+pub mod Turns
 pub mod Copy
 pub mod Called
 pub mod Alike

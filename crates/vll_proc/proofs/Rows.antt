@@ -1,20 +1,21 @@
 -- What some procedures answer, computed.
-use Rattle.std.proofs.Common.{◌≡◌, ℕ, false, List, [], ◌∷◌, Option, None, Some, refl}
+use Rattle.std.proofs.Common.{◌≡◌, ℕ, true, false, List, [], ◌∷◌, replicate, sum_by, None, Some, refl}
 use Rattle.std.specs.Prelude.{codes}
 use denote.Hole.Carrier.{hidden}
 use Rattle.vll_record.specs.declared.claim.Mode.TheVariants.{Read, Write}
 use Rattle.vll_proc.specs.declared.call.Reason.TheVariants.{Code, Moved, Overflow, Underflow, ZeroDivisor}
 use Rattle.vll_proc.specs.declared.call.Reply.TheVariants.{Committed, Aborted}
+use Rattle.vll_proc.specs.declared.syntax.Edition.TheVariants.{One, Two}
 use Rattle.vll_proc.specs.declared.syntax.Expr.{Num, Arg, Key, Local, Add, Sub, Mul, Div, Rem, Min, Max, Equal, Less, Not}
 use Rattle.vll_proc.specs.declared.syntax.Expr.TheBlock.{hidden-the_row-Expr-0}
 use Rattle.vll_proc.specs.declared.syntax.KeyAt.TheVariants as at
 use Rattle.vll_proc.specs.declared.syntax.Proc.{Proc}
-use Rattle.vll_proc.specs.declared.syntax.Stmt.{Stmt, Let, Set, If, Abort, Reply}
+use Rattle.vll_proc.specs.declared.syntax.Stmt.{Stmt, Let, Set, If, Abort, Reply, Repeat}
 use Rattle.vll_proc.specs.declared.syntax.Stmt.TheBlock.{hidden-the_row-Stmt-0}
 use Rattle.vll_proc.specs.declared.syntax.KeyDecl.{KeyDecl}
 use Rattle.vll_proc.specs.Made.{call_of}
 use Rattle.vll_proc.specs.Serial.{apply}
-use Rattle.vll_proc.specs.WellFormed.{IsWellFormed, body_reads_set, nothing_set}
+use Rattle.vll_proc.specs.WellFormed.{IsWellFormed, body_reads_set, nothing_set, has_few_keys, has_few_replies, has_few_turns, is_light, weight}
 
 abbrev pub transfer_keys : List KeyDecl
 transfer_keys = record { mode = Write; at = at.Arg 0 } ∷ record { mode = Write; at = at.Arg 1 } ∷ []
@@ -23,7 +24,7 @@ abbrev pub transfer_body : List Stmt
 transfer_body = Set 0 (Sub (Key 0) (Arg 2)) ∷ Set 1 (Add (Key 1) (Arg 2)) ∷ Reply (Key 0) ∷ []
 
 abbrev transfer : Proc
-transfer = record { name = codes "transfer"; args = 3; keys = transfer_keys; body = transfer_body }
+transfer = record { edition = One; name = codes "transfer"; args = 3; keys = transfer_keys; body = transfer_body }
 
 abbrev pub bump_keys : List KeyDecl
 bump_keys = record { mode = Write; at = at.Arg 0 } ∷ []
@@ -32,7 +33,7 @@ abbrev pub bump_body : List Stmt
 bump_body = Set 0 (Add (Key 0) (Num 1)) ∷ Reply (Key 0) ∷ []
 
 abbrev bump : Proc
-bump = record { name = codes "bump"; args = 1; keys = bump_keys; body = bump_body }
+bump = record { edition = One; name = codes "bump"; args = 1; keys = bump_keys; body = bump_body }
 
 abbrev pub sum2_keys : List KeyDecl
 sum2_keys = record { mode = Read; at = at.Arg 0 } ∷ record { mode = Read; at = at.Arg 1 } ∷ []
@@ -41,10 +42,11 @@ abbrev pub sum2_body : List Stmt
 sum2_body = Reply (Add (Key 0) (Key 1)) ∷ []
 
 abbrev sum2 : Proc
-sum2 = record { name = codes "sum2"; args = 2; keys = sum2_keys; body = sum2_body }
+sum2 = record { edition = One; name = codes "sum2"; args = 2; keys = sum2_keys; body = sum2_body }
 
 abbrev odd_sum : Proc
 odd_sum = record {
+  edition = One;
   name = codes "odd_sum";
   args = 1;
   keys = [];
@@ -54,6 +56,7 @@ odd_sum = record {
 -- each operator that answers a number of any operands
 abbrev operators : Proc
 operators = record {
+  edition = One;
   name = codes "operators";
   args = 0;
   keys = [];
@@ -63,10 +66,11 @@ operators = record {
 }
 
 abbrev product : Proc
-product = record { name = codes "product"; args = 2; keys = []; body = Reply (Mul (Arg 0) (Arg 1)) ∷ [] }
+product = record { edition = One; name = codes "product"; args = 2; keys = []; body = Reply (Mul (Arg 0) (Arg 1)) ∷ [] }
 
 abbrev odd_quotient : Proc
 odd_quotient = record {
+  edition = One;
   name = codes "odd_quotient";
   args = 0;
   keys = [];
@@ -80,7 +84,7 @@ abbrev pub take_body : List Stmt
 take_body = If (Less (Key 0) (Arg 1)) (Abort 7 ∷ []) [] ∷ Set 0 (Sub (Key 0) (Arg 1)) ∷ Reply (Key 0) ∷ []
 
 abbrev take : Proc
-take = record { name = codes "take"; args = 2; keys = take_keys; body = take_body }
+take = record { edition = One; name = codes "take"; args = 2; keys = take_keys; body = take_body }
 
 -- a local that both lists of an `If` set may be read behind it
 abbrev pub choose_body : List Stmt
@@ -89,7 +93,7 @@ choose_body =
     ∷ Reply (Add (Local 0) (Local 1)) ∷ []
 
 abbrev choose : Proc
-choose = record { name = codes "choose"; args = 1; keys = []; body = choose_body }
+choose = record { edition = One; name = codes "choose"; args = 1; keys = []; body = choose_body }
 
 abbrev procs : List Proc
 procs = transfer ∷ bump ∷ sum2 ∷ odd_sum ∷ operators ∷ product ∷ odd_quotient ∷ take ∷ choose ∷ []
@@ -171,7 +175,7 @@ abbrev pub via_body : List Stmt
 via_body = Set 1 (Add (Key 1) (Num 1)) ∷ Reply (Key 1) ∷ []
 
 abbrev via : Proc
-via = record { name = codes "via"; args = 1; keys = via_keys; body = via_body }
+via = record { edition = One; name = codes "via"; args = 1; keys = via_keys; body = via_body }
 
 finds : apply (via ∷ []) (call_of 3 0 via (0 ∷ []) (Some 2)) (2 ∷ 0 ∷ 7 ∷ []) ≡ record { records = 2 ∷ 0 ∷ 8 ∷ []; reply = Committed (8 ∷ []) }
 unfolding hidden hidden-the_row-Expr-0 hidden-the_row-Stmt-0
@@ -203,7 +207,138 @@ reads_half_set : body_reads_set nothing_set (If (Arg 0) (Let 0 (Num 1) ∷ []) [
 unfolding hidden hidden-the_row-Expr-0 hidden-the_row-Stmt-0
 reads_half_set = refl
 
-pub transfer_is_well_formed : (name : List ℕ) → IsWellFormed (record { name = name; args = 3; keys = transfer_keys; body = transfer_body })
+-- a record's value as often as the list is repeated: locals go on from one turn to the next
+abbrev pub times_keys : List KeyDecl
+times_keys = record { mode = Read; at = at.Fixed 0 } ∷ []
+
+abbrev pub times_body : List Stmt
+times_body = Let 0 (Num 0) ∷ Repeat 64 (Let 0 (Add (Local 0) (Key 0)) ∷ []) ∷ Reply (Local 0) ∷ []
+
+abbrev times : Proc
+times = record { edition = Two; name = codes "times"; args = 0; keys = times_keys; body = times_body }
+
+repeats : apply (times ∷ []) (call_of 1 0 times [] None) (3 ∷ []) ≡ record { records = 3 ∷ []; reply = Committed (192 ∷ []) }
+unfolding hidden hidden-the_row-Expr-0 hidden-the_row-Stmt-0
+repeats = refl
+
+-- records and outputs go on from one turn to the next
+abbrev pub doubles_keys : List KeyDecl
+doubles_keys = record { mode = Write; at = at.Fixed 0 } ∷ []
+
+abbrev pub doubles_body : List Stmt
+doubles_body = Repeat 3 (Set 0 (Mul (Key 0) (Num 2)) ∷ Reply (Key 0) ∷ []) ∷ []
+
+abbrev doubles : Proc
+doubles = record { edition = Two; name = codes "doubles"; args = 0; keys = doubles_keys; body = doubles_body }
+
+doubles_each_turn : apply (doubles ∷ []) (call_of 1 0 doubles [] None) (5 ∷ []) ≡ record { records = 40 ∷ []; reply = Committed (10 ∷ 20 ∷ 40 ∷ []) }
+unfolding hidden hidden-the_row-Expr-0 hidden-the_row-Stmt-0
+doubles_each_turn = refl
+
+-- a reason in a later turn ends the call, and nothing of the earlier ones stays
+overflows_in_a_later_turn : apply (doubles ∷ []) (call_of 1 0 doubles [] None) (4611686018427387904 ∷ []) ≡ record { records = 4611686018427387904 ∷ []; reply = Aborted Overflow }
+unfolding hidden hidden-the_row-Expr-0 hidden-the_row-Stmt-0
+overflows_in_a_later_turn = refl
+
+-- no turn runs nothing
+abbrev none : Proc
+none = record { edition = Two; name = codes "none"; args = 0; keys = []; body = Repeat 0 (Abort 1 ∷ []) ∷ Reply (Num 7) ∷ [] }
+
+repeats_nothing : apply (none ∷ []) (call_of 0 0 none [] None) [] ≡ record { records = []; reply = Committed (7 ∷ []) }
+unfolding hidden hidden-the_row-Expr-0 hidden-the_row-Stmt-0
+repeats_nothing = refl
+
+-- a `Repeat` in a `Repeat`
+abbrev nested : Proc
+nested = record {
+  edition = Two;
+  name = codes "nested";
+  args = 0;
+  keys = [];
+  body = Let 0 (Num 0) ∷ Repeat 3 (Repeat 4 (Let 0 (Add (Local 0) (Num 1)) ∷ []) ∷ Reply (Local 0) ∷ []) ∷ [];
+}
+
+repeats_in_each_turn : apply (nested ∷ []) (call_of 0 0 nested [] None) [] ≡ record { records = []; reply = Committed (4 ∷ 8 ∷ 12 ∷ []) }
+unfolding hidden hidden-the_row-Expr-0 hidden-the_row-Stmt-0
+repeats_in_each_turn = refl
+
+-- a procedure of this body and of no key position
+abbrev of_body : List Stmt → Proc
+of_body body = record { edition = Two; name = []; args = 0; keys = []; body = body }
+
+-- the outputs of each turn count
+eight_replies : has_few_replies (of_body (Repeat 8 (Reply (Num 1) ∷ []) ∷ [])) ≡ true
+unfolding hidden hidden-the_row-Expr-0 hidden-the_row-Stmt-0
+eight_replies = refl
+
+nine_replies : has_few_replies (of_body (Repeat 9 (Reply (Num 1) ∷ []) ∷ [])) ≡ false
+unfolding hidden hidden-the_row-Expr-0 hidden-the_row-Stmt-0
+nine_replies = refl
+
+replies_eight_times : apply (of_body (Repeat 8 (Reply (Num 1) ∷ []) ∷ []) ∷ []) (call_of 0 0 (of_body []) [] None) [] ≡ record { records = []; reply = Committed (replicate 8 1) }
+unfolding hidden hidden-the_row-Expr-0 hidden-the_row-Stmt-0
+replies_eight_times = refl
+
+-- what a list sets is surely set behind its turns, if it has one
+reads_set_by_no_turn : body_reads_set nothing_set (Repeat 0 (Let 0 (Num 1) ∷ []) ∷ Reply (Local 0) ∷ []) ≡ false
+unfolding hidden hidden-the_row-Expr-0 hidden-the_row-Stmt-0
+reads_set_by_no_turn = refl
+
+reads_set_by_a_turn : body_reads_set nothing_set (Repeat 1 (Let 0 (Num 1) ∷ []) ∷ Reply (Local 0) ∷ []) ≡ true
+unfolding hidden hidden-the_row-Expr-0 hidden-the_row-Stmt-0
+reads_set_by_a_turn = refl
+
+-- a list reads what is set before its first turn, also where it has none
+reads_before_the_first_turn : body_reads_set nothing_set (Repeat 0 (Reply (Local 0) ∷ []) ∷ []) ≡ false
+unfolding hidden hidden-the_row-Expr-0 hidden-the_row-Stmt-0
+reads_before_the_first_turn = refl
+
+-- as much work as there may be, and one statement more
+abbrev heavy : ℕ → List Stmt
+heavy aborts = Repeat 64 (Repeat 63 (replicate 8 (Let 0 (Num 1))) ∷ replicate 7 (Let 0 (Num 1))) ∷ replicate aborts (Abort 1)
+
+heaviest : sum_by weight (heavy 63) ≡ 65536
+unfolding hidden hidden-the_row-Expr-0 hidden-the_row-Stmt-0
+heaviest = refl
+
+heaviest_is_light : is_light (of_body (heavy 63)) ≡ true
+unfolding hidden hidden-the_row-Expr-0 hidden-the_row-Stmt-0
+heaviest_is_light = refl
+
+one_more_is_not : is_light (of_body (heavy 64)) ≡ false
+unfolding hidden hidden-the_row-Expr-0 hidden-the_row-Stmt-0
+one_more_is_not = refl
+
+-- the turns that each edition allows
+turns_of_two : has_few_turns (of_body (Repeat 64 [] ∷ [])) ≡ true
+unfolding hidden hidden-the_row-Expr-0 hidden-the_row-Stmt-0
+turns_of_two = refl
+
+too_many_turns : has_few_turns (of_body (If (Num 0) [] (Repeat 65 [] ∷ []) ∷ [])) ≡ false
+unfolding hidden hidden-the_row-Expr-0 hidden-the_row-Stmt-0
+too_many_turns = refl
+
+no_turns_of_one : has_few_turns (record { edition = One; name = []; args = 0; keys = []; body = If (Num 0) [] (Repeat 0 [] ∷ []) ∷ [] }) ≡ false
+unfolding hidden hidden-the_row-Expr-0 hidden-the_row-Stmt-0
+no_turns_of_one = refl
+
+-- the key positions that each edition allows
+abbrev of_keys : ℕ → Proc
+of_keys keys = record { edition = Two; name = []; args = 0; keys = replicate keys (record { mode = Read; at = at.Fixed 0 }); body = [] }
+
+keys_of_two : has_few_keys (of_keys 32) ≡ true
+keys_of_two = refl
+
+too_many_keys : has_few_keys (of_keys 33) ≡ false
+too_many_keys = refl
+
+keys_of_one : has_few_keys (record (of_keys 16) { edition = One }) ≡ true
+keys_of_one = refl
+
+too_many_keys_of_one : has_few_keys (record (of_keys 17) { edition = One }) ≡ false
+too_many_keys_of_one = refl
+
+pub transfer_is_well_formed : (name : List ℕ) → IsWellFormed (record { edition = One; name = name; args = 3; keys = transfer_keys; body = transfer_body })
 unfolding hidden hidden-the_row-Expr-0
 transfer_is_well_formed name = record {
   few_args = refl;
@@ -219,9 +354,11 @@ transfer_is_well_formed name = record {
   short = refl;
   sources = refl;
   one_indirect = refl;
+  few_turns = refl;
+  light = refl;
 }
 
-pub bump_is_well_formed : (name : List ℕ) → IsWellFormed (record { name = name; args = 1; keys = bump_keys; body = bump_body })
+pub bump_is_well_formed : (name : List ℕ) → IsWellFormed (record { edition = One; name = name; args = 1; keys = bump_keys; body = bump_body })
 unfolding hidden hidden-the_row-Expr-0
 bump_is_well_formed name = record {
   few_args = refl;
@@ -237,9 +374,11 @@ bump_is_well_formed name = record {
   short = refl;
   sources = refl;
   one_indirect = refl;
+  few_turns = refl;
+  light = refl;
 }
 
-pub sum2_is_well_formed : (name : List ℕ) → IsWellFormed (record { name = name; args = 2; keys = sum2_keys; body = sum2_body })
+pub sum2_is_well_formed : (name : List ℕ) → IsWellFormed (record { edition = One; name = name; args = 2; keys = sum2_keys; body = sum2_body })
 unfolding hidden hidden-the_row-Expr-0
 sum2_is_well_formed name = record {
   few_args = refl;
@@ -255,9 +394,11 @@ sum2_is_well_formed name = record {
   short = refl;
   sources = refl;
   one_indirect = refl;
+  few_turns = refl;
+  light = refl;
 }
 
-pub take_is_well_formed : (name : List ℕ) → IsWellFormed (record { name = name; args = 2; keys = take_keys; body = take_body })
+pub take_is_well_formed : (name : List ℕ) → IsWellFormed (record { edition = One; name = name; args = 2; keys = take_keys; body = take_body })
 unfolding hidden hidden-the_row-Expr-0 hidden-the_row-Stmt-0
 take_is_well_formed name = record {
   few_args = refl;
@@ -273,9 +414,11 @@ take_is_well_formed name = record {
   short = refl;
   sources = refl;
   one_indirect = refl;
+  few_turns = refl;
+  light = refl;
 }
 
-pub choose_is_well_formed : (name : List ℕ) → IsWellFormed (record { name = name; args = 1; keys = []; body = choose_body })
+pub choose_is_well_formed : (name : List ℕ) → IsWellFormed (record { edition = One; name = name; args = 1; keys = []; body = choose_body })
 unfolding hidden hidden-the_row-Expr-0 hidden-the_row-Stmt-0
 choose_is_well_formed name = record {
   few_args = refl;
@@ -291,4 +434,46 @@ choose_is_well_formed name = record {
   short = refl;
   sources = refl;
   one_indirect = refl;
+  few_turns = refl;
+  light = refl;
+}
+
+pub times_is_well_formed : (name : List ℕ) → IsWellFormed (record { edition = Two; name = name; args = 0; keys = times_keys; body = times_body })
+unfolding hidden hidden-the_row-Expr-0 hidden-the_row-Stmt-0
+times_is_well_formed name = record {
+  few_args = refl;
+  few_keys = refl;
+  key_args = refl;
+  known_keys = refl;
+  writable_keys = refl;
+  known_args = refl;
+  known_locals = refl;
+  set_locals = refl;
+  few_replies = refl;
+  shallow = refl;
+  short = refl;
+  sources = refl;
+  one_indirect = refl;
+  few_turns = refl;
+  light = refl;
+}
+
+pub doubles_is_well_formed : (name : List ℕ) → IsWellFormed (record { edition = Two; name = name; args = 0; keys = doubles_keys; body = doubles_body })
+unfolding hidden hidden-the_row-Expr-0 hidden-the_row-Stmt-0
+doubles_is_well_formed name = record {
+  few_args = refl;
+  few_keys = refl;
+  key_args = refl;
+  known_keys = refl;
+  writable_keys = refl;
+  known_args = refl;
+  known_locals = refl;
+  set_locals = refl;
+  few_replies = refl;
+  shallow = refl;
+  short = refl;
+  sources = refl;
+  one_indirect = refl;
+  few_turns = refl;
+  light = refl;
 }

@@ -1,10 +1,10 @@
 -- A well-formed procedure's body on the cells of a made call: it may run there, and ends as on the records.
-use Rattle.std.proofs.Common.{◌≡◌, ℕ, ◌<◌, ◌≤◌, ◌==◌, Bool, true, false, ◌&&◌, not, nat_lt, List, [], ◌∷◌, length, map, replicate, Option, Some, None, Result, Ok, Err, slice_index, refl, sym, ap, ◌∙◌, arith}
+use Rattle.std.proofs.Common.{◌≡◌, ℕ, ◌<◌, ◌≤◌, ◌==◌, Bool, true, false, ◌&&◌, not, nat_lt, List, [], ◌∷◌, ◌++◌, length, map, take, drop, Option, Some, None, Result, Ok, Err, slice_index, refl, sym, ap, ◌∙◌, arith}
 use Rattle.std.specs.List.{list_all}
 use Rattle.std.proofs.lemmas.Bool.{ltb-true, lt-ltb, leb-true}
-use Rattle.std.proofs.lemmas.List.{length-set}
+use Rattle.std.proofs.lemmas.List.{length-set, take-append-drop}
 use Rattle.vll_record.specs.declared.claims.TheConstants.{MOST_CLAIMS}
-use Rattle.vll_proc.specs.declared.limits.TheConstants.{MOST_ARGS, MOST_LOCALS}
+use Rattle.vll_proc.specs.declared.limits.TheConstants.{MOST_ARGS}
 use Rattle.vll_record.specs.declared.claim.Claim.{Claim}
 use Rattle.vll_record.specs.Claim.{IsRising}
 use Rattle.vll_proc.specs.declared.call.Call.{Call}
@@ -13,7 +13,7 @@ use Rattle.vll_proc.specs.declared.call.Reason.TheVariants.{Moved}
 use Rattle.vll_proc.specs.declared.call.Reply.TheVariants.{Committed, Aborted}
 use Rattle.vll_proc.specs.declared.syntax.Expr.{Expr, Row_of-Expr, end_of-Expr, more_of-Expr, Num, Arg, Key, Local, Add', Sub', Mul', Div', Rem', Min', Max', Equal', Less', Not'}
 use Rattle.vll_proc.specs.declared.syntax.Proc.{Proc}
-use Rattle.vll_proc.specs.declared.syntax.Stmt.{Stmt, Row_of-Stmt, end_of-Stmt, more_of-Stmt, Let, Set, If', Abort, Reply}
+use Rattle.vll_proc.specs.declared.syntax.Stmt.{Stmt, Row_of-Stmt, end_of-Stmt, more_of-Stmt, Let, Set, If', Abort, Reply, Repeat'}
 use Rattle.vll_proc.specs.Cells.{Holds}
 use Rattle.vll_proc.specs.Made.{IsCallOf}
 use Rattle.vll_proc.specs.Meaning.{Scene, and_then, effect, has_moved, in_turn, opening_scene, source_of, unless_moved}
@@ -21,7 +21,7 @@ use Rattle.vll_proc.specs.Private.Running.{cell_opening}
 use Rattle.vll_proc.specs.Serial.{After, after, applied}
 use Rattle.vll_proc.specs.WellFormed.{IsWellFormed, all_leaves, operand_leaves, throughout, list_throughout, key_is_below, arg_is_below, set_is_below, any_stmt, nothing_set, body_set_behind}
 use Rattle.vll_proc.proofs.Alike.{Bridge, IsAlike, EndAlike, alike_in_turn}
-use Rattle.vll_proc.proofs.Called.{claims_rise, claims_few, key_place, source_within}
+use Rattle.vll_proc.proofs.Called.{keys_few, claims_rise, claims_few, key_place, source_within}
 use Rattle.vll_proc.proofs.Copy.{IsPlaceFor, both_true, Holds-set}
 
 both_still : (a b c d : Bool) → (a ≡ true → c ≡ true) → (b ≡ true → d ≡ true) → (a && b) ≡ true → (c && d) ≡ true
@@ -60,6 +60,7 @@ mutual
       both_still _ _ _ _ (both_still _ _ _ _ (all_leaves_still f g e leaf) (list_throughout_still f g p q first leaf step)) (list_throughout_still f g p q second leaf step) h
   throughout_still f g p q (Abort code) leaf step h = refl
   throughout_still f g p q (Reply e) leaf step h = all_leaves_still f g e leaf h
+  throughout_still f g p q (Repeat' turns m list) leaf step h = list_throughout_still f g p q list leaf step h
 
   list_throughout_still : {m : _} → (f g : Expr → Bool) (p q : Stmt → Bool) (row : Row_of-Stmt m) → ((x : Expr) → f x ≡ true → g x ≡ true) → ((x : Stmt) → p x ≡ true → q x ≡ true)
       → list_throughout f p row ≡ true → list_throughout g q row ≡ true
@@ -108,11 +109,12 @@ set_still_below m n (Let i e) le h = refl
 set_still_below m n (If' e k first l second) le h = refl
 set_still_below m n (Abort code) le h = refl
 set_still_below m n (Reply e) le h = refl
+set_still_below m n (Repeat' turns k list) le h = refl
 
 -- a well-formed body reads and sets no more key positions and arguments than there may be
 pub keys_known : (p : Proc) → IsWellFormed p → list_all (throughout (key_is_below MOST_CLAIMS) (set_is_below MOST_CLAIMS)) p.body ≡ true
 keys_known p formed =
-    let few = leb-true (length p.keys) MOST_CLAIMS formed.few_keys in
+    let few = keys_few p formed in
     still_all (throughout (key_is_below (length p.keys)) (set_is_below (length p.keys))) (throughout (key_is_below MOST_CLAIMS) (set_is_below MOST_CLAIMS)) p.body
     (λ st. throughout_still _ _ _ _ st (λ e. key_still_below (length p.keys) MOST_CLAIMS e few) (λ x. set_still_below (length p.keys) MOST_CLAIMS x few)) formed.known_keys
 
@@ -197,3 +199,7 @@ pub told : (p : Proc) (c : Call) (cells records : List ℕ) (r : Result Scene Re
 told p c cells records r formed made whole e holds =
     let few = claims_few (length records) p c formed made in
     rw (← e) (told_on p c cells records formed made (omega arith) holds)
+
+-- the first cells as they were before, and then those that are as they were
+pub put_back : (n : ℕ) (cells then first rest : List ℕ) → first ≡ take n cells → rest ≡ drop n then → drop n then ≡ drop n cells → first ++ rest ≡ cells
+put_back n cells then first rest kept is others = rw (kept, is, others) (take-append-drop n cells)

@@ -1,5 +1,5 @@
 -- What a procedure's body means on a whole map of records: by cases on the syntax, operands from left to right, and the first reason ends the call.
-use Rattle.std.specs.Prelude.{ℕ, ◌+◌, ◌-◌, ◌*◌, ◌/◌, ◌%◌, ◌^◌, ◌==◌, min, max, not, Bool, false, List, [], ◌∷◌, ◌++◌, length, map, replicate, Result, Ok, Err, nat_lt, if◌then◌else◌, Option, Some, None, slice_get, slice_index, slice_set}
+use Rattle.std.specs.Prelude.{ℕ, zero, suc, ◌+◌, ◌-◌, ◌*◌, ◌/◌, ◌%◌, ◌^◌, ◌==◌, min, max, not, Bool, false, List, [], ◌∷◌, ◌++◌, length, map, replicate, Result, Ok, Err, nat_lt, if◌then◌else◌, Option, Some, None, slice_get, slice_index, slice_set}
 use Rattle.vll_proc.specs.declared.limits.TheConstants.{MOST_LOCALS}
 use Rattle.vll_proc.specs.declared.call.Call.{Call}
 use Rattle.vll_proc.specs.declared.call.Reason.{Reason}
@@ -9,7 +9,7 @@ use Rattle.vll_proc.specs.declared.syntax.KeyAt.TheVariants as at
 use Rattle.vll_proc.specs.declared.syntax.KeyDecl.{KeyDecl}
 use Rattle.vll_proc.specs.declared.syntax.Proc.{Proc}
 use Rattle.vll_proc.specs.declared.syntax.Expr.{Expr, Row_of-Expr, end_of-Expr, more_of-Expr, Num, Arg, Key, Local, Add', Sub', Mul', Div', Rem', Min', Max', Equal', Less', Not'}
-use Rattle.vll_proc.specs.declared.syntax.Stmt.{Stmt, Row_of-Stmt, end_of-Stmt, more_of-Stmt, Let, Set, If', Abort, Reply}
+use Rattle.vll_proc.specs.declared.syntax.Stmt.{Stmt, Row_of-Stmt, end_of-Stmt, more_of-Stmt, Let, Set, If', Abort, Reply, Repeat'}
 
 -- goes on with a value, or ends with a reason
 abbrev pub and_then : {A B : Type 0} → Result A Reason → (A → Result B Reason) → Result B Reason
@@ -101,6 +101,11 @@ abbrev pub in_turn : List Action → Action
 in_turn [] s = Ok s
 in_turn (act ∷ acts) s = and_then (act s) (in_turn acts)
 
+-- an action a number of times, each from where the one before ended, up to the first reason
+abbrev pub repeated : ℕ → Action → Action
+repeated zero act s = Ok s
+repeated (suc n) act s = and_then (act s) (repeated n act)
+
 abbrev mutual
   pub effect : Stmt → Action
   effect (Let i e) s = and_then (value_of e s) (λ v. Ok (record s { locals = slice_set s.locals i v }))
@@ -108,8 +113,9 @@ abbrev mutual
   effect (If' e m first n second) s = and_then (value_of e s) (λ v. if v == 0 then list_effect second s else list_effect first s)
   effect (Abort code) s = Err (Code code)
   effect (Reply e) s = and_then (value_of e s) (λ v. Ok (record s { outputs = s.outputs ++ v ∷ [] }))
+  effect (Repeat' turns m list) s = repeated turns (list_effect list) s
 
-  -- the statements of an `If`'s list, in turn
+  -- the statements of a list in a statement, in turn
   pub list_effect : {m : _} → Row_of-Stmt m → Action
   list_effect end_of-Stmt s = Ok s
   list_effect (more_of-Stmt st rest) s = and_then (effect st s) (list_effect rest)

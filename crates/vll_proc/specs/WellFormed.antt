@@ -1,14 +1,16 @@
 -- Which procedures are well-formed: the tests look at the text alone.
-use Rattle.std.specs.Prelude.{◌≡◌, ℕ, suc, ◌+◌, max, Bool, true, false, ◌&&◌, nat_lt, nat_le, List, [], ◌∷◌, length, replicate, get_or, sum_by, Option, Some, None, slice_get, slice_set}
+use Rattle.std.specs.Prelude.{◌≡◌, ℕ, suc, ◌+◌, ◌*◌, max, Bool, true, false, ◌&&◌, ◌==◌, if◌then◌else◌, nat_lt, nat_le, List, [], ◌∷◌, length, replicate, get_or, sum_by, Option, Some, None, slice_get, slice_set}
 use Rattle.std.specs.List.{list_all}
 use Rattle.vll_record.specs.declared.claims.TheConstants.{MOST_CLAIMS}
-use Rattle.vll_proc.specs.declared.limits.TheConstants.{MOST_ARGS, MOST_LOCALS, MOST_OUTPUTS, MOST_DEPTH, MOST_NODES}
+use Rattle.vll_proc.specs.declared.limits.TheConstants.{FIRST_MOST_KEYS, MOST_ARGS, MOST_LOCALS, MOST_OUTPUTS, MOST_DEPTH, MOST_NODES, MOST_TURNS, MOST_WEIGHT}
 use Rattle.vll_record.specs.declared.claim.Mode.TheVariants.{Read, Write}
+use Rattle.vll_proc.specs.declared.syntax.Edition.{Edition}
+use Rattle.vll_proc.specs.declared.syntax.Edition.TheVariants.{One, Two}
 use Rattle.vll_proc.specs.declared.syntax.KeyAt.TheVariants as at
 use Rattle.vll_proc.specs.declared.syntax.KeyDecl.{KeyDecl}
 use Rattle.vll_proc.specs.declared.syntax.Proc.{Proc}
 use Rattle.vll_proc.specs.declared.syntax.Expr.{Expr, Row_of-Expr, end_of-Expr, more_of-Expr, Arg, Key, Local, Add', Sub', Mul', Div', Rem', Min', Max', Equal', Less', Not'}
-use Rattle.vll_proc.specs.declared.syntax.Stmt.{Stmt, Row_of-Stmt, end_of-Stmt, more_of-Stmt, Let, Set, If', Abort, Reply}
+use Rattle.vll_proc.specs.declared.syntax.Stmt.{Stmt, Row_of-Stmt, end_of-Stmt, more_of-Stmt, Let, Set, If', Abort, Reply, Repeat'}
 
 -- a key that is placed by an argument names one of the declared arguments
 abbrev pub argument_is_declared : ℕ → KeyDecl → Bool
@@ -63,6 +65,7 @@ abbrev mutual
   throughout leaf test (If' e m first n second) = all_leaves leaf e && list_throughout leaf test first && list_throughout leaf test second
   throughout leaf test (Abort code) = true
   throughout leaf test (Reply e) = all_leaves leaf e
+  throughout leaf test (Repeat' turns m list) = list_throughout leaf test list
 
   pub list_throughout : {m : _} → (Expr → Bool) → (Stmt → Bool) → Row_of-Stmt m → Bool
   list_throughout leaf test end_of-Stmt = true
@@ -129,11 +132,12 @@ both_set [] b = []
 both_set (x ∷ xs) [] = []
 both_set (x ∷ xs) (y ∷ ys) = (x && y) ∷ both_set xs ys
 
--- what is surely set behind a statement: `Let` adds its local, and an `If` what both of its lists set
+-- what is surely set behind a statement: `Let` adds its local, an `If` what both of its lists set, and a `Repeat` that has a turn what its list sets
 abbrev mutual
   pub set_behind : Stmt → Locals → Locals
   set_behind (Let i e) set = slice_set set i true
   set_behind (If' e m first n second) set = both_set (list_set_behind first set) (list_set_behind second set)
+  set_behind (Repeat' turns m list) set = if turns == 0 then set else list_set_behind list set
   set_behind st set = set
 
   pub list_set_behind : {m : _} → Row_of-Stmt m → Locals → Locals
@@ -145,7 +149,7 @@ abbrev pub body_set_behind : List Stmt → Locals → Locals
 body_set_behind [] set = set
 body_set_behind (st ∷ sts) set = body_set_behind sts (set_behind st set)
 
--- each local that a statement reads is surely set before
+-- each local that a statement reads is surely set before; the list of a `Repeat` reads what is set before its first turn, even if it has none
 abbrev mutual
   pub reads_set : Locals → Stmt → Bool
   reads_set set (Let i e) = all_leaves (local_is_set set) e
@@ -153,6 +157,7 @@ abbrev mutual
   reads_set set (If' e m first n second) = all_leaves (local_is_set set) e && list_reads_set set first && list_reads_set set second
   reads_set set (Abort code) = true
   reads_set set (Reply e) = all_leaves (local_is_set set) e
+  reads_set set (Repeat' turns m list) = list_reads_set set list
 
   pub list_reads_set : {m : _} → Locals → Row_of-Stmt m → Bool
   list_reads_set set end_of-Stmt = true
@@ -163,11 +168,12 @@ abbrev pub body_reads_set : Locals → List Stmt → Bool
 body_reads_set set [] = true
 body_reads_set set (st ∷ sts) = reads_set set st && body_reads_set (set_behind st set) sts
 
--- how many outputs a statement makes: of an `If` the greater number of its two lists
+-- how many outputs a statement makes: an `If` the greater number of its two lists, a `Repeat` those of its list in each turn
 abbrev mutual
   pub replies : Stmt → ℕ
   replies (If' e m first n second) = max (list_replies first) (list_replies second)
   replies (Reply e) = 1
+  replies (Repeat' turns m list) = turns * list_replies list
   replies st = 0
 
   pub list_replies : {m : _} → Row_of-Stmt m → ℕ
@@ -201,6 +207,7 @@ abbrev mutual
   stmt_depth (If' e m first n second) = suc (max (depth e) (max (list_depth first) (list_depth second)))
   stmt_depth (Abort code) = 1
   stmt_depth (Reply e) = suc (depth e)
+  stmt_depth (Repeat' turns m list) = suc (list_depth list)
 
   pub list_depth : {m : _} → Row_of-Stmt m → ℕ
   list_depth end_of-Stmt = 0
@@ -238,17 +245,53 @@ abbrev mutual
   stmt_nodes (If' e m first n second) = suc (nodes e + (list_nodes first + list_nodes second))
   stmt_nodes (Abort code) = 1
   stmt_nodes (Reply e) = suc (nodes e)
+  stmt_nodes (Repeat' turns m list) = suc (list_nodes list)
 
   pub list_nodes : {m : _} → Row_of-Stmt m → ℕ
   list_nodes end_of-Stmt = 0
   list_nodes (more_of-Stmt st rest) = stmt_nodes st + list_nodes rest
+
+-- how much work a statement is: each statement and expression in it counts 1, those in a `Repeat` in each turn
+abbrev mutual
+  pub weight : Stmt → ℕ
+  weight (Let i e) = suc (nodes e)
+  weight (Set i e) = suc (nodes e)
+  weight (If' e m first n second) = suc (nodes e + (list_weight first + list_weight second))
+  weight (Abort code) = 1
+  weight (Reply e) = suc (nodes e)
+  weight (Repeat' turns m list) = suc (turns * list_weight list)
+
+  pub list_weight : {m : _} → Row_of-Stmt m → ℕ
+  list_weight end_of-Stmt = 0
+  list_weight (more_of-Stmt st rest) = weight st + list_weight rest
+
+-- a `Repeat` with this number of turns may stand in a procedure of this edition
+abbrev pub may_repeat : Edition → ℕ → Bool
+may_repeat One turns = false
+may_repeat Two turns = nat_le turns MOST_TURNS
+
+-- each `Repeat` in a statement may stand in a procedure of this edition
+abbrev mutual
+  pub turns_are_few : Edition → Stmt → Bool
+  turns_are_few edition (If' e m first n second) = list_turns_are_few edition first && list_turns_are_few edition second
+  turns_are_few edition (Repeat' turns m list) = may_repeat edition turns && list_turns_are_few edition list
+  turns_are_few edition st = true
+
+  pub list_turns_are_few : {m : _} → Edition → Row_of-Stmt m → Bool
+  list_turns_are_few edition end_of-Stmt = true
+  list_turns_are_few edition (more_of-Stmt st rest) = turns_are_few edition st && list_turns_are_few edition rest
+
+-- how many key positions a procedure of this edition declares at most
+abbrev pub most_keys : Edition → ℕ
+most_keys One = FIRST_MOST_KEYS
+most_keys Two = MOST_CLAIMS
 
 -- the tests, one by one
 abbrev pub has_few_args : Proc → Bool
 has_few_args p = nat_le p.args MOST_ARGS
 
 abbrev pub has_few_keys : Proc → Bool
-has_few_keys p = nat_le (length p.keys) MOST_CLAIMS
+has_few_keys p = nat_le (length p.keys) (most_keys p.edition)
 
 abbrev pub has_declared_key_args : Proc → Bool
 has_declared_key_args p = list_all (argument_is_declared p.args) p.keys
@@ -286,6 +329,12 @@ has_earlier_sources p = have_sources p.keys 0 p.keys
 abbrev pub has_one_indirect_key : Proc → Bool
 has_one_indirect_key p = nat_le (sum_by indirect p.keys) 1
 
+abbrev pub has_few_turns : Proc → Bool
+has_few_turns p = list_all (turns_are_few p.edition) p.body
+
+abbrev pub is_light : Proc → Bool
+is_light p = nat_le (sum_by weight p.body) MOST_WEIGHT
+
 -- well-formed, whatever the number of records
 pub record IsWellFormed (p : Proc) : Type 0 where
   pub few_args : has_few_args p ≡ true
@@ -301,3 +350,5 @@ pub record IsWellFormed (p : Proc) : Type 0 where
   pub short : is_short p ≡ true
   pub sources : has_earlier_sources p ≡ true
   pub one_indirect : has_one_indirect_key p ≡ true
+  pub few_turns : has_few_turns p ≡ true
+  pub light : is_light p ≡ true

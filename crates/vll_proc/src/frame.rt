@@ -1,4 +1,4 @@
-ghost use Rattle.std.specs.Prelude.{◌≡◌, ◌<◌, ℕ, List, replicate, length, slice_index, slice_set};
+ghost use Rattle.std.specs.Prelude.{◌≡◌, ◌<◌, ◌≤◌, ℕ, List, false, replicate, length, slice_index, slice_set};
 ghost use Rattle.vll_proc.specs.declared.call.Reason.{Reason};
 ghost use Rattle.vll_proc.specs.declared.call.Reply.TheVariants.{Aborted};
 ghost use Rattle.vll_proc.specs.Cells.{Holds};
@@ -15,6 +15,9 @@ use crate::run::Progress;
 use crate::syntax::Proc;
 use std::marker::Model;
 use vll_record::MOST_CLAIMS;
+
+// How many claims are few: most calls have no more.
+const FEW_CLAIMS: usize = 4;
 
 /// The cells of a call, one for each claim that it may have. Contracts see them as their list.
 #[derive(Clone, Copy)]
@@ -84,17 +87,43 @@ impl Frame {
         if self.has_moved(procedure, call) {
             return Reply::Aborted(Reason::Moved);
         }
+        if call.claims.len() <= FEW_CLAIMS {
+            self.run_keeping::<FEW_CLAIMS>(procedure, call)
+        } else {
+            self.run_keeping::<MOST_CLAIMS>(procedure, call)
+        }
+    }
+
+    // Runs the body. It sets none but the first `KEPT` cells, which are kept aside to go back to if the call is aborted.
+    #[inline(always)]
+    fn run_keeping<const KEPT: usize>(&mut self, procedure: &Proc, call: &Call) -> Reply
+        requires formed { IsWellFormed procedure.now }
+        requires made { (n : ℕ) × IsCallOf n procedure.now call.now }
+        requires stays { has_moved (source_of procedure.now.keys) call.now.found (cell_opening call.now self.old) ≡ false }
+        requires some { 0 < KEPT }
+        requires most { KEPT ≤ MOST_CLAIMS }
+        requires claims { length call.now.claims ≤ KEPT }
+        ensures reply { (records : List ℕ) → IsCallOf (length records) procedure.now call.now
+            → Holds self.old call.now.claims records
+            → result ≡ (applied procedure.now call.now records).reply }
+        ensures cells { (records : List ℕ) → IsCallOf (length records) procedure.now call.now
+            → Holds self.old call.now.claims records
+            → Holds self.new call.now.claims (applied procedure.now call.now records).records }
+        ensures aborted { (why : Reason) → result ≡ Aborted why → self.new ≡ self.old }
+        ensures whole { length self.new ≡ MOST_CLAIMS }
+    {
+        let mut kept = [0; KEPT];
+        kept.copy_from_slice(&self.cells[..KEPT]);
         let mut progress = Progress {
-            cells: *self,
             locals: [0; MOST_LOCALS],
             outputs: Outputs::new(),
         };
-        match progress.steps(procedure.body.as_slice(), call) {
-            Ok(()) => {
-                *self = progress.cells;
-                Reply::Committed(progress.outputs)
+        match progress.steps(self, procedure.body.as_slice(), call) {
+            Ok(()) => Reply::Committed(progress.outputs),
+            Err(why) => {
+                self.cells[..KEPT].copy_from_slice(&kept);
+                Reply::Aborted(why)
             }
-            Err(why) => Reply::Aborted(why),
         }
     }
 

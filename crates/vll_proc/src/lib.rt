@@ -15,6 +15,9 @@ pub use laws::{
     changes_claimed_records_alone, depends_on_claimed_records_alone, keeps_the_number_of_records,
     meets_nothing_undeclared,
 };
-pub use limits::{MOST_ARGS, MOST_DEPTH, MOST_LOCALS, MOST_NODES, MOST_OUTPUTS};
+pub use limits::{
+    FIRST_MOST_KEYS, MOST_ARGS, MOST_DEPTH, MOST_LOCALS, MOST_NODES, MOST_OUTPUTS, MOST_TURNS,
+    MOST_WEIGHT,
+};
 pub use outputs::Outputs;
-pub use syntax::{Expr, KeyAt, KeyDecl, Proc, Stmt, Text};
+pub use syntax::{Edition, Expr, KeyAt, KeyDecl, Proc, Stmt, Text};

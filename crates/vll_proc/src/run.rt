@@ -1,7 +1,7 @@
-ghost use Rattle.std.specs.Prelude.{◌≡◌, ◌+◌, ◌<◌, ◌≤◌, ◌&&◌, ◌^◌, ◌==◌, ℕ, true, length, map, sum_by, nat_lt, OnOk, slice_index};
+ghost use Rattle.std.specs.Prelude.{◌≡◌, ◌+◌, ◌*◌, ◌<◌, ◌≤◌, ◌&&◌, ◌^◌, ◌==◌, ℕ, true, length, map, drop, sum_by, nat_lt, OnOk, slice_index};
 ghost use Rattle.std.specs.List.{list_all};
-ghost use Rattle.vll_proc.specs.Meaning.{sum, difference, product, quotient, remainder, value_of, effect, in_turn};
-ghost use Rattle.vll_proc.specs.Private.Running.{scene_of, HasCells, ended, noted, behind, operation_of};
+ghost use Rattle.vll_proc.specs.Meaning.{sum, difference, product, quotient, remainder, value_of, effect, in_turn, repeated};
+ghost use Rattle.vll_proc.specs.Private.Running.{scene_of, HasCells, HasCellsBelow, ended, noted, behind, operation_of};
 ghost use Rattle.vll_proc.specs.WellFormed.{all_leaves, throughout, key_is_below, arg_is_below, local_is_known, set_is_below, let_is_known, any_stmt, replies};
 
 use crate::call::{Call, Reason};
@@ -11,10 +11,9 @@ use crate::outputs::Outputs;
 use crate::syntax::{Expr, Stmt};
 use vll_record::MOST_CLAIMS;
 
-// What changes while a body runs: it works on copies, so an aborted call leaves its frame as it was.
+// What changes while a body runs, beside the cells of its frame.
 #[derive(Clone, Copy)]
 pub(crate) struct Progress {
-    pub(crate) cells: Frame,
     pub(crate) locals: [u64; MOST_LOCALS],
     pub(crate) outputs: Outputs,
 }
@@ -22,19 +21,25 @@ pub(crate) struct Progress {
 impl Progress {
     // Runs statements in order, up to the first reason.
     #[cycle(statement)]
-    pub(crate) fn steps(&mut self, statements: &[Stmt], call: &Call) -> Result<(), Reason>
+    pub(crate) fn steps(
+        &mut self,
+        cells: &mut Frame,
+        statements: &[Stmt],
+        call: &Call,
+    ) -> Result<(), Reason>
         requires cells { HasCells call.now }
         requires keys { list_all (throughout (key_is_below MOST_CLAIMS) (set_is_below MOST_CLAIMS)) statements.now ≡ true }
         requires args { list_all (throughout (arg_is_below MOST_ARGS) any_stmt) statements.now ≡ true }
         requires locals { list_all (throughout local_is_known let_is_known) statements.now ≡ true }
         requires room { length self.old.outputs + sum_by replies statements.now ≤ MOST_OUTPUTS }
-        ensures effect { in_turn (map effect statements.now) (scene_of call.now self.old)
-            ≡ ended result (scene_of call.now self.new) }
+        ensures effect { in_turn (map effect statements.now) (scene_of call.now cells.old self.old)
+            ≡ ended result (scene_of call.now cells.new self.new) }
+        ensures others { (n : ℕ) → HasCellsBelow n call.now → drop n cells.new ≡ drop n cells.old }
         ensures outputs { OnOk result
             (length self.new.outputs ≤ length self.old.outputs + sum_by replies statements.now) }
     {
         for statement in statements {
-            self.step(statement, call)?;
+            self.step(cells, statement, call)?;
         }
         Ok(())
     }
@@ -42,88 +47,106 @@ impl Progress {
     // Runs one statement.
     #[cycle(statement)]
     #[tactic(auto, using(crate::proofs::Lists::branches))]
-    fn step(&mut self, statement: &Stmt, call: &Call) -> Result<(), Reason>
+    fn step(&mut self, cells: &mut Frame, statement: &Stmt, call: &Call) -> Result<(), Reason>
         requires cells { HasCells call.now }
         requires keys { throughout (key_is_below MOST_CLAIMS) (set_is_below MOST_CLAIMS) statement.now ≡ true }
         requires args { throughout (arg_is_below MOST_ARGS) any_stmt statement.now ≡ true }
         requires locals { throughout local_is_known let_is_known statement.now ≡ true }
         requires room { length self.old.outputs + replies statement.now ≤ MOST_OUTPUTS }
-        ensures effect { effect statement.now (scene_of call.now self.old)
-            ≡ ended result (scene_of call.now self.new) }
+        ensures effect { effect statement.now (scene_of call.now cells.old self.old)
+            ≡ ended result (scene_of call.now cells.new self.new) }
+        ensures others { (n : ℕ) → HasCellsBelow n call.now → drop n cells.new ≡ drop n cells.old }
         ensures outputs { OnOk result
             (length self.new.outputs ≤ length self.old.outputs + replies statement.now) }
     {
         match statement {
             Stmt::Let(i, expr) => {
-                let value = self.value(expr, call)?;
+                let value = self.value(cells, expr, call)?;
                 self.locals[*i as usize] = value;
                 Ok(())
             }
             Stmt::Set(i, expr) => {
-                let value = self.value(expr, call)?;
-                self.cells.put(call.cells[*i as usize] as usize, value);
+                let value = self.value(cells, expr, call)?;
+                cells.put(call.cells[*i as usize] as usize, value);
                 Ok(())
             }
             Stmt::If(expr, first, second) => {
-                if self.value(expr, call)? != 0 {
-                    self.steps(first.as_slice(), call)
+                if self.value(cells, expr, call)? != 0 {
+                    self.steps(cells, first.as_slice(), call)
                 } else {
-                    self.steps(second.as_slice(), call)
+                    self.steps(cells, second.as_slice(), call)
                 }
             }
             Stmt::Abort(code) => Err(Reason::Code(*code)),
             Stmt::Reply(expr) => {
-                let value = self.value(expr, call)?;
+                let value = self.value(cells, expr, call)?;
                 self.outputs.push(value);
                 Ok(())
             }
+            Stmt::Repeat(count, list) => self.turns(cells, *count, list.as_slice(), call),
         }
+    }
+
+    // Runs statements in order a number of times, up to the first reason.
+    #[cycle(statement)]
+    fn turns(
+        &mut self,
+        cells: &mut Frame,
+        count: u8,
+        statements: &[Stmt],
+        call: &Call,
+    ) -> Result<(), Reason>
+        requires cells { HasCells call.now }
+        requires keys { list_all (throughout (key_is_below MOST_CLAIMS) (set_is_below MOST_CLAIMS)) statements.now ≡ true }
+        requires args { list_all (throughout (arg_is_below MOST_ARGS) any_stmt) statements.now ≡ true }
+        requires locals { list_all (throughout local_is_known let_is_known) statements.now ≡ true }
+        requires room { length self.old.outputs + count * sum_by replies statements.now ≤ MOST_OUTPUTS }
+        ensures effect { repeated count (in_turn (map effect statements.now)) (scene_of call.now cells.old self.old)
+            ≡ ended result (scene_of call.now cells.new self.new) }
+        ensures others { (n : ℕ) → HasCellsBelow n call.now → drop n cells.new ≡ drop n cells.old }
+        ensures outputs { OnOk result
+            (length self.new.outputs ≤ length self.old.outputs + count * sum_by replies statements.now) }
+    {
+        for _ in 0..count {
+            self.steps(cells, statements, call)?;
+        }
+        Ok(())
     }
 
     // The value of an expression, or the first reason on the way to it.
     #[inline(always)]
-    fn value(&self, expr: &Expr, call: &Call) -> Result<u64, Reason>
+    fn value(&self, cells: &Frame, expr: &Expr, call: &Call) -> Result<u64, Reason>
         requires cells { HasCells call.now }
         requires keys { all_leaves (key_is_below MOST_CLAIMS) expr.now ≡ true }
         requires args { all_leaves (arg_is_below MOST_ARGS) expr.now ≡ true }
         requires locals { all_leaves local_is_known expr.now ≡ true }
-        ensures { result ≡ value_of expr.now (scene_of call.now self.now) }
+        ensures { result ≡ value_of expr.now (scene_of call.now cells.now self.now) }
     {
         let mut why = None;
-        let number = self.operand(expr, call, &mut why);
+        let number = self.operand(cells, expr, call, &mut why);
         match why {
             None => Ok(number),
             Some(reason) => Err(reason),
         }
     }
 
-    // The value in the cell that a key position names.
-    #[inline(always)]
-    fn key(&self, i: u8, call: &Call) -> u64
-        requires cells { HasCells call.now }
-        requires known { i < MOST_CLAIMS }
-        ensures { result ≡ slice_index self.now.cells (slice_index call.now.cells i) }
-    {
-        self.cells.get(call.cells[i as usize] as usize)
-    }
-
     // The number that an expression gives. The first reason is noted, and what is computed behind it means nothing: so
     // no result but a number is handed up from one operator to the next.
     #[cycle(expression)]
     #[tactic(auto, using(crate::proofs::Equations::forms))]
-    fn number(&self, expr: &Expr, call: &Call, why: &mut Option<Reason>) -> u64
+    fn number(&self, cells: &Frame, expr: &Expr, call: &Call, why: &mut Option<Reason>) -> u64
         requires cells { HasCells call.now }
         requires keys { all_leaves (key_is_below MOST_CLAIMS) expr.now ≡ true }
         requires args { all_leaves (arg_is_below MOST_ARGS) expr.now ≡ true }
         requires locals { all_leaves local_is_known expr.now ≡ true }
-        ensures { noted why.new result ≡ behind why.old (value_of expr.now (scene_of call.now self.now)) }
+        ensures { noted why.new result ≡ behind why.old (value_of expr.now (scene_of call.now cells.now self.now)) }
     {
         match expr {
             Expr::Num(n) => *n,
             Expr::Arg(i) => call.args[*i as usize],
-            Expr::Key(i) => self.key(*i, call),
+            Expr::Key(i) => value_at(cells, *i, call),
             Expr::Local(i) => self.locals[*i as usize],
-            Expr::Not(a) => u64::from(self.operand(a.get(), call, why) == 0),
+            Expr::Not(a) => u64::from(self.operand(cells, a.get(), call, why) == 0),
             Expr::Add(a, b)
             | Expr::Sub(a, b)
             | Expr::Mul(a, b)
@@ -133,8 +156,8 @@ impl Progress {
             | Expr::Max(a, b)
             | Expr::Equal(a, b)
             | Expr::Less(a, b) => {
-                let x = self.operand(a.get(), call, why);
-                let y = self.operand(b.get(), call, why);
+                let x = self.operand(cells, a.get(), call, why);
+                let y = self.operand(cells, b.get(), call, why);
                 number_or_reason(operation(expr, x, y), why)
             }
         }
@@ -143,21 +166,31 @@ impl Progress {
     // The same of an operand. A leaf is answered without a call.
     #[cycle(expression)]
     #[inline(always)]
-    fn operand(&self, expr: &Expr, call: &Call, why: &mut Option<Reason>) -> u64
+    fn operand(&self, cells: &Frame, expr: &Expr, call: &Call, why: &mut Option<Reason>) -> u64
         requires cells { HasCells call.now }
         requires keys { all_leaves (key_is_below MOST_CLAIMS) expr.now ≡ true }
         requires args { all_leaves (arg_is_below MOST_ARGS) expr.now ≡ true }
         requires locals { all_leaves local_is_known expr.now ≡ true }
-        ensures { noted why.new result ≡ behind why.old (value_of expr.now (scene_of call.now self.now)) }
+        ensures { noted why.new result ≡ behind why.old (value_of expr.now (scene_of call.now cells.now self.now)) }
     {
         match expr {
             Expr::Num(n) => *n,
             Expr::Arg(i) => call.args[*i as usize],
-            Expr::Key(i) => self.key(*i, call),
+            Expr::Key(i) => value_at(cells, *i, call),
             Expr::Local(i) => self.locals[*i as usize],
-            _ => self.number(expr, call, why),
+            _ => self.number(cells, expr, call, why),
         }
     }
+}
+
+// The value in the cell that a key position names.
+#[inline(always)]
+fn value_at(cells: &Frame, i: u8, call: &Call) -> u64
+    requires cells { HasCells call.now }
+    requires known { i < MOST_CLAIMS }
+    ensures { result ≡ slice_index cells.now (slice_index call.now.cells i) }
+{
+    cells.get(call.cells[i as usize] as usize)
 }
 
 // What the operator of an expression makes of two operands, and 0 if it has no two.

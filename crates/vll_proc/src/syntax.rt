@@ -51,6 +51,8 @@ pub enum Stmt {
     Abort(u16),
     /// Appends an output.
     Reply(Expr),
+    /// Runs its list this many times, each turn from where the one before ended. An abort ends the call.
+    Repeat(u8, Items<Stmt>),
 }
 
 /// Where a key position's record is named.
@@ -72,9 +74,20 @@ pub struct KeyDecl {
     pub at: KeyAt,
 }
 
-/// A stored procedure: its name, how many arguments it takes, the keys it declares, and its body.
+/// The edition of the format in which a procedure is written: it says which statements and how many
+/// key positions the procedure may have.
+#[derive(Clone, Copy, PartialEq, Eq, Debug)]
+pub enum Edition {
+    /// No `Repeat`, and at most `FIRST_MOST_KEYS` key positions.
+    One,
+    /// A `Repeat` of at most `MOST_TURNS` turns, and at most `MOST_CLAIMS` key positions.
+    Two,
+}
+
+/// A stored procedure: its edition, its name, how many arguments it takes, the keys it declares, and its body.
 #[derive(Drop)]
 pub struct Proc {
+    pub edition: Edition,
     pub name: Text,
     pub args: u8,
     pub keys: Items<KeyDecl>,

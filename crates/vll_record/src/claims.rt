@@ -13,7 +13,7 @@ pub use iter::ClaimsIter;
 use modes::Modes;
 
 /// How many claims a call has at most.
-pub const MOST_CLAIMS: usize = 16;
+pub const MOST_CLAIMS: usize = 32;
 
 /// Up to `MOST_CLAIMS` claims, strictly rising by record number. Contracts see them as their list.
 #[derive(Clone, Copy)]

@@ -11,14 +11,16 @@ use vll_server::{
 };
 use vll_workers::{OpenGate, RunFault};
 
-// A transfer, and then a read of both records.
-const TRANSFER: &str = r#"{"version":1,"records":[100,50],
+// A transfer, and then a read of both records. What is not called has lists within lists.
+const TRANSFER: &str = r#"{"version":2,"records":[100,50],
  "procs":[
   {"name":"transfer","args":3,"keys":[["write","arg",0],["write","arg",1]],
    "body":[["set",0,["sub",["key",0],["arg",2]]],
            ["set",1,["add",["key",1],["arg",2]]],["reply",["key",0]]]},
   {"name":"sum2","args":2,"keys":[["read","arg",0],["read","arg",1]],
-   "body":[["reply",["add",["key",0],["key",1]]]]}],
+   "body":[["reply",["add",["key",0],["key",1]]]]},
+  {"name":"often","args":1,"keys":[],
+   "body":[["repeat",2,[["if",["arg",0],[["reply",1]],[["repeat",2,[["reply",2]]]]]]]]}],
  "clients":[[{"proc":"transfer","args":[0,1,30]},{"proc":"sum2","args":[0,1]}]],
  "schedule":[["enter",0],["claim"],["front"]]}"#;
 

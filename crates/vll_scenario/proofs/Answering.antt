@@ -1,6 +1,8 @@
 -- How what is answered for a tree becomes what is answered for its parts, and for its scenario.
 use Rattle.std.proofs.Common.{◌≡◌, ◌⊎◌, inl, inr, ℕ, suc, Bool, true, false, List, [], ◌∷◌, ◌++◌, length, Option, Some, None, Result, Ok, Err, IfOk, IfErr, IfSome, refl, sym, ap, ◌∙◌, subst, arith, length-append, append-nil, option_map, is_none, if◌then◌else◌, ◌&&◌}
+use Rattle.std.specs.Prelude.{codes}
 use Rattle.serde_json.specs.Data.{Data}
+use Rattle.serde_json.specs.Find.{get}
 use Rattle.serde_json.specs.View.{view}
 use Rattle.serde_json.specs.declared.value.Value.{Value}
 use Rattle.vll_proc.specs.declared.call.Call.{Call}
@@ -13,15 +15,20 @@ use Rattle.vll_check.specs.Faults.{check_fault}
 use Rattle.vll_check.specs.Names.{has_name_twice}
 use Rattle.vll_core.specs.Faults.{open_fault}
 use Rattle.vll_core.specs.Machine.{refuse_if}
+use Rattle.vll_scenario.specs.declared.fault.Part.{Part}
+use Rattle.vll_scenario.specs.declared.fault.Part.TheVariants as part
 use Rattle.vll_scenario.specs.declared.fault.ScenarioFault.{ScenarioFault}
 use Rattle.vll_scenario.specs.declared.fault.ScenarioFault.TheVariants as fault
 use Rattle.vll_scenario.specs.declared.reading.shape.Parts.{Parts}
 use Rattle.vll_scenario.specs.Reading.{IsAnswerBy, ReadsEnough, Reads, Tells}
 use Rattle.vll_scenario.specs.Private.Reading.{data_of, GivesUnlessMemory}
 use Rattle.vll_scenario.specs.Scenario.{IsTree, call_at, config_of, each_given, first_check, first_check_from, in_call, ok_unless, or_else, script_made, scripts_made, setup_of, tree_or_json}
+use Rattle.vll_scenario.specs.Schedule.{event_at}
 use Rattle.vll_scenario.specs.Setup.{Setup, has_sizes}
-use Rattle.vll_scenario.specs.Shape.{◌>>=◌}
+use Rattle.vll_scenario.specs.Shape.{◌>>=◌, edition_at, in_part, list_if_there, may_names, must_names, option_at, part_at, parts_of, placing_at, script_at, shape_of}
 use Rattle.vll_scenario.specs.Streams.{AreTooMany}
+use Rattle.vll_scenario.specs.Syntax.{has_members, proc_at}
+use Rattle.vll_scenario.specs.Tree.{number_at, u32_at}
 use Rattle.vll_scenario.specs.Private.Bytes.{ReadsAll}
 
 -- ---- the tree of the bytes
@@ -148,22 +155,56 @@ other_refused : {A : Type 0} (b : Bool) (r : Result A ScenarioFault) → IsOther
 other_refused true r other = tt
 other_refused false r other = other
 
-other_choice : {A : Type 0} (b : Bool) (r : Result A ScenarioFault) → IsOther r → IsOther (if b then r else Err fault.Size)
-other_choice true r other = other
-other_choice false r other = tt
+other_either : {A : Type 0} (b : Bool) (r s : Result A ScenarioFault) → IsOther r → IsOther s → IsOther (if b then r else s)
+other_either true r s one two = one
+other_either false r s one two = two
 
 other_setup : (p : Parts) → IsOther (setup_of p)
 other_setup p =
-    other_choice (has_sizes p.procs p.scripts p.schedule && is_none (open_fault (length p.records) (config_of p))) _
+    other_either (has_sizes p.procs p.scripts p.schedule && is_none (open_fault (length p.records) (config_of p))) _ (Err fault.Size)
     (other_then (ok_unless (first_check (length p.records) p.procs) p.procs) _ (other_checks (length p.records) 0 p.procs p.procs) (λ procs.
     other_refused (has_name_twice procs) _
     (let catalog : Catalog = record { records = length p.records; procs = procs } in
     other_then (scripts_made catalog p.scripts) _
     (other_each (script_made catalog) (λ client script. other_each (call_at catalog client) (λ index a. other_call client index (call_made catalog a.name a.args)) 0 script) 0 p.scripts)
     (λ scripts. tt))))
+    tt
 
-none_other : (r : Result Setup ScenarioFault) → IsOther r → r ≡ Err fault.Read → ⊥
+none_other : {A : Type 0} (r : Result A ScenarioFault) → IsOther r → r ≡ Err fault.Read → ⊥
 none_other r other e = subst IsOther e other
 
 pub setup_reads_nothing : (r : Result Setup ScenarioFault) (p : Parts) → GivesUnlessMemory r (setup_of p) → r ≡ Err fault.Read → ⊥
 setup_reads_nothing r p gives e = none_other (setup_of p) (other_setup p) (subst (λ x. GivesUnlessMemory x (setup_of p)) e gives)
+
+-- ---- nor are the parts of a tree
+
+other_list : {A : Type 0} (part : Part) (reading : Result A ℕ) → IsOther (in_part part reading)
+other_list part (Ok a) = tt
+other_list part (Err i) = tt
+
+read_option : {A : Type 0} (part : Part) (name : List ℕ) (f : Data → Option A) (d x : Data) (o : Option A) → get name d ≡ Some x → f x ≡ o → IsOther (option_at part name f d)
+read_option part name f d x None there is = rw (there, is) tt
+read_option part name f d x (Some a) there is = rw (there, is) tt
+
+found_option : {A : Type 0} (part : Part) (name : List ℕ) (f : Data → Option A) (d : Data) (o : Option Data) → get name d ≡ o → IsOther (option_at part name f d)
+found_option part name f d None there = rw there tt
+found_option part name f d (Some x) there = read_option part name f d x (f x) there refl
+
+other_option : {A : Type 0} (part : Part) (name : List ℕ) (f : Data → Option A) (d : Data) → IsOther (option_at part name f d)
+other_option part name f d = found_option part name f d (get name d) refl
+
+other_parts : (d : Data) → IsOther (parts_of d)
+other_parts d =
+    other_then (edition_at d) _ (other_list part.Version _) (λ edition.
+    other_then (part_at part.Records (codes "records") number_at d) _ (other_list part.Records _) (λ records.
+    other_then (part_at part.Procs (codes "procs") (proc_at edition) d) _ (other_list part.Procs _) (λ procs.
+    other_then (part_at part.Clients (codes "clients") script_at d) _ (other_list part.Clients _) (λ scripts.
+    other_then (option_at part.Cap (codes "cap") u32_at d) _ (other_option part.Cap (codes "cap") u32_at d) (λ cap.
+    other_then (option_at part.Bits (codes "bits") u32_at d) _ (other_option part.Bits (codes "bits") u32_at d) (λ bits.
+    other_then (option_at part.Limit (codes "limit") u32_at d) _ (other_option part.Limit (codes "limit") u32_at d) (λ limit.
+    other_then (option_at part.Hash (codes "hash") placing_at d) _ (other_option part.Hash (codes "hash") placing_at d) (λ placing.
+    other_then (in_part part.Schedule (list_if_there event_at (get (codes "schedule") d))) _ (other_list part.Schedule _) (λ schedule. tt)))))))))
+
+pub shape_reads_nothing : (r : Result Parts ScenarioFault) (d : Data) → GivesUnlessMemory r (shape_of d) → r ≡ Err fault.Read → ⊥
+shape_reads_nothing r d gives e =
+    none_other (shape_of d) (other_either (has_members must_names may_names d) (parts_of d) _ (other_parts d) tt) (subst (λ x. GivesUnlessMemory x (shape_of d)) e gives)

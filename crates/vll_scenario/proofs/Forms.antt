@@ -1,13 +1,18 @@
 -- What lists are as forms: their items by number, and none where a list has another length than a form has.
 use Rattle.std.proofs.Common.{◌≡◌, ◌≢◌, ℕ, List, [], ◌∷◌, length, map, get_or, Some, None, Vec, Global, refl, ap, ◌∙◌, arith}
+use Rattle.std.specs.Prelude.{codes}
+use Rattle.std.specs.Str.{bytes_eq}
+use Rattle.std.proofs.lemmas.Bool.{cond-true, cond-false, false_from_ne_true}
+use Rattle.std.proofs.lemmas.Slice.Eq.{bytes_eq-Decides}
 use Rattle.serde_json.specs.Data.{Data, string, array, no_items, item}
 use Rattle.serde_json.specs.Find.{as_str}
 use Rattle.serde_json.specs.View.{items_of, items_view, view}
 use Rattle.serde_json.specs.declared.value.Value.{Value, Array}
 use Rattle.serde_json.proofs.Views.{view-Array}
 use Rattle.std.proofs.lemmas.List.{length-map}
+use Rattle.vll_proc.specs.declared.syntax.Edition.{Edition}
 use Rattle.vll_scenario.specs.Schedule.{event_at}
-use Rattle.vll_scenario.specs.Syntax.{expr_at, key_at, stmt_at}
+use Rattle.vll_scenario.specs.Syntax.{expr_at, index_at, key_at, let_or_set, repeat, stmt_at, stmts_at}
 
 -- ---- the items of a list of one, two, three or four
 
@@ -53,6 +58,15 @@ view-four v list a b c d is n first second third fourth = ap view is ∙ view-Ar
 pub view-one : (v : Value) (list : Vec Value Global) (a : Value) → v ≡ Array list → length list.items ≡ 1 → a ≡ get_or list.items 0 a → view v ≡ array (item (view a) no_items)
 view-one v list a is n first = ap view is ∙ view-Array list ∙ ap array (one list.items a n first)
 
+-- ---- a word with two items
+
+pub stmt_at-repeat : (edition : Edition) (word : List ℕ) (d e : Data) → word ≡ codes "repeat" → stmt_at edition (array (item (string word) (item d (item e no_items)))) ≡ repeat edition (index_at d) (stmts_at edition e)
+stmt_at-repeat edition word d e is = cond-true (bytes_eq word (codes "repeat")) _ _ ((bytes_eq-Decides word (codes "repeat")).1 is)
+
+pub stmt_at-other_word : (edition : Edition) (word : List ℕ) (d e : Data) → word ≢ codes "repeat" → stmt_at edition (array (item (string word) (item d (item e no_items)))) ≡ let_or_set word d e
+stmt_at-other_word edition word d e other =
+    cond-false (bytes_eq word (codes "repeat")) _ _ (false_from_ne_true (bytes_eq word (codes "repeat")) (λ same. other ((bytes_eq-Decides word (codes "repeat")).0 same)))
+
 -- ---- lists of another length
 
 other_expr : (ds : List Data) → length ds ≢ 2 → length ds ≢ 3 → expr_at (array (items_of ds)) ≡ None
@@ -69,20 +83,20 @@ expr_at-other_length v list is two three =
     let same = length-map list.items view in
     ap expr_at (ap view is ∙ view-Array list) ∙ other_expr (map view list.items) (λ e. two (omega arith)) (λ e. three (omega arith))
 
-other_stmt : (ds : List Data) → length ds ≢ 2 → length ds ≢ 3 → length ds ≢ 4 → stmt_at (array (items_of ds)) ≡ None
-other_stmt [] two three four = refl
-other_stmt (string s ∷ []) two three four = refl
-other_stmt (_ ∷ []) two three four = refl
-other_stmt (d ∷ e ∷ []) two three four = absurd (two (omega arith))
-other_stmt (d ∷ e ∷ f ∷ []) two three four = absurd (three (omega arith))
-other_stmt (d ∷ e ∷ f ∷ g ∷ []) two three four = absurd (four (omega arith))
-other_stmt (string s ∷ e ∷ f ∷ g ∷ h ∷ ds) two three four = refl
-other_stmt (_ ∷ e ∷ f ∷ g ∷ h ∷ ds) two three four = refl
+other_stmt : (edition : Edition) (ds : List Data) → length ds ≢ 2 → length ds ≢ 3 → length ds ≢ 4 → stmt_at edition (array (items_of ds)) ≡ None
+other_stmt edition [] two three four = refl
+other_stmt edition (string s ∷ []) two three four = refl
+other_stmt edition (_ ∷ []) two three four = refl
+other_stmt edition (d ∷ e ∷ []) two three four = absurd (two (omega arith))
+other_stmt edition (d ∷ e ∷ f ∷ []) two three four = absurd (three (omega arith))
+other_stmt edition (d ∷ e ∷ f ∷ g ∷ []) two three four = absurd (four (omega arith))
+other_stmt edition (string s ∷ e ∷ f ∷ g ∷ h ∷ ds) two three four = refl
+other_stmt edition (_ ∷ e ∷ f ∷ g ∷ h ∷ ds) two three four = refl
 
-pub stmt_at-other_length : (v : Value) (list : Vec Value Global) → v ≡ Array list → length list.items ≢ 2 → length list.items ≢ 3 → length list.items ≢ 4 → stmt_at (view v) ≡ None
-stmt_at-other_length v list is two three four =
+pub stmt_at-other_length : (edition : Edition) (v : Value) (list : Vec Value Global) → v ≡ Array list → length list.items ≢ 2 → length list.items ≢ 3 → length list.items ≢ 4 → stmt_at edition (view v) ≡ None
+stmt_at-other_length edition v list is two three four =
     let same = length-map list.items view in
-    ap stmt_at (ap view is ∙ view-Array list) ∙ other_stmt (map view list.items) (λ e. two (omega arith)) (λ e. three (omega arith)) (λ e. four (omega arith))
+    ap (stmt_at edition) (ap view is ∙ view-Array list) ∙ other_stmt edition (map view list.items) (λ e. two (omega arith)) (λ e. three (omega arith)) (λ e. four (omega arith))
 
 other_key : (ds : List Data) → length ds ≢ 3 → key_at (array (items_of ds)) ≡ None
 other_key [] three = refl

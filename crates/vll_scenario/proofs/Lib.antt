@@ -7,3 +7,4 @@ pub mod Bounds
 pub mod Checking
 pub mod Sizes
 pub mod Answering
+mod Rows

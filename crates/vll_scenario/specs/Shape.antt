@@ -2,6 +2,8 @@
 use Rattle.std.specs.Prelude.{ℕ, ◌==◌, List, [], ◌∷◌, Option, Some, None, option_map, option_and_then, Result, Ok, Err, if◌then◌else◌, codes}
 use Rattle.serde_json.specs.Data.{Data}
 use Rattle.serde_json.specs.Find.{as_str, get}
+use Rattle.vll_proc.specs.declared.syntax.Edition.{Edition}
+use Rattle.vll_proc.specs.declared.syntax.Edition.TheVariants.{One, Two}
 use Rattle.vll_sca.specs.declared.place.Placing.{Placing}
 use Rattle.vll_sca.specs.declared.place.Placing.TheVariants.{Modulo, Spread}
 use Rattle.vll_scenario.specs.declared.reading.asked.Asked.{Asked}
@@ -27,6 +29,11 @@ shape_fault part i = Shape (record { part = part; index = i })
 abbrev pub in_part : {A : Type 0} → Part → Result A ℕ → Result A ScenarioFault
 in_part part (Ok a) = Ok a
 in_part part (Err i) = Err (shape_fault part i)
+
+-- what is there, or else a fault at the index 0
+abbrev pub or_first : {A : Type 0} → Option A → Result A ℕ
+or_first None = Err 0
+or_first (Some a) = Ok a
 
 -- the list that a member is
 abbrev pub part_at : {A : Type 0} → Part → List ℕ → (Data → Option A) → Data → Result (List A) ScenarioFault
@@ -74,20 +81,20 @@ asked_at d = if has_exactly (codes "proc" ∷ codes "args" ∷ []) d then both_o
 abbrev pub script_at : Data → Option (List Asked)
 script_at d = whole (list_at asked_at d)
 
--- the version is 1
-abbrev pub version_at : Data → Result ℕ ScenarioFault
-version_at d = is_one (number_at (member_at (codes "version") d))
-  where
-    is_one : Option ℕ → Result ℕ ScenarioFault
-    is_one None = Err (shape_fault Version 0)
-    is_one (Some n) = if n == 1 then Ok n else Err (shape_fault Version 0)
+-- version 1 is written in edition One, version 2 in edition Two
+abbrev pub edition_of : ℕ → Option Edition
+edition_of version = if version == 1 then Some One else (if version == 2 then Some Two else None)
+
+-- the edition of a scenario's version
+abbrev pub edition_at : Data → Result Edition ScenarioFault
+edition_at d = in_part Version (or_first (option_and_then edition_of (number_at (member_at (codes "version") d))))
 
 -- the parts in order, up to the first fault
 abbrev pub parts_of : Data → Result Parts ScenarioFault
 parts_of d = do
-  one ← version_at d
+  edition ← edition_at d
   records ← part_at Records (codes "records") number_at d
-  procs ← part_at Procs (codes "procs") proc_at d
+  procs ← part_at Procs (codes "procs") (proc_at edition) d
   scripts ← part_at Clients (codes "clients") script_at d
   cap ← option_at Cap (codes "cap") u32_at d
   bits ← option_at Bits (codes "bits") u32_at d

@@ -6,8 +6,10 @@ use Rattle.serde_json.specs.Data.{Data, null, number, string, array, object, Ite
 use Rattle.serde_json.specs.Find.{as_u64, as_str, get, get_member}
 use Rattle.vll_record.specs.declared.claim.Mode.{Mode}
 use Rattle.vll_record.specs.declared.claim.Mode.TheVariants.{Read, Write}
+use Rattle.vll_proc.specs.declared.syntax.Edition.{Edition}
+use Rattle.vll_proc.specs.declared.syntax.Edition.TheVariants.{One, Two}
 use Rattle.vll_proc.specs.declared.syntax.Expr.{Expr, Num, Arg, Key, Local, Add, Sub, Mul, Div, Rem, Min, Max, Equal, Less, Not}
-use Rattle.vll_proc.specs.declared.syntax.Stmt.{Stmt, Let, Set, If, Abort, Reply}
+use Rattle.vll_proc.specs.declared.syntax.Stmt.{Stmt, Let, Set, If, Abort, Reply, Repeat}
 use Rattle.vll_proc.specs.declared.syntax.KeyAt.{KeyAt}
 use Rattle.vll_proc.specs.declared.syntax.KeyAt.TheVariants as at
 use Rattle.vll_proc.specs.declared.syntax.KeyDecl.{KeyDecl}
@@ -19,7 +21,7 @@ infixl 10 ◌>>=◌
 abbrev pub ◌>>=◌ : {A B : Type 0} → Option A → (A → Option B) → Option B
 o >>= go = option_and_then go o
 
--- an index of an argument, a key or a local, or a count of arguments
+-- an index of an argument, a key or a local, or a count of arguments or of turns
 abbrev pub index_at : Data → Option ℕ
 index_at d = below (2 ^ 8) (number_at d)
 
@@ -88,23 +90,28 @@ branch word test first second = do
   ys ← second
   if bytes_eq word (codes "if") then Some (If e xs ys) else None
 
+-- ["repeat", turns, [..]], which edition One does not have
+abbrev pub repeat : Edition → Option ℕ → Option (List Stmt) → Option Stmt
+repeat One turns list = None
+repeat Two turns list = both_of Repeat turns list
+
 abbrev mutual
-  -- the lists of these forms are statements
-  pub stmt_at : Data → Option Stmt
-  stmt_at (array (item (string word) (item d no_items))) = abort_or_reply word d
-  stmt_at (array (item (string word) (item i (item e no_items)))) = let_or_set word i e
-  stmt_at (array (item (string word) (item e (item first (item second no_items))))) = branch word (expr_at e) (stmts_at first) (stmts_at second)
-  stmt_at _ = None
+  -- the lists of these forms are statements of an edition
+  pub stmt_at : Edition → Data → Option Stmt
+  stmt_at edition (array (item (string word) (item d no_items))) = abort_or_reply word d
+  stmt_at edition (array (item (string word) (item d (item e no_items)))) = if bytes_eq word (codes "repeat") then repeat edition (index_at d) (stmts_at edition e) else let_or_set word d e
+  stmt_at edition (array (item (string word) (item e (item first (item second no_items))))) = branch word (expr_at e) (stmts_at edition first) (stmts_at edition second)
+  stmt_at edition _ = None
 
   -- a list of statements
-  pub stmts_at : Data → Option (List Stmt)
-  stmts_at (array ds) = each_stmt ds
-  stmts_at _ = None
+  pub stmts_at : Edition → Data → Option (List Stmt)
+  stmts_at edition (array ds) = each_stmt edition ds
+  stmts_at edition _ = None
 
   -- all statements of a list, if each is one
-  pub each_stmt : Items → Option (List Stmt)
-  each_stmt no_items = Some []
-  each_stmt (item d ds) = both_of (λ x xs. x ∷ xs) (stmt_at d) (each_stmt ds)
+  pub each_stmt : Edition → Items → Option (List Stmt)
+  each_stmt edition no_items = Some []
+  each_stmt edition (item d ds) = both_of (λ x xs. x ∷ xs) (stmt_at edition d) (each_stmt edition ds)
 
 -- "read" and "write"
 abbrev pub mode_at : List ℕ → Option Mode
@@ -155,14 +162,14 @@ member_at name d = or_null (get name d)
 abbrev pub proc_names : List (List ℕ)
 proc_names = codes "name" ∷ codes "args" ∷ codes "keys" ∷ codes "body" ∷ []
 
--- a procedure: an object with exactly `name`, `args`, `keys` and `body`
-abbrev pub proc_at : Data → Option Proc
-proc_at d = if has_exactly proc_names d then parts_of d else None
+-- a procedure of an edition: an object with exactly `name`, `args`, `keys` and `body`
+abbrev pub proc_at : Edition → Data → Option Proc
+proc_at edition d = if has_exactly proc_names d then parts_of edition d else None
   where
-    parts_of : Data → Option Proc
-    parts_of d = do
+    parts_of : Edition → Data → Option Proc
+    parts_of edition d = do
       name ← as_str (member_at (codes "name") d)
       args ← index_at (member_at (codes "args") d)
       keys ← whole (list_at key_at (member_at (codes "keys") d))
-      body ← stmts_at (member_at (codes "body") d)
-      Some (record { name = name; args = args; keys = keys; body = body })
+      body ← stmts_at edition (member_at (codes "body") d)
+      Some (record { edition = edition; name = name; args = args; keys = keys; body = body })

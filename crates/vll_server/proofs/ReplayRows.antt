@@ -3,6 +3,7 @@ use Rattle.std.proofs.Common.{◌≡◌, ℕ, List, [], ◌∷◌, ◌++◌, len
 use Rattle.std.specs.Prelude.{codes}
 use Rattle.std.specs.Fmt.{digits}
 use denote.Hole.Carrier.{hidden}
+use Rattle.vll_proc.specs.declared.syntax.Edition.TheVariants.{One}
 use Rattle.vll_proc.specs.declared.syntax.Expr.TheBlock.{hidden-the_row-Expr-0}
 use Rattle.vll_proc.specs.declared.syntax.Stmt.TheBlock.{hidden-the_row-Stmt-0}
 use Rattle.vll_proc.specs.declared.syntax.Proc.{Proc}
@@ -16,13 +17,13 @@ use Rattle.vll_scenario.specs.Setup.{Setup}
 use Rattle.vll_server.specs.Text.{Text}
 
 abbrev bump : Proc
-bump = record { name = codes "bump"; args = 1; keys = bump_keys; body = bump_body }
+bump = record { edition = One; name = codes "bump"; args = 1; keys = bump_keys; body = bump_body }
 
 abbrev transfer : Proc
-transfer = record { name = codes "transfer"; args = 3; keys = transfer_keys; body = transfer_body }
+transfer = record { edition = One; name = codes "transfer"; args = 3; keys = transfer_keys; body = transfer_body }
 
 abbrev via : Proc
-via = record { name = codes "via"; args = 1; keys = via_keys; body = via_body }
+via = record { edition = One; name = codes "via"; args = 1; keys = via_keys; body = via_body }
 
 line : Text → Text
 line words = words ++ 10 ∷ []

@@ -3,6 +3,7 @@ use Rattle.std.proofs.Common.{◌≡◌, List, [], ◌∷◌, ◌++◌, Some, No
 use Rattle.std.specs.Prelude.{codes}
 use Rattle.std.specs.Fmt.{digits}
 use denote.Hole.Carrier.{hidden}
+use Rattle.vll_proc.specs.declared.syntax.Edition.TheVariants.{One}
 use Rattle.vll_proc.specs.declared.syntax.Expr.TheBlock.{hidden-the_row-Expr-0}
 use Rattle.vll_proc.specs.declared.syntax.Stmt.TheBlock.{hidden-the_row-Stmt-0}
 use Rattle.vll_proc.specs.declared.syntax.Proc.{Proc}
@@ -11,16 +12,16 @@ use Rattle.vll_proc.proofs.Rows.{transfer_keys, transfer_body, bump_keys, bump_b
 use Rattle.vll_server.specs.Text.{Text, serial_text}
 
 abbrev transfer : Proc
-transfer = record { name = codes "transfer"; args = 3; keys = transfer_keys; body = transfer_body }
+transfer = record { edition = One; name = codes "transfer"; args = 3; keys = transfer_keys; body = transfer_body }
 
 abbrev bump : Proc
-bump = record { name = codes "bump"; args = 1; keys = bump_keys; body = bump_body }
+bump = record { edition = One; name = codes "bump"; args = 1; keys = bump_keys; body = bump_body }
 
 abbrev sum2 : Proc
-sum2 = record { name = codes "sum2"; args = 2; keys = sum2_keys; body = sum2_body }
+sum2 = record { edition = One; name = codes "sum2"; args = 2; keys = sum2_keys; body = sum2_body }
 
 abbrev via : Proc
-via = record { name = codes "via"; args = 1; keys = via_keys; body = via_body }
+via = record { edition = One; name = codes "via"; args = 1; keys = via_keys; body = via_body }
 
 abbrev procs : List Proc
 procs = transfer ∷ bump ∷ sum2 ∷ via ∷ []

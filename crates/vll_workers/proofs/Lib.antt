@@ -1,3 +1,4 @@
+pub mod Crossing
 pub mod Gained
 pub mod Same
 pub mod Fair

@@ -28,6 +28,14 @@ fn refused_scenario_ends_with_2(rt: HostRuntime) -> Result<(), Fail> {
         index: 2,
         fault: CheckFault::TwoThrough,
     };
+    let turns = ScenarioFault::Check {
+        index: 4,
+        fault: CheckFault::Turns,
+    };
+    let work = ScenarioFault::Check {
+        index: 5,
+        fault: CheckFault::TooMuchWork,
+    };
     let call = ScenarioFault::Call {
         client: 1,
         index: 2,
@@ -40,6 +48,8 @@ fn refused_scenario_ends_with_2(rt: HostRuntime) -> Result<(), Fail> {
         (check, "vll: scenario: check 0 10"),
         (through, "vll: scenario: check 1 13"),
         (two_through, "vll: scenario: check 2 14"),
+        (turns, "vll: scenario: check 4 15"),
+        (work, "vll: scenario: check 5 16"),
         (call, "vll: scenario: call 1 2 3"),
         (ScenarioFault::Size, "vll: scenario: size"),
         (ScenarioFault::NoMemory, "vll: scenario: no memory"),

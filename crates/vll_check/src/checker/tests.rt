@@ -1,3 +1,5 @@
+mod repeats;
+
 use super::check;
 use crate::fault::CheckFault;
 use crate::fault::CheckFault::{
@@ -7,17 +9,29 @@ use crate::fault::CheckFault::{
 use sqlite_items::{Boxed, Items};
 use std::alloc::{AllocError, Global};
 use std::test::Fail;
-use vll_proc::{Expr, KeyAt, KeyDecl, Proc, Stmt, Text};
+use vll_proc::{Edition, Expr, KeyAt, KeyDecl, Proc, Stmt, Text};
 use vll_record::Mode;
 
-// The fault of a procedure, on 2 records.
+// The fault of a procedure of edition Two, on 2 records.
 fn fault(
     alloc: Global,
     args: u8,
     keys: &[KeyDecl],
     body: Vec<Stmt>,
 ) -> Result<Option<CheckFault>, AllocError> {
+    fault_in(Edition::Two, alloc, args, keys, body)
+}
+
+// The fault of a procedure of an edition, on 2 records.
+fn fault_in(
+    edition: Edition,
+    alloc: Global,
+    args: u8,
+    keys: &[KeyDecl],
+    body: Vec<Stmt>,
+) -> Result<Option<CheckFault>, AllocError> {
     let procedure = Proc {
+        edition,
         name: Text::new(String::from_str(alloc, "p")?),
         args,
         keys: Items::from_slice(alloc, keys)?,
@@ -81,6 +95,7 @@ fn nots(alloc: Global, count: usize) -> Result<Expr, AllocError> {
 fn checked_procedure_is_the_one_that_was_given(rt: HostRuntime) -> Result<(), Fail> {
     let alloc = rt.alloc();
     let procedure = Proc {
+        edition: Edition::One,
         name: Text::new(String::from_str(alloc, "p")?),
         args: 3,
         keys: Items::new(alloc),
@@ -96,14 +111,19 @@ fn checked_procedure_is_the_one_that_was_given(rt: HostRuntime) -> Result<(), Fa
 #[test]
 fn arguments_and_keys_are_few(rt: HostRuntime) -> Result<(), Fail> {
     let alloc = rt.alloc();
-    let keys = [key(Mode::Read, KeyAt::Fixed(0)); 17];
-    for (args, keys, want) in [
-        (8, &keys[..16], None),
-        (0, &keys[..17], Some(TooManyKeys)),
-        (9, &keys[..0], Some(TooManyArgs)),
-        (9, &keys[..17], Some(TooManyArgs)),
+    let keys = [key(Mode::Read, KeyAt::Fixed(0)); 33];
+    for (edition, args, count, want) in [
+        (Edition::One, 8, 16, None),
+        (Edition::One, 0, 17, Some(TooManyKeys)),
+        (Edition::One, 9, 17, Some(TooManyArgs)),
+        (Edition::Two, 8, 32, None),
+        (Edition::Two, 0, 33, Some(TooManyKeys)),
+        (Edition::Two, 9, 0, Some(TooManyArgs)),
+        (Edition::Two, 9, 33, Some(TooManyArgs)),
     ] {
-        assert_eq!(rt; fault(alloc, args, keys, Vec::new(alloc))?, want);
+        let keys = keys.get(..count).unwrap_or(&[]);
+        let got = fault_in(edition, alloc, args, keys, Vec::new(alloc))?;
+        assert_eq!(rt; got, want, "{edition:?} {args} {count}");
     }
     Ok(())
 }

@@ -7,14 +7,15 @@ use crate::fault::{CallFault, NameTwice};
 use sqlite_items::Items;
 use std::alloc::Global;
 use std::test::Fail;
-use vll_proc::{Call, KeyAt, KeyDecl, Proc, Text};
-use vll_record::{Claim, Claims, Mode, RecordId};
+use vll_proc::{Call, Edition, KeyAt, KeyDecl, Proc, Text};
+use vll_record::{Claim, Claims, MOST_CLAIMS, Mode, RecordId};
 
 // A procedure with a name, checked for 2 records.
 fn named(alloc: Global, name: &str) -> Result<Checked, Fail>
     ensures { IfOk result (λ c. c.records ≡ 2) }
 {
     let procedure = Proc {
+        edition: Edition::One,
         name: Text::new(String::from_str(alloc, name)?),
         args: 0,
         keys: Items::new(alloc),
@@ -30,6 +31,7 @@ fn transfer(alloc: Global) -> Result<Checked, Fail>
 {
     let keys = [key(Mode::Write, 0), key(Mode::Read, 1)];
     let procedure = Proc {
+        edition: Edition::One,
         name: Text::new(String::from_str(alloc, "transfer")?),
         args: 3,
         keys: Items::from_slice(alloc, &keys)?,
@@ -48,12 +50,34 @@ fn via(alloc: Global, records: u32) -> Result<Checked, Fail>
     };
     let keys = [key(Mode::Read, 0), indirect];
     let procedure = Proc {
+        edition: Edition::One,
         name: Text::new(String::from_str(alloc, "via")?),
         args: 1,
         keys: Items::from_slice(alloc, &keys)?,
         body: Items::new(alloc),
     };
     Ok(check(procedure, records)?)
+}
+
+// A procedure that names records 31 to 0, in this order, checked for 32 records.
+fn wide(alloc: Global) -> Result<Checked, Fail>
+    ensures { IfOk result (λ c. c.records ≡ 32) }
+{
+    let mut keys = Vec::new(alloc);
+    for place in 0..32 {
+        keys.push(KeyDecl {
+            mode: Mode::Write,
+            at: KeyAt::Fixed(31 - place),
+        })?;
+    }
+    let procedure = Proc {
+        edition: Edition::Two,
+        name: Text::new(String::from_str(alloc, "wide")?),
+        args: 0,
+        keys: Items::from_vec(keys),
+        body: Items::new(alloc),
+    };
+    Ok(check(procedure, 32)?)
 }
 
 fn key(mode: Mode, argument: u8) -> KeyDecl {
@@ -68,6 +92,14 @@ fn claim(record: u32, mode: Mode) -> Claim {
         id: RecordId(record),
         mode,
     }
+}
+
+// The cells of a call with two key positions.
+fn cells(first: u8, second: u8) -> [u8; MOST_CLAIMS] {
+    let mut cells = [0; MOST_CLAIMS];
+    cells[0] = first;
+    cells[1] = second;
+    cells
 }
 
 fn number_of(library: &Library, name: &str) -> Option<u32> {
@@ -167,11 +199,11 @@ fn call_names_its_procedure_and_claims(rt: HostRuntime) -> Result<(), Fail> {
     assert_eq!(rt; call.claims.len(), 2);
     assert_eq!(rt; call.claims.get(0), Some(claim(0, Mode::Read)));
     assert_eq!(rt; call.claims.get(1), Some(claim(1, Mode::Write)));
-    assert!(rt; call.cells == [1, 0, 0, 0, 0, 0, 0, 0, 0, 0, 0, 0, 0, 0, 0, 0]);
+    assert!(rt; call.cells == cells(1, 0));
     let call = library.call("transfer", &[1, 1, 7])?;
     assert_eq!(rt; call.claims.len(), 1);
     assert_eq!(rt; call.claims.get(0), Some(claim(1, Mode::Write)));
-    assert!(rt; call.cells == [0; 16]);
+    assert!(rt; call.cells == [0; MOST_CLAIMS]);
     Ok(())
 }
 
@@ -211,7 +243,7 @@ fn made_call_fits_and_no_other(rt: HostRuntime) -> Result<(), Fail> {
             ..call
         },
         Call {
-            cells: [0; 16],
+            cells: [0; MOST_CLAIMS],
             ..call
         },
     ]
@@ -224,6 +256,19 @@ fn made_call_fits_and_no_other(rt: HostRuntime) -> Result<(), Fail> {
 }
 
 #[test]
+fn call_may_claim_thirty_two_records(rt: HostRuntime) -> Result<(), Fail> {
+    let alloc = rt.alloc();
+    let library = Library::new(32, vec![in alloc; wide(alloc)?]?)?;
+    let call = library.call("wide", &[])?;
+    assert_eq!(rt; call.claims.len(), 32);
+    for i in 0..32 {
+        assert_eq!(rt; call.claims.get(i), Some(claim(i as u32, Mode::Write)));
+        assert_eq!(rt; call.cells[i] as usize, 31 - i);
+    }
+    Ok(())
+}
+
+#[test]
 fn indirect_key_names_the_record_found(rt: HostRuntime) -> Result<(), Fail> {
     let alloc = rt.alloc();
     let library = Library::new(3, vec![in alloc; via(alloc, 3)?]?)?;
@@ -231,7 +276,7 @@ fn indirect_key_names_the_record_found(rt: HostRuntime) -> Result<(), Fail> {
     assert_eq!(rt; call.found, None);
     assert_eq!(rt; call.claims.len(), 1);
     assert_eq!(rt; call.claims.get(0), Some(claim(0, Mode::Read)));
-    assert!(rt; call.cells == [0; 16]);
+    assert!(rt; call.cells == [0; MOST_CLAIMS]);
     if !library.fits(&call) {
         panic!(&rt; "the library makes the call");
     }
@@ -243,7 +288,7 @@ fn indirect_key_names_the_record_found(rt: HostRuntime) -> Result<(), Fail> {
         assert_eq!(rt; found.claims.len(), 2);
         assert_eq!(rt; found.claims.get(0), Some(claim(0, Mode::Read)));
         assert_eq!(rt; found.claims.get(1), Some(claim(2, Mode::Write)));
-        assert!(rt; found.cells == [0, 1, 0, 0, 0, 0, 0, 0, 0, 0, 0, 0, 0, 0, 0, 0]);
+        assert!(rt; found.cells == cells(0, 1));
         assert!(rt; library.is_ready(&found));
         assert!(rt; !library.fits(&found));
     }
@@ -261,7 +306,7 @@ fn record_found_may_be_the_source(rt: HostRuntime) -> Result<(), Fail> {
     let found = library.with_found(&call, 7);
     assert_eq!(rt; found.claims.len(), 1);
     assert_eq!(rt; found.claims.get(0), Some(claim(0, Mode::Write)));
-    assert!(rt; found.cells == [0; 16]);
+    assert!(rt; found.cells == [0; MOST_CLAIMS]);
     let other = Call {
         found: Some(8),
         ..call

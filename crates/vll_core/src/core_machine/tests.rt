@@ -3,6 +3,7 @@ mod blocking;
 mod crowd;
 mod draining;
 mod finding;
+mod gathering;
 mod handing;
 mod opening;
 mod procedures;

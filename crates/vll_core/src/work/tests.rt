@@ -13,7 +13,7 @@ use std::alloc::{AllocError, Global};
 use std::process::Abort;
 use std::test::Fail;
 use vll_check::{CallFault, Checked, Library, check};
-use vll_proc::{Call, Expr, KeyAt, KeyDecl, Proc, Reason, Reply, Stmt, Text};
+use vll_proc::{Call, Edition, Expr, KeyAt, KeyDecl, Proc, Reason, Reply, Stmt, Text};
 use vll_record::{Claim, Mode};
 
 fn key(mode: Mode, argument: u8) -> KeyDecl {
@@ -54,6 +54,7 @@ fn named(
     body: Items<Stmt>,
 ) -> Result<Proc, AllocError> {
     Ok(Proc {
+        edition: Edition::One,
         name: Text::new(String::from_str(alloc, name)?),
         args,
         keys: Items::from_slice(alloc, keys)?,

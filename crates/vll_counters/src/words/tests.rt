@@ -15,7 +15,7 @@ use std::process::Abort;
 use std::test::*;
 use vll_check::{CallFault, Library, check};
 use vll_core::Ticket;
-use vll_proc::{Call, Expr, Frame, KeyAt, KeyDecl, Proc, Reply, Stmt, Text};
+use vll_proc::{Call, Edition, Expr, Frame, KeyAt, KeyDecl, Proc, Reply, Stmt, Text};
 use vll_record::{Claim, Mode, granted};
 
 fn shares<T: Send + Sync>() {}
@@ -48,6 +48,7 @@ fn read(alloc: Global) -> Result<Proc, AllocError> {
     };
     let body = vec![in alloc; Stmt::Reply(Expr::Key(0))]?;
     Ok(Proc {
+        edition: Edition::One,
         name: Text::new(String::from_str(alloc, "read")?),
         args: 1,
         keys: Items::from_slice(alloc, &[key])?,
@@ -67,6 +68,7 @@ fn bump(alloc: Global) -> Result<Proc, AllocError> {
     );
     let body = vec![in alloc; Stmt::Set(0, sum)]?;
     Ok(Proc {
+        edition: Edition::One,
         name: Text::new(String::from_str(alloc, "bump")?),
         args: 1,
         keys: Items::from_slice(alloc, &[key])?,

@@ -7,7 +7,7 @@ use std::alloc::{AllocError, Global};
 use std::test::Fail;
 use vll_check::{Library, check};
 use vll_core::{Config, OpenFault};
-use vll_proc::{Expr, KeyAt, KeyDecl, Proc, Stmt, Text};
+use vll_proc::{Edition, Expr, KeyAt, KeyDecl, Proc, Stmt, Text};
 use vll_record::Mode;
 use vll_sca::Placing;
 
@@ -23,6 +23,7 @@ fn bump(alloc: Global) -> Result<Proc, AllocError> {
     );
     let body = vec![in alloc; Stmt::Set(0, sum), Stmt::Reply(Expr::Key(0))]?;
     Ok(Proc {
+        edition: Edition::One,
         name: Text::new(String::from_str(alloc, "bump")?),
         args: 1,
         keys: Items::from_slice(alloc, &[key])?,
@@ -38,6 +39,7 @@ fn read(alloc: Global) -> Result<Proc, AllocError> {
     };
     let body = vec![in alloc; Stmt::Reply(Expr::Key(0))]?;
     Ok(Proc {
+        edition: Edition::One,
         name: Text::new(String::from_str(alloc, "read")?),
         args: 1,
         keys: Items::from_slice(alloc, &[key])?,
@@ -63,6 +65,7 @@ fn via(alloc: Global) -> Result<Proc, AllocError> {
     );
     let body = vec![in alloc; Stmt::Set(1, sum), Stmt::Reply(Expr::Key(1))]?;
     Ok(Proc {
+        edition: Edition::One,
         name: Text::new(String::from_str(alloc, "via")?),
         args: 1,
         keys: Items::from_slice(alloc, &keys)?,

@@ -9,16 +9,20 @@ use Rattle.vll_proc.specs.declared.syntax.Expr.{Expr, Add', Sub', Mul', Div', Re
 use Rattle.vll_proc.specs.Meaning.{Scene, sum, difference, product, quotient, remainder, lesser, greater, equality, order}
 
 -- the scene whose records are the cells: each key position names its claim's cell
-abbrev pub scene_of : Call → Progress → Scene
-scene_of c p = record { named = c.cells; args = c.args; locals = p.locals; records = p.cells; outputs = p.outputs }
+abbrev pub scene_of : Call → List ℕ → Progress → Scene
+scene_of c cells p = record { named = c.cells; args = c.args; locals = p.locals; records = cells; outputs = p.outputs }
 
 -- where a body begins on the cells of a call
 abbrev pub cell_opening : Call → List ℕ → Scene
 cell_opening c cells = record { named = c.cells; args = c.args; locals = replicate MOST_LOCALS 0; records = cells; outputs = [] }
 
+-- each key position of a call has one of the first n cells
+abbrev pub HasCellsBelow : ℕ → Call → Type 0
+HasCellsBelow n c = (k : ℕ) → k < MOST_CLAIMS → slice_index c.cells k < n
+
 -- each key position of a call has one of the cells
 abbrev pub HasCells : Call → Type 0
-HasCells c = (k : ℕ) → k < MOST_CLAIMS → slice_index c.cells k < MOST_CLAIMS
+HasCells = HasCellsBelow MOST_CLAIMS
 
 -- what the operator of an expression makes of two operands, and 0 if it has no two
 abbrev pub operation_of : Expr → ℕ → ℕ → Result ℕ Reason

@@ -1,4 +1,5 @@
 ghost use Rattle.std.specs.Prelude.{◌≡◌, ◌∷◌, [], ◌<◌, IfOk, ℕ};
+ghost use Rattle.vll_record.specs.Canon.{laid};
 ghost use Rattle.vll_record.specs.Claim.{with_claim};
 ghost use Rattle.vll_proc.specs.Made.{IsCallOf};
 ghost use Rattle.vll_proc.specs.WellFormed.{IsWellFormed};
@@ -9,12 +10,13 @@ use crate::laws::{
     changes_claimed_records_alone, depends_on_claimed_records_alone, keeps_the_number_of_records,
     meets_nothing_undeclared,
 };
-use crate::syntax::{Expr, KeyAt, KeyDecl, Proc, Stmt, Text};
+use crate::limits::MOST_ARGS;
+use crate::syntax::{Edition, Expr, KeyAt, KeyDecl, Proc, Stmt, Text};
 use sqlite_items::{Boxed, Items};
 use std::alloc::{AllocError, Global};
 use std::process::Abort;
 use std::test::Fail;
-use vll_record::{Claim, Claims, Mode, RecordId};
+use vll_record::{Claim, Claims, MOST_CLAIMS, Mode, RecordId};
 
 fn key(mode: Mode, argument: u8) -> KeyDecl
     ensures { result ≡ record { mode = mode; at = KeyAt.Arg argument } }
@@ -22,6 +24,15 @@ fn key(mode: Mode, argument: u8) -> KeyDecl
     KeyDecl {
         mode,
         at: KeyAt::Arg(argument),
+    }
+}
+
+fn fixed(mode: Mode) -> KeyDecl
+    ensures { result ≡ record { mode = mode; at = KeyAt.Fixed 0 } }
+{
+    KeyDecl {
+        mode,
+        at: KeyAt::Fixed(0),
     }
 }
 
@@ -34,6 +45,16 @@ fn claim(id: u32, mode: Mode) -> Claim
     }
 }
 
+// The cells of the first two key positions.
+fn cells(first: u8, second: u8) -> [u8; MOST_CLAIMS]
+    ensures { result ≡ laid MOST_CLAIMS 0 (first ∷ second ∷ []) }
+{
+    let mut cells = [0; MOST_CLAIMS];
+    cells[0] = first;
+    cells[1] = second;
+    cells
+}
+
 fn add(alloc: Global, left: Expr, right: Expr) -> Result<Expr, AllocError>
     ensures { IfOk result (λ e. e ≡ Expr.Add left right) }
 {
@@ -44,6 +65,12 @@ fn sub(alloc: Global, left: Expr, right: Expr) -> Result<Expr, AllocError>
     ensures { IfOk result (λ e. e ≡ Expr.Sub left right) }
 {
     Ok(Expr::Sub(Boxed::new(alloc, left)?, Boxed::new(alloc, right)?))
+}
+
+fn mul(alloc: Global, left: Expr, right: Expr) -> Result<Expr, AllocError>
+    ensures { IfOk result (λ e. e ≡ Expr.Mul left right) }
+{
+    Ok(Expr::Mul(Boxed::new(alloc, left)?, Boxed::new(alloc, right)?))
 }
 
 fn equal(alloc: Global, left: Expr, right: Expr) -> Result<Expr, AllocError>
@@ -81,6 +108,7 @@ fn transfer(alloc: Global) -> Result<Proc, AllocError>
         Stmt::Reply(Expr::Key(0)),
     ]?;
     Ok(Proc {
+        edition: Edition::One,
         name: Text::new(String::from_str(alloc, "transfer")?),
         args: 3,
         keys: Items::from_slice(alloc, &keys)?,
@@ -98,6 +126,7 @@ fn bump(alloc: Global) -> Result<Proc, AllocError>
     let more = add(alloc, Expr::Key(0), Expr::Num(1))?;
     let body = vec![in alloc; Stmt::Set(0, more), Stmt::Reply(Expr::Key(0))]?;
     Ok(Proc {
+        edition: Edition::One,
         name: Text::new(String::from_str(alloc, "bump")?),
         args: 1,
         keys: Items::from_slice(alloc, &[key(Mode::Write, 0)])?,
@@ -116,6 +145,7 @@ fn sum2(alloc: Global) -> Result<Proc, AllocError>
     let keys = [key(Mode::Read, 0), key(Mode::Read, 1)];
     let body = vec![in alloc; Stmt::Reply(sum)]?;
     Ok(Proc {
+        edition: Edition::One,
         name: Text::new(String::from_str(alloc, "sum2")?),
         args: 2,
         keys: Items::from_slice(alloc, &keys)?,
@@ -139,6 +169,7 @@ fn take(alloc: Global) -> Result<Proc, AllocError>
         Stmt::Reply(Expr::Key(0)),
     ]?;
     Ok(Proc {
+        edition: Edition::One,
         name: Text::new(String::from_str(alloc, "take")?),
         args: 2,
         keys: Items::from_slice(alloc, &[key(Mode::Write, 0)])?,
@@ -164,10 +195,52 @@ fn choose(alloc: Global) -> Result<Proc, AllocError>
         Stmt::Reply(sum),
     ]?;
     Ok(Proc {
+        edition: Edition::One,
         name: Text::new(String::from_str(alloc, "choose")?),
         args: 1,
         keys: Items::from_slice(alloc, &[])?,
         body: Items::from_vec(body),
+    })
+}
+
+// Replies the value of record 0 as often as its list is repeated.
+fn times(alloc: Global) -> Result<Proc, AllocError>
+    ensures formed { IfOk result (λ p. IsWellFormed p) }
+    ensures args { IfOk result (λ p. p.args ≡ 0) }
+    ensures keys { IfOk result (λ p. p.keys
+        ≡ record { mode = Mode.Read; at = KeyAt.Fixed 0 } ∷ []) }
+{
+    let more = add(alloc, Expr::Local(0), Expr::Key(0))?;
+    let body = vec![in alloc;
+        Stmt::Let(0, Expr::Num(0)),
+        Stmt::Repeat(64, alone(alloc, Stmt::Let(0, more))?),
+        Stmt::Reply(Expr::Local(0)),
+    ]?;
+    Ok(Proc {
+        edition: Edition::Two,
+        name: Text::new(String::from_str(alloc, "times")?),
+        args: 0,
+        keys: Items::from_slice(alloc, &[fixed(Mode::Read)])?,
+        body: Items::from_vec(body),
+    })
+}
+
+// Doubles record 0 three times, and replies each product.
+fn doubles(alloc: Global) -> Result<Proc, AllocError>
+    ensures formed { IfOk result (λ p. IsWellFormed p) }
+    ensures args { IfOk result (λ p. p.args ≡ 0) }
+    ensures keys { IfOk result (λ p. p.keys
+        ≡ record { mode = Mode.Write; at = KeyAt.Fixed 0 } ∷ []) }
+{
+    let twice = mul(alloc, Expr::Key(0), Expr::Num(2))?;
+    let turn = vec![in alloc; Stmt::Set(0, twice), Stmt::Reply(Expr::Key(0))]?;
+    let body = alone(alloc, Stmt::Repeat(3, Items::from_vec(turn)))?;
+    Ok(Proc {
+        edition: Edition::Two,
+        name: Text::new(String::from_str(alloc, "doubles")?),
+        args: 0,
+        keys: Items::from_slice(alloc, &[fixed(Mode::Write)])?,
+        body,
     })
 }
 
@@ -187,7 +260,7 @@ fn to_the_other(procedure: &Proc, amount: u64) -> Call
         args: [0, 1, amount, 0, 0, 0, 0, 0],
         found: None,
         claims,
-        cells: [0, 1, 0, 0, 0, 0, 0, 0, 0, 0, 0, 0, 0, 0, 0, 0],
+        cells: cells(0, 1),
     }
 }
 
@@ -207,7 +280,7 @@ fn to_itself(procedure: &Proc, amount: u64) -> Call
         args: [0, 0, amount, 0, 0, 0, 0, 0],
         found: None,
         claims,
-        cells: [0; 16],
+        cells: cells(0, 0),
     }
 }
 
@@ -226,7 +299,7 @@ fn of_record_5(procedure: &Proc) -> Call
         args: [5, 0, 0, 0, 0, 0, 0, 0],
         found: None,
         claims,
-        cells: [0; 16],
+        cells: cells(0, 0),
     }
 }
 
@@ -246,7 +319,7 @@ fn of_records_4_and_2(procedure: &Proc) -> Call
         args: [4, 2, 0, 0, 0, 0, 0, 0],
         found: None,
         claims,
-        cells: [1, 0, 0, 0, 0, 0, 0, 0, 0, 0, 0, 0, 0, 0, 0, 0],
+        cells: cells(1, 0),
     }
 }
 
@@ -265,7 +338,7 @@ fn of_record_3(procedure: &Proc, amount: u64) -> Call
         args: [3, amount, 0, 0, 0, 0, 0, 0],
         found: None,
         claims,
-        cells: [0; 16],
+        cells: cells(0, 0),
     }
 }
 
@@ -281,7 +354,25 @@ fn of_no_record(procedure: &Proc, argument: u64) -> Call
         args: [argument, 0, 0, 0, 0, 0, 0, 0],
         found: None,
         claims: Claims::new(),
-        cells: [0; 16],
+        cells: cells(0, 0),
+    }
+}
+
+// A call of a procedure whose one key position is record 0.
+fn of_record_0(procedure: &Proc, mode: Mode) -> Call
+    requires args { procedure.now.args ≡ 0 }
+    requires keys { procedure.now.keys ≡ record { mode = mode; at = KeyAt.Fixed 0 } ∷ [] }
+    ensures { (n : ℕ) × IsCallOf n procedure.now result }
+{
+    let mut claims = Claims::new();
+    claims.add(claim(0, mode));
+    Call {
+        number: 5,
+        arg_count: procedure.args,
+        args: [0; MOST_ARGS],
+        found: None,
+        claims,
+        cells: cells(0, 0),
     }
 }
 
@@ -381,6 +472,39 @@ fn choice_runs_one_list(rt: HostRuntime) -> Result<(), Fail> {
     assert!(rt; replied(reply) == Ok((1, Some(41), None)));
     let reply = frame.run(&procedure, &of_no_record(&procedure, 0));
     assert!(rt; replied(reply) == Ok((1, Some(40), None)));
+    Ok(())
+}
+
+#[test]
+fn locals_go_on_from_turn_to_turn(rt: HostRuntime) -> Result<(), Fail> {
+    let procedure = times(rt.alloc())?;
+    let mut frame = Frame::new();
+    frame.put(0, 3);
+    let reply = frame.run(&procedure, &of_record_0(&procedure, Mode::Read));
+    assert!(rt; replied(reply) == Ok((1, Some(192), None)));
+    assert_eq!(rt; frame.get(0), 3);
+    Ok(())
+}
+
+#[test]
+fn cells_and_outputs_go_on_from_turn_to_turn(rt: HostRuntime) -> Result<(), Fail> {
+    let procedure = doubles(rt.alloc())?;
+    let mut frame = Frame::new();
+    frame.put(0, 5);
+    let reply = frame.run(&procedure, &of_record_0(&procedure, Mode::Write));
+    assert!(rt; replied(reply) == Ok((3, Some(10), Some(20))));
+    assert_eq!(rt; frame.get(0), 40);
+    Ok(())
+}
+
+#[test]
+fn reason_of_a_later_turn_ends_the_call(rt: HostRuntime) -> Result<(), Fail> {
+    let procedure = doubles(rt.alloc())?;
+    let mut frame = Frame::new();
+    frame.put(0, 1 << 62);
+    let reply = frame.run(&procedure, &of_record_0(&procedure, Mode::Write));
+    assert!(rt; replied(reply) == Err(Reason::Overflow));
+    assert_eq!(rt; frame.get(0), 1 << 62);
     Ok(())
 }
 

@@ -65,6 +65,21 @@ fn iterator_yields_each_claim_once(rt: HostRuntime) {
 }
 
 #[test]
+fn each_place_up_to_the_last_has_its_mode(rt: HostRuntime) {
+    let mut claims = Claims::new();
+    for id in 1..31 {
+        claims.add(read(id));
+    }
+    claims.add(write(31));
+    claims.add(read(0));
+    assert_eq!(rt; claims.len(), MOST_CLAIMS);
+    assert_eq!(rt; claims.get(0), Some(read(0)));
+    assert_eq!(rt; claims.get(30), Some(read(30)));
+    assert_eq!(rt; claims.get(31), Some(write(31)));
+    assert_eq!(rt; claims.get(32), None);
+}
+
+#[test]
 fn claims_are_equal_where_records_and_modes_are(rt: HostRuntime) {
     let mut claims = Claims::new();
     claims.add(read(3));

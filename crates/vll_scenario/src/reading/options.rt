@@ -8,12 +8,13 @@ use crate::reading::shape::fault_at;
 use crate::reading::tree::{Misread, Reads};
 use serde_json::Value;
 use std::alloc::Global;
+use vll_proc::Edition;
 use vll_sca::Placing;
 
 impl Reads for Placing {
-    ghost reads = { placing_at };
+    ghost reads = { λ edition. placing_at };
 
-    fn read(_alloc: Global, value: &Value) -> Result<Placing, Misread> {
+    fn read(_alloc: Global, _edition: Edition, value: &Value) -> Result<Placing, Misread> {
         placing_of(value)
     }
 }
@@ -21,16 +22,17 @@ impl Reads for Placing {
 // What a member is, if it is there.
 pub fn option_of<T: Reads>(
     alloc: Global,
+    edition: Edition,
     tree: &Value,
     part: Part,
     name: &str,
 ) -> Result<Option<T>, ScenarioFault>
-    ensures { GivesUnlessMemory result (option_at part name.now T.reads (view tree.now)) }
+    ensures { GivesUnlessMemory result (option_at part name.now (T.reads edition) (view tree.now)) }
 {
     let Some(value) = tree.get(name) else {
         return Ok(None);
     };
-    match T::read(alloc, value) {
+    match T::read(alloc, edition, value) {
         Ok(read) => Ok(Some(read)),
         Err(Misread::NoMemory) => Err(ScenarioFault::NoMemory),
         Err(Misread::Faulty) => Err(fault_at(part, 0)),

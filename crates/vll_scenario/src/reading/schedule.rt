@@ -19,23 +19,28 @@ use serde_json::Value;
 use sqlite_items::Items;
 use std::alloc::Global;
 use vll_core::{Event, Ticket};
+use vll_proc::Edition;
 
 impl Reads for Event {
-    ghost reads = { event_at };
+    ghost reads = { λ edition. event_at };
 
-    fn read(_alloc: Global, value: &Value) -> Result<Event, Misread> {
+    fn read(_alloc: Global, _edition: Edition, value: &Value) -> Result<Event, Misread> {
         event_of(value)
     }
 }
 
 // The events of a scenario, none where it has no schedule.
-pub fn schedule_of(alloc: Global, tree: &Value) -> Result<Items<Event>, ScenarioFault>
+pub fn schedule_of(
+    alloc: Global,
+    edition: Edition,
+    tree: &Value,
+) -> Result<Items<Event>, ScenarioFault>
     requires few { longest_list (view tree.now) ≤ MOST_BYTES }
     ensures { GivesUnlessMemory result (in_part Part.Schedule
         (list_if_there event_at (get (codes "schedule") (view tree.now)))) }
 {
     match tree.get("schedule") {
-        Some(value) => list_in(alloc, Part::Schedule, value),
+        Some(value) => list_in(alloc, edition, Part::Schedule, value),
         None => Ok(Items::new(alloc)),
     }
 }

@@ -1,7 +1,7 @@
 ghost use Rattle.std.specs.Prelude.{◌≡◌, ◌≤◌};
 ghost use Rattle.serde_json.specs.View.{view};
 ghost use Rattle.vll_scenario.specs.Private.Longest.{longest_list};
-ghost use Rattle.vll_scenario.specs.Shape.{asked_at, in_part, part_at, shape_fault, shape_of, version_at};
+ghost use Rattle.vll_scenario.specs.Shape.{asked_at, edition_at, in_part, part_at, shape_fault, shape_of};
 ghost use Rattle.vll_scenario.specs.Private.Reading.{GivesUnlessMemory, Gives};
 ghost use Rattle.vll_scenario.specs.Tree.{list_at};
 
@@ -16,7 +16,7 @@ use serde_json::Value;
 use sqlite_items::Items;
 use std::alloc::Global;
 use vll_core::Event;
-use vll_proc::{Proc, Text};
+use vll_proc::{Edition, Proc, Text};
 use vll_sca::Placing;
 
 // The members that a scenario has to have.
@@ -41,10 +41,10 @@ pub struct Parts {
 }
 
 impl Reads for Asked {
-    ghost reads = { asked_at };
+    ghost reads = { λ edition. asked_at };
 
-    fn read(alloc: Global, value: &Value) -> Result<Asked, Misread> {
-        asked_of(alloc, value)
+    fn read(alloc: Global, edition: Edition, value: &Value) -> Result<Asked, Misread> {
+        asked_of(alloc, edition, value)
     }
 }
 
@@ -56,15 +56,15 @@ pub fn shape_of(alloc: Global, tree: &Value) -> Result<Parts, ScenarioFault>
     if !has_members(tree, &MUST_NAMES, &MAY_NAMES) {
         return Err(fault_at(Part::Top, 0));
     }
-    version_of(tree)?;
-    let records = part_of(alloc, tree, Part::Records, "records")?;
-    let procs = part_of(alloc, tree, Part::Procs, "procs")?;
-    let scripts = part_of(alloc, tree, Part::Clients, "clients")?;
-    let cap = option_of(alloc, tree, Part::Cap, "cap")?;
-    let bits = option_of(alloc, tree, Part::Bits, "bits")?;
-    let limit = option_of(alloc, tree, Part::Limit, "limit")?;
-    let placing = option_of(alloc, tree, Part::Hash, "hash")?;
-    let schedule = schedule_of(alloc, tree)?;
+    let edition = edition_of(tree)?;
+    let records = part_of(alloc, edition, tree, Part::Records, "records")?;
+    let procs = part_of(alloc, edition, tree, Part::Procs, "procs")?;
+    let scripts = part_of(alloc, edition, tree, Part::Clients, "clients")?;
+    let cap = option_of(alloc, edition, tree, Part::Cap, "cap")?;
+    let bits = option_of(alloc, edition, tree, Part::Bits, "bits")?;
+    let limit = option_of(alloc, edition, tree, Part::Limit, "limit")?;
+    let placing = option_of(alloc, edition, tree, Part::Hash, "hash")?;
+    let schedule = schedule_of(alloc, edition, tree)?;
     Ok(Parts {
         records,
         procs,
@@ -77,23 +77,25 @@ pub fn shape_of(alloc: Global, tree: &Value) -> Result<Parts, ScenarioFault>
     })
 }
 
-fn asked_of(alloc: Global, value: &Value) -> Result<Asked, Misread>
+fn asked_of(alloc: Global, edition: Edition, value: &Value) -> Result<Asked, Misread>
     ensures { Gives result (asked_at (view value.now)) }
 {
     if !has_exactly(value, &["proc", "args"]) {
         return Err(Misread::Faulty);
     }
-    let name = Text::read(alloc, member(value, "proc")?)?;
-    let args = Items::read(alloc, member(value, "args")?)?;
+    let name = Text::read(alloc, edition, member(value, "proc")?)?;
+    let args = Items::read(alloc, edition, member(value, "args")?)?;
     Ok(Asked { name, args })
 }
 
-fn version_of(tree: &Value) -> Result<u64, ScenarioFault>
-    ensures { GivesUnlessMemory result (version_at (view tree.now)) }
+// The edition of a scenario's version.
+fn edition_of(tree: &Value) -> Result<Edition, ScenarioFault>
+    ensures { GivesUnlessMemory result (edition_at (view tree.now)) }
 {
     match member(tree, "version") {
         Ok(version) => match version.as_u64() {
-            Some(1) => Ok(1),
+            Some(1) => Ok(Edition::One),
+            Some(2) => Ok(Edition::Two),
             _ => Err(fault_at(Part::Version, 0)),
         },
         Err(_) => Err(fault_at(Part::Version, 0)),
@@ -103,29 +105,31 @@ fn version_of(tree: &Value) -> Result<u64, ScenarioFault>
 // The list that a member is.
 fn part_of<T: Reads>(
     alloc: Global,
+    edition: Edition,
     tree: &Value,
     part: Part,
     name: &str,
 ) -> Result<Items<T>, ScenarioFault>
     requires few { longest_list (view tree.now) ≤ MOST_BYTES }
-    ensures { GivesUnlessMemory result (part_at part name.now T.reads (view tree.now)) }
+    ensures { GivesUnlessMemory result (part_at part name.now (T.reads edition) (view tree.now)) }
 {
     let Ok(value) = member(tree, name) else {
         return Err(fault_at(part, 0));
     };
-    list_in(alloc, part, value)
+    list_in(alloc, edition, part, value)
 }
 
 // The list that a part is.
 pub fn list_in<T: Reads>(
     alloc: Global,
+    edition: Edition,
     part: Part,
     value: &Value,
 ) -> Result<Items<T>, ScenarioFault>
     requires few { longest_list (view value.now) ≤ MOST_BYTES }
-    ensures { GivesUnlessMemory result (in_part part (list_at T.reads (view value.now))) }
+    ensures { GivesUnlessMemory result (in_part part (list_at (T.reads edition) (view value.now))) }
 {
-    match list_of(alloc, value) {
+    match list_of(alloc, edition, value) {
         Ok(items) => Ok(items),
         Err(FirstFault::NoMemory) => Err(ScenarioFault::NoMemory),
         Err(FirstFault::At(index)) => Err(fault_at(part, index as u32)),

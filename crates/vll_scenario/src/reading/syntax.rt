@@ -14,13 +14,13 @@ use serde_json::Value;
 use sqlite_items::Items;
 use statement::stmts_of;
 use std::alloc::Global;
-use vll_proc::{KeyAt, KeyDecl, Proc, Text};
+use vll_proc::{Edition, KeyAt, KeyDecl, Proc, Text};
 use vll_record::Mode;
 
 impl Reads for KeyDecl {
-    ghost reads = { key_at };
+    ghost reads = { λ edition. key_at };
 
-    fn read(_alloc: Global, value: &Value) -> Result<KeyDecl, Misread> {
+    fn read(_alloc: Global, _edition: Edition, value: &Value) -> Result<KeyDecl, Misread> {
         key_of(value)
     }
 }
@@ -28,22 +28,23 @@ impl Reads for KeyDecl {
 impl Reads for Proc {
     ghost reads = { proc_at };
 
-    fn read(alloc: Global, value: &Value) -> Result<Proc, Misread> {
-        proc_of(alloc, value)
+    fn read(alloc: Global, edition: Edition, value: &Value) -> Result<Proc, Misread> {
+        proc_of(alloc, edition, value)
     }
 }
 
-fn proc_of(alloc: Global, value: &Value) -> Result<Proc, Misread>
-    ensures { Gives result (proc_at (view value.now)) }
+fn proc_of(alloc: Global, edition: Edition, value: &Value) -> Result<Proc, Misread>
+    ensures { Gives result (proc_at edition (view value.now)) }
 {
     if !has_exactly(value, &["name", "args", "keys", "body"]) {
         return Err(Misread::Faulty);
     }
-    let name = Text::read(alloc, member(value, "name")?)?;
+    let name = Text::read(alloc, edition, member(value, "name")?)?;
     let args = index_of(member(value, "args")?)?;
-    let keys = Items::read(alloc, member(value, "keys")?)?;
-    let body = stmts_of(alloc, member(value, "body")?)?;
+    let keys = Items::read(alloc, edition, member(value, "keys")?)?;
+    let body = stmts_of(alloc, edition, member(value, "body")?)?;
     Ok(Proc {
+        edition,
         name,
         args,
         keys,
@@ -94,7 +95,7 @@ fn place_of(word: &str, value: &Value) -> Result<KeyAt, Misread>
     }
 }
 
-// The index of an argument, a key or a local, or a count of arguments.
+// The index of an argument, a key or a local, or a count of arguments or of turns.
 fn index_of(value: &Value) -> Result<u8, Misread>
     ensures { Gives result (index_at (view value.now)) }
 {

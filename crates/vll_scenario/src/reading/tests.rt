@@ -124,6 +124,133 @@ fn faulty_indirect_key_is_told_with_its_number(rt: HostRuntime) -> Result<(), Fa
     Ok(())
 }
 
+// A scenario of a version and one record, with one call of a procedure that has these keys and this body.
+fn text_of(alloc: Global, version: u64, keys: &str, body: &str) -> Result<String, AllocError> {
+    format!(in alloc;
+        r#"{{"version":{version},"records":[3],"procs":[{{"name":"p","args":0,"keys":[{keys}],"body":[{body}]}}],
+            "clients":[[{{"proc":"p","args":[]}}]]}}"#
+    )
+}
+
+// A text this many times, with commas between.
+fn times(alloc: Global, count: usize, text: &str) -> Result<String, AllocError> {
+    let mut all = String::new(alloc);
+    for i in 0..count {
+        if i > 0 {
+            all.push_str(",")?;
+        }
+        all.push_str(text)?;
+    }
+    Ok(all)
+}
+
+// What is told of a scenario: its fault, or that it is accepted.
+fn told_of(alloc: Global, text: &str) -> Result<String, AllocError> {
+    match read_scenario(alloc, &mut Plain::new(text.as_bytes())) {
+        Ok(_) => String::from_str(alloc, "accepted"),
+        Err(fault) => fault.to_string(alloc),
+    }
+}
+
+// Adds the record to local 0 this many times.
+fn adding(alloc: Global, turns: u64) -> Result<String, AllocError> {
+    format!(in alloc;
+        r#"["let",0,0],["repeat",{turns},[["let",0,["add",["local",0],["key",0]]]]],["reply",["local",0]]"#
+    )
+}
+
+const READ_KEY: &str = r#"["read","fixed",0]"#;
+
+#[test]
+fn turns_of_a_repeat_are_told_with_their_number(rt: HostRuntime) -> Result<(), Fail> {
+    for (version, turns, told) in [
+        (2, 0, "accepted"),
+        (2, 64, "accepted"),
+        (2, 65, "check 0 15"),
+        (2, 255, "check 0 15"),
+        (2, 256, "shape procs 0"),
+        (1, 0, "shape procs 0"),
+        (1, 64, "shape procs 0"),
+        (1, 65, "shape procs 0"),
+    ] {
+        let body = adding(rt.alloc(), turns)?;
+        let text = text_of(rt.alloc(), version, READ_KEY, body.as_str())?;
+        assert_eq!(rt;
+            told_of(rt.alloc(), text.as_str())?.as_str(),
+            told,
+            "{version} {turns}"
+        );
+    }
+    Ok(())
+}
+
+#[test]
+fn replies_and_locals_of_a_repeat_are_told_with_their_numbers(rt: HostRuntime) -> Result<(), Fail> {
+    for (body, told) in [
+        (r#"["repeat",8,[["reply",1]]]"#, "accepted"),
+        (r#"["repeat",9,[["reply",1]]]"#, "check 0 10"),
+        (
+            r#"["repeat",0,[["let",0,1]]],["reply",["local",0]]"#,
+            "check 0 9",
+        ),
+        (
+            r#"["repeat",1,[["let",0,1]]],["reply",["local",0]]"#,
+            "accepted",
+        ),
+        (r#"["repeat",0,[["reply",["local",0]]]]"#, "check 0 9"),
+    ] {
+        let text = text_of(rt.alloc(), 2, READ_KEY, body)?;
+        assert_eq!(rt;
+            told_of(rt.alloc(), text.as_str())?.as_str(),
+            told,
+            "{body}"
+        );
+    }
+    Ok(())
+}
+
+// A body whose weight is 65,473 and this many aborts.
+fn heavy(alloc: Global, aborts: usize) -> Result<String, AllocError> {
+    let eight = times(alloc, 8, r#"["let",0,1]"#)?;
+    let seven = times(alloc, 7, r#"["let",0,1]"#)?;
+    let aborts = times(alloc, aborts, r#"["abort",7]"#)?;
+    format!(in alloc; r#"["repeat",64,[["repeat",63,[{eight}]],{seven}]],{aborts}"#)
+}
+
+#[test]
+fn work_of_a_body_is_told_with_its_number(rt: HostRuntime) -> Result<(), Fail> {
+    for (aborts, told) in [(63, "accepted"), (64, "check 0 16")] {
+        let body = heavy(rt.alloc(), aborts)?;
+        let text = text_of(rt.alloc(), 2, READ_KEY, body.as_str())?;
+        assert_eq!(rt;
+            told_of(rt.alloc(), text.as_str())?.as_str(),
+            told,
+            "{aborts}"
+        );
+    }
+    Ok(())
+}
+
+#[test]
+fn version_has_its_number_of_keys(rt: HostRuntime) -> Result<(), Fail> {
+    for (version, count, told) in [
+        (1, 16, "accepted"),
+        (1, 17, "check 0 2"),
+        (2, 17, "accepted"),
+        (2, 32, "accepted"),
+        (2, 33, "check 0 2"),
+    ] {
+        let keys = times(rt.alloc(), count, READ_KEY)?;
+        let text = text_of(rt.alloc(), version, keys.as_str(), r#"["reply",7]"#)?;
+        assert_eq!(rt;
+            told_of(rt.alloc(), text.as_str())?.as_str(),
+            told,
+            "{version} {count}"
+        );
+    }
+    Ok(())
+}
+
 #[test]
 fn call_with_an_indirect_key_claims_what_its_other_keys_name(rt: HostRuntime) -> Result<(), Fail> {
     let text = r#"{"version":1,"records":[2,0,7],"procs":[{"name":"via","args":1,

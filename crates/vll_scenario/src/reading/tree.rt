@@ -7,7 +7,7 @@ ghost use Rattle.vll_scenario.specs.Private.Reading.{Gives, GivesList};
 use serde_json::Value;
 use sqlite_items::Items;
 use std::alloc::{AllocError, Global};
-use vll_proc::Text;
+use vll_proc::{Edition, Text};
 
 /// Why a value of a JSON tree was not read.
 #[derive(Debug, Drop)]
@@ -34,38 +34,39 @@ pub enum FirstFault {
     At(usize),
 }
 
-/// What a JSON tree can be read as.
+/// What a JSON tree of an edition can be read as.
 pub trait Reads: Sized + Drop {
     ghost use Rattle.std.specs.Prelude.{Option};
     ghost use Rattle.serde_json.specs.Data.{Data};
+    ghost use Rattle.vll_proc.specs.declared.syntax.Edition.{Edition};
 
-    ghost reads: { Data → Option Self };
+    ghost reads: { Edition → Data → Option Self };
 
-    fn read(alloc: Global, value: &Value) -> Result<Self, Misread>
-        ensures { Gives result (reads (view value.now)) };
+    fn read(alloc: Global, edition: Edition, value: &Value) -> Result<Self, Misread>
+        ensures { Gives result (reads edition (view value.now)) };
 }
 
 impl Reads for u64 {
-    ghost reads = { number_at };
+    ghost reads = { λ edition. number_at };
 
-    fn read(_alloc: Global, value: &Value) -> Result<u64, Misread> {
+    fn read(_alloc: Global, _edition: Edition, value: &Value) -> Result<u64, Misread> {
         value.as_u64().ok_or(Misread::Faulty)
     }
 }
 
 impl Reads for u32 {
-    ghost reads = { u32_at };
+    ghost reads = { λ edition. u32_at };
 
-    fn read(_alloc: Global, value: &Value) -> Result<u32, Misread> {
+    fn read(_alloc: Global, _edition: Edition, value: &Value) -> Result<u32, Misread> {
         u32_of(value)
     }
 }
 
 impl<T: Reads> Reads for Items<T> {
-    ghost reads = { λ d. whole (list_at T.reads d) };
+    ghost reads = { λ edition d. whole (list_at (T.reads edition) d) };
 
-    fn read(alloc: Global, value: &Value) -> Result<Items<T>, Misread> {
-        match list_of(alloc, value) {
+    fn read(alloc: Global, edition: Edition, value: &Value) -> Result<Items<T>, Misread> {
+        match list_of(alloc, edition, value) {
             Ok(items) => Ok(items),
             Err(FirstFault::NoMemory) => Err(Misread::NoMemory),
             Err(FirstFault::At(_)) => Err(Misread::Faulty),
@@ -74,9 +75,9 @@ impl<T: Reads> Reads for Items<T> {
 }
 
 impl Reads for Text {
-    ghost reads = { as_str };
+    ghost reads = { λ edition. as_str };
 
-    fn read(alloc: Global, value: &Value) -> Result<Text, Misread> {
+    fn read(alloc: Global, _edition: Edition, value: &Value) -> Result<Text, Misread> {
         let text = value.as_str().ok_or(Misread::Faulty)?;
         Ok(Text::new(String::from_str(alloc, text)?))
     }
@@ -91,21 +92,29 @@ pub fn u32_of(value: &Value) -> Result<u32, Misread>
     }
 }
 
-pub fn list_of<T: Reads>(alloc: Global, value: &Value) -> Result<Items<T>, FirstFault>
-    ensures { GivesList result (list_at T.reads (view value.now)) }
+pub fn list_of<T: Reads>(
+    alloc: Global,
+    edition: Edition,
+    value: &Value,
+) -> Result<Items<T>, FirstFault>
+    ensures { GivesList result (list_at (T.reads edition) (view value.now)) }
 {
     let Some(list) = value.as_array() else {
         return Err(FirstFault::At(0));
     };
-    items_of(alloc, list.as_slice())
+    items_of(alloc, edition, list.as_slice())
 }
 
-fn items_of<T: Reads>(alloc: Global, list: &[Value]) -> Result<Items<T>, FirstFault>
-    ensures { GivesList result (each T.reads (items_view list.now)) }
+fn items_of<T: Reads>(
+    alloc: Global,
+    edition: Edition,
+    list: &[Value],
+) -> Result<Items<T>, FirstFault>
+    ensures { GivesList result (each (T.reads edition) (items_view list.now)) }
 {
     let mut items = Items::new(alloc);
     for (i, value) in list.iter().enumerate() {
-        match T::read(alloc, value) {
+        match T::read(alloc, edition, value) {
             Ok(item) => {
                 if items.push(item).is_err() {
                     return Err(FirstFault::NoMemory);

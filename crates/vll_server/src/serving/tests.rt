@@ -28,6 +28,14 @@ const TWO_RECORDS: &str = r#"{"version":1,"records":[0,0],
    "body":[["set",0,["add",["key",0],1]],["reply",["key",0]]]}],
  "clients":[[{"proc":"bump","args":[0]}],[{"proc":"bump","args":[1]}]]}"#;
 
+// A body that adds a record to a local, 64 times.
+const REPEAT: &str = r#"{"version":2,"records":[3],
+ "procs":[{"name":"times","args":0,"keys":[["read","fixed",0]],
+   "body":[["let",0,0],["repeat",64,[["let",0,["add",["local",0],["key",0]]]]],["reply",["local",0]]]}],
+ "clients":[[{"proc":"times","args":[]}]]}"#;
+
+const REPEAT_TEXT: &str = "call 0 client 0 committed 192\nrecord 0 value 3 pair 0\n";
+
 // How long a call is held back at most.
 const MOST_TURNS: u64 = 100_000_000;
 
@@ -103,6 +111,16 @@ fn calls_of_a_client_are_made_in_its_order(rt: HostRuntime) -> Result<(), Fail> 
         )?;
         assert_eq!(rt; text.as_slice(), TRANSFER_TEXT.as_bytes());
     }
+    Ok(())
+}
+
+#[test]
+fn turns_of_a_repeat_go_on_from_one_another(rt: HostRuntime) -> Result<(), Fail> {
+    let scenario = scenario(rt.alloc(), REPEAT)?;
+    let mut text = Vec::new(rt.alloc());
+    let mut writer = Plain::new(&mut text);
+    serve(&rt, &rt, rt.alloc(), scenario, 1, &OpenGate, &mut writer)?;
+    assert_eq!(rt; text.as_slice(), REPEAT_TEXT.as_bytes());
     Ok(())
 }
 

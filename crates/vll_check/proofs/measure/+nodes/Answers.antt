@@ -1,7 +1,7 @@
 use Rattle.std.proofs.Common.{ap, ◌∙◌, arith}
 use Rattle.std.proofs.lemmas.Grind.{common_steps}
 use Rattle.vll_proc.specs.WellFormed.{stmt_nodes}
-use Rattle.vll_proc.proofs.Lists.{stmt_nodes_if}
+use Rattle.vll_proc.proofs.Lists.{stmt_nodes_if, stmt_nodes_repeat}
 use Rattle.vll_check.proofs.Counts.{stmt_nodes_positive}
 use Rattle.vll_check.proofs.measure.+nodes.Goals as goal
 
@@ -27,4 +27,14 @@ pub statement_nodes_left-returns-in_ok-left-in-If-2-clause-over :
     goal.statement_nodes_left-returns-in_ok-left-in-If-2-clause-over
 statement_nodes_left-returns-in_ok-left-in-If-2-clause-over t c =
     let all = ap stmt_nodes c.in-If.is ∙ stmt_nodes_if c.in-If.condition c.in-If.first c.in-If.second in
+    grind (arith, common_steps)
+
+pub statement_nodes_left-returns-in-Repeat-clause-enough : goal.statement_nodes_left-returns-in-Repeat-clause-enough
+statement_nodes_left-returns-in-Repeat-clause-enough t c =
+    let all = ap stmt_nodes c.in-Repeat.is ∙ stmt_nodes_repeat c.in-Repeat.field-0 c.in-Repeat.list in
+    grind (arith, common_steps)
+
+pub statement_nodes_left-returns-in-Repeat-clause-over : goal.statement_nodes_left-returns-in-Repeat-clause-over
+statement_nodes_left-returns-in-Repeat-clause-over t c =
+    let all = ap stmt_nodes c.in-Repeat.is ∙ stmt_nodes_repeat c.in-Repeat.field-0 c.in-Repeat.list in
     grind (arith, common_steps)

@@ -1,6 +1,9 @@
-use Rattle.std.proofs.Common.{arith}
+use Rattle.std.proofs.Common.{Bool, ap, ◌∙◌, arith}
 use Rattle.std.proofs.lemmas.Grind.{common_steps}
-use Rattle.vll_proc.proofs.Lists.{branches}
+use Rattle.vll_proc.specs.declared.syntax.Expr.{Expr}
+use Rattle.vll_proc.specs.declared.syntax.Stmt.{Stmt}
+use Rattle.vll_proc.specs.WellFormed.{throughout}
+use Rattle.vll_proc.proofs.Lists.{branches, throughout_repeat}
 use Rattle.vll_check.proofs.walk.+throughout.Goals as goal
 use Rattle.vll_check.proofs.walk.+throughout.Goals.{throughout-then-all_leaves, throughout-else-all_leaves}
 
@@ -13,3 +16,10 @@ pub throughout-returns-else-list_throughout : goal.throughout-returns-else-list_
 throughout-returns-else-list_throughout g t c =
     let is = c.in-If.is in
     elim c.if-all_leaves.branch [ throughout-then-all_leaves w ↦ grind (arith, common_steps, branches) | throughout-else-all_leaves w ↦ grind (arith, common_steps, branches) ]
+
+pub throughout-returns-in-Repeat : goal.throughout-returns-in-Repeat
+throughout-returns-in-Repeat g t c =
+    let leaf : Expr → Bool = g.T.LeafTest.passes_leaf c.args.test.now in
+    let test : Stmt → Bool = g.T.Test.passes_statement c.args.test.now in
+    let list = ap (throughout leaf test) c.in-Repeat.is ∙ throughout_repeat leaf test c.in-Repeat.field-0 c.in-Repeat.list in
+    grind (arith, common_steps)

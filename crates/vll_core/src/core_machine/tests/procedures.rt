@@ -8,7 +8,7 @@ use sqlite_items::{Boxed, Items};
 use std::alloc::{AllocError, Global};
 use std::test::Fail;
 use vll_check::{CallFault, Checked, Library, check};
-use vll_proc::{Call, Expr, KeyAt, KeyDecl, Proc, Stmt, Text};
+use vll_proc::{Call, Edition, Expr, KeyAt, KeyDecl, Proc, Stmt, Text};
 use vll_record::Mode;
 use vll_sca::Placing;
 
@@ -28,7 +28,7 @@ fn through(mode: Mode, source: u8) -> KeyDecl {
     }
 }
 
-fn add(alloc: Global, left: Expr, right: Expr) -> Result<Expr, AllocError> {
+pub(super) fn add(alloc: Global, left: Expr, right: Expr) -> Result<Expr, AllocError> {
     Ok(Expr::Add(Boxed::new(alloc, left)?, Boxed::new(alloc, right)?))
 }
 
@@ -52,6 +52,7 @@ fn named(
     body: Items<Stmt>,
 ) -> Result<Proc, AllocError> {
     Ok(Proc {
+        edition: Edition::One,
         name: Text::new(String::from_str(alloc, name)?),
         args,
         keys: Items::from_slice(alloc, keys)?,
@@ -214,7 +215,7 @@ fn script(alloc: Global, library: &Library, calls: &[(&str, &[u64])]) -> Result<
 }
 
 // The scripts of these calls, client 0's first.
-fn scripts(
+pub(super) fn scripts(
     alloc: Global,
     library: &Library,
     clients: &[&[(&str, &[u64])]],

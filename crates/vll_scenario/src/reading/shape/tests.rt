@@ -2,10 +2,10 @@ use super::Parts;
 use crate::fault::{Part, ScenarioFault, Spot};
 use crate::plain::Plain;
 use crate::reading::read_parts;
-use std::alloc::Global;
+use std::alloc::{AllocError, Global};
 use std::process::Abort;
 use std::test::Fail;
-use vll_proc::{Expr, KeyAt, KeyDecl, Stmt};
+use vll_proc::{Edition, Expr, KeyAt, KeyDecl, Stmt};
 use vll_record::Mode;
 
 mod choices;
@@ -165,11 +165,11 @@ fn members_stand_in_any_order_and_the_last_of_a_name_counts(rt: HostRuntime) -> 
                 None,
             ),
             (
-                r#"{"version":2,"records":[],"procs":[],"clients":[],"version":1}"#,
+                r#"{"version":3,"records":[],"procs":[],"clients":[],"version":1}"#,
                 None,
             ),
             (
-                r#"{"version":1,"records":[],"procs":[],"clients":[],"version":2}"#,
+                r#"{"version":1,"records":[],"procs":[],"clients":[],"version":3}"#,
                 Some((Part::Version, 0)),
             ),
         ],
@@ -177,20 +177,25 @@ fn members_stand_in_any_order_and_the_last_of_a_name_counts(rt: HostRuntime) -> 
 }
 
 #[test]
-fn version_is_the_number_one(rt: HostRuntime) -> Result<(), Fail> {
+fn version_is_the_number_one_or_two(rt: HostRuntime) -> Result<(), Fail> {
     check_part(
         &rt,
         Part::Version,
         &[
+            ("1", None),
+            ("2", None),
             ("0", Some(0)),
-            ("2", Some(0)),
+            ("3", Some(0)),
             ("-1", Some(0)),
             ("1.0", Some(0)),
+            ("2.0", Some(0)),
             ("1e0", Some(0)),
             (r#""1""#, Some(0)),
+            (r#""2""#, Some(0)),
             ("[1]", Some(0)),
             ("null", Some(0)),
             ("18446744073709551617", Some(0)),
+            ("18446744073709551618", Some(0)),
         ],
     )
 }
@@ -354,6 +359,36 @@ fn keys_are_read_with_their_modes_and_places(rt: HostRuntime) -> Result<(), Fail
     ]
     .map(|(mode, at)| KeyDecl { mode, at });
     assert_eq!(rt; procedure.keys.as_slice(), keys.as_slice());
+    Ok(())
+}
+
+// A scenario of a version with two procedures, of which the second has this body.
+fn text_with_body(alloc: Global, version: u64, body: &str) -> Result<String, AllocError> {
+    format!(in alloc;
+        r#"{{"version":{version},"records":[0],"procs":[{{"name":"seven","args":0,"keys":[],"body":[["reply",7]]}},
+            {{"name":"p","args":0,"keys":[],"body":[{body}]}}],"clients":[]}}"#
+    )
+}
+
+#[test]
+fn procedures_have_the_edition_of_the_version(rt: HostRuntime) -> Result<(), Fail> {
+    for (version, edition) in [(1, Edition::One), (2, Edition::Two)] {
+        let text = text_with_body(rt.alloc(), version, r#"["abort",7]"#)?;
+        let parts = parts_of(rt.alloc(), text.as_str())?;
+        assert_eq!(rt; parts.procs.len(), 2);
+        for procedure in parts.procs.as_slice() {
+            assert_eq!(rt; procedure.edition, edition);
+        }
+    }
+    Ok(())
+}
+
+#[test]
+fn repeat_has_its_shape_in_version_two_alone(rt: HostRuntime) -> Result<(), Fail> {
+    for (version, spot) in [(1, Some((Part::Procs, 1))), (2, None)] {
+        let text = text_with_body(rt.alloc(), version, r#"["repeat",64,[["abort",7]]]"#)?;
+        assert_eq!(rt; spot_of(rt.alloc(), text.as_str())?, spot);
+    }
     Ok(())
 }
 

@@ -1,6 +1,6 @@
 ghost use Rattle.std.specs.Prelude.{Some};
 ghost use Rattle.serde_json.specs.View.{items_view, view};
-ghost use Rattle.vll_scenario.specs.Syntax.{abort_or_reply, branch, code_at, each_stmt, let_or_set, stmt_at, stmts_at};
+ghost use Rattle.vll_scenario.specs.Syntax.{abort_or_reply, branch, code_at, each_stmt, let_or_set, repeat, stmt_at, stmts_at};
 ghost use Rattle.vll_scenario.specs.Private.Reading.{Gives};
 
 use super::expression::expr_of;
@@ -9,44 +9,55 @@ use crate::reading::tree::Misread;
 use serde_json::Value;
 use sqlite_items::Items;
 use std::alloc::Global;
-use vll_proc::{Expr, Stmt};
+use vll_proc::{Edition, Expr, Stmt};
 
 // The statements of a list.
 #[cycle(statements)]
-pub(super) fn stmts_of(alloc: Global, value: &Value) -> Result<Items<Stmt>, Misread>
-    ensures { Gives result (stmts_at (view value.now)) }
+pub(super) fn stmts_of(
+    alloc: Global,
+    edition: Edition,
+    value: &Value,
+) -> Result<Items<Stmt>, Misread>
+    ensures { Gives result (stmts_at edition (view value.now)) }
 {
     match value {
-        Value::Array(list) => each_stmt_of(alloc, list.as_slice()),
+        Value::Array(list) => each_stmt_of(alloc, edition, list.as_slice()),
         _ => Err(Misread::Faulty),
     }
 }
 
 #[cycle(statements)]
-fn each_stmt_of(alloc: Global, list: &[Value]) -> Result<Items<Stmt>, Misread>
-    ensures { Gives result (each_stmt (items_view list.now)) }
+fn each_stmt_of(alloc: Global, edition: Edition, list: &[Value]) -> Result<Items<Stmt>, Misread>
+    ensures { Gives result (each_stmt edition (items_view list.now)) }
 {
     let mut stmts = Items::new(alloc);
     for value in list {
-        stmts.push(stmt_of(alloc, value)?)?;
+        stmts.push(stmt_of(alloc, edition, value)?)?;
     }
     Ok(stmts)
 }
 
 #[cycle(statements)]
-fn stmt_of(alloc: Global, value: &Value) -> Result<Stmt, Misread>
-    ensures { Gives result (stmt_at (view value.now)) }
+fn stmt_of(alloc: Global, edition: Edition, value: &Value) -> Result<Stmt, Misread>
+    ensures { Gives result (stmt_at edition (view value.now)) }
 {
     match value {
         Value::Array(list) => match list.len() {
             2 => abort_or_reply(alloc, word_of(&list[0])?, &list[1]),
-            3 => let_or_set(alloc, word_of(&list[0])?, &list[1], &list[2]),
+            3 => match word_of(&list[0])? {
+                "repeat" => {
+                    let turns = index_of(&list[1])?;
+                    let stmts = stmts_of(alloc, edition, &list[2])?;
+                    repeat_of(edition, turns, stmts)
+                }
+                word => let_or_set(alloc, word, &list[1], &list[2]),
+            },
             4 => {
                 let word = word_of(&list[0])?;
                 let (test, first, second) = (&list[1], &list[2], &list[3]);
                 let test = expr_of(alloc, test)?;
-                let first = stmts_of(alloc, first)?;
-                let second = stmts_of(alloc, second)?;
+                let first = stmts_of(alloc, edition, first)?;
+                let second = stmts_of(alloc, edition, second)?;
                 branch_of(word, test, first, second)
             }
             _ => Err(Misread::Faulty),
@@ -67,6 +78,16 @@ fn branch_of(
     match word {
         "if" => Ok(Stmt::If(test, first, second)),
         _ => Err(Misread::Faulty),
+    }
+}
+
+// A `repeat` of a list, which edition One does not have.
+fn repeat_of(edition: Edition, turns: u8, stmts: Items<Stmt>) -> Result<Stmt, Misread>
+    ensures { Gives result (repeat edition (Some turns) (Some stmts)) }
+{
+    match edition {
+        Edition::One => Err(Misread::Faulty),
+        Edition::Two => Ok(Stmt::Repeat(turns, stmts)),
     }
 }
 

@@ -5,12 +5,12 @@ use serde_json::Value;
 use std::alloc::Global;
 use std::process::Abort;
 use std::test::Fail;
-use vll_proc::{Expr, Stmt};
+use vll_proc::{Edition, Expr, Stmt};
 
 // Whether a text is a procedure.
-fn is_procedure(alloc: Global, text: &str) -> Result<bool, Fail> {
+fn is_procedure(alloc: Global, edition: Edition, text: &str) -> Result<bool, Fail> {
     let tree = Value::from_str(alloc, text)?;
-    match proc_of(alloc, &tree) {
+    match proc_of(alloc, edition, &tree) {
         Ok(_) => Ok(true),
         Err(Misread::Faulty) => Ok(false),
         Err(other) => Err(other.into()),
@@ -18,24 +18,24 @@ fn is_procedure(alloc: Global, text: &str) -> Result<bool, Fail> {
 }
 
 // Whether a text is a key.
-fn is_key(alloc: Global, text: &str) -> Result<bool, Fail> {
+fn is_key(alloc: Global, edition: Edition, text: &str) -> Result<bool, Fail> {
     let proc = format!(in alloc; r#"{{"name":"p","args":0,"keys":[{text}],"body":[]}}"#)?;
-    is_procedure(alloc, proc.as_str())
+    is_procedure(alloc, edition, proc.as_str())
 }
 
 // Whether a text is a statement.
-fn is_statement(alloc: Global, text: &str) -> Result<bool, Fail> {
+fn is_statement(alloc: Global, edition: Edition, text: &str) -> Result<bool, Fail> {
     let proc = format!(in alloc; r#"{{"name":"p","args":0,"keys":[],"body":[{text}]}}"#)?;
-    is_procedure(alloc, proc.as_str())
+    is_procedure(alloc, edition, proc.as_str())
 }
 
 // Whether a text is an expression that can be set, and one that can be answered.
-fn is_expression(alloc: Global, text: &str) -> Result<(bool, bool), Fail> {
+fn is_expression(alloc: Global, edition: Edition, text: &str) -> Result<(bool, bool), Fail> {
     let set = format!(in alloc; r#"["set",0,{text}]"#)?;
     let reply = format!(in alloc; r#"["reply",{text}]"#)?;
     Ok((
-        is_statement(alloc, set.as_str())?,
-        is_statement(alloc, reply.as_str())?,
+        is_statement(alloc, edition, set.as_str())?,
+        is_statement(alloc, edition, reply.as_str())?,
     ))
 }
 
@@ -49,27 +49,43 @@ enum Form {
 }
 
 // Whether a text has this form: for an expression where it is set, and where it is answered.
-fn has_form(alloc: Global, form: Form, text: &str) -> Result<(bool, bool), Fail> {
+fn has_form(alloc: Global, edition: Edition, form: Form, text: &str) -> Result<(bool, bool), Fail> {
     let has = match form {
-        Form::Procedure => is_procedure(alloc, text)?,
-        Form::Key => is_key(alloc, text)?,
-        Form::Statement => is_statement(alloc, text)?,
-        Form::Expression => return is_expression(alloc, text),
+        Form::Procedure => is_procedure(alloc, edition, text)?,
+        Form::Key => is_key(alloc, edition, text)?,
+        Form::Statement => is_statement(alloc, edition, text)?,
+        Form::Expression => return is_expression(alloc, edition, text),
     };
     Ok((has, has))
 }
 
-// All of these texts have this form, or none.
+// All of these texts have this form in an edition, or none.
+fn check_in(
+    rt: &(impl AllocGlobal + Abort),
+    edition: Edition,
+    form: Form,
+    has: bool,
+    texts: &[&str],
+) -> Result<(), Fail> {
+    for text in texts {
+        assert_eq!(rt;
+            has_form(rt.alloc(), edition, form, text)?,
+            (has, has),
+            "{text}"
+        );
+    }
+    Ok(())
+}
+
+// The same in each edition.
 fn check(
     rt: &(impl AllocGlobal + Abort),
     form: Form,
     has: bool,
     texts: &[&str],
 ) -> Result<(), Fail> {
-    for text in texts {
-        assert_eq!(rt; has_form(rt.alloc(), form, text)?, (has, has), "{text}");
-    }
-    Ok(())
+    check_in(rt, Edition::One, form, has, texts)?;
+    check_in(rt, Edition::Two, form, has, texts)
 }
 
 #[test]
@@ -190,7 +206,8 @@ fn statement_has_one_of_its_forms(rt: HostRuntime) -> Result<(), Fail> {
             r#"["reply"]"#,
             r#"["Reply",1]"#,
             r#"["unless",1,[],[]]"#,
-            r#"["repeat",1,[]]"#,
+            r#"["repeat",1]"#,
+            r#"["repeat",1,[],[]]"#,
             r#"[["reply",1]]"#,
             r#"[7,1]"#,
             r#"[7,0,1]"#,
@@ -263,10 +280,52 @@ fn if_has_an_expression_and_two_lists(rt: HostRuntime) -> Result<(), Fail> {
     )
 }
 
+#[test]
+fn repeat_is_a_statement_of_edition_two_alone(rt: HostRuntime) -> Result<(), Fail> {
+    let texts = [
+        r#"["repeat",0,[]]"#,
+        r#"["repeat",255,[["reply",1]]]"#,
+        r#"["repeat",64,[["let",0,["add",["local",0],["key",0]]],["abort",7]]]"#,
+        r#"["repeat",1,[["repeat",2,[["repeat",3,[]]]]]]"#,
+        r#"["if",1,[],[["repeat",1,[]]]]"#,
+        r#"["repeat",1,[["if",1,[["repeat",1,[]]],[]]]]"#,
+    ];
+    check_in(&rt, Edition::One, Form::Statement, false, &texts)?;
+    check_in(&rt, Edition::Two, Form::Statement, true, &texts)
+}
+
+#[test]
+fn repeat_has_a_count_and_a_list(rt: HostRuntime) -> Result<(), Fail> {
+    check(
+        &rt,
+        Form::Statement,
+        false,
+        &[
+            r#"["repeat"]"#,
+            r#"["repeat",[]]"#,
+            r#"["repeat",256,[]]"#,
+            r#"["repeat",-1,[]]"#,
+            r#"["repeat",1.0,[]]"#,
+            r#"["repeat","1",[]]"#,
+            r#"["repeat",["arg",0],[]]"#,
+            r#"["repeat",null,[]]"#,
+            r#"["repeat",1,null]"#,
+            r#"["repeat",1,{}]"#,
+            r#"["repeat",1,7]"#,
+            r#"["repeat",1,["reply",1]]"#,
+            r#"["repeat",1,[["reply",1],7]]"#,
+            r#"["repeat",0,[["abort"]]]"#,
+            r#"["repeat",1,[["repeat",256,[]]]]"#,
+            r#"["repeat",1,1,[]]"#,
+            r#"["Repeat",1,[]]"#,
+        ],
+    )
+}
+
 // The first statement of a body.
 fn first_of(alloc: Global, body: &str) -> Result<Stmt, Fail> {
     let tree = Value::from_str(alloc, body)?;
-    match stmts_of(alloc, &tree)?.pop() {
+    match stmts_of(alloc, Edition::Two, &tree)?.pop() {
         Some(first) => Ok(first),
         None => Err("no statement".into()),
     }
@@ -284,6 +343,20 @@ fn parts_of_an_if_keep_their_places(rt: HostRuntime) -> Result<(), Fail> {
     assert_eq!(rt; second.len(), 2);
     assert!(rt; matches!(second.get(0), Some(Stmt::Let(4, Expr::Num(5)))));
     assert!(rt; matches!(second.get(1), Some(Stmt::Reply(Expr::Num(6)))));
+    Ok(())
+}
+
+#[test]
+fn parts_of_a_repeat_keep_their_places(rt: HostRuntime) -> Result<(), Fail> {
+    let body = r#"[["repeat",64,[["let",4,5],["repeat",0,[]],["reply",6]]]]"#;
+    let Stmt::Repeat(turns, list) = first_of(rt.alloc(), body)? else {
+        return Err("repeat".into());
+    };
+    assert_eq!(rt; turns, 64);
+    assert_eq!(rt; list.len(), 3);
+    assert!(rt; matches!(list.get(0), Some(Stmt::Let(4, Expr::Num(5)))));
+    assert!(rt; matches!(list.get(1), Some(Stmt::Repeat(0, _))));
+    assert!(rt; matches!(list.get(2), Some(Stmt::Reply(Expr::Num(6)))));
     Ok(())
 }
 

@@ -6,7 +6,7 @@ use std::test::Fail;
 use vll_core::Line;
 use vll_engine::Closed;
 use vll_proc::{Call, Reason, Reply};
-use vll_record::Claims;
+use vll_record::{Claims, MOST_CLAIMS};
 use vll_scenario::{Plain, Sink};
 
 const TEXT: &str =
@@ -19,7 +19,7 @@ fn line(client: u32, reply: Option<Reply>) -> Line {
         args: [0; 8],
         found: None,
         claims: Claims::new(),
-        cells: [0; 16],
+        cells: [0; MOST_CLAIMS],
     };
     Line {
         client,

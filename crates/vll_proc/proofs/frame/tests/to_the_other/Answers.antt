@@ -7,7 +7,7 @@ returns c = (
   6,
   record {
     count = refl;
-    made = rw (c.requires.args, c.requires.keys, c.add-2.ensures, c.add.ensures, c.claim.ensures, c.claim-2.ensures, c.new-claims.ensures) refl;
+    made = rw (c.requires.args, c.requires.keys, c.add-2.ensures, c.add.ensures, c.claim.ensures, c.claim-2.ensures, c.new-claims.ensures, c.cells.ensures) refl;
     led = rw (c.requires.keys) refl;
   },
 )

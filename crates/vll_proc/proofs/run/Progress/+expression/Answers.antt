@@ -35,7 +35,7 @@ number-operand-y-requires t c =
 pub number-returns-in-Add : goal.number-returns-in-Add
 number-returns-in-Add t c =
     let e = c.args.expr.now in
-    let s : Scene = scene_of c.args.call.now c.args.self.now in
+    let s : Scene = scene_of c.args.call.now c.args.cells.now c.args.self.now in
     let two = is_operation e c.in-Add.a c.in-Add.b c.in-Add.is in
     let first = c.operand-x.ensures ∙ ap (λ a. behind c.args.why.now (value_of a s)) c.get-in-Add.ensures in
     let second = c.operand-y.ensures ∙ ap (λ b. behind c.operand-x.new.why (value_of b s)) c.get-in-Add-2.ensures in

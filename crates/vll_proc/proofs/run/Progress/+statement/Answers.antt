@@ -1,10 +1,13 @@
--- An `If` is what the list that it chooses is.
-use Rattle.std.proofs.Common.{arith}
+-- An `If` is what the list that it chooses is, and a `Repeat` what the turns of its list are.
+use Rattle.std.proofs.Common.{arith, map, sum_by, sym, ◌∙◌}
 use Rattle.std.proofs.lemmas.Grind.{common_steps}
 use Rattle.vll_record.specs.declared.claims.TheConstants.{MOST_CLAIMS}
 use Rattle.vll_proc.specs.declared.limits.TheConstants.{MOST_ARGS}
-use Rattle.vll_proc.specs.WellFormed.{key_is_below, set_is_below, arg_is_below, any_stmt, local_is_known, let_is_known}
-use Rattle.vll_proc.proofs.Lists.{effect_if, throughout_if, replies_if, stmt_nodes_if}
+use Rattle.vll_proc.specs.Meaning.{effect, in_turn}
+use Rattle.vll_proc.specs.Private.Running.{scene_of}
+use Rattle.vll_proc.specs.WellFormed.{replies, key_is_below, set_is_below, arg_is_below, any_stmt, local_is_known, let_is_known}
+use Rattle.vll_proc.proofs.Lists.{effect_if, effect_repeat, throughout_if, throughout_repeat, replies_if, replies_repeat, stmt_nodes_if, stmt_nodes_repeat}
+use Rattle.vll_proc.proofs.Turns.{repeated-left, product-left}
 use Rattle.vll_proc.proofs.run.Progress.+statement.Goals as goal
 
 pub step-steps-requires : goal.step-steps-requires
@@ -60,3 +63,39 @@ step-returns-else-branch-ne0-clause-outputs t c =
     let list = c.as_slice-else-branch-ne0.ensures in
     let rest = c.steps-else-branch-ne0.ensures.outputs in
     grind (arith, common_steps, replies_if)
+
+pub step-turns-requires : goal.step-turns-requires
+step-turns-requires t c =
+    let is = c.in-Repeat.is in
+    let list = c.as_slice-in-Repeat.ensures in
+    let nodes = stmt_nodes_repeat c.in-Repeat.count c.in-Repeat.list in
+    let replies = replies_repeat c.in-Repeat.count c.in-Repeat.list in
+    let keys = throughout_repeat (key_is_below MOST_CLAIMS) (set_is_below MOST_CLAIMS) c.in-Repeat.count c.in-Repeat.list in
+    let args = throughout_repeat (arg_is_below MOST_ARGS) any_stmt c.in-Repeat.count c.in-Repeat.list in
+    let locals = throughout_repeat local_is_known let_is_known c.in-Repeat.count c.in-Repeat.list in
+    grind (arith, common_steps)
+
+pub step-returns-in-Repeat-clause-effect : goal.step-returns-in-Repeat-clause-effect
+step-returns-in-Repeat-clause-effect t c =
+    let is = c.in-Repeat.is in
+    let list = c.as_slice-in-Repeat.ensures in
+    let turns = c.turns.ensures.effect in
+    grind (arith, common_steps, effect_repeat)
+
+pub step-returns-in-Repeat-clause-outputs : goal.step-returns-in-Repeat-clause-outputs
+step-returns-in-Repeat-clause-outputs t c =
+    let is = c.in-Repeat.is in
+    let list = c.as_slice-in-Repeat.ensures in
+    let turns = c.turns.ensures.outputs in
+    grind (arith, common_steps, replies_repeat)
+
+pub turns-loop-preserved : goal.turns-loop-preserved
+turns-loop-preserved t c =
+    let n = c.args.count in
+    let i = c.loop.counter in
+    let list = c.args.statements.now in
+    let call = c.args.call.now in
+    let left = repeated-left n i (in_turn (map effect list)) (scene_of call c.loop.cells c.loop.self) (scene_of call c.steps.new.cells c.steps.new.self) c.loop-test.true c.in_ok-steps.ensures.effect in
+    let size = product-left n i (sum_by replies list) c.loop-test.true in
+    let more = c.in_ok-steps.ensures.outputs in
+    (sym left ∙ c.loop.invariant.0, omega (arith, size, more, c.loop.invariant.1), λ n below. c.in_ok-steps.ensures.others n below ∙ c.loop.invariant.2 n below)

@@ -6,4 +6,4 @@ use Rattle.vll_scenario.proofs.reading.tree.items_of.Given as goal
 
 abbrev pub invariant-loop-i : goal.invariant-loop-i
 invariant-loop-i g l =
-    (length l.items ≡ l.i) × (behind l.items (each g.T.Reads.reads (items_view (drop l.i l.list))) ≡ each g.T.Reads.reads (items_view l.list))
+    (length l.items ≡ l.i) × (behind l.items (each (g.T.Reads.reads l.edition) (items_view (drop l.i l.list))) ≡ each (g.T.Reads.reads l.edition) (items_view l.list))

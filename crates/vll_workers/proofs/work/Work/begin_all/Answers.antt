@@ -1,4 +1,4 @@
-use Rattle.std.proofs.Common.{◌∷◌, ◌∙◌, length, ap, sym, subst, All, arith}
+use Rattle.std.proofs.Common.{◌∙◌, length, ap, sym, subst, All, arith}
 use Rattle.std.proofs.lemmas.List.Elements.{All-cons}
 use Rattle.vll_engine.specs.Pass.{IsFresh}
 use Rattle.vll_workers.proofs.work.Work.begin_all.Goals as goal

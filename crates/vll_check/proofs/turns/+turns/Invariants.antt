@@ -1,0 +1,8 @@
+-- What is before the place in the list passes.
+use Rattle.std.proofs.Common.{◌≡◌, true, take}
+use Rattle.std.specs.List.{list_all}
+use Rattle.vll_proc.specs.WellFormed.{turns_are_few}
+use Rattle.vll_check.proofs.turns.+turns.Given as goal
+
+abbrev pub invariant-list_turns_are_few-loop-statement : goal.invariant-list_turns_are_few-loop-statement
+invariant-list_turns_are_few-loop-statement l = list_all (turns_are_few l.edition) (take l.statement-index l.statements) ≡ true
