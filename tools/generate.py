@@ -9,7 +9,8 @@ The first prints a scenario with a schedule of up to N events, mostly ones that 
 up to N calls; with --options it prints the options of 'vll run' that go with the seed instead. With --statistics
 it prints what occurs in the scenarios of COUNT seeds from FROM on, and in what comes of them, and how often.
 
-Of three seeds that follow each other one has procedures with indirect keys, and finds in its schedule.
+Of three seeds that follow each other one has procedures with indirect keys, and finds in its schedule. Of four
+one is of version 2.
 """
 import argparse
 import json
@@ -19,6 +20,7 @@ import sys
 from judging import DEEPEST
 from occurrences import counts_of
 from random_procedures import MOST_KEYS, any_call, any_number, any_procedures
+from random_repeats import become_version_two
 from replay_model import Machine
 
 SIZES = {'replay': 240, 'run': 60}
@@ -170,6 +172,8 @@ def replay_scenario(seed, size=SIZES['replay']):
     """The scenario of a replay, with its schedule."""
     rng = random.Random(f'replay {seed} {size}')
     scenario = any_scenario(rng, calls=max(2, size // 4), clients=5, has_indirect_keys=seed % 3 == 2)
+    if seed % 4 == 3:
+        become_version_two(random.Random(f'version two {seed}'), scenario)
     add_choices(rng, scenario, sum(map(len, scenario['clients'])))
     if rng.random() < 0.96:
         scenario['schedule'] = any_schedule(rng, scenario, size)
@@ -180,6 +184,8 @@ def run_scenario(seed, size=SIZES['run']):
     """The scenario of a run, and the options that go with it."""
     rng = random.Random(f'run {seed} {size}')
     scenario = any_scenario(rng, calls=size, clients=12, has_indirect_keys=seed % 3 == 2)
+    if seed % 4 == 3:
+        become_version_two(random.Random(f'version two {seed}'), scenario)
     add_choices(rng, scenario, sum(map(len, scenario['clients'])))
     if rng.random() < 0.1:
         scenario['schedule'] = [['enter', 0], ['scan']]

@@ -38,7 +38,8 @@ EVENTS = [
 ENDS = ['end: a turn is open', 'end: a call is running', 'end: a call is waiting', 'end: all have finished']
 MOVES = ['moved to the same record', 'moved to another record', 'moved, and else committed', 'moved, and else aborted']
 BODIES = [
-    *(f'statement {word}' for word in ('let', 'set', 'if', 'abort', 'reply')),
+    *(f'statement {word}' for word in ('let', 'set', 'if', 'abort', 'reply', 'repeat')),
+    *(f'a repeat of {turns}' for turns in ('no turn', 'one turn', 'more turns', '64 turns')), 'a repeat in a repeat',
     *(f'expression {word}' for word in ('number', 'arg', 'key', 'local', *OPERATORS, 'not')),
     *(f'{word} ends a call with overflow' for word in ('add', 'mul')), 'sub ends a call with underflow',
     *(f'{word} ends a call with zero divisor' for word in ('div', 'rem')),
@@ -47,7 +48,8 @@ BODIES = [
 KEYS = [
     *(f'key {mode} {at}' for mode in ('read', 'write') for at in ('arg', 'fixed', 'through')), 'a call without claims',
     'a call with a claim for several keys', 'a record of a read and a write key', 'a call of 16 keys',
-    'a call of 16 keys and an indirect one among them',
+    'a call of 16 keys and an indirect one among them', 'a call of 32 keys',
+    'a call of 32 keys and an indirect one among them', 'a call of more than 16 claims',
     *(f'an indirect key for {mode} by {place}' for mode in MODES.values() for place in ('arg', 'fixed')),
     *(f'an indirect key for {mode} of its source for {other}' for mode in MODES.values() for other in MODES.values()),
     'an indirect key of the record of another key', 'an indirect key of a record of its own',
@@ -58,6 +60,7 @@ MEMBERS = [
     *(f'hash is {value}' for value in ('absent', 'modulo', 'spread')), 'limit is absent', 'limit is there',
     'a client without calls', 'no client', 'several clients',
 ]
+TURNS = {0: 'no turn', 1: 'one turn', 64: '64 turns'}
 OPTIONS = [f'{option} is {value}' for option in ('--workers', '--cap', '--bits') for value in ('absent', 'one', 'more')]
 IN_REPLAYS = [*EVENTS, *ENDS, *MOVES, *BODIES, *KEYS, *MEMBERS, 'schedule is absent', 'schedule is there']
 IN_RUNS = [*BODIES, *KEYS, *MEMBERS, *OPTIONS, 'schedule is absent', 'schedule is there']
@@ -70,6 +73,7 @@ class Traced(Body):
         super().__init__(procedure, args, values, found)
         self.names = []
         self.has_ended = False
+        self.repeats = 0
 
     def value(self, expression):
         word = 'number' if isinstance(expression, int) else expression[0]
@@ -85,7 +89,12 @@ class Traced(Body):
     def run(self, statements):
         for statement in statements:
             self.names.append(f'statement {statement[0]}')
+            if statement[0] == 'repeat':
+                self.names.append(f'a repeat of {TURNS.get(statement[1], "more turns")}')
+                self.names += ['a repeat in a repeat'] * (self.repeats > 0)
+            self.repeats += statement[0] == 'repeat'
             super().run([statement])
+            self.repeats -= statement[0] == 'repeat'
 
 
 def in_body(procedure, args, values, found):
@@ -114,8 +123,10 @@ def in_keys(procedure, args, found):
         yield 'a call with a claim for several keys'
     if len({(record, key[0]) for record, key in zip(records, keys)}) > len(claims):
         yield 'a record of a read and a write key'
-    if len(keys) == 16:
-        yield f'a call of 16 keys{" and an indirect one among them" if found else ""}'
+    if len(keys) in (16, 32):
+        yield f'a call of {len(keys)} keys{" and an indirect one among them" if found else ""}'
+    if len(claims) > 16:
+        yield 'a call of more than 16 claims'
     if found:
         yield from in_indirect_key(keys, records, found)
 

@@ -114,7 +114,7 @@ def nodes_of(tree):
         return sum(map(nodes_of, tree))
     if tree[0] in ('arg', 'key', 'local', 'abort'):
         return 1
-    return 1 + sum(map(nodes_of, tree[2:] if tree[0] in ('let', 'set') else tree[1:]))
+    return 1 + sum(map(nodes_of, tree[2:] if tree[0] in ('let', 'set', 'repeat') else tree[1:]))
 
 
 def bump(keys):

@@ -315,7 +315,7 @@ def depth_of(tree):
         return max(map(depth_of, tree))
     if tree[0] in ('arg', 'key', 'local', 'abort'):
         return 1
-    return 1 + max(map(depth_of, tree[2:] if tree[0] in ('let', 'set') else tree[1:]))
+    return 1 + max(map(depth_of, tree[2:] if tree[0] in ('let', 'set', 'repeat') else tree[1:]))
 
 
 class Generator(unittest.TestCase):

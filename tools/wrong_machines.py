@@ -6,7 +6,7 @@ from replay_model import Call, Machine
 
 MEETS, TAKE_CLAIM, REFUSAL = Machine.meets, Machine.take_claim, Machine.refusal
 STEP, TAKE_FIND, TAKE_ENTER, TAKE_STORE = Machine.step, Machine.take_find, Machine.take_enter, Machine.take_store
-VALUE = Body.value
+VALUE, RUN = Body.value, Body.run
 
 
 def first_waiting(self):
@@ -76,6 +76,35 @@ def value_of_a_product(self, expression):
     if isinstance(expression, list) and expression[0] == 'mul' and VALUE(self, expression[1]) == 0:
         return 0
     return VALUE(self, expression)
+
+
+def run_with_other_turns(turns_of):
+    """Each repeat has other turns than it says."""
+    def run(self, statements):
+        for word, *parts in statements:
+            RUN(self, [[word, turns_of(parts[0]), parts[1]] if word == 'repeat' else [word, *parts]])
+    return run
+
+
+def run_with_the_first_locals(self, statements):
+    """Each turn begins with the locals of before its repeat."""
+    for word, *parts in statements:
+        kept = list(self.locals)
+        for _ in range(parts[0] if word == 'repeat' else 0):
+            self.locals = list(kept)
+            self.run(parts[1])
+        if word != 'repeat':
+            RUN(self, [[word, *parts]])
+
+
+def run_in_which_an_abort_ends_a_repeat(self, statements):
+    """What follows a repeat is run although a turn of it was aborted."""
+    for statement in statements:
+        try:
+            RUN(self, [statement])
+        except Aborted:
+            if statement[0] != 'repeat':
+                raise
 
 
 def body_before_the_test_of_moved(self, statements):
@@ -174,6 +203,12 @@ WRONG = {
     'the last claim alone tells whether a call is free': (Machine, 'take_claim', claim_that_forgets_the_last_denial),
     'operands are evaluated from right to left': (Body, 'value', value_from_the_right),
     'a product with 0 leaves its right operand out': (Body, 'value', value_of_a_product),
+    'a repeat has a turn more': (Body, 'run', run_with_other_turns(lambda turns: turns + 1)),
+    'a repeat has a turn less': (Body, 'run', run_with_other_turns(lambda turns: max(turns - 1, 0))),
+    'a repeat has a turn at least': (Body, 'run', run_with_other_turns(lambda turns: max(turns, 1))),
+    'a repeat has one turn': (Body, 'run', run_with_other_turns(lambda turns: min(turns, 1))),
+    'turns begin with the first locals': (Body, 'run', run_with_the_first_locals),
+    'an abort ends its repeat alone': (Body, 'run', run_in_which_an_abort_ends_a_repeat),
     'aborted calls store': (Call, 'has_aborted', lambda self: False),
     'busy comes before spent': (Machine, 'refusal', told_before(
         'busy', 'spent', lambda self, event: self.waiting() == self.cap)),
