@@ -97,6 +97,28 @@ def run_with_the_first_locals(self, statements):
             RUN(self, [[word, *parts]])
 
 
+def run_with_the_first_values(self, statements):
+    """Each turn begins with the records' values of before its repeat."""
+    for word, *parts in statements:
+        kept = dict(self.held)
+        for _ in range(parts[0] if word == 'repeat' else 0):
+            self.held = dict(kept)
+            self.run(parts[1])
+        if word != 'repeat':
+            RUN(self, [[word, *parts]])
+
+
+def run_that_keeps_the_last_replies(self, statements):
+    """A repeat makes the replies of its last turn alone."""
+    for word, *parts in statements:
+        kept = list(self.replies)
+        for _ in range(parts[0] if word == 'repeat' else 0):
+            self.replies = list(kept)
+            self.run(parts[1])
+        if word != 'repeat':
+            RUN(self, [[word, *parts]])
+
+
 def run_in_which_an_abort_ends_a_repeat(self, statements):
     """What follows a repeat is run although a turn of it was aborted."""
     for statement in statements:
@@ -208,6 +230,8 @@ WRONG = {
     'a repeat has a turn at least': (Body, 'run', run_with_other_turns(lambda turns: max(turns, 1))),
     'a repeat has one turn': (Body, 'run', run_with_other_turns(lambda turns: min(turns, 1))),
     'turns begin with the first locals': (Body, 'run', run_with_the_first_locals),
+    'turns begin with the first values': (Body, 'run', run_with_the_first_values),
+    'a repeat makes the replies of its last turn': (Body, 'run', run_that_keeps_the_last_replies),
     'an abort ends its repeat alone': (Body, 'run', run_in_which_an_abort_ends_a_repeat),
     'aborted calls store': (Call, 'has_aborted', lambda self: False),
     'busy comes before spent': (Machine, 'refusal', told_before(
