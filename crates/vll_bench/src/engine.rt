@@ -67,7 +67,7 @@ fn cycle<N: Name>(
     requires fits { Fits (library_of N.engine) call }
     ensures { session.new.table ≡ session.old.table }
 {
-    match engine.begin(rt, session, call) {
+    match engine.begin(rt, session, &call) {
         Begun::Free(pass) => {
             let done = engine.execute(pass);
             engine.finish(rt, engine.release(done));

@@ -125,14 +125,14 @@ fn enter(queue: &mut Queue<Placing>, record: u32, free: bool) -> Result<Ticket, 
         claims,
         cells: [0; MOST_CLAIMS],
     };
-    Ok(queue.admit(0, call, free))
+    Ok(queue.admit(0, &call, free))
 }
 
 // A running call is gone.
 fn finish(queue: &mut Queue<Placing>, ticket: Ticket) -> Result<(), Fault> {
     match queue.status(ticket) {
         Some(Status::Running) => {
-            queue.remove(ticket, Reply::Aborted(Reason::Code(0)));
+            queue.remove(ticket, &Reply::Aborted(Reason::Code(0)));
             Ok(())
         }
         _ => Err(Fault::Refused),

@@ -153,17 +153,16 @@ impl<H: Place> Queue<H> {
 
     /// Enters a call at the end, without a reply, and returns its ticket. It runs if it is free, else it waits.
     /// The queue must be neither spent nor busy. No memory is taken.
-    pub fn admit(&mut self, client: u32, call: Call, free: bool) -> Ticket
+    pub fn admit(&mut self, client: u32, call: &Call, free: bool) -> Ticket
         requires unspent { length self.old.entries < self.old.limit }
         requires idle { count_by waiting (statuses self.old) < self.old.cap }
         ensures ticket { result ≡ length self.old.entries }
-        ensures entered { self.new ≡ admitted self.old (entry client call free) }
+        ensures entered { self.new ≡ admitted self.old (entry client call.now free) }
     {
         let ticket = Ticket(self.journal.len() as u32);
-        let claims = call.claims;
         self.journal.push_reserved(Line {
             client,
-            call,
+            call: *call,
             reply: None,
         });
         let status = if free {
@@ -175,7 +174,10 @@ impl<H: Place> Queue<H> {
             Status::Waiting
         };
         self.statuses.push_reserved(status);
-        self.window.push(Entry { claims, status });
+        self.window.push(Entry {
+            claims: call.claims,
+            status,
+        });
         ticket
     }
 
@@ -230,14 +232,14 @@ impl<H: Place> Queue<H> {
     }
 
     /// Takes the running call of a ticket out: it is gone, and its line gets the reply. Nothing else changes.
-    pub fn remove(&mut self, ticket: Ticket, reply: Reply)
+    pub fn remove(&mut self, ticket: Ticket, reply: &Reply)
         requires { slice_get (statuses self.old) ticket ≡ Some Status.Running }
-        ensures { self.new ≡ finished self.old ticket reply }
+        ensures { self.new ≡ finished self.old ticket reply.now }
     {
         let index = ticket.0 as usize;
         self.statuses[index] = Status::Gone;
         let line = &mut self.journal[index];
-        line.reply = Some(reply);
+        line.reply = Some(*reply);
         self.running -= 1;
         self.is_fruitless = false;
         self.window.remove(ticket.0);

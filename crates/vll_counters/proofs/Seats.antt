@@ -1,5 +1,6 @@
 -- The steps where the seat and its view, the words and what a step is told are known by equations.
-use Rattle.std.proofs.Common.{◌≡◌, ◌≢◌, ℕ, ◌+◌, ◌-◌, ◌*◌, ◌%◌, ◌<◌, true, false, List, [], ◌∷◌, ◌++◌, length, length-append, ⊎_elim, refl, sym, ap, ◌∙◌, subst, arith, Option, Some, None, slice_get, slice_index, IfSome, IsSome, count_by}
+use Rattle.std.proofs.Common.{◌≡◌, ◌≢◌, ℕ, ◌+◌, ◌-◌, ◌*◌, ◌%◌, ◌<◌, true, false, List, [], ◌∷◌, ◌++◌, length, length-append, ⊎_elim, refl, sym, ap, ◌∙◌, subst, arith, Option, Some, None, slice_get, slice_index, IfSome, IsSome, count_by, Bor}
+use Rattle.std.specs.Option.{option_map}
 use Rattle.atomic_table.specs.Seated.{TableId}
 use Rattle.atomic_table.specs.Table.{Me, step, Allows, Splits, Joins, opening, Final, Seen as SeenBy}
 use Rattle.vll_record.specs.declared.claim.Claim.{Claim}
@@ -65,11 +66,11 @@ turn_of_claim None c e = absurd (cc e)
 turn_of_claim (Some turn) c e = (turn, refl, e)
 
 -- a call that is ready is proper, and there is room for it
-pub may_open : (base : Base) (library : Catalog) (lines : List Line) (call : Option Call) → IsCatalog library → library ≡ catalog_of base → IfSome call (IsReady (catalog_of base))
-    → IfSome call (λ _. length lines < 65536) → MayOpen base lines call
+pub may_open : (base : Base) (library : Catalog) (lines : List Line) (call : Option (Bor Call)) → IsCatalog library → library ≡ catalog_of base → IfSome call (λ (b : Bor Call). IsReady (catalog_of base) b.now)
+    → IfSome call (λ _. length lines < 65536) → MayOpen base lines (option_map (λ (b : Bor Call). b.now) call)
 may_open base library lines None catalog same ready room c is = absurd (cc is)
 may_open base library lines (Some d) catalog same ready room c is =
-    subst (λ (x : Call). IsProper base x × (length lines < 65536)) (cc is) (proper_ready (catalog_of base) base.records d (subst IsCatalog same catalog) refl ready, room)
+    subst (λ (x : Call). IsProper base x × (length lines < 65536)) (cc is) (proper_ready (catalog_of base) base.records d.now (subst IsCatalog same catalog) refl ready, room)
 
 module _ (slots : ℕ) where
   pub requests_at : (base b d : Base) (id : ℕ) (me : Me (Unit {0}) View) (q : QueueView) (c e : Claim) (word k : ℕ) → base ≡ b → d ≡ b → e ≡ c → id ≡ 0 → me ≡ (Queue q, []) → word ≡ pair_word_of_record c.id → k ≡ delta_of c.mode

@@ -1,5 +1,5 @@
 // The steps that bring a session to the queue's seat and let it leave, and the one that it makes under no lock.
-ghost use Rattle.std.specs.Prelude.{◌≡◌, ◌<◌, suc, [], length, Some, None, IfSome, IsSome};
+ghost use Rattle.std.specs.Prelude.{◌≡◌, ◌<◌, suc, [], length, Some, None, IfSome, IsSome, option_map};
 ghost use Rattle.vll_check.specs.Calls.{IsReady};
 ghost use Rattle.vll_core.specs.declared.config.TheConstants.{MOST_CALLS};
 ghost use Rattle.vll_counters.specs.Shown.{queue_view, after, library_of, without_session, left_session};
@@ -78,13 +78,13 @@ impl Words {
 
     /// A session comes to the queue. If it brings a call, a turn opens for it. What the session has seen is a beginning
     /// of the entered calls, with all calls of its client, and the tickets whose reply it was given are gone.
-    pub fn join_session(&self, queue: &mut QueueSeat, session: SessionSeat, call: Option<Call>)
+    pub fn join_session(&self, queue: &mut QueueSeat, session: SessionSeat, call: Option<&Call>)
         requires same { (queue.old.table ≡ self.now.table) × (session.table ≡ self.now.table) }
         requires alone { queue.old.session ≡ None }
         requires closed { queue.old.turn ≡ None }
-        requires ready { IfSome call (IsReady (library_of self.now)) }
+        requires ready { IfSome call (λ c. IsReady (library_of self.now) c.now) }
         requires room { IfSome call (λ _. length queue.old.lines < MOST_CALLS) }
-        ensures queue { queue.new ≡ record queue.old { session = Some session.session; turn = turn_of call (Some session.session) } }
+        ensures queue { queue.new ≡ record queue.old { session = Some session.session; turn = turn_of (option_map (λ c. c.now) call.entry) (Some session.session) } }
         ensures session { KnowsSession self.now.base (queue_view queue.old) session.session }
     {
         self.join_session_told::<Brand>(queue, session, call);
@@ -94,15 +94,15 @@ impl Words {
         &self,
         queue: &mut QueueSeat,
         session: SessionSeat,
-        call: Option<Call>,
+        call: Option<&Call>,
     )
-        requires told { (T.base ≡ self.now.base) × (T.call ≡ call) }
+        requires told { (T.base ≡ self.now.base) × (T.call ≡ option_map (λ c. c.now) call) }
         requires same { (queue.old.table ≡ self.now.table) × (session.table ≡ self.now.table) }
         requires alone { queue.old.session ≡ None }
         requires closed { queue.old.turn ≡ None }
-        requires ready { IfSome call (IsReady (library_of self.now)) }
+        requires ready { IfSome call (λ c. IsReady (library_of self.now) c.now) }
         requires room { IfSome call (λ _. length queue.old.lines < MOST_CALLS) }
-        ensures queue { queue.new ≡ record queue.old { session = Some session.session; turn = turn_of call (Some session.session) } }
+        ensures queue { queue.new ≡ record queue.old { session = Some session.session; turn = turn_of (option_map (λ c. c.now) call.entry) (Some session.session) } }
         ensures session { KnowsSession self.now.base (queue_view queue.old) session.session }
     {
         let _ = call;

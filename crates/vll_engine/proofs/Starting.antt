@@ -21,6 +21,7 @@ use Rattle.vll_counters.specs.Steps.{new_pass}
 use Rattle.vll_counters.specs.Told.{MayStart}
 use Rattle.vll_engine.specs.Shown.{Named, library_of, words_of}
 use Rattle.vll_engine.specs.Pass.{IsFresh}
+use Rattle.vll_engine.specs.Private.Begun.{IsPassAt}
 use Rattle.vll_engine.specs.Private.Kept.{AreOwn, IsKept}
 
 waits_alone : (s : Status) → is_waiting s ≡ true → s ≡ Waiting
@@ -147,15 +148,19 @@ begins e place seat q new found t kept may some is =
     }
 
 -- its pass
-abbrev pub IsNewPass : TableId → ℕ → List Line → List Line → PassShown → Type 0
-IsNewPass table t now seen p = (l : Line) → slice_get now t ≡ Some l → p ≡ record { table = table; pass = new_pass t l.call seen }
+abbrev pub IsNewPass : TableId → ℕ → List Line → PassShown → Type 0
+IsNewPass table t ls p = (l : Line) → slice_get ls t ≡ Some l → p ≡ record { table = table; pass = new_pass t l.call ls }
 
-given : {H : Type 0} {seat : QueueShown} {q new : Queued H} {t : ℕ} (table : TableId) (p : PassShown) → (b : Begins seat q new t) → IsNewPass table t (lines new) seat.lines p
-    → p ≡ record { table = table; pass = new_pass t b.may.line.call seat.lines }
-given {t = t} table p b is = is b.may.line (ap (λ (ls : List Line). slice_get ls t) (sym b.lines_same) ∙ b.may.at)
-
-pub given_ticket : {H : Type 0} {seat : QueueShown} {q new : Queued H} {t : ℕ} (table : TableId) (p : PassShown) → (b : Begins seat q new t) → IsNewPass table t (lines new) seat.lines p → p.pass.ticket ≡ t
-given_ticket table p b is = ap (λ (x : PassShown). x.pass.ticket) (given table p b is)
+-- its call is the one in its line
+pub given_at : {H : Type 0} {seat : QueueShown} {q new : Queued H} {t : ℕ} (table : TableId) (p : PassShown) → (b : Begins seat q new t) → IsNewPass table t seat.lines p → IsPassAt (lines new) p t
+given_at {t = t} table p b is =
+    let new = is b.may.line b.may.at in
+    record {
+      line = b.may.line;
+      at = ap (λ (ls : List Line). slice_get ls t) (sym b.lines_same) ∙ b.may.at;
+      ticket_is = ap (λ (x : PassShown). x.pass.ticket) new;
+      call_is = ap (λ (x : PassShown). x.pass.call) new;
+    }
 
 -- a new pass of a call of the engine's own is fresh
 pub new_pass_fresh : (e : Named) (table : TableId) (p : PassShown) (ls : List Line) (t : ℕ) (l : Line) → table ≡ e.table → AreOwn e ls → slice_get ls t ≡ Some l
@@ -173,6 +178,6 @@ new_pass_fresh e table p ls t l same own at is = subst (IsFresh e) (sym is) (rec
 })
 
 pub given_fresh : {H : Type 0} {seat : QueueShown} {new : Queued H} {t : ℕ} (q : Queued H) (e : Named) (place : H → ℕ → ℕ) (words : WordsShown) (p : PassShown) → (b : Begins seat q new t) → IsKept e place seat q → words ≡ words_of e
-    → IsNewPass words.table t (lines new) seat.lines p → IsFresh e p
+    → IsNewPass words.table t seat.lines p → IsFresh e p
 given_fresh {seat = seat} {t = t} q e place words p b kept same is =
-    new_pass_fresh e words.table p seat.lines t b.may.line (ap (λ (w : WordsShown). w.table) same) (subst (AreOwn e) (sym kept.lines_are) kept.own) b.may.at (given words.table p b is)
+    new_pass_fresh e words.table p seat.lines t b.may.line (ap (λ (w : WordsShown). w.table) same) (subst (AreOwn e) (sym kept.lines_are) kept.own) b.may.at (is b.may.line b.may.at)

@@ -1,5 +1,6 @@
 use crate::pass::Pass;
 use vll_core::Ticket;
+use vll_counters::PassSeat;
 
 /// What comes of a call that begins.
 pub enum Begun {
@@ -8,6 +9,13 @@ pub enum Begun {
     /// A claim was denied: the call waits under this ticket, until `next_front` or `next_scan` gives a pass for it.
     Blocked(Ticket),
     /// The call has not entered, and has no claim.
+    Refused(BeginRefusal),
+}
+
+// The same at the lock. A call that is free has a seat there, and its pass is made of it outside, where the call is.
+pub(crate) enum Admission {
+    Free(PassSeat, Ticket),
+    Blocked(Ticket),
     Refused(BeginRefusal),
 }
 

@@ -99,16 +99,16 @@ impl<N: Name, H: Place + Send + Drop> Engine<N, H> {
     /// an earlier one, and behind each of the session's calls that claim it and whose reply the session was given. If the
     /// source has another value when the body begins the call is aborted with `Reason::Moved`; the engine does not try
     /// again.
-    pub fn begin(&self, wait: &impl Wait, session: &mut Session, call: Call) -> Begun
+    pub fn begin(&self, wait: &impl Wait, session: &mut Session, call: &Call) -> Begun
         requires session { session.old.table ≡ N.engine.table }
-        requires fits { Fits (library_of N.engine) call }
-        ensures answer { FindsAndBegins N.engine session.old.session session.new.session call result }
+        requires fits { Fits (library_of N.engine) call.now }
+        ensures answer { FindsAndBegins N.engine session.old.session session.new.session call.now result }
         ensures given { session.new.session.given ≡ session.old.session.given }
         ensures session { session.new.table ≡ session.old.table }
     {
-        match self.library.source(&call) {
-            None => self.hold(wait).begin_ready(session, &call),
-            Some(source) => self.find_and_begin(wait, session, &call, source),
+        match self.library.source(call) {
+            None => self.hold(wait).begin_ready(session, call),
+            Some(source) => self.find_and_begin(wait, session, call, source),
         }
     }
 

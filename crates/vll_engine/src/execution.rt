@@ -52,7 +52,8 @@ pub(crate) fn execute<N: Name>(words: &Words, library: &Library, pass: Pass) -> 
         call,
     } = pass;
     let procedure = library.proc(call.number).unwrap();
-    let mut frame = load_all(words, &mut seat, &call.claims);
+    let mut frame = Frame::new();
+    load_all(words, &mut seat, &call.claims, &mut frame);
     let reply = frame.run(procedure, &call);
     if let Reply::Committed(_) = reply {
         store_all(words, &mut seat, &call.claims, &frame);
@@ -60,28 +61,27 @@ pub(crate) fn execute<N: Name>(words: &Words, library: &Library, pass: Pass) -> 
     Done {
         seat,
         ticket,
-        call,
+        claims: call.claims,
         reply,
     }
 }
 
 // The pass loads the record of each claim into the claim's cell.
-fn load_all(words: &Words, seat: &mut PassSeat, claims: &Claims) -> Frame
+fn load_all(words: &Words, seat: &mut PassSeat, claims: &Claims, frame: &mut Frame)
     requires same { seat.old.table ≡ words.now.table }
     requires claims { seat.old.pass.call.claims ≡ claims.now }
     requires few { length claims.now ≤ MOST_CLAIMS }
     requires there { All (λ (c : Claim). c.id < length words.now.base.records) claims.now }
     requires fresh { seat.old.pass.loads ≡ 0 }
+    requires whole { length frame.old ≡ MOST_CLAIMS }
     ensures pass { seat.new ≡ passed seat.old (all_loaded seat.new.pass.loaded seat.old.pass) }
-    ensures frame { Holds result claims.now (records_before_pass words.now.base seat.old.pass) }
+    ensures frame { Holds frame.new claims.now (records_before_pass words.now.base seat.old.pass) }
 {
-    let mut frame = Frame::new();
     let mut cell = 0;
     for claim in claims.iter() {
         frame.put(cell, words.load(seat, claim.id));
         cell += 1;
     }
-    frame
 }
 
 // The pass stores each Write claim's cell into its record.
@@ -117,10 +117,10 @@ pub(crate) fn release<N: Name>(words: &Words, done: Done) -> Released
     let Done {
         mut seat,
         ticket,
-        call,
+        claims,
         reply,
     } = done;
-    release_all(words, &mut seat, &call.claims);
+    release_all(words, &mut seat, &claims);
     Released {
         seat,
         ticket,

@@ -8,7 +8,7 @@ ghost use Rattle.vll_engine.specs.Private.Looked.{IsLookedUp};
 ghost use Rattle.vll_engine.specs.Sessions.{SawOthers};
 ghost use Rattle.vll_engine.specs.Shown.{library_of, words_of};
 
-use crate::begun::Begun;
+use crate::begun::{Admission, Begun};
 use crate::finding::find;
 use crate::latch::Latch;
 use crate::locked::Locked;
@@ -61,16 +61,16 @@ impl<'a, N: Name, H: Place + Send + Drop> Hold<'a, N, H> {
 
     /// A session's client enters a call, or is refused, as by `Engine::begin`. If the call has an indirect key its source
     /// is loaded under this hold.
-    pub fn begin(&mut self, session: &mut Session, call: Call) -> Begun
+    pub fn begin(&mut self, session: &mut Session, call: &Call) -> Begun
         requires session { session.old.table ≡ N.engine.table }
-        requires fits { Fits (library_of N.engine) call }
-        ensures answer { FindsAndBegins N.engine session.old.session session.new.session call result }
+        requires fits { Fits (library_of N.engine) call.now }
+        ensures answer { FindsAndBegins N.engine session.old.session session.new.session call.now result }
         ensures given { session.new.session.given ≡ session.old.session.given }
         ensures session { session.new.table ≡ session.old.table }
     {
-        match self.library.source(&call) {
-            None => self.begin_ready(session, &call),
-            Some(source) => self.find_and_begin(session, &call, source),
+        match self.library.source(call) {
+            None => self.begin_ready(session, call),
+            Some(source) => self.find_and_begin(session, call, source),
         }
     }
 
@@ -102,23 +102,33 @@ impl<'a, N: Name, H: Place + Send + Drop> Hold<'a, N, H> {
         let Some(seat) = session.seat.take() else {
             unreachable!()
         };
-        let (begun, seat) = self.guard.begin(self.words, seat, session.client, call);
+        let (admission, seat) = self.guard.begin(self.words, seat, session.client, call);
         session.seat = Some(seat);
-        begun
+        match admission {
+            Admission::Free(seat, ticket) => Begun::Free(Pass {
+                seat,
+                ticket,
+                call: *call,
+            }),
+            Admission::Blocked(ticket) => Begun::Blocked(ticket),
+            Admission::Refused(why) => Begun::Refused(why),
+        }
     }
 
     /// A pass for the lowest ticket that is not gone, if it waits, as by `Engine::next_front`.
     pub fn next_front(&mut self) -> Option<Pass>
         ensures { IfSome result (IsFresh N.engine) }
     {
-        self.guard.next_front(self.words)
+        let (seat, ticket) = self.guard.next_front(self.words)?;
+        Some(self.guard.pass(seat, ticket))
     }
 
     /// A pass for the ticket that the contention analysis finds, if any, as by `Engine::next_scan`.
     pub fn next_scan(&mut self) -> Option<Pass>
         ensures { IfSome result (IsFresh N.engine) }
     {
-        self.guard.next_scan(self.words)
+        let (seat, ticket) = self.guard.next_scan(self.words)?;
+        Some(self.guard.pass(seat, ticket))
     }
 
     /// The call is gone, and its line gets the reply, as by `Engine::finish`.

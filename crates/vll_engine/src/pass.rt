@@ -4,6 +4,7 @@ use std::marker::Model;
 use vll_core::Ticket;
 use vll_counters::PassSeat;
 use vll_proc::{Call, Reply};
+use vll_record::Claims;
 
 /// The right to execute the call of a ticket, which runs. It is spent by `Engine::execute`, and cannot be dropped
 /// nor used twice. Contracts see what the pass knows.
@@ -29,7 +30,7 @@ impl Model for Pass {
 pub struct Done {
     pub(crate) seat: PassSeat,
     pub(crate) ticket: Ticket,
-    pub(crate) call: Call,
+    pub(crate) claims: Claims,
     pub(crate) reply: Reply,
 }
 
@@ -41,7 +42,7 @@ impl Model for Done {
 
     ghost view = { λ d. record { table = d.seat.table; pass = d.seat.pass; reply = d.reply } };
 
-    ghost invariant = { λ d. (d.seat.pass.ticket ≡ d.ticket) × (d.seat.pass.call ≡ d.call) };
+    ghost invariant = { λ d. (d.seat.pass.ticket ≡ d.ticket) × (d.seat.pass.call.claims ≡ d.claims) };
 }
 
 /// A call that was executed and has released its claims. It is spent by `Engine::finish`. Contracts see what its pass

@@ -88,12 +88,12 @@ fn transfer_then_sum<N: Name, R: Wait + Print>(
     requires other { (other.old.table ≡ N.engine.table) × Fits (library_of N.engine) sum }
     ensures { (first.new.table ≡ first.old.table) × (other.new.table ≡ other.old.table) }
 {
-    let pass = match engine.begin(rt, first, transfer) {
+    let pass = match engine.begin(rt, first, &transfer) {
         Begun::Free(pass) => pass,
         Begun::Blocked(_) => return Err(Fault::OutOfTurn),
         Begun::Refused(refusal) => return Err(Fault::Refused(refusal)),
     };
-    let waiting = match engine.begin(rt, other, sum) {
+    let waiting = match engine.begin(rt, other, &sum) {
         Begun::Free(pass) => {
             run(rt, engine, pass);
             Err(Fault::OutOfTurn)

@@ -5,14 +5,14 @@ use Rattle.std.proofs.lemmas.List.Elements.{All-cons, All-head, All-tail}
 use Rattle.std.proofs.lemmas.List.Sorted.{All-permutation, IsPermutation-append_left, IsPermutation-middle, IsPermutation-sym}
 use Rattle.atomic_table.specs.Seated.{TableId}
 use Rattle.crossbeam_queue.specs.Passes.{IsSamePass, view}
-use Rattle.vll_counters.specs.Shown.{SessionShown}
 use Rattle.vll_engine.specs.declared.begun.Begun.{Begun}
+use Rattle.vll_engine.specs.Shown.{Named}
 use Rattle.vll_workers.specs.declared.pool.Hand.{Hand}
-use Rattle.vll_workers.specs.Private.Begin.{begun_token}
 use Rattle.vll_workers.specs.Private.Pool.{HasInHand, HoldsMore, HoldsOne, IsPut, IsTaken, Working}
 use Rattle.vll_workers.specs.Private.Work.{IsAtWork}
 use Rattle.vll_workers.specs.Shown.{TokenShown}
 use Rattle.vll_workers.specs.Tokens.{IsOf, clients_of}
+use Rattle.vll_workers.proofs.Gained.{IsBegun, of_begun}
 use Rattle.vll_workers.proofs.Hands.{begun_hand, given, more_held, one_held, put_by, reordered, still, taken}
 
 -- a token more is taken
@@ -60,11 +60,11 @@ pub held_more : (handed : List TokenShown) (table : TableId) (w : Working) (ts :
 held_more handed table w ts t at = more_held table w.pass t ts w.kept at.hand
 
 -- a call of it began
-pub begun : (handed : List TokenShown) (table : TableId) (w : Working) (ts : List TokenShown) (t new : TokenShown) (s : SessionShown) (b : Begun) → IsAtWork handed table w (t ∷ ts) → new ≡ begun_token t s b
-    → IsOf handed new → IsAtWork handed table w (new ∷ ts)
-begun handed table w ts t new s b at is own = record {
-  hand = begun_hand table w.pass t new s b (ts ++ w.kept) at.hand is;
-  own = All-cons (IsOf handed) new ts own (All-tail (IsOf handed) t ts at.own);
+pub begun : (e : Named) (handed : List TokenShown) (table : TableId) (w : Working) (ts : List TokenShown) (t new : TokenShown) (b : Begun) → IsAtWork handed table w (t ∷ ts) → IsBegun e t new b
+    → IsAtWork handed table w (new ∷ ts)
+begun e handed table w ts t new b at begins = record {
+  hand = begun_hand table w.pass t new new.session b (ts ++ w.kept) at.hand begins.token;
+  own = All-cons (IsOf handed) new ts (of_begun e handed t new b (own_of handed table w ts t at) begins) (All-tail (IsOf handed) t ts at.own);
   part = at.part;
 }
 

@@ -1,5 +1,5 @@
 -- What a token's session gains as its client's calls enter.
-use Rattle.std.proofs.Common.{◌≡◌, ◌≤◌, ℕ, zero, suc, ◌+◌, ◌-◌, ◌==◌, List, [], ◌∷◌, ◌++◌, map, take, drop, get_or, All, Some, slice_get, refl, sym, ap, ◌∙◌, subst, arith, append_assoc, cond}
+use Rattle.std.proofs.Common.{◌≡◌, ◌<◌, ◌≤◌, ℕ, zero, suc, ◌+◌, ◌-◌, ◌==◌, List, [], ◌∷◌, ◌++◌, map, length, take, drop, get_or, All, Some, slice_get, refl, sym, ap, ◌∙◌, subst, arith, append_assoc, cond}
 use Rattle.std.specs.Prelude.{filter}
 use Rattle.std.proofs.lemmas.Bool.{eq-eqb}
 use Rattle.std.proofs.lemmas.List.{append-nil, map-append}
@@ -8,13 +8,15 @@ use Rattle.std.proofs.lemmas.Option.{slice_get-get_or}
 use Rattle.vll_proc.specs.declared.call.Call.{Call}
 use Rattle.vll_proc.specs.Serial.{Made}
 use Rattle.vll_check.specs.Calls.{bare, bares, with_found}
-use Rattle.vll_core.proofs.Places.{take_next}
+use Rattle.vll_core.proofs.Places.{entry_at, take_next}
 use Rattle.vll_counters.specs.declared.views.SessionView.{SessionView}
-use Rattle.vll_counters.specs.Shown.{SessionShown}
+use Rattle.vll_counters.specs.Shown.{PassShown, SessionShown}
 use Rattle.vll_counters.specs.Views.{Begins, calls_by}
+use Rattle.vll_engine.specs.declared.begun.BeginRefusal.TheVariants.{Spent}
 use Rattle.vll_engine.specs.declared.begun.Begun.{Begun}
 use Rattle.vll_engine.specs.declared.begun.Begun.TheVariants.{Free, Blocked, Refused}
 use Rattle.vll_engine.specs.Begin.{Begins as BeginsWith, FindsAndBegins}
+use Rattle.vll_engine.specs.Pass.{IsFresh}
 use Rattle.vll_engine.specs.Sessions.{SawOthers, SawOwn}
 use Rattle.vll_engine.specs.Shown.{Named, library_of}
 use Rattle.vll_workers.specs.Private.Begin.{begun_token}
@@ -158,6 +160,35 @@ begun_of e handed t new call entering (Free pass) of next is same begins table =
 begun_of e handed t new call entering (Blocked ticket) of next is same begins table = subst (IsOf handed) (sym is) (of_own handed t new.session call entering ticket of next table same begins)
 begun_of e handed t new call entering (Refused why) of next is same begins table = subst (IsOf handed) (sym is) (of_others handed t new.session of table begins.0)
 
-pub of_begun : (e : Named) (handed : List TokenShown) (t new : TokenShown) (call : Call) (begun : Begun) → IsOf handed t → slice_get t.script t.next ≡ Some call
-    → new ≡ begun_token t new.session begun → FindsAndBegins e t.session.session new.session.session call begun → new.session.table ≡ t.session.table → IsOf handed new
-of_begun e handed t new call begun of next is begins table = begun_of e handed t new call (with_found (library_of e) call begins.value) begun of next is begins.same begins.begins table
+-- the token's next call, as its script lends it
+pub next_call : (lent script : List Call) (t : TokenShown) (next : ℕ) (call : Call) → lent ≡ script → script ≡ t.script → next ≡ t.next → (next < length lent) × ((d : Call) → call ≡ get_or lent next d)
+    → slice_get t.script t.next ≡ Some call
+next_call lent script t next call lends is count found =
+    (λ i. slice_get (sym (lends ∙ is) i) (sym count i)) ∙ slice_get-get_or lent next call found.0 ∙ ap Some (sym (found.1 call))
+
+-- what has come of the next call of a token
+pub record IsBegun (e : Named) (t new : TokenShown) (begun : Begun) : Type 0 where
+  pub left : t.next < length t.script
+  pub token : new ≡ begun_token t new.session begun
+  pub answer : (call : Call) → slice_get t.script t.next ≡ Some call → FindsAndBegins e t.session.session new.session.session call begun
+  pub table : new.session.table ≡ t.session.table
+
+pub of_begun : (e : Named) (handed : List TokenShown) (t new : TokenShown) (begun : Begun) → IsOf handed t → IsBegun e t new begun → IsOf handed new
+of_begun e handed t new begun of begins =
+    let next = entry_at t.script t.next begins.left in
+    let answer = begins.answer next.0 next.1 in
+    begun_of e handed t new next.0 (with_found (library_of e) next.0 answer.value) begun of next.1 begins.token answer.same answer.begins begins.table
+
+-- the pass of a call that is free is fresh
+pub fresh_pass : (e : Named) (t new : TokenShown) (begun : Begun) (pass : PassShown) → IsBegun e t new begun → begun ≡ Free pass → IsFresh e pass
+fresh_pass e t new begun pass begins is =
+    let next = entry_at t.script t.next begins.left in
+    let answer = begins.answer next.0 next.1 in
+    (subst (BeginsWith e t.session.session new.session.session (with_found (library_of e) next.0 answer.value)) is answer.begins).1.fresh
+
+-- a session whose call was refused because the engine takes no more has seen as many calls enter as it takes
+pub spent_session : (e : Named) (t new : TokenShown) (begun : Begun) → IsBegun e t new begun → begun ≡ Refused Spent → length new.session.session.seen ≡ e.config.limit
+spent_session e t new begun begins is =
+    let next = entry_at t.script t.next begins.left in
+    let answer = begins.answer next.0 next.1 in
+    (subst (BeginsWith e t.session.session new.session.session (with_found (library_of e) next.0 answer.value)) is answer.begins).1

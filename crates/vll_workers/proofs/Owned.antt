@@ -21,9 +21,14 @@ table_fits e handed t fit own = own.table ∙ (old_fits e handed t fit own).sess
 pub back_fits : (e : Named) (handed back : List TokenShown) → AreFit e handed → AreBack handed back → All (λ (t : TokenShown). t.session.table ≡ e.table) back
 back_fits e handed back fit are = All-weaker (IsOf handed) (λ (t : TokenShown). t.session.table ≡ e.table) (λ t of. table_fits e handed t fit of) back are.own
 
+-- the token fits
+pub own_fits : (e : Named) (handed : List TokenShown) (t : TokenShown) → AreFit e handed → IsOf handed t → IsFit e t
+own_fits e handed t fit own = record {
+  session = table_fits e handed t fit own;
+  fits = subst (All (Fits (library_of e))) (sym own.script) (old_fits e handed t fit own).fits;
+}
+
 -- the library fits the token's calls
 pub call_fits : (e : Named) (handed : List TokenShown) (t : TokenShown) (i : ℕ) (call : Call)
     → AreFit e handed → IsOf handed t → slice_get t.script i ≡ Some call → Fits (library_of e) call
-call_fits e handed t i call fit own is =
-    all_at (Fits (library_of e)) t.script i call
-    (subst (All (Fits (library_of e))) (sym own.script) (old_fits e handed t fit own).fits) is
+call_fits e handed t i call fit own is = all_at (Fits (library_of e)) t.script i call (own_fits e handed t fit own).fits is

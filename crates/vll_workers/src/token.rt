@@ -1,11 +1,10 @@
-ghost use Rattle.std.specs.Prelude.{◌≡◌, ◌<◌, ◌≤◌, ◌==◌, ◌^◌, All, IfSome, IfNone, Some, length, slice_get};
+ghost use Rattle.std.specs.Prelude.{◌≡◌, ◌<◌, ◌≤◌, ◌==◌, ◌^◌, IfNone, Some, true, false, length, slice_get};
 ghost use Rattle.std.specs.Option.{option_map};
-ghost use Rattle.vll_check.specs.Calls.{Fits};
+ghost use Rattle.vll_proc.specs.declared.call.Call.{Call};
 ghost use Rattle.vll_engine.specs.Begin.{FindsAndBegins};
-ghost use Rattle.vll_engine.specs.Shown.{library_of};
 ghost use Rattle.vll_workers.specs.Shown.{token};
 ghost use Rattle.vll_workers.specs.Private.Begin.{begun_token};
-ghost use Rattle.vll_workers.specs.Tokens.{IsThrough};
+ghost use Rattle.vll_workers.specs.Tokens.{IsFit, IsThrough};
 
 use std::marker::Model;
 use vll_engine::{Begun, Hold, Name, Session};
@@ -87,28 +86,29 @@ impl Token {
         self.script.get(self.next as usize)
     }
 
-    // The next call, where one is left.
-    pub(crate) fn next_call(&self) -> Option<Call>
-        ensures call { result ≡ slice_get self.now.script self.now.next }
-        ensures through { IfNone result (IsThrough self.now) }
+    // Every call has entered.
+    pub(crate) fn is_through(&self) -> bool
+        ensures through { result ≡ true → IsThrough self.now }
+        ensures left { result ≡ false → self.now.next < length self.now.script }
     {
-        self.upcoming().copied()
+        self.next as usize == self.script.len()
     }
 
     // The next call begins, and counts as entered unless it is refused.
     pub(crate) fn begin<N: Name, H: Place + Send + Drop>(
         &mut self,
         hold: &mut Hold<'_, N, H>,
-        call: Call,
     ) -> Begun
-        requires session { self.old.session.table ≡ N.engine.table }
-        requires fits { Fits (library_of N.engine) call }
-        requires call { slice_get self.old.script self.old.next ≡ Some call }
+        requires fit { IsFit N.engine self.old }
+        requires left { self.old.next < length self.old.script }
         ensures token { self.new ≡ begun_token self.old self.new.session result }
-        ensures answer { FindsAndBegins N.engine self.old.session.session self.new.session.session call result }
+        ensures answer { (call : Call) → slice_get self.old.script self.old.next ≡ Some call → FindsAndBegins N.engine self.old.session.session self.new.session.session call result }
         ensures given { self.new.session.session.given ≡ self.old.session.session.given }
         ensures session { self.new.session.table ≡ self.old.session.table }
     {
+        let Some(call) = self.script.get(self.next as usize) else {
+            unreachable!()
+        };
         let begun = hold.begin(&mut self.session, call);
         if !matches!(&begun, Begun::Refused(_)) {
             self.next += 1;

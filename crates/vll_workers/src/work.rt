@@ -185,12 +185,12 @@ impl<'a, N: Name, H: Place + Send + Drop, T: Roster, W: Wait, G: Gate> Work<'a, 
         ensures parts { (view worker.new.pass).parts ≡ (view worker.old.pass).parts }
         ensures passes { All (IsFresh N.engine) passes.new }
     {
-        let front = hold.next_front();
-        pace.saw_front(front.is_some());
-        if let Some(pass) = front {
+        if let Some(pass) = hold.next_front() {
+            pace.saw_front(true);
             passes.push(pass);
             return true;
         }
+        pace.saw_front(false);
         if tokens.is_empty() {
             self.take_one(worker, tokens);
         }
@@ -228,51 +228,56 @@ impl<'a, N: Name, H: Place + Send + Drop, T: Roster, W: Wait, G: Gate> Work<'a, 
         ensures passes { All (IsFresh N.engine) passes.new }
     {
         for _ in 0..tokens.len() {
-            let Some(pass) = self.begin_next(worker, hold, tokens, tried) else {
+            if !self.begin_next(worker, hold, tokens, tried, passes) {
                 pace.slacken();
                 return;
-            };
-            passes.push(pass);
+            }
             pace.quicken();
         }
     }
 
-    // Begins the next call of the last token, and answers its pass if it is free. The token is set aside, or stays with
-    // the worker if no call is left or the engine takes no more.
+    // Begins the next call of the last token, and tells whether it is free: then there is one more pass. The token is
+    // set aside, or stays with the worker if no call is left or the engine takes no more.
     fn begin_next(
         self,
         worker: &mut Worker<T>,
         hold: &mut Hold<'_, N, H>,
         tokens: &mut Stack<Token>,
         tried: &mut Stack<Token>,
-    ) -> Option<Pass>
+        passes: &mut Stack<Pass>,
+    ) -> bool
         requires fit { AreFit N.engine T.tokens }
         requires limit { T.limit ≡ N.engine.config.limit }
         requires old { IsAtWork T.tokens self.pool.now worker.old (tokens.old ++ tried.old) }
         requires few { length tokens.old + length tried.old ≤ MOST_BATCH }
+        requires passes { All (IsFresh N.engine) passes.old }
+        requires room { length passes.old + length tokens.old ≤ MOST_BATCH }
         ensures new { IsAtWork T.tokens self.entry.pool.now worker.new (tokens.new ++ tried.new) }
         ensures few { length tokens.new + length tried.new ≤ MOST_BATCH }
         ensures parts { (view worker.new.pass).parts ≡ (view worker.old.pass).parts }
-        ensures pass { IfSome result (IsFresh N.engine) }
-        ensures one { IfSome result (λ _. suc (length tokens.new) ≡ length tokens.old) }
+        ensures passes { All (IsFresh N.engine) passes.new }
+        ensures room { length passes.new + length tokens.new ≤ MOST_BATCH }
     {
-        let mut token = tokens.pop()?;
-        let Some(call) = token.next_call() else {
-            worker.keep(self.pool, token);
-            return None;
+        let Some(mut token) = tokens.pop() else {
+            return false;
         };
-        match token.begin(hold, call) {
+        if token.is_through() {
+            worker.keep(self.pool, token);
+            return false;
+        }
+        match token.begin(hold) {
             Begun::Free(pass) => {
                 tried.push(token);
-                Some(pass)
+                passes.push(pass);
+                true
             }
             Begun::Blocked(_) | Begun::Refused(BeginRefusal::Busy) => {
                 tried.push(token);
-                None
+                false
             }
             Begun::Refused(BeginRefusal::Spent) => {
                 worker.keep(self.pool, token);
-                None
+                false
             }
         }
     }

@@ -94,7 +94,7 @@ impl<H: Place> Machine<H> {
             return Err(Refusal::OutOfStep);
         }
         let reply = work.reply.as_ref().unwrap();
-        self.queue.remove(ticket, *reply);
+        self.queue.remove(ticket, reply);
         Ok(Seen::Replied(*reply))
     }
 

@@ -50,7 +50,7 @@ impl<H: Place> Machine<H> {
         }
         let procedure = library.proc(turn.call.number).unwrap();
         self.work.push_reserved(Work::new(&turn.call, procedure));
-        let ticket = self.queue.admit(turn.client, turn.call, turn.granted);
+        let ticket = self.queue.admit(turn.client, &turn.call, turn.granted);
         self.turn = None;
         if turn.granted {
             Ok(Seen::Free(ticket))

@@ -42,14 +42,14 @@ fn enter(queue: &mut Queue<Placing>, client: u32, call: Call, free: bool) -> Opt
     if queue.is_spent() || queue.is_busy() {
         return None;
     }
-    Some(queue.admit(client, call, free))
+    Some(queue.admit(client, &call, free))
 }
 
 // Removes a call if it runs.
 fn finish(queue: &mut Queue<Placing>, ticket: Ticket, code: u16) -> bool {
     match queue.status(ticket) {
         Some(Status::Running) => {
-            queue.remove(ticket, Reply::Aborted(Reason::Code(code)));
+            queue.remove(ticket, &Reply::Aborted(Reason::Code(code)));
             true
         }
         _ => false,

@@ -129,7 +129,7 @@ fn enter(
     ensures fresh { (result.1.pass.call ≡ call.now) × (result.1.pass.loads ≡ 0) × (result.1.pass.stores ≡ 0) × (result.1.pass.releases ≡ 0) × (result.1.pass.ticket ≡ 0) }
     ensures session { result.2.table ≡ words.now.table }
 {
-    words.join_session(queue, session, Some(*call));
+    words.join_session(queue, session, Some(call));
     let requested = words.request(queue, *claim);
     if !granted(claim.mode, requested) {
         panic!(rt; "another call has the record");

@@ -1,9 +1,13 @@
 -- The queue and the open turn as a call begins.
-use Rattle.std.specs.Prelude.{◌≡◌, ℕ, Bool, true, false, length, Option, Some, None}
+use Rattle.std.specs.Prelude.{◌≡◌, ℕ, Bool, List, true, false, length, slice_get, Option, Some, None}
 use Rattle.vll_proc.specs.declared.call.Call.{Call}
+use Rattle.vll_core.specs.declared.line.Line.{Line}
 use Rattle.vll_core.specs.Queue.{Queued, admitted, entry}
 use Rattle.vll_counters.specs.declared.views.TurnView.{TurnView}
 use Rattle.vll_engine.specs.declared.begun.BeginRefusal.{BeginRefusal}
+use Rattle.vll_counters.specs.Shown.{PassShown}
+use Rattle.vll_engine.specs.declared.begun.Admission.{Admission}
+use Rattle.vll_engine.specs.declared.begun.Admission.TheVariants as admission
 use Rattle.vll_engine.specs.declared.begun.Begun.{Begun}
 use Rattle.vll_engine.specs.declared.begun.Begun.TheVariants.{Free, Blocked, Refused}
 
@@ -26,3 +30,22 @@ abbrev pub IsRefusedBy : Option BeginRefusal → Begun → Type 0
 IsRefusedBy refusal (Free pass) = refusal ≡ None
 IsRefusedBy refusal (Blocked ticket) = refusal ≡ None
 IsRefusedBy refusal (Refused why) = refusal ≡ Some why
+
+-- what the answer at the lock tells the client: a pass is shown as its seat is
+abbrev pub begun : Admission → Begun
+begun (admission.Free seat ticket) = Free seat
+begun (admission.Blocked ticket) = Blocked ticket
+begun (admission.Refused why) = Refused why
+
+-- the seat of a call that is free is this call's, at its ticket
+abbrev pub IsSeatOf : Call → Admission → Type 0
+IsSeatOf call (admission.Free seat ticket) = (seat.pass.ticket ≡ ticket) × (seat.pass.call ≡ call)
+IsSeatOf call (admission.Blocked ticket) = Unit {0}
+IsSeatOf call (admission.Refused why) = Unit {0}
+
+-- a seat at a ticket has the call of the ticket's line
+pub record IsPassAt (ls : List Line) (seat : PassShown) (ticket : ℕ) : Type 0 where
+  pub line : Line
+  pub at : slice_get ls ticket ≡ Some line
+  pub ticket_is : seat.pass.ticket ≡ ticket
+  pub call_is : seat.pass.call ≡ line.call

@@ -6,15 +6,14 @@ ghost use Rattle.vll_core.specs.Queue.{IsQueued, lines, statuses};
 ghost use Rattle.vll_sca.specs.Status.{is_waiting};
 ghost use Rattle.vll_counters.specs.Views.{calls_in};
 ghost use Rattle.vll_engine.specs.Begin.{Begins, refusal};
-ghost use Rattle.vll_engine.specs.Private.Begun.{IsRefusedBy, asked_turn, begun_by, first_turn};
+ghost use Rattle.vll_engine.specs.Private.Begun.{IsRefusedBy, IsSeatOf, asked_turn, begun, begun_by, first_turn};
 ghost use Rattle.vll_engine.specs.Private.Looked.{IsLookedUp};
 ghost use Rattle.vll_engine.specs.Sessions.{SawOthers};
 ghost use Rattle.vll_engine.specs.Shown.{library_of, words_of};
 
 use super::Locked;
-use crate::begun::{BeginRefusal, Begun};
+use crate::begun::{Admission, BeginRefusal};
 use crate::name::Name;
-use crate::pass::Pass;
 use vll_counters::{QueueSeat, SessionSeat, Words};
 use vll_proc::Call;
 use vll_record::granted;
@@ -28,21 +27,22 @@ impl<N: Name, H: Place> Locked<N, H> {
         session: SessionSeat,
         client: u32,
         call: &Call,
-    ) -> (Begun, SessionSeat)
+    ) -> (Admission, SessionSeat)
         requires words { words.now ≡ words_of N.engine }
         requires session { session.table ≡ N.engine.table }
         requires client { session.session.client ≡ client }
         requires catalog { IsCatalog (library_of N.engine) }
         requires ready { IsReady (library_of N.engine) call.now }
         requires looked_up { IsLookedUp N.engine session.session call.now }
-        ensures answer { Begins N.engine session.session result.1.session call.now result.0 }
-        ensures queue { self.new ≡ begun_by self.old client call.now result.0 }
-        ensures refused { IsRefusedBy (refusal self.old) result.0 }
+        ensures answer { Begins N.engine session.session result.1.session call.now (begun result.0) }
+        ensures seat { IsSeatOf call.now result.0 }
+        ensures queue { self.new ≡ begun_by self.old client call.now (begun result.0) }
+        ensures refused { IsRefusedBy (refusal self.old) (begun result.0) }
         ensures given { result.1.session.given ≡ session.session.given }
         ensures session { result.1.table ≡ session.table }
     {
         match self.refusal() {
-            Some(why) => (Begun::Refused(why), self.visit(words, session)),
+            Some(why) => (Admission::Refused(why), self.visit(words, session)),
             None => self.enter(words, session, client, call),
         }
     }
@@ -85,7 +85,7 @@ impl<N: Name, H: Place> Locked<N, H> {
         session: SessionSeat,
         client: u32,
         call: &Call,
-    ) -> (Begun, SessionSeat)
+    ) -> (Admission, SessionSeat)
         requires words { words.now ≡ words_of N.engine }
         requires session { session.table ≡ N.engine.table }
         requires client { session.session.client ≡ client }
@@ -94,23 +94,23 @@ impl<N: Name, H: Place> Locked<N, H> {
         requires looked_up { IsLookedUp N.engine session.session call.now }
         requires room { refusal self.old ≡ None }
         requires kept { IsQueued self.old }
-        ensures answer { Begins N.engine session.session result.1.session call.now result.0 }
-        ensures queue { self.new ≡ begun_by self.old client call.now result.0 }
-        ensures entered { IsRefusedBy None result.0 }
+        ensures answer { Begins N.engine session.session result.1.session call.now (begun result.0) }
+        ensures seat { IsSeatOf call.now result.0 }
+        ensures queue { self.new ≡ begun_by self.old client call.now (begun result.0) }
+        ensures entered { IsRefusedBy None (begun result.0) }
         ensures given { result.1.session.given ≡ session.session.given }
         ensures session { result.1.table ≡ session.table }
     {
-        words.join_session(&mut self.seat, session, Some(*call));
+        words.join_session(&mut self.seat, session, Some(call));
         let free = request_all(words, &mut self.seat, client, call);
-        let ticket = self.queue.admit(client, *call, free);
+        let ticket = self.queue.admit(client, call, free);
         if !free {
             let session = words.give_session(&mut self.seat, None);
-            return (Begun::Blocked(ticket), session);
+            return (Admission::Blocked(ticket), session);
         }
         let seat = words.give_pass(&mut self.seat, ticket);
         let session = words.give_session(&mut self.seat, None);
-        let call = *call;
-        (Begun::Free(Pass { seat, ticket, call }), session)
+        (Admission::Free(seat, ticket), session)
     }
 }
 

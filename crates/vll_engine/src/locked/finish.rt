@@ -26,8 +26,7 @@ impl<N: Name, H: Place> Locked<N, H> {
             reply,
         } = released;
         words.join_pass(&mut self.seat, seat);
-        let told = &reply;
-        self.queue.remove(ticket, *told);
-        (ticket, *told)
+        self.queue.remove(ticket, &reply);
+        (ticket, reply)
     }
 }

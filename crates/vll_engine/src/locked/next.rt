@@ -5,57 +5,64 @@ ghost use Rattle.vll_counters.specs.Shown.{after, with_pass_given};
 ghost use Rattle.vll_counters.specs.Steps.{new_pass};
 ghost use Rattle.vll_counters.specs.Told.{MayStart};
 ghost use Rattle.vll_engine.specs.Pass.{IsFresh};
+ghost use Rattle.vll_engine.specs.Private.Begun.{IsPassAt};
 ghost use Rattle.vll_engine.specs.Shown.{words_of};
 
 use super::Locked;
 use crate::name::Name;
 use crate::pass::Pass;
-use vll_core::{Queue, Ticket};
-use vll_counters::{QueueSeat, Words};
+use vll_core::Ticket;
+use vll_counters::{PassSeat, QueueSeat, Words};
 use vll_sca::Place;
 
 impl<N: Name, H: Place> Locked<N, H> {
-    // The lowest ticket that is not gone begins to run, where it waits.
-    pub(crate) fn next_front(&mut self, words: &Words) -> Option<Pass>
+    // The lowest ticket that is not gone begins to run, if it waits: its seat.
+    pub(crate) fn next_front(&mut self, words: &Words) -> Option<(PassSeat, Ticket)>
         requires words { words.now ≡ words_of N.engine }
-        ensures ticket { option_map (λ p. p.pass.ticket) result ≡ front_among (statuses self.old) }
-        ensures pass { IfSome result (IsFresh N.engine) }
+        ensures ticket { option_map (λ p. p.1) result ≡ front_among (statuses self.old) }
+        ensures pass { IfSome result (λ p. IsFresh N.engine p.0) }
+        ensures line { IfSome result (λ p. IsPassAt (lines self.new) p.0 p.1) }
         ensures queue { self.new ≡ fronted self.old }
     {
         let ticket = self.queue.front()?;
-        Some(give_pass(words, &self.queue, &mut self.seat, ticket))
+        Some((give_pass(words, &mut self.seat, ticket), ticket))
     }
 
-    // The ticket that the contention analysis finds begins to run.
-    pub(crate) fn next_scan(&mut self, words: &Words) -> Option<Pass>
+    // The ticket that the contention analysis finds begins to run: its seat.
+    pub(crate) fn next_scan(&mut self, words: &Words) -> Option<(PassSeat, Ticket)>
         requires words { words.now ≡ words_of N.engine }
-        ensures ticket { option_map (λ p. p.pass.ticket) result ≡ found_by H.place_of self.old }
-        ensures pass { IfSome result (IsFresh N.engine) }
+        ensures ticket { option_map (λ p. p.1) result ≡ found_by H.place_of self.old }
+        ensures pass { IfSome result (λ p. IsFresh N.engine p.0) }
+        ensures line { IfSome result (λ p. IsPassAt (lines self.new) p.0 p.1) }
         ensures queue { self.new ≡ scanned H.place_of self.old }
     {
         let ticket = self.queue.scan()?;
-        Some(give_pass(words, &self.queue, &mut self.seat, ticket))
+        Some((give_pass(words, &mut self.seat, ticket), ticket))
+    }
+
+    // The pass of a seat, with the call that stands in its ticket's line.
+    pub(crate) fn pass(&self, seat: PassSeat, ticket: Ticket) -> Pass
+        requires line { IsPassAt (lines self.now) seat ticket }
+        ensures { result ≡ seat }
+    {
+        let Some(line) = self.queue.line(ticket) else {
+            unreachable!()
+        };
+        Pass {
+            seat,
+            ticket,
+            call: line.call,
+        }
     }
 }
 
-// The pass of a call that waited and that nothing before it holds back.
-fn give_pass<H: Place>(
-    words: &Words,
-    queue: &Queue<H>,
-    seat: &mut QueueSeat,
-    ticket: Ticket,
-) -> Pass
+// The seat of a call that waited and that nothing before it holds back.
+fn give_pass(words: &Words, seat: &mut QueueSeat, ticket: Ticket) -> PassSeat
     requires same { seat.old.table ≡ words.now.table }
     requires closed { seat.old.turn ≡ None }
     requires may { MayStart seat.old.lines seat.old.statuses ticket }
-    requires lines { seat.old.lines ≡ lines queue.now }
     ensures seat { seat.new ≡ after seat.old (with_pass_given seat.old ticket) }
-    ensures pass { (l : Line) → slice_get (lines queue.now) ticket ≡ Some l → result ≡ record { table = words.now.table; pass = new_pass ticket l.call seat.old.lines } }
+    ensures pass { (l : Line) → slice_get seat.old.lines ticket ≡ Some l → result ≡ record { table = words.now.table; pass = new_pass ticket l.call seat.old.lines } }
 {
-    let call = queue.line(ticket).unwrap().call;
-    Pass {
-        seat: words.give_pass(seat, ticket),
-        ticket,
-        call,
-    }
+    words.give_pass(seat, ticket)
 }

@@ -37,7 +37,7 @@ fn works_under_one_hold<N: Name, R: Wait + Abort>(rt: &R, opening: Opening<Placi
     let mut hold = engine.hold(rt);
     let (ticket, reply) = hold.finish(zero);
     let front = hold.next_front();
-    let begun = hold.begin(&mut session, next);
+    let begun = hold.begin(&mut session, &next);
     let found = hold.next_scan();
     let told = hold.reply(&mut session, ticket);
     drop(hold);
@@ -83,7 +83,7 @@ fn begins<N: Name, R: Wait + Abort>(
     ensures released { IsReleased N.engine result }
 {
     let call = bump_of(rt, engine.library(), record);
-    match engine.begin(rt, session, call) {
+    match engine.begin(rt, session, &call) {
         Begun::Free(pass) => releases(rt, engine, pass),
         Begun::Blocked(_) | Begun::Refused(_) => panic!(rt; "the call is not free"),
     }
@@ -105,7 +105,7 @@ fn goes_on<N: Name, R: Wait + Abort>(
     let call = bump_of(rt, engine.library(), record);
     let mut hold = engine.hold(rt);
     hold.finish(released);
-    let begun = hold.begin(session, call);
+    let begun = hold.begin(session, &call);
     drop(hold);
     match begun {
         Begun::Free(pass) => releases(rt, engine, pass),

@@ -97,7 +97,7 @@ pub(super) fn call_is_free<N: Name, R: Wait + Abort>(
     ensures pass { IsFresh N.engine result }
 {
     let call = call_of(rt, engine.library(), name, record);
-    match engine.begin(rt, session, call) {
+    match engine.begin(rt, session, &call) {
         Begun::Free(pass) => {
             assert_eq!(rt; pass.ticket(), Ticket(ticket));
             pass
@@ -134,7 +134,7 @@ pub(super) fn call_is_blocked<N: Name, R: Wait + Abort>(
     ensures { session.new.table ≡ N.engine.table }
 {
     let call = call_of(rt, engine.library(), name, record);
-    match engine.begin(rt, session, call) {
+    match engine.begin(rt, session, &call) {
         Begun::Free(pass) => {
             finishes(rt, engine, pass, 0);
             panic!(rt; "the call is free")
@@ -156,7 +156,7 @@ pub(super) fn begins_refused<N: Name, R: Wait + Abort>(
     ensures { session.new.table ≡ N.engine.table }
 {
     let call = bump_of(rt, engine.library(), record);
-    match engine.begin(rt, session, call) {
+    match engine.begin(rt, session, &call) {
         Begun::Free(pass) => {
             finishes(rt, engine, pass, 0);
             panic!(rt; "the call is free")

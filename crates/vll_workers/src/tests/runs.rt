@@ -179,7 +179,7 @@ fn begins<N: Name, R: Wait + Abort>(
     ensures session { session.new.table ≡ session.old.table }
 {
     let call = bump_of(rt, engine.library(), record);
-    match engine.begin(rt, session, call) {
+    match engine.begin(rt, session, &call) {
         Begun::Free(pass) => pass,
         Begun::Blocked(_) => panic!(rt; "the call is blocked"),
         Begun::Refused(_) => panic!(rt; "the call is refused"),
@@ -198,7 +198,7 @@ fn waits<N: Name, R: Wait + Abort>(
     ensures { session.new.table ≡ session.old.table }
 {
     let call = bump_of(rt, engine.library(), record);
-    match engine.begin(rt, session, call) {
+    match engine.begin(rt, session, &call) {
         Begun::Free(pass) => {
             ends(rt, engine, pass);
             panic!(rt; "the call is free")

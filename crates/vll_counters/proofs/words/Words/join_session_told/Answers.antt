@@ -1,4 +1,6 @@
-use Rattle.std.proofs.Common.{ap, sym, ◌∙◌, arith}
+use Rattle.std.proofs.Common.{ap, sym, ◌∙◌, arith, Bor}
+use Rattle.std.specs.Option.{option_map}
+use Rattle.vll_proc.specs.declared.call.Call.{Call}
 use Rattle.vll_counters.specs.Shown.{WordsShown, QueueShown, SessionShown, queue_view}
 use Rattle.vll_counters.proofs.Seats.{queue_me, session_me, joined_session, comes_session_at, opens_at, may_open, library_is, told_session}
 use Rattle.vll_counters.proofs.words.Words.join_session_told.Goals as goal
@@ -23,7 +25,7 @@ load-requires g c =
     let j = c.join_seat.ensures in (
       j.0 ∙ queue,
       omega (arith, words),
-      opens_at _ _ _ _ _ _ _ c.args.call _ base c.requires.told.0 c.requires.told.1 (j.1 ∙ c.queue.invariant.0) (j.2 ∙ joined_session _ _ _ _ me other) c.requires.closed
+      opens_at _ _ _ _ _ _ _ (option_map (λ (b : Bor Call). b.now) c.args.call) _ base c.requires.told.0 c.requires.told.1 (j.1 ∙ c.queue.invariant.0) (j.2 ∙ joined_session _ _ _ _ me other) c.requires.closed
           (may_open _ _ _ _ c.self.invariant.catalog (library_is _ _ _ base c.self.invariant.records) c.requires.ready c.requires.room),
     )
 

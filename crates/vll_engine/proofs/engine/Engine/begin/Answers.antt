@@ -8,6 +8,6 @@ use Rattle.vll_engine.proofs.engine.Engine.begin.Goals as goal
 pub returns-in-None-clause-answer : goal.returns-in-None-clause-answer
 returns-in-None-clause-answer g c =
     let e = g.N.Name.engine in
-    let call = c.args.call in
+    let call = c.args.call.now in
     let none : source (library_of e) call ≡ None = sym (ap (λ (l : Catalog). source l call) c.args.self.now.library_is) ∙ sym c.source.ensures.source ∙ c.in-None.is in
     begins_without e c.args.session.now.session c.begin_ready.new.session.session call c.begin_ready.result (subst IsCatalog c.args.self.now.library_is c.args.self.now.catalog) c.requires.fits none c.begin_ready.ensures.answer c.begin_ready.ensures.given

@@ -32,18 +32,6 @@ returns-then-not-free-clause-answer g c =
 
 -- the call is free
 
-pub invariant_of-result : goal.invariant_of-result
-invariant_of-result g c =
-    let old = c.self.inside.seat in
-    let come = c.args.session.session in
-    let free = c.request_all-free.result in
-    let pass = c.give_pass-seat in
-    let asked = all_asked old c.join_session.new.queue c.request_all-free.new.seat come c.args.client c.args.call.now free c.join_session.ensures.queue c.request_all-free.ensures.turn in
-    let given = pass_given_seat old c.request_all-free.new.seat pass.new.queue come c.args.client c.args.call.now free c.admit-ticket.result asked pass.ensures.queue in
-    let is = pass_is g.N.Name.engine g.H.Place.place_of old pass.new.queue c.self.inside.queue come c.args.client c.args.call.now free c.admit-ticket.result c.args.words.now.table pass.result
-    c.self.invariant given c.admit-ticket.ensures.ticket pass.ensures.pass in
-    (ap (λ (p : PassShown). p.pass.ticket) is, ap (λ (p : PassShown). p.pass.call) is)
-
 pub invariant_of-self-2 : goal.invariant_of-self-2
 invariant_of-self-2 g c =
     let old = c.self.inside.seat in
@@ -74,3 +62,15 @@ returns-clause-answer g c =
       pass_for g.N.Name.engine g.H.Place.place_of c.args.words.now.base old left.new.queue c.self.inside.queue come c.args.client c.args.call.now free left.result c.admit-ticket.result c.args.words.now.table pass.result
           c.self.invariant c.join_session.ensures.session entered c.requires.client c.requires.ready c.requires.looked_up (ap (λ (w : WordsShown). w.table) c.requires.words) c.admit-ticket.ensures.ticket is,
     )
+
+pub returns-clause-seat : goal.returns-clause-seat
+returns-clause-seat g c =
+    let old = c.self.inside.seat in
+    let come = c.args.session.session in
+    let free = c.request_all-free.result in
+    let pass = c.give_pass-seat in
+    let asked = all_asked old c.join_session.new.queue c.request_all-free.new.seat come c.args.client c.args.call.now free c.join_session.ensures.queue c.request_all-free.ensures.turn in
+    let given = pass_given_seat old c.request_all-free.new.seat pass.new.queue come c.args.client c.args.call.now free c.admit-ticket.result asked pass.ensures.queue in
+    let is = pass_is g.N.Name.engine g.H.Place.place_of old pass.new.queue c.self.inside.queue come c.args.client c.args.call.now free c.admit-ticket.result c.args.words.now.table pass.result
+    c.self.invariant given c.admit-ticket.ensures.ticket pass.ensures.pass in
+    (ap (λ (p : PassShown). p.pass.ticket) is, ap (λ (p : PassShown). p.pass.call) is)
