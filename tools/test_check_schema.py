@@ -19,6 +19,9 @@ except ImportError:
 # Larger scenarios take long, and tell no more.
 MOST_LETTERS = 2000
 
+# What the schema says of a repeat.
+REPEAT = ['$defs', 'statement', 'allOf', 5, 'then']
+
 # What stands in the schema at a path, and what stands there in a wrong one; nothing if it is left out.
 WRONG = [
     (['additionalProperties'], None),
@@ -38,6 +41,24 @@ WRONG = [
     (['$defs', 'statement', 'allOf'], None),
     (['$defs', 'expression', 'allOf'], None),
     (['$defs', 'event', 'allOf'], None),
+    (['properties', 'version', 'oneOf'], [{'const': 1}]),
+    (['properties', 'version', 'oneOf'], [{'const': 1}, {'const': 2}, {'const': 3}]),
+    (['if'], None),
+    (['$defs', 'procedure', 'properties', 'keys', 'maxItems'], 31),
+    (['$defs', 'procedure', 'properties', 'keys', 'maxItems'], 33),
+    (['$defs', 'procedure', 'properties', 'keys', 'maxContains'], 2),
+    (['$defs', 'procedureOfVersion1', 'properties', 'keys', 'maxItems'], 15),
+    (['$defs', 'procedureOfVersion1', 'properties', 'keys', 'maxItems'], 17),
+    (['$defs', 'procedureOfVersion1', 'properties', 'body'], None),
+    (['$defs', 'statementsOfVersion1', 'items', 'not'], None),
+    (['$defs', 'statementsOfVersion1', 'items', 'then'], None),
+    (['$defs', 'keyIndex', 'maximum'], 30),
+    (REPEAT + ['items'], None),
+    (REPEAT + ['minItems'], 2),
+    (REPEAT + ['prefixItems', 1, 'minimum'], 1),
+    (REPEAT + ['prefixItems', 1, 'maximum'], 63),
+    (REPEAT + ['prefixItems', 1, 'maximum'], 65),
+    (REPEAT + ['prefixItems', 2], True),
 ]
 
 
