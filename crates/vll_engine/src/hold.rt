@@ -131,6 +131,16 @@ impl<'a, N: Name, H: Place + Send + Drop> Hold<'a, N, H> {
         Some(self.guard.pass(seat, ticket))
     }
 
+    /// The same, unless a scan is put off. A scan by this call that finds none among many that wait puts the next one off
+    /// until calls have been finished, at most one for each eight of those, so that what such scans cost a call does not
+    /// grow with the calls that wait. A call that waits is held up by this until it is at the front at most.
+    pub fn next_scan_if_due(&mut self) -> Option<Pass>
+        ensures { IfSome result (IsFresh N.engine) }
+    {
+        let (seat, ticket) = self.guard.next_scan_if_due(self.words)?;
+        Some(self.guard.pass(seat, ticket))
+    }
+
     /// The call is gone, and its line gets the reply, as by `Engine::finish`.
     pub fn finish(&mut self, released: Released) -> (Ticket, Reply)
         requires released { IsReleased N.engine released }

@@ -14,6 +14,7 @@ mod locked;
 mod name;
 mod opening;
 mod pass;
+mod patience;
 mod room;
 mod session;
 #[cfg(test)]

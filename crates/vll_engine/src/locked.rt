@@ -2,6 +2,7 @@ ghost use Rattle.std.specs.Prelude.{◌≡◌};
 ghost use Rattle.vll_engine.specs.Private.Kept.{IsKept};
 
 use crate::name::Name;
+use crate::patience::Patience;
 use std::marker::{Model, PhantomData};
 use vll_core::Queue;
 use vll_counters::QueueSeat;
@@ -19,6 +20,7 @@ mod reply;
 pub(crate) struct Locked<N: Name, H: Place> {
     queue: Queue<H>,
     seat: QueueSeat,
+    patience: Patience,
     of: PhantomData<N>,
 }
 
@@ -45,6 +47,7 @@ impl<N: Name, H: Place> Locked<N, H> {
         Locked {
             queue,
             seat,
+            patience: Patience::new(),
             of: PhantomData,
         }
     }

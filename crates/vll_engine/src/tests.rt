@@ -6,3 +6,4 @@ mod playing;
 mod procedures;
 mod queueing;
 mod schedules;
+mod waiting;

@@ -201,7 +201,7 @@ impl<'a, N: Name, H: Place + Send + Drop, T: Roster, W: Wait, G: Gate> Work<'a, 
             self.put_back(worker, tokens, tried);
         }
         if passes.is_empty() {
-            if let Some(pass) = hold.next_scan() {
+            if let Some(pass) = hold.next_scan_if_due() {
                 passes.push(pass);
             }
         }

@@ -55,6 +55,7 @@ impl<N: Name, H: Place + Send + Drop> Locked<N, H> {
         let Locked {
             queue,
             mut seat,
+            patience: _,
             of: _,
         } = self;
         visit_all(&words, &mut seat, sessions);

@@ -27,6 +27,7 @@ impl<N: Name, H: Place> Locked<N, H> {
         } = released;
         words.join_pass(&mut self.seat, seat);
         self.queue.remove(ticket, &reply);
+        self.patience.finished();
         (ticket, reply)
     }
 }

@@ -1,6 +1,6 @@
 ghost use Rattle.std.specs.Prelude.{◌≡◌, IfSome, None, Some, option_map, slice_get};
 ghost use Rattle.vll_core.specs.declared.line.Line.{Line};
-ghost use Rattle.vll_core.specs.Queue.{fronted, found_by, front_among, lines, scanned, statuses};
+ghost use Rattle.vll_core.specs.Queue.{fronted, found_by, front_among, lines, scanned, started_if, statuses};
 ghost use Rattle.vll_counters.specs.Shown.{after, with_pass_given};
 ghost use Rattle.vll_counters.specs.Steps.{new_pass};
 ghost use Rattle.vll_counters.specs.Told.{MayStart};
@@ -38,6 +38,22 @@ impl<N: Name, H: Place> Locked<N, H> {
     {
         let ticket = self.queue.scan()?;
         Some((give_pass(words, &mut self.seat, ticket), ticket))
+    }
+
+    // The same, if a scan is due.
+    pub(crate) fn next_scan_if_due(&mut self, words: &Words) -> Option<(PassSeat, Ticket)>
+        requires words { words.now ≡ words_of N.engine }
+        ensures ticket { IfSome result (λ p. found_by H.place_of self.old ≡ Some p.1) }
+        ensures pass { IfSome result (λ p. IsFresh N.engine p.0) }
+        ensures line { IfSome result (λ p. IsPassAt (lines self.new) p.0 p.1) }
+        ensures queue { self.new ≡ started_if self.old (option_map (λ p. p.1) result) }
+    {
+        if !self.patience.is_due() {
+            return None;
+        }
+        let found = self.next_scan(words);
+        self.patience.scanned(found.is_some(), self.queue.waiting());
+        found
     }
 
     // The pass of a seat, with the call that stands in its ticket's line.

@@ -1,5 +1,4 @@
-use Rattle.std.proofs.Common.{Some, sym, ap, ◌∙◌, subst}
-use Rattle.vll_core.specs.Queue.{Queued, found_by}
+use Rattle.std.proofs.Common.{sym, subst}
 use Rattle.vll_engine.specs.Private.Kept.{IsKept}
 use Rattle.vll_engine.proofs.Keeps.{kept_started}
 use Rattle.vll_engine.proofs.Starting.{scan_may, begins, given_fresh, given_at}
