@@ -30,8 +30,8 @@ pub(crate) struct BatchRoom {
 }
 
 impl BatchRoom {
-    // Room for what a worker has under way that takes at most so many tokens before a hold.
-    pub(crate) fn new(alloc: Global, most: usize) -> Result<BatchRoom, AllocError> {
+    // Room for what one of so many workers has under way that takes at most so many tokens before a hold.
+    pub(crate) fn new(alloc: Global, workers: u32, most: usize) -> Result<BatchRoom, AllocError> {
         let tokens = Stack::new(alloc)?;
         let tried = Stack::new(alloc)?;
         let finished = Stack::new(alloc)?;
@@ -44,7 +44,7 @@ impl BatchRoom {
                     passes,
                     released,
                     finished,
-                    pace: Pace::new(most),
+                    pace: Pace::new(workers, most),
                 },
             }),
             Err(AllocError) => {

@@ -1,14 +1,20 @@
 use std::hint::spin_loop;
 use std::thread::yield_now;
 
-// The longest pause, in turns of a spin loop.
-const MOST_PAUSE: u32 = 1_024;
+// The longest pause of few workers, in turns of a spin loop.
+const LONGEST_OF_FEW: u32 = 1_024;
+
+// The longest pause of many workers, most of whom have to let the others run.
+const LONGEST_OF_MANY: u32 = 16_384;
+
+// The longest pause has so many turns for each worker, within these bounds.
+const TURNS_A_WORKER: u32 = 256;
 
 // The first pause, in turns.
 const FIRST_PAUSE: u32 = 32;
 
 // A pause lets another thread run after so many turns.
-const TURNS_A_YIELD: u32 = 256;
+const TURNS_A_YIELD: u32 = 64;
 
 // So many rounds in a row may find no token before a worker leaves.
 const MOST_IDLE: u32 = 16;
@@ -19,17 +25,20 @@ const MOST_IDLE: u32 = 16;
 pub(crate) struct Pace {
     most: usize,
     now: usize,
+    longest: u32,
     pause: u32,
     idle: u32,
     had_front: bool,
 }
 
 impl Pace {
-    // At most so many tokens are taken before a hold.
-    pub(crate) fn new(most: usize) -> Pace {
+    // The pace of one of so many workers, which takes at most so many tokens before a hold.
+    pub(crate) fn new(workers: u32, most: usize) -> Pace {
+        let longest = workers.saturating_mul(TURNS_A_WORKER);
         Pace {
             most,
             now: most,
+            longest: longest.clamp(LONGEST_OF_FEW, LONGEST_OF_MANY),
             pause: 0,
             idle: 0,
             had_front: false,
@@ -73,16 +82,18 @@ impl Pace {
     }
 
     // Waits after a round that found no call that may run, longer each time. Tells whether to go on: a worker leaves
-    // after rounds that had no token.
+    // after rounds that had no token, and rests less long between these.
     pub(crate) fn rest(&mut self, had_token: bool) -> bool {
+        let mut longest = LONGEST_OF_FEW;
         if had_token {
             self.idle = 0;
+            longest = self.longest;
         } else if !self.takes_ahead() || self.idle >= MOST_IDLE {
             return false;
         } else {
             self.idle += 1;
         }
-        self.pause = MOST_PAUSE.min(self.pause.saturating_mul(2).saturating_add(FIRST_PAUSE));
+        self.pause = longest.min(self.pause.saturating_mul(2).saturating_add(FIRST_PAUSE));
         for turn in 0..self.pause {
             if turn % TURNS_A_YIELD == TURNS_A_YIELD - 1 {
                 yield_now();

@@ -16,12 +16,12 @@ pub(super) struct Desk<T: Roster> {
 }
 
 impl<T: Roster> Desk<T> {
-    // The memory of a worker of a run of so many tokens, which takes at most so many of them before a hold.
-    fn new(alloc: Global, count: usize, most: usize) -> Result<Desk<T>, AllocError>
+    // The memory of a worker of a run of so many tokens by so many workers.
+    fn new(alloc: Global, count: usize, workers: u32) -> Result<Desk<T>, AllocError>
         requires { count ≡ length T.tokens }
     {
         let shelf = Shelf::new(alloc, count)?;
-        let room = BatchRoom::new(alloc, most)?;
+        let room = BatchRoom::new(alloc, workers, share_of(count, workers))?;
         Ok(Desk { shelf, room })
     }
 }
@@ -54,13 +54,12 @@ pub(super) fn room_for<T: Roster>(
     ensures hand { IfOk result (λ r. HasInHand r.pool r.own.pass T.tokens) }
     ensures parts { IfOk result (λ r. (view r.own.pass).parts ≡ all_parts) }
 {
-    let most = share_of(count, workers);
     let mut desks = Vec::with_capacity(alloc, workers as usize)?;
     for _ in 0..workers {
-        desks.push_reserved(Desk::new(alloc, count, most)?);
+        desks.push_reserved(Desk::new(alloc, count, workers)?);
     }
     let (pool, pass) = Pool::new(alloc, count)?;
-    let Desk { shelf, room } = Desk::new(alloc, count, most)?;
+    let Desk { shelf, room } = Desk::new(alloc, count, workers)?;
     Ok(Room {
         pool,
         own: Worker::new(shelf, pass),
