@@ -29,7 +29,7 @@ pub enum Part {
 }
 
 /// Where a scenario has another shape: the part, and the index of its first faulty item, from 0.
-/// It is 0 for `top`, for a single value, and where a part that should be a list is none.
+/// It is 0 for `top`, for a single value, and if a part that should be a list is none.
 #[derive(Clone, Copy, PartialEq, Eq, Debug, Error)]
 #[error("{part} {index}")]
 pub struct Spot {

@@ -6,13 +6,13 @@ use std::io;
 
 /// Where bytes are read from, in the manner of std's `Read`. An implementation may tell its bytes.
 pub trait Source {
-    // The bytes that reads will give from here on, where they are known.
+    // The bytes that reads will give from here on, if they are known.
     ghost remaining: { Self → Option (List ℕ) };
 
     ghost failed: { Self → Bool };
 
     /// Puts up to as many bytes into `buf` as it has room for, and says how many: 0 only at the end, or
-    /// where `buf` has no room. After an error `has_failed` is true; an `Ok` leaves it as it was.
+    /// if `buf` has no room. After an error `has_failed` is true; an `Ok` leaves it as it was.
     fn read(&mut self, buf: &mut [u8]) -> io::Result<usize>
         ensures bound { ReadsAtMost result buf.new }
         ensures bytes { ReadConsumes (remaining self.old) (remaining self.new) result buf.new }
@@ -26,12 +26,12 @@ pub trait Source {
 
 /// Where bytes are written to, in the manner of std's `Write`. An implementation may tell its bytes.
 pub trait Sink {
-    // The bytes that were written, where they are known.
+    // The bytes that were written, if they are known.
     ghost contents: { Self → Option (List ℕ) };
 
     ghost failed: { Self → Bool };
 
-    /// Takes some bytes at the front of `buf`, and says how many. After an error, and where it takes none
+    /// Takes some bytes at the front of `buf`, and says how many. After an error, and if it takes none
     /// of bytes that are there, `has_failed` is true; any other `Ok` leaves it as it was.
     fn write(&mut self, buf: &[u8]) -> io::Result<usize>
         ensures bound { WritesAtMost result buf.now }

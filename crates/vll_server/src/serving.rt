@@ -38,8 +38,8 @@ use vll_workers::{Gate, MOST_WORKERS, RunError};
 /// in the order in which they entered, and each pair word is 0.
 ///
 /// Nothing is written before the run has ended well and the engine is closed. `Run`, `Unfinished` and `NoMemory` come
-/// before that, and leave the writer as it was; `NoMemory` comes too where the text cannot be made, which is before its
-/// first byte is written. `Write` comes exactly where the writer has failed; a beginning of the text has been written
+/// before that, and leave the writer as it was; `NoMemory` comes too if the text cannot be made, which is before its
+/// first byte is written. `Write` comes exactly if the writer has failed; a beginning of the text has been written
 /// then.
 pub fn serve<R: Threads + Wait + Sync, W: Wait + Sync, G: Gate + Sync, S: Sink>(
     rt: &R,
@@ -166,14 +166,14 @@ fn run_named<N: Name + Send + Sync, R: Threads + Wait + Sync, W: Wait + Sync, G:
     }
 }
 
-// What is answered where the workers' run did not end well.
+// What is answered if the workers' run did not end well.
 fn run_fault(error: RunError) -> ServeFault
     ensures { result ≡ ServeFault.Run error.fault }
 {
     ServeFault::Run(error.fault)
 }
 
-// What is answered where calls were left in the engine.
+// What is answered if calls were left in the engine.
 fn unfinished<N: Name>(left: NotClosed<N, Placing>) -> ServeFault
     ensures { result ≡ ServeFault.Unfinished left.running left.waiting }
 {

@@ -29,7 +29,7 @@ impl Reads for Event {
     }
 }
 
-// The events of a scenario, none where it has no schedule.
+// The events of a scenario, none if it has no schedule.
 pub fn schedule_of(
     alloc: Global,
     edition: Edition,

@@ -17,7 +17,7 @@ use vll_core::{Config, MOST_CALLS, open_fault};
 use vll_proc::{Call, Proc};
 use vll_sca::Placing;
 
-// What holds where no cap and no number of bits is chosen.
+// What holds if no cap and no number of bits is chosen.
 const CAP: u32 = 1_024;
 
 const BITS: u32 = 4_096;
@@ -66,7 +66,7 @@ fn has_sizes(parts: &Parts) -> bool
         && parts.schedule.len() <= MOST_EVENTS
 }
 
-// What is chosen for the machine, with what holds where nothing is chosen.
+// What is chosen for the machine, with what holds if nothing is chosen.
 fn config_of(parts: &Parts) -> Config
     requires few { sum_by length parts.now.scripts ≤ MOST_CALLS }
     ensures { result ≡ config_of parts.now }
