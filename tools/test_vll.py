@@ -1,10 +1,11 @@
 #!/usr/bin/env python3
-"""Tests that `./vll --unproved` prints what the program prints, and is never chosen silently.
+"""Tests the script ./vll: when it builds the program, what it answers before that, and that `./vll --unproved` prints
+what the program prints and is never chosen silently.
 
-    python3 tools/test_unproved.py             with a stand-in for rt; about a second
-    python3 tools/test_unproved.py --with-rt   with rt itself on some scenarios; some minutes
+    python3 tools/test_vll.py             with a stand-in for rt; some seconds
+    python3 tools/test_vll.py --with-rt   with rt itself on some scenarios; some minutes
 
-The last line is `unproved: N passed, M failed`, and the status is 1 where one failed.
+The last line is `vll: N passed, M failed`, and the status is 1 if one failed.
 """
 import os
 import shutil
@@ -25,6 +26,7 @@ cat >"$ROOM/input"
 [[ -f /dev/stdin ]] || printf 'no file\\n' >"$ROOM/no_file"
 cat "$ROOM/printed"
 cat "$ROOM/said" >&2
+[[ ! -e $ROOM/made ]] || { mkdir -p out && cp -- "$ROOM/made" out/vll; }
 exit "$(<"$ROOM/status")"
 '''
 
@@ -35,7 +37,10 @@ class WithStandIn(unittest.TestCase):
     def setUp(self):
         self.room = Path(tempfile.mkdtemp())
         self.addCleanup(shutil.rmtree, self.room)
-        (self.room / 'crates/vll/src').mkdir(parents=True)
+        for crate in 'vll', 'vll_part', 'vll_deep', 'vll_other':
+            (self.room / 'crates' / crate / 'src').mkdir(parents=True)
+        self.list_crates('vll_deep:', 'vll_part: vll_deep kit', 'vll: vll_part kit', 'vll_other: vll_part')
+        (self.room / 'HANDLES').touch()
         (self.room / 'bin').mkdir()
         shutil.copy(TOP / 'vll', self.room / 'vll')
         (self.room / 'bin/rt').write_text(RT)
@@ -49,12 +54,26 @@ class WithStandIn(unittest.TestCase):
         (self.room / 'said').write_text('checked: something\n' + (ended if last is None else last))
         (self.room / 'status').write_text(f'{status}\n')
 
+    def list_crates(self, *lines):
+        (self.room / 'crates.txt').write_text('# NAME: the libraries that it uses\n' + '\n'.join(lines) + '\n')
+
     def build(self, printed):
         """A program that counts as proved, and prints this."""
         program = self.room / 'crates/vll/out/vll'
         program.parent.mkdir()
         program.write_text(f'#!/usr/bin/env bash\nprintf {printed}\n')
         program.chmod(0o755)
+
+    def is_built_for(self, *words):
+        """Whether these words have the program built; the stand-in builds one that prints its words."""
+        program = self.room / 'crates/vll/out/vll'
+        (self.room / 'words').unlink(missing_ok=True)
+        (self.room / 'made').write_text('#!/usr/bin/env bash\nprintf "%s\\n" "$*"\n')
+        (self.room / 'made').chmod(0o755)
+        ran = self.vll(*words)
+        self.assertEqual(ran.stdout.decode().rstrip('\n'), ' '.join(words))
+        self.assertTrue(program.exists())
+        return (self.room / 'words').exists()
 
     def vll(self, *words, given=b''):
         path = f'{self.room / "bin"}:{os.environ["PATH"]}'
@@ -133,9 +152,57 @@ class WithStandIn(unittest.TestCase):
         self.vll('run')
         self.assertEqual(self.words(), ['run', '--', '--help'])
 
-    def test_the_word_counts_in_the_first_place_alone(self):
-        self.build('"$*"')
-        self.assertEqual(self.vll('run', '--unproved').stdout, b'run --unproved')
+    def test_the_word_counts_in_any_place(self):
+        self.build('proved')
+        for words in ('run', '--unproved', '--workers', '3'), ('run', '--workers', '3', '--unproved'):
+            ran = self.vll(*words)
+            self.assertEqual(ran.stdout, OUTCOME)
+            self.assertIn(b'UNPROVED', ran.stderr)
+            self.assertEqual(self.words(), ['try', '--', 'run', '--workers', '3'])
+
+    def test_help_is_there_before_the_program(self):
+        for words in ('--help',), ('-h',), ('help',), ('help', 'run'), ('run', '--help'), ('replay', '-h'):
+            ran = self.vll(*words)
+            self.assertEqual((ran.returncode, ran.stderr), (0, b''))
+            for part in b'./vll --unproved', b'run [--workers N] [--cap N] [--bits N]', b'replay':
+                self.assertIn(part, ran.stdout)
+            self.assertNotIn(b'set -euo', ran.stdout)
+        self.assertFalse((self.room / 'words').exists())
+
+    def test_words_of_no_use_are_refused_before_the_program(self):
+        for words in (), ('rnu',), ('run', '--worker', '3'), ('run', '--capacity=3'), ('replay', '--workers', '3'), \
+                ('replay', 'x'), ('scenario.json',):
+            ran = self.vll(*words)
+            self.assertEqual((ran.returncode, ran.stdout), (2, b'vll: command line\n'))
+            self.assertIn(b'--help', ran.stderr)
+        self.assertFalse((self.room / 'words').exists())
+
+    def test_words_of_use_have_the_program_built(self):
+        for words in ('run',), ('replay',), ('run', '--workers', '3', '--cap=4', '--bits', '5'):
+            self.assertTrue(self.is_built_for(*words))
+            self.assertFalse(self.is_built_for(*words))
+            shutil.rmtree(self.room / 'crates/vll/out')
+
+    def test_the_program_is_built_anew_for_what_it_is_made_from_alone(self):
+        self.assertTrue(self.is_built_for('run'))
+        for file, counts in (('crates/vll_deep/src/lib.rt', True), ('crates/vll_other/src/lib.rt', False),
+                             ('HANDLES', True), ('crates/vll_own/src/main.rt', False), ('README.md', False),
+                             ('crates/vll/src/main.rt', True), ('crates/vll_part/must-fail/x.edit', False)):
+            (self.room / file).parent.mkdir(parents=True, exist_ok=True)
+            (self.room / file).touch()
+            self.assertEqual(self.is_built_for('run'), counts, file)
+            self.assertFalse(self.is_built_for('run'), file)
+        (self.room / 'crates/vll_deep/src/lib.rt').unlink()
+        self.assertTrue(self.is_built_for('run'))
+
+    def test_a_line_for_a_crate_counts_if_the_program_is_made_from_it(self):
+        lines = ['vll_deep:', 'vll_part: vll_deep kit', 'vll: vll_part kit', 'vll_other: vll_part']
+        self.assertTrue(self.is_built_for('run'))
+        for changed, counts in ([*lines, 'vll_own: vll_deep'], False), (lines[:3], False), \
+                ([*lines[:2], 'vll: vll_part vll_other kit', lines[3]], True), (['vll_deep: kit', *lines[1:]], True):
+            self.list_crates(*changed)
+            self.assertEqual(self.is_built_for('run'), counts, changed)
+            self.assertFalse(self.is_built_for('run'), changed)
 
 
 class WithRt(unittest.TestCase):
@@ -164,7 +231,7 @@ def main():
     suite = unittest.defaultTestLoader.loadTestsFromTestCase(cases)
     result = unittest.TextTestRunner(verbosity=0).run(suite)
     failed = len(result.failures) + len(result.errors)
-    print(f'unproved: {result.testsRun - failed} passed, {failed} failed')
+    print(f'vll: {result.testsRun - failed} passed, {failed} failed')
     return 1 if failed else 0
 
 
