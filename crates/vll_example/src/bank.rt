@@ -1,8 +1,7 @@
-// A bank over the engine: a transfer and a sum of the accounts that it changes.
-ghost use Rattle.std.specs.Prelude.{◌≡◌, All, IfOk, IfSome};
-ghost use Rattle.vll_check.specs.Calls.{Fits};
+// A bank over the engine: first one client's calls, and then two clients' at the same time.
+ghost use Rattle.std.specs.Prelude.{◌≡◌, All, IfSome};
 ghost use Rattle.vll_engine.specs.Pass.{IsFresh};
-ghost use Rattle.vll_engine.specs.Shown.{library_of, name_of};
+ghost use Rattle.vll_engine.specs.Shown.{name_of};
 ghost use Rattle.vll_sca.specs.Placing.{placing};
 
 use crate::fault::Fault;
@@ -10,10 +9,9 @@ use crate::procedures::library;
 use std::alloc::Global;
 use std::marker::Brand;
 use std::sync::Wait;
-use vll_check::{CallFault, Library};
-use vll_core::{Config, Ticket};
+use vll_core::Config;
 use vll_engine::{Begun, Engine, Name, Opening, Pass, Session};
-use vll_proc::{Call, Reply};
+use vll_proc::{Reason, Reply};
 use vll_sca::Placing;
 
 /// Opens the engine over two accounts, for two clients, and serves them. All memory is taken here.
@@ -41,13 +39,11 @@ fn serve<N: Name, R: Wait + Print>(rt: &R, opening: Opening<Placing>) -> Result<
     let Some(mut first) = last::<N>(&mut sessions) else {
         return Err(Fault::OutOfTurn);
     };
-    let transfer = made(engine.library(), "transfer", &[0, 1, 30])?;
-    let sum = made(engine.library(), "sum", &[0, 1])?;
-    let ticket = transfer_then_sum(rt, &engine, &mut first, transfer, &mut other, sum)?;
-    match engine.reply(rt, &mut other, ticket) {
-        Some(reply) => show(rt, "the other client is told", &reply)?,
-        None => return Err(Fault::OutOfTurn),
+    for amount in [30, 500] {
+        let reply = call(rt, &engine, &mut first, "transfer", &[0, 1, amount])?;
+        show(rt, "the transfer leaves", &reply)?;
     }
+    meet(rt, &engine, &mut first, &mut other)?;
     match engine.close(sessions) {
         Ok(closed) => {
             for (account, value) in closed.records.as_slice().iter().enumerate() {
@@ -68,26 +64,48 @@ fn last<N: Name>(sessions: &mut Vec<Session>) -> Option<Session>
     sessions.pop()
 }
 
-// A call that the library makes.
-fn made(library: &Library, name: &str, args: &[u64]) -> Result<Call, CallFault>
-    ensures { IfOk result (Fits library.now) }
+// Makes a call while no other one is under way, from its entry to its reply.
+fn call<N: Name>(
+    rt: &impl Wait,
+    engine: &Engine<N, Placing>,
+    session: &mut Session,
+    name: &str,
+    args: &[u64],
+) -> Result<Reply, Fault>
+    requires { session.old.table ≡ N.engine.table }
+    ensures { session.new.table ≡ N.engine.table }
 {
-    library.call(name, args)
+    let call = engine.library().call(name, args)?;
+    match engine.begin(rt, session, &call) {
+        Begun::Free(pass) => Ok(run(rt, engine, pass)),
+        Begun::Blocked(_) => Err(Fault::OutOfTurn),
+        Begun::Refused(refusal) => Err(Fault::Refused(refusal)),
+    }
 }
 
-// The sum begins while the transfer has its claims, so it waits, and runs once the transfer is gone.
-fn transfer_then_sum<N: Name, R: Wait + Print>(
+// Brings a call to its end.
+fn run<N: Name>(rt: &impl Wait, engine: &Engine<N, Placing>, pass: Pass) -> Reply
+    requires { IsFresh N.engine pass }
+{
+    let done = engine.execute(pass);
+    let released = engine.release(done);
+    let (_, reply) = engine.finish(rt, released);
+    reply
+}
+
+// Two clients at the same time: the sum begins while the transfer has its claims, so it waits, and runs once the
+// transfer has finished. Its client is told the reply.
+fn meet<N: Name, R: Wait + Print>(
     rt: &R,
     engine: &Engine<N, Placing>,
     first: &mut Session,
-    transfer: Call,
     other: &mut Session,
-    sum: Call,
-) -> Result<Ticket, Fault>
-    requires first { (first.old.table ≡ N.engine.table) × Fits (library_of N.engine) transfer }
-    requires other { (other.old.table ≡ N.engine.table) × Fits (library_of N.engine) sum }
-    ensures { (first.new.table ≡ first.old.table) × (other.new.table ≡ other.old.table) }
+) -> Result<(), Fault>
+    requires first { first.old.table ≡ N.engine.table }
+    requires other { other.old.table ≡ N.engine.table }
 {
+    let transfer = engine.library().call("transfer", &[0, 1, 20])?;
+    let sum = engine.library().call("sum", &[0, 1])?;
     let pass = match engine.begin(rt, first, &transfer) {
         Begun::Free(pass) => pass,
         Begun::Blocked(_) => return Err(Fault::OutOfTurn),
@@ -105,24 +123,18 @@ fn transfer_then_sum<N: Name, R: Wait + Print>(
     let reply = run(rt, engine, pass);
     show(rt, "the transfer leaves", &reply)?;
     let ticket = waiting?;
-    match engine.next_front(rt) {
-        Some(pass) => {
-            let reply = run(rt, engine, pass);
-            show(rt, "the sum is", &reply)?;
-            Ok(ticket)
-        }
+    run_front(rt, engine);
+    match engine.reply(rt, other, ticket) {
+        Some(reply) => show(rt, "the other client is told", &reply),
         None => Err(Fault::OutOfTurn),
     }
 }
 
-// Brings a call to its end.
-fn run<N: Name>(rt: &impl Wait, engine: &Engine<N, Placing>, pass: Pass) -> Reply
-    requires { IsFresh N.engine pass }
-{
-    let done = engine.execute(pass);
-    let released = engine.release(done);
-    let (_, reply) = engine.finish(rt, released);
-    reply
+// Runs the first call that has not finished, if it waits.
+fn run_front<N: Name>(rt: &impl Wait, engine: &Engine<N, Placing>) {
+    if let Some(pass) = engine.next_front(rt) {
+        run(rt, engine, pass);
+    }
 }
 
 // Prints a reply behind some words.
@@ -132,7 +144,10 @@ fn show(rt: &impl Print, words: &str, reply: &Reply) -> Result<(), Fault> {
             Some(output) => println!(rt; "{words} {output}")?,
             None => println!(rt; "{words} nothing")?,
         },
-        Reply::Aborted(_) => println!(rt; "{words} nothing, since the call was aborted")?,
+        Reply::Aborted(Reason::Code(code)) => println!(rt;
+            "the call was aborted with code {code}"
+        )?,
+        Reply::Aborted(_) => println!(rt; "the call was aborted")?,
     }
     Ok(())
 }

@@ -8,6 +8,9 @@ use vll_check::{Library, check};
 use vll_proc::{Edition, Expr, KeyAt, KeyDecl, Proc, Stmt, Text};
 use vll_record::Mode;
 
+/// The code with which a transfer aborts if the first account holds less than the amount.
+const TOO_LITTLE: u16 = 1;
+
 // A key whose record is the argument of the same place.
 fn key(mode: Mode, argument: u8) -> KeyDecl {
     KeyDecl {
@@ -24,13 +27,33 @@ fn sub(alloc: Global, left: Expr, right: Expr) -> Result<Expr, AllocError> {
     Ok(Expr::Sub(Boxed::new(alloc, left)?, Boxed::new(alloc, right)?))
 }
 
+fn less(alloc: Global, left: Expr, right: Expr) -> Result<Expr, AllocError> {
+    Ok(Expr::Less(Boxed::new(alloc, left)?, Boxed::new(alloc, right)?))
+}
+
+// Aborts if the first account holds less than the amount.
+fn abort_if_too_little(alloc: Global) -> Result<Stmt, AllocError> {
+    let is_less = less(alloc, Expr::Key(0), Expr::Arg(2))?;
+    let mut then = Vec::new(alloc);
+    then.push(Stmt::Abort(TOO_LITTLE))?;
+    Ok(Stmt::If(is_less, Items::from_vec(then), Items::new(alloc)))
+}
+
+fn withdraw(alloc: Global) -> Result<Stmt, AllocError> {
+    Ok(Stmt::Set(0, sub(alloc, Expr::Key(0), Expr::Arg(2))?))
+}
+
+fn deposit(alloc: Global) -> Result<Stmt, AllocError> {
+    Ok(Stmt::Set(1, add(alloc, Expr::Key(1), Expr::Arg(2))?))
+}
+
 // Moves an amount from one account to another, and replies what is left of the first.
 fn transfer(alloc: Global) -> Result<Proc, AllocError> {
-    let body = vec![in alloc;
-        Stmt::Set(0, sub(alloc, Expr::Key(0), Expr::Arg(2))?),
-        Stmt::Set(1, add(alloc, Expr::Key(1), Expr::Arg(2))?),
-        Stmt::Reply(Expr::Key(0)),
-    ]?;
+    let mut body = Vec::new(alloc);
+    body.push(abort_if_too_little(alloc)?)?;
+    body.push(withdraw(alloc)?)?;
+    body.push(deposit(alloc)?)?;
+    body.push(Stmt::Reply(Expr::Key(0)))?;
     Ok(Proc {
         edition: Edition::Two,
         name: Text::new(String::from_str(alloc, "transfer")?),
@@ -42,8 +65,8 @@ fn transfer(alloc: Global) -> Result<Proc, AllocError> {
 
 // Replies the sum of two accounts.
 fn sum(alloc: Global) -> Result<Proc, AllocError> {
-    let sum = add(alloc, Expr::Key(0), Expr::Key(1))?;
-    let body = vec![in alloc; Stmt::Reply(sum)]?;
+    let mut body = Vec::new(alloc);
+    body.push(Stmt::Reply(add(alloc, Expr::Key(0), Expr::Key(1))?))?;
     Ok(Proc {
         edition: Edition::Two,
         name: Text::new(String::from_str(alloc, "sum")?),
@@ -57,9 +80,8 @@ fn sum(alloc: Global) -> Result<Proc, AllocError> {
 pub(crate) fn library(alloc: Global, accounts: u32) -> Result<Library, Fault>
     ensures { IfOk result (λ l. l.records ≡ accounts) }
 {
-    let procs = vec![in alloc;
-        check(transfer(alloc)?, accounts)?,
-        check(sum(alloc)?, accounts)?,
-    ]?;
+    let mut procs = Vec::new(alloc);
+    procs.push(check(transfer(alloc)?, accounts)?)?;
+    procs.push(check(sum(alloc)?, accounts)?)?;
     Ok(Library::new(accounts, procs)?)
 }
