@@ -1,8 +1,10 @@
 #!/usr/bin/env python3
-"""Tests how cases are read, how tools/scenarios runs them, and that examples/README.md tells what is in examples/.
+"""Tests how cases are read, how tools/scenarios runs them, and that README.md and examples/README.md show what is printed.
 
     python3 tools/test_cases.py
 """
+import itertools
+import json
 import re
 import shlex
 import subprocess
@@ -208,10 +210,28 @@ class Running(Room):
         self.assertEqual(self.said_of('', '--text', 'made'), (0, ['a', 'b', 'c']))
 
 
-class Examples(unittest.TestCase):
-    """examples/README.md shows the commands of all examples in their order, and what they print."""
+def beside(schedule, printed):
+    """The lines that are printed, each behind its event of the schedule."""
+    events = [json.dumps(event, separators=(',', ':')) for event in schedule]
+    width = max(map(len, events), default=-3) + 3
+    lines = printed.splitlines()
+    return ''.join(f'{event:{width}}{line}\n' for event, line in itertools.zip_longest(events, lines, fillvalue=''))
 
-    def test_commands_and_what_they_print(self):
+
+class Pages(unittest.TestCase):
+    """README.md and examples/README.md show what is printed."""
+
+    def test_readme_shows_its_scenarios_and_what_they_print(self):
+        readme = (TOP / 'README.md').read_text()
+        for name in 'scenarios/transfer', 'scenarios/replay/queue/blocked_bump_runs_at_the_front':
+            scenario = (TOP / f'{name}.json').read_text()
+            printed = (TOP / f'{name}.out').read_text()
+            schedule = json.loads(scenario).get('schedule', [])
+            self.assertIn(f' < {name}.json`', readme)
+            self.assertIn(f'```\n{beside(schedule, printed)}```\n', readme)
+        self.assertIn(f'```json\n{(TOP / "scenarios/transfer.json").read_text()}```\n', readme)
+
+    def test_examples_stand_in_order_with_what_they_print(self):
         readme = (TOP / 'examples/README.md').read_text()
         blocks = re.findall(r'^```\n(.*?)^```\n', readme, re.MULTILINE | re.DOTALL)
         examples = [case for case in read_cases()[0] if case.place.startswith('examples/')]
@@ -231,7 +251,8 @@ class Examples(unittest.TestCase):
                 if name == case.name:
                     self.assertEqual([word.encode() for word in shlex.split(words)], case.words, name)
                     if not case.is_judged:
-                        self.assertEqual(behind.encode(), case.wanted(), name)
+                        schedule = json.loads((TOP / f'{case.place}.json').read_text()).get('schedule', [])
+                        self.assertEqual(behind, beside(schedule, case.wanted().decode()), name)
 
 
 if __name__ == '__main__':
