@@ -55,13 +55,52 @@ fn add(alloc: Global, left: Expr, right: Expr) -> Result<Expr, AllocError> {
     Ok(Expr::Add(Boxed::new(alloc, left)?, Boxed::new(alloc, right)?))
 }
 
-// If 1, then one list, else another.
-fn if_one(first: Vec<Stmt>, second: Vec<Stmt>) -> Stmt {
-    Stmt::If(
+// A list of one statement.
+fn one(alloc: Global, statement: Stmt) -> Result<Vec<Stmt>, AllocError> {
+    let mut list = Vec::new(alloc);
+    list.push(statement)?;
+    Ok(list)
+}
+
+// A list of two statements.
+fn two(alloc: Global, first: Stmt, second: Stmt) -> Result<Vec<Stmt>, AllocError> {
+    let mut list = one(alloc, first)?;
+    list.push(second)?;
+    Ok(list)
+}
+
+// A list of one statement: if 1, then one list, else another.
+fn if_one(alloc: Global, first: Vec<Stmt>, second: Vec<Stmt>) -> Result<Vec<Stmt>, AllocError> {
+    let choice = Stmt::If(
         Expr::Num(1),
         Items::from_vec(first),
         Items::from_vec(second),
-    )
+    );
+    one(alloc, choice)
+}
+
+// So many replies in each list of an `If`, and so many behind it.
+fn replies_in_lists(
+    alloc: Global,
+    first: usize,
+    second: usize,
+    behind: usize,
+) -> Result<Vec<Stmt>, AllocError> {
+    let first = replies(alloc, first)?;
+    let mut body = if_one(alloc, first, replies(alloc, second)?)?;
+    body.append(&mut replies(alloc, behind)?)?;
+    Ok(body)
+}
+
+// So many statements of two nodes in each list of an `If`.
+fn lets_in_lists(alloc: Global, first: usize, second: usize) -> Result<Vec<Stmt>, AllocError> {
+    let first = lets(alloc, first)?;
+    if_one(alloc, first, lets(alloc, second)?)
+}
+
+// A reply of some `Not` over a number.
+fn reply_of_nots(alloc: Global, count: usize) -> Result<Vec<Stmt>, AllocError> {
+    one(alloc, Stmt::Reply(nots(alloc, count)?))
 }
 
 // Some replies of a number.
@@ -161,8 +200,7 @@ fn body_names_what_is_declared(rt: HostRuntime) -> Result<(), Fail> {
         (none, Stmt::Reply(Expr::Local(8)), Some(UnknownLocal)),
         (none, Stmt::Reply(Expr::Local(0)), Some(UnsetLocal)),
     ] {
-        let body = vec![in alloc; statement]?;
-        assert_eq!(rt; fault(alloc, 0, keys, body)?, want);
+        assert_eq!(rt; fault(alloc, 0, keys, one(alloc, statement)?)?, want);
     }
     Ok(())
 }
@@ -172,8 +210,8 @@ fn local_is_surely_set_where_both_lists_set_it(rt: HostRuntime) -> Result<(), Fa
     let alloc = rt.alloc();
     let unset = Some(UnsetLocal);
     for (first, second, want) in [(0, 0, unset), (1, 0, unset), (0, 1, unset), (1, 1, None)] {
-        let choice = if_one(lets(alloc, first)?, lets(alloc, second)?);
-        let body = vec![in alloc; choice, Stmt::Reply(Expr::Local(0))]?;
+        let mut body = lets_in_lists(alloc, first, second)?;
+        body.push(Stmt::Reply(Expr::Local(0)))?;
         assert_eq!(rt; fault(alloc, 0, &[], body)?, want, "{first} {second}");
     }
     Ok(())
@@ -192,8 +230,7 @@ fn replies_are_few_along_both_lists(rt: HostRuntime) -> Result<(), Fail> {
         (0, 0, 8, None),
         (0, 0, 9, over),
     ] {
-        let mut body = vec![in alloc; if_one(replies(alloc, first)?, replies(alloc, second)?)]?;
-        body.append(&mut replies(alloc, behind)?)?;
+        let body = replies_in_lists(alloc, first, second, behind)?;
         assert_eq!(rt;
             fault(alloc, 0, &[], body)?,
             want,
@@ -208,12 +245,11 @@ fn body_is_shallow(rt: HostRuntime) -> Result<(), Fail> {
     let alloc = rt.alloc();
     let deep = Some(TooDeep);
     for (count, want) in [(30, None), (31, deep)] {
-        let body = vec![in alloc; Stmt::Reply(nots(alloc, count)?)]?;
+        let body = reply_of_nots(alloc, count)?;
         assert_eq!(rt; fault(alloc, 0, &[], body)?, want, "{count}");
     }
     for (count, want) in [(29, None), (30, deep)] {
-        let inner = vec![in alloc; Stmt::Reply(nots(alloc, count)?)]?;
-        let body = vec![in alloc; if_one(Vec::new(alloc), inner)]?;
+        let body = if_one(alloc, Vec::new(alloc), reply_of_nots(alloc, count)?)?;
         assert_eq!(rt; fault(alloc, 0, &[], body)?, want, "{count} in an if");
     }
     Ok(())
@@ -226,39 +262,51 @@ fn body_is_short(rt: HostRuntime) -> Result<(), Fail> {
     let mut body = lets(alloc, 512)?;
     body.push(Stmt::Abort(1))?;
     assert_eq!(rt; fault(alloc, 0, &[], body)?, Some(TooLong));
-    let body = vec![in alloc; if_one(lets(alloc, 255)?, lets(alloc, 256)?)]?;
-    assert_eq!(rt; fault(alloc, 0, &[], body)?, None);
-    let body = vec![in alloc; if_one(lets(alloc, 256)?, lets(alloc, 256)?)]?;
-    assert_eq!(rt; fault(alloc, 0, &[], body)?, Some(TooLong));
+    for (first, want) in [(255, None), (256, Some(TooLong))] {
+        let body = lets_in_lists(alloc, first, 256)?;
+        assert_eq!(rt; fault(alloc, 0, &[], body)?, want, "{first} and 256");
+    }
     Ok(())
 }
 
 #[test]
-fn lowest_number_is_answered(rt: HostRuntime) -> Result<(), Fail> {
+fn lowest_number_of_keys_is_answered(rt: HostRuntime) -> Result<(), Fail> {
     let alloc = rt.alloc();
     let keys = [
         key(Mode::Read, KeyAt::Fixed(2)),
         key(Mode::Read, KeyAt::Arg(1)),
     ];
     assert_eq!(rt; fault(alloc, 1, &keys, Vec::new(alloc))?, Some(KeyArg));
+    Ok(())
+}
+
+#[test]
+fn lowest_number_of_statements_is_answered(rt: HostRuntime) -> Result<(), Fail> {
+    let alloc = rt.alloc();
     let read = [key(Mode::Read, KeyAt::Fixed(0))];
-    let body = vec![in alloc; Stmt::Let(8, Expr::Arg(0)), Stmt::Set(0, Expr::Key(1))]?;
-    assert_eq!(rt; fault(alloc, 0, &read, body)?, Some(UnknownKey));
-    let body = vec![in alloc; Stmt::Let(8, Expr::Arg(0)), Stmt::Set(0, Expr::Num(1))]?;
-    assert_eq!(rt; fault(alloc, 0, &read, body)?, Some(NotWritable));
+    for (value, want) in [(Expr::Key(1), UnknownKey), (Expr::Num(1), NotWritable)] {
+        let body = two(alloc, Stmt::Let(8, Expr::Arg(0)), Stmt::Set(0, value))?;
+        assert_eq!(rt; fault(alloc, 0, &read, body)?, Some(want));
+    }
     let sum = add(alloc, Expr::Local(0), Expr::Arg(0))?;
-    let body = vec![in alloc; Stmt::Reply(sum)]?;
+    let body = one(alloc, Stmt::Reply(sum))?;
     assert_eq!(rt; fault(alloc, 0, &[], body)?, Some(UnknownArg));
-    let mut body = replies(alloc, 600)?;
-    body.push(Stmt::Reply(Expr::Local(0)))?;
-    assert_eq!(rt; fault(alloc, 0, &[], body)?, Some(UnsetLocal));
-    assert_eq!(rt;
-        fault(alloc, 0, &[], replies(alloc, 600)?)?,
-        Some(TooManyReplies)
-    );
-    let mut body = lets(alloc, 512)?;
-    body.push(Stmt::Reply(nots(alloc, 31)?))?;
-    assert_eq!(rt; fault(alloc, 0, &[], body)?, Some(TooDeep));
+    Ok(())
+}
+
+#[test]
+fn lowest_number_of_limits_is_answered(rt: HostRuntime) -> Result<(), Fail> {
+    let alloc = rt.alloc();
+    let many = fault(alloc, 0, &[], replies(alloc, 600)?)?;
+    assert_eq!(rt; many, Some(TooManyReplies));
+    for (list, last, want) in [
+        (replies(alloc, 600)?, Expr::Local(0), UnsetLocal),
+        (lets(alloc, 512)?, nots(alloc, 31)?, TooDeep),
+    ] {
+        let mut body = list;
+        body.push(Stmt::Reply(last))?;
+        assert_eq!(rt; fault(alloc, 0, &[], body)?, Some(want));
+    }
     Ok(())
 }
 

@@ -59,6 +59,14 @@ fn via(alloc: Global, records: u32) -> Result<Checked, Fail>
     Ok(check(procedure, records)?)
 }
 
+// The library of `z`, and of `transfer` as number 1.
+fn z_and_transfer(alloc: Global) -> Result<Library, Fail> {
+    let mut procs = Vec::new(alloc);
+    procs.push(named(alloc, "z")?)?;
+    procs.push(transfer(alloc)?)?;
+    Ok(Library::new(2, procs)?)
+}
+
 // A procedure that names records 31 to 0, in this order, checked for 32 records.
 fn wide(alloc: Global) -> Result<Checked, Fail>
     ensures { IfOk result (λ c. c.records ≡ 32) }
@@ -115,12 +123,11 @@ fn name_at(library: &Library, number: u32) -> Option<&str> {
 #[test]
 fn procedures_keep_the_numbers_of_their_list(rt: HostRuntime) -> Result<(), Fail> {
     let alloc = rt.alloc();
-    let procs = vec![in alloc;
-        named(alloc, "transfer")?,
-        named(alloc, "audit")?,
-        named(alloc, "open")?,
-        named(alloc, "au")?,
-    ]?;
+    let mut procs = Vec::new(alloc);
+    procs.push(named(alloc, "transfer")?)?;
+    procs.push(named(alloc, "audit")?)?;
+    procs.push(named(alloc, "open")?)?;
+    procs.push(named(alloc, "au")?)?;
     let library = Library::new(2, procs)?;
     assert_eq!(rt; library.records(), 2);
     assert_eq!(rt; number_of(&library, "transfer"), Some(0));
@@ -138,7 +145,9 @@ fn procedures_keep_the_numbers_of_their_list(rt: HostRuntime) -> Result<(), Fail
 #[test]
 fn unknown_name_is_not_found(rt: HostRuntime) -> Result<(), Fail> {
     let alloc = rt.alloc();
-    let procs = vec![in alloc; named(alloc, "b")?, named(alloc, "d")?]?;
+    let mut procs = Vec::new(alloc);
+    procs.push(named(alloc, "b")?)?;
+    procs.push(named(alloc, "d")?)?;
     let library = Library::new(2, procs)?;
     assert_eq!(rt; number_of(&library, "a"), None);
     assert_eq!(rt; number_of(&library, "c"), None);
@@ -151,12 +160,11 @@ fn unknown_name_is_not_found(rt: HostRuntime) -> Result<(), Fail> {
 #[test]
 fn name_that_stands_twice_is_refused(rt: HostRuntime) -> Result<(), Fail> {
     let alloc = rt.alloc();
-    let procs = vec![in alloc;
-        named(alloc, "b")?,
-        named(alloc, "a")?,
-        named(alloc, "c")?,
-        named(alloc, "b")?,
-    ]?;
+    let mut procs = Vec::new(alloc);
+    procs.push(named(alloc, "b")?)?;
+    procs.push(named(alloc, "a")?)?;
+    procs.push(named(alloc, "c")?)?;
+    procs.push(named(alloc, "b")?)?;
     assert_eq!(rt; Library::new(2, procs).err(), Some(NameTwice));
     Ok(())
 }
@@ -191,8 +199,7 @@ fn lowest_fault_of_a_call_is_answered(rt: HostRuntime) -> Result<(), Fail> {
 #[test]
 fn call_names_its_procedure_and_claims(rt: HostRuntime) -> Result<(), Fail> {
     let alloc = rt.alloc();
-    let procs = vec![in alloc; named(alloc, "z")?, transfer(alloc)?]?;
-    let library = Library::new(2, procs)?;
+    let library = z_and_transfer(alloc)?;
     let call = library.call("transfer", &[1, 0, 7])?;
     assert_eq!(rt; (call.number, call.arg_count), (1, 3));
     assert!(rt; call.args == [1, 0, 7, 0, 0, 0, 0, 0]);
@@ -210,8 +217,7 @@ fn call_names_its_procedure_and_claims(rt: HostRuntime) -> Result<(), Fail> {
 #[test]
 fn made_call_fits_and_no_other(rt: HostRuntime) -> Result<(), Fail> {
     let alloc = rt.alloc();
-    let procs = vec![in alloc; named(alloc, "z")?, transfer(alloc)?]?;
-    let library = Library::new(2, procs)?;
+    let library = z_and_transfer(alloc)?;
     let call = library.call("transfer", &[1, 0, 7])?;
     assert!(rt; library.fits(&call));
     assert!(rt; library.fits(&library.call("z", &[])?));

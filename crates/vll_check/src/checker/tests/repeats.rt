@@ -1,4 +1,4 @@
-use super::{add, fault, fault_in, if_one, key, lets, nots, replies};
+use super::{add, fault, fault_in, if_one, key, lets, one, replies, reply_of_nots, two};
 use crate::fault::CheckFault::{TooDeep, TooLong, TooManyReplies, TooMuchWork, Turns, UnsetLocal};
 use sqlite_items::Items;
 use std::alloc::{AllocError, Global};
@@ -6,22 +6,21 @@ use std::test::Fail;
 use vll_proc::{Edition, Expr, KeyAt, Stmt};
 use vll_record::Mode;
 
-// A list that is run in some turns.
-fn repeat(turns: u8, list: Vec<Stmt>) -> Stmt {
-    Stmt::Repeat(turns, Items::from_vec(list))
+// A list of one `Repeat`, of a list that is run in some turns.
+fn repeat(alloc: Global, turns: u8, list: Vec<Stmt>) -> Result<Vec<Stmt>, AllocError> {
+    one(alloc, Stmt::Repeat(turns, Items::from_vec(list)))
 }
 
 // A list of one `Repeat` of nothing.
 fn empty_repeat(alloc: Global, turns: u8) -> Result<Vec<Stmt>, AllocError> {
-    let body = vec![in alloc; repeat(turns, Vec::new(alloc))]?;
-    Ok(body)
+    repeat(alloc, turns, Vec::new(alloc))
 }
 
 // Some `Repeat`s of 64 turns, one in the other, round a list.
 fn nested_repeats(alloc: Global, count: usize, list: Vec<Stmt>) -> Result<Vec<Stmt>, AllocError> {
     let mut body = list;
     for _ in 0..count {
-        body = vec![in alloc; repeat(64, body)]?;
+        body = repeat(alloc, 64, body)?;
     }
     Ok(body)
 }
@@ -29,12 +28,43 @@ fn nested_repeats(alloc: Global, count: usize, list: Vec<Stmt>) -> Result<Vec<St
 // A local that gains the value of a key in each turn, and is then replied.
 fn key_in_turns(alloc: Global, turns: u8) -> Result<Vec<Stmt>, AllocError> {
     let sum = add(alloc, Expr::Local(0), Expr::Key(0))?;
-    let list = vec![in alloc; Stmt::Let(0, sum)]?;
-    let body = vec![in alloc;
-        Stmt::Let(0, Expr::Num(0)),
-        repeat(turns, list),
-        Stmt::Reply(Expr::Local(0)),
-    ]?;
+    let list = one(alloc, Stmt::Let(0, sum))?;
+    let mut body = one(alloc, Stmt::Let(0, Expr::Num(0)))?;
+    body.append(&mut repeat(alloc, turns, list)?)?;
+    body.push(Stmt::Reply(Expr::Local(0)))?;
+    Ok(body)
+}
+
+// So many replies in each turn, and so many behind all of them.
+fn replies_in_turns(
+    alloc: Global,
+    turns: u8,
+    inside: usize,
+    behind: usize,
+) -> Result<Vec<Stmt>, AllocError> {
+    let mut body = repeat(alloc, turns, replies(alloc, inside)?)?;
+    body.append(&mut replies(alloc, behind)?)?;
+    Ok(body)
+}
+
+// A `Repeat` whose list has another one of 63 turns, of 8 statements of two nodes each, and 7 such statements behind it.
+fn lets_in_turns(alloc: Global) -> Result<Vec<Stmt>, AllocError> {
+    let mut list = repeat(alloc, 63, lets(alloc, 8)?)?;
+    list.append(&mut lets(alloc, 7)?)?;
+    repeat(alloc, 64, list)
+}
+
+// A `Repeat` of nothing in no turn, which has another of some turns, and then an `If` with one in each list.
+fn repeats_in_lists(
+    alloc: Global,
+    repeated: u8,
+    first: u8,
+    second: u8,
+) -> Result<Vec<Stmt>, AllocError> {
+    let mut body = repeat(alloc, 0, empty_repeat(alloc, repeated)?)?;
+    let first = empty_repeat(alloc, first)?;
+    let mut choice = if_one(alloc, first, empty_repeat(alloc, second)?)?;
+    body.append(&mut choice)?;
     Ok(body)
 }
 
@@ -51,14 +81,14 @@ fn aborts(alloc: Global, count: usize) -> Result<Vec<Stmt>, AllocError> {
 fn local_of_a_list_is_surely_set_if_it_has_a_turn(rt: HostRuntime) -> Result<(), Fail> {
     let alloc = rt.alloc();
     for (turns, want) in [(0, Some(UnsetLocal)), (1, None), (64, None)] {
-        let list = lets(alloc, 1)?;
-        let body = vec![in alloc; repeat(turns, list), Stmt::Reply(Expr::Local(0))]?;
+        let mut body = repeat(alloc, turns, lets(alloc, 1)?)?;
+        body.push(Stmt::Reply(Expr::Local(0)))?;
         assert_eq!(rt; fault(alloc, 0, &[], body)?, want, "{turns} turns");
     }
     for turns in [0, 1, 64] {
         let reads = Stmt::Let(1, Expr::Local(0));
-        let list = vec![in alloc; reads, Stmt::Let(0, Expr::Num(1))]?;
-        let body = vec![in alloc; repeat(turns, list)]?;
+        let list = two(alloc, reads, Stmt::Let(0, Expr::Num(1)))?;
+        let body = repeat(alloc, turns, list)?;
         assert_eq!(rt;
             fault(alloc, 0, &[], body)?,
             Some(UnsetLocal),
@@ -83,8 +113,7 @@ fn replies_count_in_each_turn(rt: HostRuntime) -> Result<(), Fail> {
         (0, 9, 8, None),
         (0, 9, 9, over),
     ] {
-        let mut body = vec![in alloc; repeat(turns, replies(alloc, inside)?)]?;
-        body.append(&mut replies(alloc, behind)?)?;
+        let body = replies_in_turns(alloc, turns, inside, behind)?;
         assert_eq!(rt;
             fault(alloc, 0, &[], body)?,
             want,
@@ -98,12 +127,11 @@ fn replies_count_in_each_turn(rt: HostRuntime) -> Result<(), Fail> {
 fn repeat_is_one_level_and_one_node(rt: HostRuntime) -> Result<(), Fail> {
     let alloc = rt.alloc();
     for (count, want) in [(29, None), (30, Some(TooDeep))] {
-        let list = vec![in alloc; Stmt::Reply(nots(alloc, count)?)]?;
-        let body = vec![in alloc; repeat(1, list)]?;
+        let body = repeat(alloc, 1, reply_of_nots(alloc, count)?)?;
         assert_eq!(rt; fault(alloc, 0, &[], body)?, want, "{count} deep");
     }
     for (count, want) in [(1023, None), (1024, Some(TooLong))] {
-        let body = vec![in alloc; repeat(64, aborts(alloc, count)?)]?;
+        let body = repeat(alloc, 64, aborts(alloc, count)?)?;
         assert_eq!(rt; fault(alloc, 0, &[], body)?, want, "{count} long");
     }
     Ok(())
@@ -140,8 +168,7 @@ fn turns_are_few_inside_lists(rt: HostRuntime) -> Result<(), Fail> {
         (64, 65, 64, over),
         (64, 64, 65, over),
     ] {
-        let choice = if_one(empty_repeat(alloc, first)?, empty_repeat(alloc, second)?);
-        let body = vec![in alloc; repeat(0, empty_repeat(alloc, repeated)?), choice]?;
+        let body = repeats_in_lists(alloc, repeated, first, second)?;
         let got = fault(alloc, 0, &[], body)?;
         assert_eq!(rt; got, want, "{repeated} {first} {second}");
     }
@@ -152,9 +179,7 @@ fn turns_are_few_inside_lists(rt: HostRuntime) -> Result<(), Fail> {
 fn body_is_light(rt: HostRuntime) -> Result<(), Fail> {
     let alloc = rt.alloc();
     for (count, want) in [(63, None), (64, Some(TooMuchWork))] {
-        let mut list = vec![in alloc; repeat(63, lets(alloc, 8)?)]?;
-        list.append(&mut lets(alloc, 7)?)?;
-        let mut body = vec![in alloc; repeat(64, list)]?;
+        let mut body = lets_in_turns(alloc)?;
         body.append(&mut aborts(alloc, count)?)?;
         assert_eq!(rt; fault(alloc, 0, &[], body)?, want, "{count} aborts");
     }
