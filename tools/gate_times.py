@@ -1,0 +1,113 @@
+#!/usr/bin/env python3
+"""Runs a command, `rt ci` say, and writes down what each crate took of the processors meanwhile.
+
+    python3 tools/gate_times.py FILE rt ci
+
+The output and the status are the command's. To the file goes a table of processor minutes, a line for each crate: for
+its proof, for its tests' proof, for what its must-fail edits begin from, for these edits, and in all. The sum is the
+last line. What rt kept of earlier runs takes nothing; `rt ci --anew` does all.
+
+The minutes are those of the prover's processes that run below this command, looked at several times a second.
+"""
+import os
+import re
+import subprocess
+import sys
+import threading
+from collections import defaultdict
+from pathlib import Path
+
+KINDS = 'proof', 'tests', 'seed', 'edits'
+SECONDS_BETWEEN = 0.2
+TICKS = os.sysconf('SC_CLK_TCK')
+
+
+def work_of(words):
+    """Whose work the prover does that was called with these words: the crate, and one of KINDS. None if it is no prover."""
+    if len(words) < 2 or not words[0].endswith('/rattle') or '--crate-name' not in words[:-1]:
+        return None
+    crate = words[words.index('--crate-name') + 1]
+    if '--test' in words:
+        return crate, 'tests'
+    over = words[words.index('--incremental') + 1] if '--incremental' in words[:-1] else ''
+    if re.search(r'/rt-edits?-[^/]*/', over):
+        return crate, 'seed' if over.endswith('/seed') else 'edits'
+    return crate, 'proof'
+
+
+class Times:
+    """Processor seconds of each crate and kind, from what /proc says of the processes below one of them."""
+
+    def __init__(self, top, proc=Path('/proc')):
+        self.top = top
+        self.proc = proc
+        # By the process and the moment it began: whose work it is, and its seconds when last seen.
+        self.seen = {}
+
+    def look(self):
+        processes = {}
+        for folder in self.proc.iterdir():
+            if folder.name.isdigit():
+                try:
+                    # The name stands in brackets, and may hold blanks itself.
+                    numbers = (folder / 'stat').read_text().rpartition(')')[2].split()
+                    words = (folder / 'cmdline').read_bytes().decode(errors='replace').split('\0')
+                except OSError:
+                    continue
+                seconds = (int(numbers[11]) + int(numbers[12])) / TICKS
+                processes[int(folder.name)] = int(numbers[1]), numbers[19], seconds, words
+        for process, (_, began, seconds, words) in processes.items():
+            work = work_of(words)
+            if work and self.is_below(process, processes):
+                self.seen[process, began] = work, seconds
+
+    def is_below(self, process, processes):
+        while process in processes:
+            if process == self.top:
+                return True
+            process = processes[process][0]
+        return False
+
+    def by_crate(self):
+        """The seconds of each kind, by crate."""
+        found = defaultdict(lambda: dict.fromkeys(KINDS, 0.0))
+        for (crate, kind), seconds in self.seen.values():
+            found[crate][kind] += seconds
+        return found
+
+
+def table(by_crate):
+    """The lines of the table: minutes, the largest crate first, and the sum."""
+    def line(name, seconds):
+        cells = [*(seconds[kind] for kind in KINDS), sum(seconds.values())]
+        return f'{name:20}' + ''.join(f'{cell / 60:8.1f}' for cell in cells)
+
+    whole = {kind: sum(seconds[kind] for seconds in by_crate.values()) for kind in KINDS}
+    return [f'{"processor minutes":20}' + ''.join(f'{kind:>8}' for kind in (*KINDS, 'all')),
+            *(line(crate, by_crate[crate]) for crate in sorted(by_crate, key=lambda it: -sum(by_crate[it].values()))),
+            line('all', whole)]
+
+
+def main(words):
+    if len(words) < 2:
+        print(__doc__.strip(), file=sys.stderr)
+        return 2
+    file, *called = words
+    command = subprocess.Popen(called)
+    times, ended = Times(command.pid), threading.Event()
+
+    def watch():
+        while not ended.wait(SECONDS_BETWEEN):
+            times.look()
+
+    watching = threading.Thread(target=watch)
+    watching.start()
+    status = command.wait()
+    ended.set()
+    watching.join()
+    Path(file).write_text('\n'.join(table(times.by_crate())) + '\n')
+    return status
+
+
+if __name__ == '__main__':
+    sys.exit(main(sys.argv[1:]))
