@@ -1,0 +1,67 @@
+//! Scenarios from JSON text, and the procedures that the tests of several crates call.
+#![tactic(auto)]
+
+ghost use Rattle.std.specs.Prelude.{◌≡◌, All, IfOk, length};
+ghost use Rattle.vll_check.specs.Calls.{Fits};
+
+use std::alloc::{AllocError, Global};
+use std::test::Fail;
+use vll_check::Library;
+use vll_scenario::{Plain, ScenarioParts, read_scenario};
+
+// The procedures of `library`, up to the list of the records.
+const PROCEDURES: &str = r#"{"version":1,"clients":[],"procs":[
+ {"name":"transfer","args":3,"keys":[["write","arg",0],["write","arg",1]],
+  "body":[["set",0,["sub",["key",0],["arg",2]]],
+          ["set",1,["add",["key",1],["arg",2]]],["reply",["key",0]]]},
+ {"name":"bump","args":1,"keys":[["write","arg",0]],
+  "body":[["set",0,["add",["key",0],1]],["reply",["key",0]]]},
+ {"name":"sum2","args":2,"keys":[["read","arg",0],["read","arg",1]],
+  "body":[["reply",["add",["key",0],["key",1]]]]},
+ {"name":"read","args":1,"keys":[["read","arg",0]],
+  "body":[["reply",["key",0]]]},
+ {"name":"take","args":2,"keys":[["write","arg",0]],
+  "body":[["if",["less",["key",0],["arg",1]],[["abort",7]],[]],
+          ["set",0,["sub",["key",0],["arg",1]]],["reply",["key",0]]]},
+ {"name":"seven","args":0,"keys":[],
+  "body":[["reply",7]]},
+ {"name":"via","args":1,"keys":[["read","arg",0],["write","through",0]],
+  "body":[["set",1,["add",["key",1],1]],["reply",["key",1]]]}],
+ "records":["#;
+
+/// What the scenario is made of that a text is. It fails where `read_scenario` refuses the text.
+pub fn parts(alloc: Global, text: &str) -> Result<ScenarioParts, Fail>
+    ensures records { IfOk result (λ p. p.library.records ≡ length p.records.items) }
+    ensures fits { IfOk result (λ p. All (λ script. All (Fits p.library) script.items) p.scripts.items) }
+{
+    let mut reader = Plain::new(text.as_bytes());
+    let scenario = read_scenario(alloc, &mut reader)?;
+    Ok(scenario.into_parts())
+}
+
+/// A library for a number of records, from 1. Its procedures are in order: `transfer` of an amount from a record to
+/// another one, which replies what is left; `bump`, which adds 1 to a record and replies the sum; `sum2`, which
+/// replies the sum of two records; `read`, which replies a record; `take` of an amount from a record, which replies
+/// what is left, and aborts with code 7 if there is less; `seven`, which replies 7; and `via`, which adds 1 to the
+/// record that another one's value leads to, and replies the sum.
+pub fn library(alloc: Global, records: u32) -> Result<Library, Fail>
+    ensures { IfOk result (λ l. l.records ≡ records) }
+{
+    let text = text_for(alloc, records)?;
+    let parts = parts(alloc, text.as_str())?;
+    let library = parts.library;
+    if library.records() != records {
+        return Err(Fail::new("another number of records"));
+    }
+    Ok(library)
+}
+
+// The text of a scenario of these procedures, in which so many records hold 0.
+fn text_for(alloc: Global, records: u32) -> Result<String, AllocError> {
+    let mut text = String::from_str(alloc, PROCEDURES)?;
+    for _ in 1..records {
+        text.push_str("0,")?;
+    }
+    text.push_str("0]}")?;
+    Ok(text)
+}
