@@ -147,6 +147,3 @@ impl PartialEq for Claims {
         self.len == other.len && self.modes == other.modes && self.ids == other.ids
     }
 }
-
-#[cfg(test)]
-mod tests;

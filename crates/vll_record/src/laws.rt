@@ -72,6 +72,3 @@ pub fn words_stand_apart()
     ensures no_value_is_the_turn { (r : ℕ) → value_word_of r ≢ 0 }
     ensures no_pair_is_the_turn { (r : ℕ) → pair_word_of_record r ≢ 0 }
 {}
-
-#[cfg(test)]
-mod tests;

@@ -57,6 +57,3 @@ pub fn granted(mode: Mode, old: u64) -> bool
         Mode::Write => old == 0,
     }
 }
-
-#[cfg(test)]
-mod tests;

@@ -17,6 +17,3 @@ pub fn pair_word(id: RecordId) -> usize
 {
     2 + 2 * id.0 as usize
 }
-
-#[cfg(test)]
-mod tests;

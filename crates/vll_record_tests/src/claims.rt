@@ -1,7 +1,6 @@
-#![tactic(auto, using(crate::proofs::WithClaim::lengths))]
+#![tactic(auto, using(vll_record::proofs::WithClaim::lengths))]
 
-use super::{Claims, MOST_CLAIMS};
-use crate::claim::{Claim, Mode, RecordId};
+use vll_record::{Claim, Claims, MOST_CLAIMS, Mode, RecordId};
 
 fn read(id: u32) -> Claim {
     Claim {

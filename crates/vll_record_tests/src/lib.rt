@@ -1,0 +1,11 @@
+//! The tests of vll_record.
+#![tactic(auto)]
+
+#[cfg(test)]
+mod claims;
+#[cfg(test)]
+mod laws;
+#[cfg(test)]
+mod pair;
+#[cfg(test)]
+mod word;
