@@ -77,17 +77,17 @@ odd_quotient = record {
   body = Reply (Add (Div (Num 1) (Num 0)) (Sub (Num 0) (Num 1))) ∷ [];
 }
 
-abbrev pub take_keys : List KeyDecl
+abbrev take_keys : List KeyDecl
 take_keys = record { mode = Write; at = at.Arg 0 } ∷ []
 
-abbrev pub take_body : List Stmt
+abbrev take_body : List Stmt
 take_body = If (Less (Key 0) (Arg 1)) (Abort 7 ∷ []) [] ∷ Set 0 (Sub (Key 0) (Arg 1)) ∷ Reply (Key 0) ∷ []
 
 abbrev take : Proc
 take = record { edition = One; name = codes "take"; args = 2; keys = take_keys; body = take_body }
 
 -- a local that both lists of an `If` set may be read behind it
-abbrev pub choose_body : List Stmt
+abbrev choose_body : List Stmt
 choose_body =
     Let 0 (Num 40) ∷ If (Arg 0) (If (Equal (Arg 0) (Num 2)) (Let 1 (Num 2) ∷ []) (Let 1 (Num 1) ∷ []) ∷ []) (Let 1 (Num 0) ∷ [])
     ∷ Reply (Add (Local 0) (Local 1)) ∷ []
@@ -208,10 +208,10 @@ unfolding hidden hidden-the_row-Expr-0 hidden-the_row-Stmt-0
 reads_half_set = refl
 
 -- a record's value as often as the list is repeated: locals go on from one turn to the next
-abbrev pub times_keys : List KeyDecl
+abbrev times_keys : List KeyDecl
 times_keys = record { mode = Read; at = at.Fixed 0 } ∷ []
 
-abbrev pub times_body : List Stmt
+abbrev times_body : List Stmt
 times_body = Let 0 (Num 0) ∷ Repeat 64 (Let 0 (Add (Local 0) (Key 0)) ∷ []) ∷ Reply (Local 0) ∷ []
 
 abbrev times : Proc
@@ -222,10 +222,10 @@ unfolding hidden hidden-the_row-Expr-0 hidden-the_row-Stmt-0
 repeats = refl
 
 -- records and outputs go on from one turn to the next
-abbrev pub doubles_keys : List KeyDecl
+abbrev doubles_keys : List KeyDecl
 doubles_keys = record { mode = Write; at = at.Fixed 0 } ∷ []
 
-abbrev pub doubles_body : List Stmt
+abbrev doubles_body : List Stmt
 doubles_body = Repeat 3 (Set 0 (Mul (Key 0) (Num 2)) ∷ Reply (Key 0) ∷ []) ∷ []
 
 abbrev doubles : Proc
@@ -338,129 +338,10 @@ keys_of_one = refl
 too_many_keys_of_one : has_few_keys (record (of_keys 17) { edition = One }) ≡ false
 too_many_keys_of_one = refl
 
-pub transfer_is_well_formed : (name : List ℕ) → IsWellFormed (record { edition = One; name = name; args = 3; keys = transfer_keys; body = transfer_body })
-unfolding hidden hidden-the_row-Expr-0
-transfer_is_well_formed name = record {
-  few_args = refl;
-  few_keys = refl;
-  key_args = refl;
-  known_keys = refl;
-  writable_keys = refl;
-  known_args = refl;
-  known_locals = refl;
-  set_locals = refl;
-  few_replies = refl;
-  shallow = refl;
-  short = refl;
-  sources = refl;
-  one_indirect = refl;
-  few_turns = refl;
-  light = refl;
-}
-
+-- `bump` is well-formed, whatever its name
 pub bump_is_well_formed : (name : List ℕ) → IsWellFormed (record { edition = One; name = name; args = 1; keys = bump_keys; body = bump_body })
 unfolding hidden hidden-the_row-Expr-0
 bump_is_well_formed name = record {
-  few_args = refl;
-  few_keys = refl;
-  key_args = refl;
-  known_keys = refl;
-  writable_keys = refl;
-  known_args = refl;
-  known_locals = refl;
-  set_locals = refl;
-  few_replies = refl;
-  shallow = refl;
-  short = refl;
-  sources = refl;
-  one_indirect = refl;
-  few_turns = refl;
-  light = refl;
-}
-
-pub sum2_is_well_formed : (name : List ℕ) → IsWellFormed (record { edition = One; name = name; args = 2; keys = sum2_keys; body = sum2_body })
-unfolding hidden hidden-the_row-Expr-0
-sum2_is_well_formed name = record {
-  few_args = refl;
-  few_keys = refl;
-  key_args = refl;
-  known_keys = refl;
-  writable_keys = refl;
-  known_args = refl;
-  known_locals = refl;
-  set_locals = refl;
-  few_replies = refl;
-  shallow = refl;
-  short = refl;
-  sources = refl;
-  one_indirect = refl;
-  few_turns = refl;
-  light = refl;
-}
-
-pub take_is_well_formed : (name : List ℕ) → IsWellFormed (record { edition = One; name = name; args = 2; keys = take_keys; body = take_body })
-unfolding hidden hidden-the_row-Expr-0 hidden-the_row-Stmt-0
-take_is_well_formed name = record {
-  few_args = refl;
-  few_keys = refl;
-  key_args = refl;
-  known_keys = refl;
-  writable_keys = refl;
-  known_args = refl;
-  known_locals = refl;
-  set_locals = refl;
-  few_replies = refl;
-  shallow = refl;
-  short = refl;
-  sources = refl;
-  one_indirect = refl;
-  few_turns = refl;
-  light = refl;
-}
-
-pub choose_is_well_formed : (name : List ℕ) → IsWellFormed (record { edition = One; name = name; args = 1; keys = []; body = choose_body })
-unfolding hidden hidden-the_row-Expr-0 hidden-the_row-Stmt-0
-choose_is_well_formed name = record {
-  few_args = refl;
-  few_keys = refl;
-  key_args = refl;
-  known_keys = refl;
-  writable_keys = refl;
-  known_args = refl;
-  known_locals = refl;
-  set_locals = refl;
-  few_replies = refl;
-  shallow = refl;
-  short = refl;
-  sources = refl;
-  one_indirect = refl;
-  few_turns = refl;
-  light = refl;
-}
-
-pub times_is_well_formed : (name : List ℕ) → IsWellFormed (record { edition = Two; name = name; args = 0; keys = times_keys; body = times_body })
-unfolding hidden hidden-the_row-Expr-0 hidden-the_row-Stmt-0
-times_is_well_formed name = record {
-  few_args = refl;
-  few_keys = refl;
-  key_args = refl;
-  known_keys = refl;
-  writable_keys = refl;
-  known_args = refl;
-  known_locals = refl;
-  set_locals = refl;
-  few_replies = refl;
-  shallow = refl;
-  short = refl;
-  sources = refl;
-  one_indirect = refl;
-  few_turns = refl;
-  light = refl;
-}
-
-pub doubles_is_well_formed : (name : List ℕ) → IsWellFormed (record { edition = Two; name = name; args = 0; keys = doubles_keys; body = doubles_body })
-unfolding hidden hidden-the_row-Expr-0 hidden-the_row-Stmt-0
-doubles_is_well_formed name = record {
   few_args = refl;
   few_keys = refl;
   key_args = refl;

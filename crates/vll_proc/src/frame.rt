@@ -142,6 +142,3 @@ impl Frame {
         self.get(call.cells[source as usize] as usize) != value
     }
 }
-
-#[cfg(test)]
-mod tests;

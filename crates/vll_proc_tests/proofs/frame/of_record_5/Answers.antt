@@ -1,13 +1,13 @@
 -- The claims and the cells are those that the keys ask for.
 use Rattle.std.proofs.Common.{refl}
-use Rattle.vll_proc.proofs.frame.tests.of_record_0.Goals as goal
+use Rattle.vll_proc_tests.proofs.frame.of_record_5.Goals as goal
 
 pub returns : goal.returns
 returns c = (
   6,
   record {
     count = refl;
-    made = rw (c.requires.args, c.requires.keys, c.add.ensures, c.claim.ensures, c.new-claims.ensures, c.cells.ensures) refl;
+    made = rw (c.requires.args, c.requires.keys, c.add.ensures, c.new-claims.ensures) refl;
     led = rw (c.requires.keys) refl;
   },
 )

@@ -1,0 +1,7 @@
+//! What calls answer as values, and what the laws of calls ask for: the tests of vll_proc.
+#![tactic(auto)]
+
+#[cfg(test)]
+mod frame;
+#[cfg(test)]
+mod laws;
