@@ -262,6 +262,3 @@ fn is_light(procedure: &Proc) -> bool
 {
     weight_left(procedure.body.as_slice(), MOST_WEIGHT).is_some()
 }
-
-#[cfg(test)]
-mod tests;

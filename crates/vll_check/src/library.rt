@@ -149,6 +149,3 @@ impl Library {
         }
     }
 }
-
-#[cfg(test)]
-mod tests;

@@ -1,0 +1,15 @@
+//! What checked procedures and the calls of a library are, as values: the tests of vll_check.
+#![tactic(auto)]
+
+#[cfg(test)]
+mod calls;
+#[cfg(test)]
+mod checked;
+#[cfg(test)]
+mod finding;
+#[cfg(test)]
+mod library;
+#[cfg(test)]
+mod made;
+#[cfg(test)]
+mod procedures;

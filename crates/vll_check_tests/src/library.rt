@@ -1,0 +1,31 @@
+use crate::procedures::library;
+use std::test::Fail;
+use vll_check::Library;
+
+// Whether the procedure with a number has this name.
+fn is_named(library: &Library, number: u32, name: &str) -> bool {
+    match library.proc(number) {
+        Some(procedure) => procedure.name.as_str() == name,
+        None => false,
+    }
+}
+
+#[test]
+fn procedures_have_the_numbers_of_their_list(rt: HostRuntime) -> Result<(), Fail> {
+    let library = library(rt.alloc())?;
+    assert_eq!(rt; library.records(), 3);
+    assert!(rt; is_named(&library, 0, "z"));
+    assert!(rt; is_named(&library, 2, "via"));
+    assert!(rt; library.proc(3).is_none());
+    Ok(())
+}
+
+#[test]
+fn calls_have_the_numbers_of_their_procedures(rt: HostRuntime) -> Result<(), Fail> {
+    let library = library(rt.alloc())?;
+    let z = library.call("z", &[])?;
+    let via = library.call("via", &[2])?;
+    assert_eq!(rt; z.number, 0);
+    assert_eq!(rt; via.number, 2);
+    Ok(())
+}
