@@ -69,6 +69,3 @@ impl Bits {
         found
     }
 }
-
-#[cfg(test)]
-mod tests;

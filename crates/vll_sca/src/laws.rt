@@ -27,6 +27,3 @@ pub fn gone_beginnings_do_not_matter()
 pub fn gone_entries_do_not_matter()
     ensures { GoneEntriesDoNotMatter }
 {}
-
-#[cfg(test)]
-mod tests;

@@ -49,6 +49,3 @@ impl Place for Placing {
         }
     }
 }
-
-#[cfg(test)]
-mod tests;

@@ -1,10 +1,8 @@
-use super::{Bits, BitsFault};
-use crate::entry::Entry;
-use crate::place::{Place, Placing};
-use crate::status::Status::{self, Gone, Running, Waiting};
 use std::test::Fail;
 use vll_record::Mode::{self, Read, Write};
 use vll_record::{Claim, Claims, RecordId};
+use vll_sca::Status::{self, Gone, Running, Waiting};
+use vll_sca::{Bits, BitsFault, Entry, Place, Placing};
 
 // An entry with one claim.
 fn entry(status: Status, mode: Mode, id: u32) -> Entry {

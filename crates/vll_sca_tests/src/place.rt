@@ -1,5 +1,5 @@
-use super::{Place, Placing};
 use vll_record::RecordId;
+use vll_sca::{Place, Placing};
 
 #[test]
 fn neighbours_are_spread(rt: HostRuntime) {

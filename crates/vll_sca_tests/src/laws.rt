@@ -1,4 +1,4 @@
-use super::{
+use vll_sca::{
     conflict_implies_hash_conflict, gone_beginnings_do_not_matter, gone_entries_do_not_matter,
     scanned_entry_waits_and_is_clear,
 };
