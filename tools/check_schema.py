@@ -23,11 +23,12 @@ MUST_REFUSE = re.compile(r'vll: scenario: (shape|size|check \d+ (1|2|8|14|15)\n)
 # Scenarios that the program refuses by such a line, and the schema cannot: the reason, and their names.
 UNTOLD = {
     'to JSON Schema 1.0, 1e3, 1e-400 and -0 are whole numbers from 0': '''
-        bits_with_a_point bits_with_an_exponent cap_with_a_point cap_with_an_exponent
-        client_with_a_sign index_with_a_point limit_with_a_point limit_with_an_exponent
+        abort_code_with_a_point bits_with_a_point bits_with_an_exponent cap_with_a_point
+        cap_with_an_exponent client_with_a_sign index_with_a_point key_record_with_a_point
+        limit_with_a_point limit_with_an_exponent number_with_a_point number_with_an_exponent
         record_minus_zero record_with_a_point record_with_a_small_exponent record_with_an_exponent
         repeat_count_with_a_point through_index_with_a_point ticket_with_a_point ticket_with_an_exponent
-        version_two_with_a_point version_with_a_point
+        version_two_with_a_point version_with_a_point version_with_an_exponent
     ''',
 }
 
@@ -35,7 +36,8 @@ UNTOLD = {
 TOLD = {
     'a fixed record past every record': 'largest_fixed_record',
     'more arguments than any procedure has': 'call_of_nine_arguments',
-    'a source past every key': 'through_key_255',
+    'an argument past all that a procedure may have': 'argument_255 key_at_argument_255',
+    'a key past all that a procedure may have': 'key_255 set_of_key_255 through_key_255',
     'a fault that the program tells later': '''
         lowest_faulty_procedure undeclared_argument_before_unknown_local through_an_indirect_key
         through_itself_before_turns through_itself_before_two_indirect_keys too_long_before_two_indirect_keys

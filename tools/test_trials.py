@@ -30,8 +30,8 @@ class Trials(unittest.TestCase):
 
     @unittest.skipUnless(PROGRAM.is_file(), 'there is no program that ./vll could run')
     def test_command_line(self):
-        failed = ['help texts', 'options in the help of run']
-        self.assertEqual(self.said_of('command_line'), (1, failed, 'command line: 1 passed, 2 failed'))
+        failed = ['help texts', 'options in the help of run', 'threads of a run']
+        self.assertEqual(self.said_of('command_line'), (1, failed, 'command line: 1 passed, 3 failed'))
 
     def test_lacks(self):
         status, failed, last = self.said_of('lacks')
