@@ -7,8 +7,6 @@ mod plain;
 mod reading;
 mod scenario;
 mod stream;
-#[cfg(test)]
-mod tests;
 
 pub use fault::{Part, ScenarioFault, Spot};
 pub use limits::{MOST_BYTES, MOST_CLIENTS, MOST_EVENTS, MOST_PROCS};

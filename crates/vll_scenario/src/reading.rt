@@ -44,7 +44,7 @@ pub fn read_scenario<S: Source>(alloc: Global, reader: &mut S) -> Result<Scenari
 }
 
 // The parts of the scenario that a reader gives.
-pub(crate) fn read_parts<S: Source>(alloc: Global, reader: &mut S) -> Result<Parts, ScenarioFault>
+fn read_parts<S: Source>(alloc: Global, reader: &mut S) -> Result<Parts, ScenarioFault>
     requires { S.failed reader.old ≡ false }
     ensures parts { Reads parts_at (S.remaining reader.old) (S.remaining reader.new) result }
     ensures failed { (result ≡ Err ScenarioFault.Read) ↔ (S.failed reader.new ≡ true) }
@@ -79,6 +79,3 @@ fn tree_of(alloc: Global, bytes: &[u8]) -> Result<Value, ScenarioFault>
         Err(_) => Err(ScenarioFault::Json),
     }
 }
-
-#[cfg(test)]
-mod tests;

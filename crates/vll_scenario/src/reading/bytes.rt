@@ -68,6 +68,3 @@ pub(crate) fn read_bytes<S: Source>(alloc: Global, source: &mut S) -> Result<Vec
     }
     Err(ReadFault::Size)
 }
-
-#[cfg(test)]
-mod tests;

@@ -141,6 +141,3 @@ pub fn fault_at(part: Part, index: u32) -> ScenarioFault
 {
     ScenarioFault::Shape(Spot { part, index })
 }
-
-#[cfg(test)]
-mod tests;

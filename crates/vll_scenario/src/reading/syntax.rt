@@ -112,6 +112,3 @@ pub fn word_of(value: &Value) -> Result<&str, Misread>
 {
     value.as_str().ok_or(Misread::Faulty)
 }
-
-#[cfg(test)]
-mod tests;

@@ -1,1 +1,0 @@
-pub(crate) mod streams;

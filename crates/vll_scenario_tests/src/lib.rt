@@ -1,0 +1,7 @@
+//! What reading a scenario gives that no printed line shows: the tests of vll_scenario.
+#![tactic(auto)]
+
+#[cfg(test)]
+mod parts;
+#[cfg(test)]
+mod sources;

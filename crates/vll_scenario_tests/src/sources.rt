@@ -1,0 +1,62 @@
+use std::io;
+use std::io::Read;
+use std::test::Fail;
+use vll_scenario::{Plain, ScenarioFault, Source, read_scenario};
+
+const TEXT: &str = r#"{"version":1,"records":[7,5],"procs":[],"clients":[]}"#;
+
+/// Gives its text a byte at a time, and then ends or fails.
+#[derive(Drop)]
+struct Slow<'a> {
+    text: &'a [u8],
+    breaks: bool,
+}
+
+impl<'a> Read for Slow<'a> {
+    fn read(&mut self, buf: &mut [u8]) -> io::Result<usize> {
+        match (self.text.split_first(), buf.first_mut()) {
+            (Some((byte, rest)), Some(place)) => {
+                *place = *byte;
+                self.text = rest;
+                Ok(1)
+            }
+            _ if self.breaks => Err(io::Error::from(io::ErrorKind::BrokenPipe)),
+            _ => Ok(0),
+        }
+    }
+}
+
+#[test]
+fn source_may_give_a_byte_at_a_time(rt: HostRuntime) -> Result<(), Fail> {
+    let mut source = Plain::new(Slow {
+        text: TEXT.as_bytes(),
+        breaks: false,
+    });
+    let scenario = read_scenario(rt.alloc(), &mut source)?;
+    assert_eq!(rt; scenario.into_parts().records.as_slice(), [7, 5].as_slice());
+    assert!(rt; !source.has_failed());
+    Ok(())
+}
+
+#[test]
+fn source_that_fails_is_told_before_what_it_gave(rt: HostRuntime) {
+    for text in ["", "[1, ", "no text of JSON", TEXT] {
+        let mut source = Plain::new(Slow {
+            text: text.as_bytes(),
+            breaks: true,
+        });
+        let read = read_scenario(rt.alloc(), &mut source);
+        assert!(rt; matches!(read, Err(ScenarioFault::Read)), "{text}");
+        assert!(rt; source.has_failed(), "{text}");
+    }
+}
+
+#[test]
+fn largest_source_is_read_to_its_end(rt: HostRuntime) {
+    let mut source = Plain::new(io::repeat(b' ').take(16_777_216));
+    let read = read_scenario(rt.alloc(), &mut source);
+    assert!(rt; matches!(read, Err(ScenarioFault::Json)));
+    let mut source = Plain::new(io::repeat(b' ').take(16_777_217));
+    let read = read_scenario(rt.alloc(), &mut source);
+    assert!(rt; matches!(read, Err(ScenarioFault::Size)));
+}
