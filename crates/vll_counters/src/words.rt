@@ -155,6 +155,3 @@ impl Words {
         words
     }
 }
-
-#[cfg(test)]
-mod tests;

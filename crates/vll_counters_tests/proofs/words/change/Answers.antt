@@ -17,7 +17,7 @@ use Rattle.vll_core.proofs.SerialRun.{length_before}
 use Rattle.vll_counters.specs.declared.views.PassView.{PassView}
 use Rattle.vll_counters.specs.Shown.{WordsShown, PassShown, library_of}
 use Rattle.vll_counters.specs.Steps.{records_before_pass, reply_of_pass}
-use Rattle.vll_counters.proofs.words.tests.change.Goals as goal
+use Rattle.vll_counters_tests.proofs.words.change.Goals as goal
 
 -- the procedure that the library has for a call that is ready
 record HasProcedure (library : Catalog) (call : Call) (procedure : Proc) : Type 0 where

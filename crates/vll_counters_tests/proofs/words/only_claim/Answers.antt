@@ -1,7 +1,7 @@
 use Rattle.std.proofs.Common.{◌≡◌, List, [], ◌∷◌, length, Some, slice_get, sym, ap, ◌∙◌, arith}
 use Rattle.std.proofs.lemmas.Option.{same_Some}
 use Rattle.vll_record.specs.declared.claim.Claim.{Claim}
-use Rattle.vll_counters.proofs.words.tests.only_claim.Goals as goal
+use Rattle.vll_counters_tests.proofs.words.only_claim.Goals as goal
 
 only : {A : Type 0} (xs : List A) (x : A) → slice_get xs 0 ≡ Some x → length xs ≡ 1 → xs ≡ x ∷ []
 only [] x at one = absurd (omega (arith, one))

@@ -5,18 +5,14 @@ ghost use Rattle.vll_counters.specs.Shown.{AreNewSessions, library_of, shown_que
 ghost use Rattle.vll_counters.specs.Steps.{first_queue};
 ghost use Rattle.vll_counters.specs.Told.{has_stored_pass};
 
-use super::Words;
-use crate::pass_seat::PassSeat;
-use crate::queue_seat::QueueSeat;
-use crate::session_seat::SessionSeat;
-use sqlite_items::{Boxed, Items};
-use std::alloc::{AllocError, Global};
 use std::process::Abort;
 use std::test::*;
-use vll_check::{CallFault, Library, check};
+use vll_check::{CallFault, Library};
 use vll_core::Ticket;
-use vll_proc::{Call, Edition, Expr, Frame, KeyAt, KeyDecl, Proc, Reply, Stmt, Text};
+use vll_counters::{PassSeat, QueueSeat, SessionSeat, Words};
+use vll_proc::{Call, Frame, Reply};
 use vll_record::{Claim, Mode, granted};
+use vll_test_procedures::library;
 
 fn shares<T: Send + Sync>() {}
 
@@ -33,47 +29,11 @@ fn threads_share_words_and_own_seats() {
 #[test]
 fn words_without_calls_keep_the_records(rt: HostRuntime) -> Result<(), Fail> {
     let alloc = rt.alloc();
-    let library = Library::new(2, Vec::new(alloc))?;
+    let library = library(alloc, 2)?;
     let (words, queue, sessions) = Words::open(alloc, &[5, 7], &library, 3)?;
     assert_eq!(rt; sessions.len(), 3);
     assert_eq!(rt; words.close(queue).as_slice(), [0, 5, 0, 7, 0].as_slice());
     Ok(())
-}
-
-// Replies a record.
-fn read(alloc: Global) -> Result<Proc, AllocError> {
-    let key = KeyDecl {
-        mode: Mode::Read,
-        at: KeyAt::Arg(0),
-    };
-    let body = vec![in alloc; Stmt::Reply(Expr::Key(0))]?;
-    Ok(Proc {
-        edition: Edition::One,
-        name: Text::new(String::from_str(alloc, "read")?),
-        args: 1,
-        keys: Items::from_slice(alloc, &[key])?,
-        body: Items::from_vec(body),
-    })
-}
-
-// Adds 1 to a record.
-fn bump(alloc: Global) -> Result<Proc, AllocError> {
-    let key = KeyDecl {
-        mode: Mode::Write,
-        at: KeyAt::Arg(0),
-    };
-    let sum = Expr::Add(
-        Boxed::new(alloc, Expr::Key(0))?,
-        Boxed::new(alloc, Expr::Num(1))?,
-    );
-    let body = vec![in alloc; Stmt::Set(0, sum)]?;
-    Ok(Proc {
-        edition: Edition::One,
-        name: Text::new(String::from_str(alloc, "bump")?),
-        args: 1,
-        keys: Items::from_slice(alloc, &[key])?,
-        body: Items::from_vec(body),
-    })
 }
 
 // The call of a procedure on record 0. It has nothing to find.
@@ -210,7 +170,7 @@ fn end(words: &Words, queue: &mut QueueSeat, pass: PassSeat, claim: &Claim) -> u
 #[test]
 fn a_read_finds_the_record_and_leaves_no_claim(rt: HostRuntime) -> Result<(), Fail> {
     let alloc = rt.alloc();
-    let library = Library::new(1, vec![in alloc; check(read(alloc)?, 1)?]?)?;
+    let library = library(alloc, 1)?;
     let call = ready_call(&rt, &library, "read")?;
     let (words, mut queue, sessions) = Words::open(alloc, &[5], &library, 1)?;
     let session = only_session(&words, sessions).expect(&rt, "a session");
@@ -218,7 +178,9 @@ fn a_read_finds_the_record_and_leaves_no_claim(rt: HostRuntime) -> Result<(), Fa
     let (requested, mut pass, _) = enter(&rt, &words, &mut queue, session, &call, &claim);
     let loaded = load(&rt, &words, &mut pass, &claim);
     let released = end(&words, &mut queue, pass, &claim);
-    assert_eq!(rt; (requested, loaded, released), (0, 5, 1));
+    assert_eq!(rt; requested, 0);
+    assert_eq!(rt; loaded, 5);
+    assert_eq!(rt; released, 1);
     assert_eq!(rt; words.close(queue).as_slice(), [0, 5, 0].as_slice());
     Ok(())
 }
@@ -226,7 +188,7 @@ fn a_read_finds_the_record_and_leaves_no_claim(rt: HostRuntime) -> Result<(), Fa
 #[test]
 fn a_session_finds_what_a_pass_has_stored(rt: HostRuntime) -> Result<(), Fail> {
     let alloc = rt.alloc();
-    let library = Library::new(1, vec![in alloc; check(bump(alloc)?, 1)?]?)?;
+    let library = library(alloc, 1)?;
     let call = ready_call(&rt, &library, "bump")?;
     let (words, mut queue, sessions) = Words::open(alloc, &[5], &library, 1)?;
     let mut session = only_session(&words, sessions).expect(&rt, "a session");
@@ -237,7 +199,9 @@ fn a_session_finds_what_a_pass_has_stored(rt: HostRuntime) -> Result<(), Fail> {
     change(&rt, &words, &library, &mut pass, &call, &claim);
     let stored = words.find(&mut session, claim.id);
     end(&words, &mut queue, pass, &claim);
-    assert_eq!(rt; (first, entered, stored), (5, 5, 6));
+    assert_eq!(rt; first, 5);
+    assert_eq!(rt; entered, 5);
+    assert_eq!(rt; stored, 6);
     assert_eq!(rt; words.close(queue).as_slice(), [0, 6, 0].as_slice());
     Ok(())
 }

@@ -1,9 +1,0 @@
-use Rattle.std.proofs.Common.{sym, ap, subst}
-use Rattle.vll_check.specs.Calls.{IsReady}
-use Rattle.vll_check.specs.Catalog.{Catalog}
-use Rattle.vll_counters.proofs.Seats.{library_is}
-use Rattle.vll_counters.proofs.words.tests.a_session_finds_what_a_pass_has_stored.Goals as goal
-
-pub enter-pass-requires-clause-ready : goal.enter-pass-requires-clause-ready
-enter-pass-requires-clause-ready g c =
-    subst (λ (l : Catalog). IsReady l c.in_ok-call.call) (library_is c.in_ok-library.library _ c.in_ok-words.words.base (sym c.in_ok-words.ensures.words) (ap (λ (l : Catalog). l.records) c.in_ok-library.ensures.ok)) c.in_ok-call.ensures

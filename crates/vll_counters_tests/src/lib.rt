@@ -1,0 +1,5 @@
+//! The tests of vll_counters.
+#![tactic(auto)]
+
+#[cfg(test)]
+mod words;
