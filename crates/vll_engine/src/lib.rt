@@ -17,8 +17,6 @@ mod pass;
 mod patience;
 mod room;
 mod session;
-#[cfg(test)]
-mod tests;
 
 pub use begun::{BeginRefusal, Begun};
 pub use closed::{Closed, NotClosed};

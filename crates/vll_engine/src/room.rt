@@ -41,10 +41,7 @@ fn touched(alloc: Global, count: usize) -> Result<Vec<u64>, AllocError>
     ensures empty { IfOk result (λ v. v.items ≡ []) }
     ensures room { IfOk result (λ v. count ≤ vec_capacity v) }
 {
-    let mut words = Vec::with_capacity(alloc, count)?;
-    for _ in 0..count {
-        words.push_reserved(0);
-    }
+    let mut words = vec![in alloc; 0; count]?;
     words.clear();
     Ok(words)
 }

@@ -1,0 +1,19 @@
+//! What an engine answers, call by call: the tests of vll_engine.
+#![tactic(auto)]
+
+#[cfg(test)]
+mod closing;
+#[cfg(test)]
+mod finding;
+#[cfg(test)]
+mod holding;
+#[cfg(test)]
+mod opening;
+#[cfg(test)]
+mod playing;
+#[cfg(test)]
+mod queueing;
+#[cfg(test)]
+mod schedules;
+#[cfg(test)]
+mod waiting;
