@@ -8,4 +8,3 @@ pub mod AtWork
 pub mod Distinct
 pub mod Settled
 pub mod Fit
-mod Sessions

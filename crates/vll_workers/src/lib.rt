@@ -10,8 +10,6 @@ mod roster;
 mod running;
 mod shared;
 mod stack;
-#[cfg(test)]
-mod tests;
 mod token;
 mod work;
 mod worker;

@@ -1,6 +1,0 @@
-use Rattle.vll_sca.specs.Placing.{placing}
-use Rattle.vll_engine.specs.Shown.{name_of}
-use Rattle.vll_workers.proofs.tests.limited.no_tokens_without_a_start_is_well.Given as goal
-
-abbrev pub ghosts-has_none : goal.ghosts-has_none
-ghosts-has_none g a = record { engine = name_of placing a.opening }

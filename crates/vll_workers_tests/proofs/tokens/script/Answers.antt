@@ -1,0 +1,14 @@
+use Rattle.std.proofs.Common.{All, List, sym, subst, arith}
+use Rattle.std.proofs.lemmas.List.Elements.{All-push}
+use Rattle.vll_proc.specs.declared.call.Call.{Call}
+use Rattle.vll_check.specs.Calls.{Fits}
+use Rattle.vll_workers_tests.proofs.tokens.script.Goals as goal
+
+pub loop-preserved : goal.loop-preserved
+loop-preserved g c =
+    let fits = Fits c.args.library.now in
+    record {
+      fits = subst (λ (calls : List Call). All fits calls) (sym c.push_reserved.ensures.items) (All-push fits c.loop.script.items c.bump_of.result c.loop.invariant.fits c.bump_of.ensures);
+      count = omega arith;
+      room = omega arith;
+    }

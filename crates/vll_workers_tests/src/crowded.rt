@@ -1,0 +1,73 @@
+// A run of the most workers and as many clients, who all want the same record.
+ghost use Rattle.std.specs.Prelude.{◌≡◌};
+ghost use Rattle.vll_engine.specs.Shown.{name_of};
+ghost use Rattle.vll_sca.specs.Placing.{placing};
+
+use crate::opening::opening_of;
+use crate::tokens::{all_bumping, are_home, closed_of, output_of};
+use std::alloc::Global;
+use std::marker::Brand;
+use std::process::Abort;
+use std::sync::Wait;
+use std::test::*;
+use std::thread::Threads;
+use vll_core::{Config, Line};
+use vll_engine::{Name, Opening};
+use vll_sca::Placing;
+use vll_workers::{MOST_WORKERS, OpenGate, run};
+
+const CLIENTS: u32 = 64;
+
+// How many bumps each client makes.
+const CALLS: u32 = 100;
+
+// All clients bump one record, which ends at the number of their calls.
+fn all_bump_one_record<N: Name + Send + Sync, R: Wait + Threads + Abort + Sync>(
+    rt: &R,
+    alloc: Global,
+    opening: Opening<Placing>,
+) -> Result<(), Fail>
+    requires { N.engine ≡ name_of placing opening }
+{
+    let (engine, sessions) = opening.start::<N>();
+    let tokens = all_bumping::<N>(rt, alloc, engine.library(), sessions, 1, CALLS)?;
+    match run(rt, rt, alloc, &engine, tokens, MOST_WORKERS, &OpenGate) {
+        Ok(tokens) => are_home(rt, tokens.as_slice(), CLIENTS as usize, CALLS),
+        Err(_) => panic!(rt; "the run has a fault"),
+    }
+    let closed = closed_of(rt, engine, Vec::new(alloc));
+    assert_eq!(rt; closed.records.as_slice(), [6_400].as_slice());
+    assert_eq!(rt; closed.journal.len(), 6_400);
+    replies_rise(rt, alloc, closed.journal.as_slice())
+}
+
+// Each client's replies rise strictly, from 1 on.
+fn replies_rise(rt: &impl Abort, alloc: Global, journal: &[Line]) -> Result<(), Fail> {
+    let mut latest = vec![in alloc; 0; CLIENTS as usize]?;
+    for line in journal {
+        let client = line.client;
+        let Some(output) = output_of(&line.reply) else {
+            panic!(rt; "a call of client {client} has no output")
+        };
+        match latest.get_mut(client as usize) {
+            Some(before) => {
+                assert!(rt; *before < output);
+                *before = output;
+            }
+            None => panic!(rt; "there is no client {client}"),
+        }
+    }
+    Ok(())
+}
+
+// One call may wait, and the analysis has one place for all records.
+#[test]
+fn most_workers_lose_no_bump_of_as_many_clients(rt: HostRuntime) -> Result<(), Fail> {
+    let config = Config {
+        cap: 1,
+        limit: CLIENTS * CALLS,
+        bits: 1,
+    };
+    let opening = opening_of(rt.alloc(), 1, config, CLIENTS)?;
+    all_bump_one_record::<Brand, HostRuntime>(&rt, rt.alloc(), opening)
+}

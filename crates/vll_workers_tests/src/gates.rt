@@ -1,0 +1,113 @@
+// Gates that watch which calls are executed.
+use std::sync::atomic::{AtomicU64, Ordering};
+use vll_core::Ticket;
+use vll_workers::Gate;
+
+// How long the first call waits for the second.
+const MOST_TURNS: u64 = 100_000_000;
+
+// Holds ticket 0 back until ticket 1 has its reply.
+#[derive(Drop)]
+pub(crate) struct Meeting {
+    // How many turns ticket 0 has waited.
+    pub(crate) turns: AtomicU64,
+    pub(crate) has_begun: AtomicU64,
+    pub(crate) has_met: AtomicU64,
+}
+
+impl Meeting {
+    pub(crate) fn new() -> Meeting {
+        Meeting {
+            turns: AtomicU64::new(0),
+            has_begun: AtomicU64::new(0),
+            has_met: AtomicU64::new(0),
+        }
+    }
+}
+
+impl Gate for Meeting {
+    fn before(&self, ticket: Ticket) {
+        if ticket != Ticket(0) {
+            return;
+        }
+        self.has_begun.store(1, Ordering::SeqCst);
+        for turns in 0..MOST_TURNS {
+            if self.has_met.load(Ordering::SeqCst) == 1 {
+                self.turns.store(turns, Ordering::SeqCst);
+                return;
+            }
+        }
+        self.turns.store(MOST_TURNS, Ordering::SeqCst);
+    }
+
+    fn after(&self, ticket: Ticket) {
+        if ticket == Ticket(1) {
+            self.has_met.store(1, Ordering::SeqCst);
+        }
+    }
+}
+
+// Counts the calls, and adds up their tickets.
+#[derive(Drop)]
+pub(crate) struct Tally {
+    pub(crate) before: AtomicU64,
+    pub(crate) after: AtomicU64,
+    pub(crate) tickets: AtomicU64,
+}
+
+impl Tally {
+    pub(crate) fn new() -> Tally {
+        Tally {
+            before: AtomicU64::new(0),
+            after: AtomicU64::new(0),
+            tickets: AtomicU64::new(0),
+        }
+    }
+}
+
+impl Gate for Tally {
+    fn before(&self, ticket: Ticket) {
+        self.before.fetch_add(1, Ordering::SeqCst);
+        self.tickets
+            .fetch_add(u64::from(ticket.0), Ordering::SeqCst);
+    }
+
+    fn after(&self, _ticket: Ticket) {
+        self.after.fetch_add(1, Ordering::SeqCst);
+    }
+}
+
+// How long a call is held back for others to come.
+const CROWD_TURNS: u64 = 5_000_000;
+
+// Holds each call back for a while, and remembers whether three were executed at once.
+#[derive(Drop)]
+pub(crate) struct Crowd {
+    inside: AtomicU64,
+    pub(crate) had_three: AtomicU64,
+}
+
+impl Crowd {
+    pub(crate) fn new() -> Crowd {
+        Crowd {
+            inside: AtomicU64::new(0),
+            had_three: AtomicU64::new(0),
+        }
+    }
+}
+
+impl Gate for Crowd {
+    fn before(&self, _ticket: Ticket) {
+        self.inside.fetch_add(1, Ordering::SeqCst);
+        for _ in 0..CROWD_TURNS {
+            if self.inside.load(Ordering::SeqCst) > 2 {
+                self.had_three.store(1, Ordering::SeqCst);
+                return;
+            }
+        }
+    }
+
+    fn after(&self, _ticket: Ticket) {
+        self.inside.fetch_sub(1, Ordering::SeqCst);
+    }
+}

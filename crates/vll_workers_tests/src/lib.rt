@@ -1,0 +1,15 @@
+//! What runs of worker threads come to: the tests of vll_workers.
+#![tactic(auto)]
+
+#[cfg(test)]
+mod crowded;
+#[cfg(test)]
+mod gates;
+#[cfg(test)]
+mod limited;
+#[cfg(test)]
+mod opening;
+#[cfg(test)]
+mod runs;
+#[cfg(test)]
+mod tokens;

@@ -1,0 +1,134 @@
+// Runs of which few threads or none may be started.
+ghost use Rattle.std.specs.Prelude.{◌≡◌};
+ghost use Rattle.vll_engine.specs.Shown.{name_of};
+ghost use Rattle.vll_sca.specs.Placing.{placing};
+
+use crate::gates::{Crowd, Meeting};
+use crate::opening::opening;
+use crate::tokens::{all_bumping, are_counted, are_home, closes};
+use std::alloc::Global;
+use std::marker::Brand;
+use std::process::Abort;
+use std::sync::Wait;
+use std::sync::atomic::Ordering;
+use std::test::*;
+use std::thread::Threads;
+use vll_engine::{Name, Opening};
+use vll_sca::Placing;
+use vll_workers::{Gate, OpenGate, RunError, RunFault, run_limited};
+
+// Four clients of 1,000 calls each on one record, and eight workers, of which one may be started.
+fn counts_with_one_start<N: Name + Send + Sync, R: Wait + Threads + Abort + Sync>(
+    rt: &R,
+    alloc: Global,
+    opening: Opening<Placing>,
+) -> Result<(), Fail>
+    requires { N.engine ≡ name_of placing opening }
+{
+    let (engine, sessions) = opening.start::<N>();
+    let tokens = all_bumping::<N>(rt, alloc, engine.library(), sessions, 1, 1_000)?;
+    match run_limited(rt, rt, alloc, &engine, tokens, 8, 1, &OpenGate) {
+        Ok(tokens) => are_counted(rt, alloc, engine, tokens, 4, 1_000),
+        Err(_) => panic!(rt; "the run has a fault"),
+    }
+}
+
+#[test]
+fn one_start_of_eight_loses_no_bump(rt: HostRuntime) -> Result<(), Fail> {
+    let opening = opening(rt.alloc(), 1, 4_000, 4)?;
+    counts_with_one_start::<Brand, HostRuntime>(&rt, rt.alloc(), opening)
+}
+
+// The same without a start: the tokens are as they came, from the last client to the first, and no call has entered.
+fn is_refused<N: Name + Send + Sync, R: Wait + Threads + Abort + Sync>(
+    rt: &R,
+    alloc: Global,
+    opening: Opening<Placing>,
+) -> Result<(), Fail>
+    requires { N.engine ≡ name_of placing opening }
+{
+    let (engine, sessions) = opening.start::<N>();
+    let tokens = all_bumping::<N>(rt, alloc, engine.library(), sessions, 1, 1_000)?;
+    match run_limited(rt, rt, alloc, &engine, tokens, 8, 0, &OpenGate) {
+        Ok(_) => panic!(rt; "the run is well"),
+        Err(RunError { fault, mut tokens }) => {
+            assert_eq!(rt; fault, RunFault::Spawn);
+            for token in tokens.as_slice() {
+                assert_eq!(rt; token.script().len(), 1_000);
+            }
+            tokens.reverse();
+            are_home(rt, tokens.as_slice(), 4, 0);
+        }
+    }
+    closes(rt, engine, Vec::new(alloc), &[0], &[]);
+    Ok(())
+}
+
+#[test]
+fn run_without_a_start_hands_the_tokens_back(rt: HostRuntime) -> Result<(), Fail> {
+    let opening = opening(rt.alloc(), 1, 4_000, 4)?;
+    is_refused::<Brand, HostRuntime>(&rt, rt.alloc(), opening)
+}
+
+// Without tokens there is nothing to do, and no start is missed.
+fn has_none<N: Name + Send + Sync, R: Wait + Threads + Abort + Sync>(
+    rt: &R,
+    alloc: Global,
+    opening: Opening<Placing>,
+)
+    requires { N.engine ≡ name_of placing opening }
+{
+    let (engine, _) = opening.start::<N>();
+    let tokens = Vec::new(alloc);
+    match run_limited(rt, rt, alloc, &engine, tokens, 8, 0, &OpenGate) {
+        Ok(tokens) => assert!(rt; tokens.is_empty()),
+        Err(_) => panic!(rt; "the run has a fault"),
+    }
+    closes(rt, engine, Vec::new(alloc), &[0], &[]);
+}
+
+#[test]
+fn no_tokens_without_a_start_is_well(rt: HostRuntime) -> Result<(), Fail> {
+    let opening = opening(rt.alloc(), 1, 1, 0)?;
+    has_none::<Brand, HostRuntime>(&rt, rt.alloc(), opening);
+    Ok(())
+}
+
+// A call for each client, on a record of its own, under a gate, with one start.
+fn runs_under<N: Name + Send + Sync, R: Wait + Threads + Abort + Sync, G: Gate + Sync>(
+    rt: &R,
+    alloc: Global,
+    opening: Opening<Placing>,
+    clients: u16,
+    gate: &G,
+) -> Result<(), Fail>
+    requires { N.engine ≡ name_of placing opening }
+{
+    let (engine, sessions) = opening.start::<N>();
+    let tokens = all_bumping::<N>(rt, alloc, engine.library(), sessions, 8, 1)?;
+    match run_limited(rt, rt, alloc, &engine, tokens, 8, 1, gate) {
+        Ok(tokens) => are_home(rt, tokens.as_slice(), usize::from(clients), 1),
+        Err(_) => panic!(rt; "the run has a fault"),
+    }
+    Ok(())
+}
+
+// The first call is held back until the second has its reply.
+#[test]
+fn calling_thread_works_beside_the_one_that_is_started(rt: HostRuntime) -> Result<(), Fail> {
+    let opening = opening(rt.alloc(), 8, 2, 2)?;
+    let gate = Meeting::new();
+    runs_under::<Brand, HostRuntime, Meeting>(&rt, rt.alloc(), opening, 2, &gate)?;
+    assert_eq!(&rt; gate.has_begun.load(Ordering::SeqCst), 1);
+    assert!(&rt; gate.turns.load(Ordering::SeqCst) < 100_000_000);
+    Ok(())
+}
+
+#[test]
+fn one_start_never_has_three_calls_at_once(rt: HostRuntime) -> Result<(), Fail> {
+    let opening = opening(rt.alloc(), 8, 8, 8)?;
+    let gate = Crowd::new();
+    runs_under::<Brand, HostRuntime, Crowd>(&rt, rt.alloc(), opening, 8, &gate)?;
+    assert_eq!(&rt; gate.had_three.load(Ordering::SeqCst), 0);
+    Ok(())
+}

@@ -1,0 +1,190 @@
+// Tokens over bump, and what comes of them.
+ghost use Rattle.std.specs.Prelude.{◌≡◌, ◌<◌, ◌^◌, All, IfOk, length, nat_eq};
+ghost use Rattle.std.specs.List.{IsDistinct};
+ghost use Rattle.vll_check.specs.Calls.{Fits};
+ghost use Rattle.vll_counters.specs.Shown.{AreNewSessions};
+ghost use Rattle.vll_engine.specs.Shown.{library_of};
+ghost use Rattle.vll_workers.specs.Tokens.{AreFit, IsFit, clients_of};
+
+use std::alloc::Global;
+use std::process::Abort;
+use std::test::*;
+use vll_check::Library;
+use vll_core::Line;
+use vll_engine::{Closed, Engine, Name, Session};
+use vll_proc::{Call, Reply};
+use vll_sca::Placing;
+use vll_workers::Token;
+
+// The bump of a record.
+pub(crate) fn bump_of(rt: &impl Abort, library: &Library, record: u64) -> Call
+    ensures { Fits library.now result }
+{
+    match library.call("bump", &[record]) {
+        Ok(call) => call,
+        Err(_) => panic!(rt; "there is no bump of record {record}"),
+    }
+}
+
+// A script of so many bumps of a record.
+fn script(
+    rt: &impl Abort,
+    alloc: Global,
+    library: &Library,
+    record: u64,
+    times: u32,
+) -> Result<Vec<Call>, Fail>
+    ensures fits { IfOk result (λ s. All (Fits library.now) s.items) }
+    ensures few { IfOk result (λ s. length s.items < 2 ^ 32) }
+{
+    let mut script = Vec::with_capacity(alloc, times as usize)?;
+    for _ in 0..times {
+        script.push_reserved(bump_of(rt, library, record));
+    }
+    Ok(script)
+}
+
+// A token of so many bumps of a record.
+pub(crate) fn bumping<N: Name>(
+    rt: &impl Abort,
+    alloc: Global,
+    library: &Library,
+    session: Session,
+    record: u64,
+    times: u32,
+) -> Result<Token, Fail>
+    requires library { library.now ≡ library_of N.engine }
+    requires session { session.table ≡ N.engine.table }
+    ensures fit { IfOk result (IsFit N.engine) }
+    ensures client { IfOk result (λ t. t.client ≡ session.session.client) }
+{
+    let script = script(rt, alloc, library, record, times)?;
+    Ok(Token::new(session.client(), session, script))
+}
+
+// A token for each session, of so many bumps of the record with its client's number, where there are so many.
+pub(crate) fn all_bumping<N: Name>(
+    rt: &impl Abort,
+    alloc: Global,
+    library: &Library,
+    sessions: Vec<Session>,
+    records: u32,
+    times: u32,
+) -> Result<Vec<Token>, Fail>
+    requires library { library.now ≡ library_of N.engine }
+    requires sessions { AreNewSessions N.engine.table N.engine.clients sessions.items }
+    requires records { 0 < records }
+    ensures fit { IfOk result (λ t. AreFit N.engine t.items) }
+    ensures distinct { IfOk result (λ t. IsDistinct nat_eq (clients_of t.items)) }
+{
+    let mut sessions = sessions;
+    let mut tokens = Vec::new(alloc);
+    while let Some(session) = sessions.pop() {
+        let record = u64::from(session.client() % records);
+        let token = bumping::<N>(rt, alloc, library, session, record, times)?;
+        tokens.push(token)?;
+    }
+    Ok(tokens)
+}
+
+// The tokens are of clients 0, 1 and so on, and so many calls of each have entered.
+pub(crate) fn are_home(rt: &impl Abort, tokens: &[Token], clients: usize, next: u32) {
+    assert_eq!(rt; tokens.len(), clients);
+    for (client, token) in tokens.iter().enumerate() {
+        assert_eq!(rt; token.client() as usize, client);
+        assert_eq!(rt; token.next(), next);
+    }
+}
+
+// The output of a committed call that has one.
+pub(crate) fn output_of(reply: &Option<Reply>) -> Option<u64> {
+    match reply {
+        Some(Reply::Committed(outputs)) if outputs.len() == 1 => outputs.get(0),
+        _ => None,
+    }
+}
+
+// The sessions of tokens.
+fn sessions_of<N: Name>(alloc: Global, tokens: Vec<Token>) -> Result<Vec<Session>, Fail>
+    requires { All (λ t. t.session.table ≡ N.engine.table) tokens.items }
+    ensures { IfOk result (λ s. All (λ s. s.table ≡ N.engine.table) s.items) }
+{
+    let mut tokens = tokens;
+    let mut sessions = Vec::new(alloc);
+    while let Some(token) = tokens.pop() {
+        sessions.push(token.into_session())?;
+    }
+    Ok(sessions)
+}
+
+// What an engine leaves, which closes.
+pub(crate) fn closed_of<N: Name>(
+    rt: &impl Abort,
+    engine: Engine<N, Placing>,
+    sessions: Vec<Session>,
+) -> Closed
+    requires { All (λ s. s.table ≡ N.engine.table) sessions.items }
+{
+    match engine.close(sessions) {
+        Ok(closed) => closed,
+        Err(_) => panic!(rt; "calls are left"),
+    }
+}
+
+// No claim is left open.
+fn none_is_open(rt: &impl Abort, pairs: &[u64]) {
+    for pair in pairs {
+        assert_eq!(rt; *pair, 0);
+    }
+}
+
+// The lines have these outputs, in order.
+fn have_outputs(rt: &impl Abort, lines: &[Line], outputs: &[u64]) {
+    assert_eq!(rt; lines.len(), outputs.len());
+    for (line, output) in lines.iter().zip(outputs) {
+        assert_eq!(rt; output_of(&line.reply), Some(*output));
+    }
+}
+
+// The engine closes with these records, no open claim, and these outputs in order of entry.
+pub(crate) fn closes<N: Name>(
+    rt: &impl Abort,
+    engine: Engine<N, Placing>,
+    sessions: Vec<Session>,
+    records: &[u64],
+    outputs: &[u64],
+)
+    requires { All (λ s. s.table ≡ N.engine.table) sessions.items }
+{
+    let closed = closed_of(rt, engine, sessions);
+    assert_eq!(rt; closed.records.as_slice(), records);
+    none_is_open(rt, closed.pairs.as_slice());
+    have_outputs(rt, closed.journal.as_slice(), outputs);
+}
+
+// The tokens are back from so many bumps each of record 0, and each call has found what the one before it has left.
+pub(crate) fn are_counted<N: Name>(
+    rt: &impl Abort,
+    alloc: Global,
+    engine: Engine<N, Placing>,
+    tokens: Vec<Token>,
+    clients: u16,
+    times: u16,
+) -> Result<(), Fail>
+    requires { All (λ t. t.session.table ≡ N.engine.table) tokens.items }
+{
+    are_home(
+        rt,
+        tokens.as_slice(),
+        usize::from(clients),
+        u32::from(times),
+    );
+    let sessions = sessions_of::<N>(alloc, tokens)?;
+    let total = u64::from(clients) * u64::from(times);
+    let mut outputs = Vec::new(alloc);
+    for output in 1..=total {
+        outputs.push(output)?;
+    }
+    closes(rt, engine, sessions, &[total], outputs.as_slice());
+    Ok(())
+}
