@@ -1,10 +1,14 @@
+ghost use Rattle.std.specs.Prelude.{Some, IfOk, codes};
+ghost use Rattle.clap.specs.Words.{found_of, one_text};
+ghost use Rattle.vll.specs.Private.Options.{Gives};
+
 use crate::fault::Fault;
-use crate::options::{RunOptions, UpTo};
 use clap::error::ErrorKind;
 use clap::{Arg, ArgMatches, Command, Error, value_parser};
 use std::alloc::Global;
 use vll_core::MOST_WAITING;
 use vll_sca::MOST_BITS;
+use vll_server::{RunOptions, UpTo};
 use vll_workers::MOST_WORKERS;
 
 /// What the command line asks for.
@@ -92,24 +96,29 @@ fn number<'a, const MOST: u32>(alloc: Global, name: &'a str, help: &'a str) -> A
 }
 
 // What the options of `run` say.
-fn options_of(matches: &ArgMatches<'_>) -> Result<RunOptions, Fault> {
-    Ok(RunOptions {
-        workers: number_of(matches, "workers")?.ok_or(Fault::CommandLine)?,
-        cap: number_of(matches, "cap")?,
-        bits: number_of(matches, "bits")?,
-    })
+fn options_of(matches: &ArgMatches<'_>) -> Result<RunOptions, Fault>
+    ensures workers { IfOk result (λ o. Gives (one_text (found_of matches.now) (codes "workers")) (Some o.workers)) }
+    ensures cap { IfOk result (λ o. Gives (one_text (found_of matches.now) (codes "cap")) o.cap) }
+    ensures bits { IfOk result (λ o. Gives (one_text (found_of matches.now) (codes "bits")) o.bits) }
+{
+    let workers = number_of(matches, "workers")?.ok_or(Fault::CommandLine)?;
+    let cap = number_of(matches, "cap")?;
+    let bits = number_of(matches, "bits")?;
+    Ok(RunOptions { workers, cap, bits })
 }
 
 // The number that an option gives, if it is there.
 fn number_of<const MOST: u32>(
     matches: &ArgMatches<'_>,
     name: &str,
-) -> Result<Option<UpTo<MOST>>, Fault> {
-    match matches.get_one(name) {
-        Some(number) => UpTo::new(number).map(Some).ok_or(Fault::CommandLine),
-        None => Ok(None),
+) -> Result<Option<UpTo<MOST>>, Fault>
+    ensures { IfOk result (λ number. Gives (one_text (found_of matches.now) name.now) number) }
+{
+    let Some(number) = matches.get_one(name) else {
+        return Ok(None);
+    };
+    match UpTo::new(number) {
+        Some(number) => Ok(Some(number)),
+        None => Err(Fault::CommandLine),
     }
 }
-
-#[cfg(test)]
-mod tests;

@@ -24,6 +24,3 @@ impl Fault {
         }
     }
 }
-
-#[cfg(test)]
-mod tests;

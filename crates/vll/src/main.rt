@@ -4,19 +4,15 @@
 
 mod command;
 mod fault;
-mod options;
-mod serving;
 
 use crate::command::{Action, action_of};
 use crate::fault::Fault;
-use crate::options::RunOptions;
-use crate::serving::serve_as;
 use std::process::ExitCode;
 use std::rt::Env;
 use std::sync::Wait;
 use std::thread::Threads;
 use std::{env, io};
-use vll_server::{Plain, read_scenario, replay};
+use vll_server::{Plain, RunOptions, read_scenario, replay, serve_as};
 use vll_workers::OpenGate;
 
 fn main(rt: HostRuntime) -> ExitCode {

@@ -3,4 +3,5 @@ pub mod Text
 pub mod ReplayText
 pub mod Replay
 pub mod Serve
+pub mod Options
 pub mod Private

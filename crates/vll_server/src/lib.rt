@@ -1,14 +1,16 @@
 //! Scenarios in, texts out: running a scenario's scripts or replaying its schedule, and writing what came of it.
 #![tactic(auto)]
 
+mod choosing;
 mod fault;
+mod options;
 mod replaying;
 mod serving;
-#[cfg(test)]
-mod tests;
 mod text;
 
+pub use choosing::serve_as;
 pub use fault::{ReplayFault, ServeFault, WriteFault};
+pub use options::{Bits, Cap, RunOptions, UpTo, Workers};
 pub use replaying::replay;
 pub use serving::serve;
 pub use text::outcome::write_outcome;

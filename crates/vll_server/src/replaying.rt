@@ -87,6 +87,3 @@ fn core_of(alloc: Global, scenario: Scenario) -> Result<(Core<Placing>, Items<Ev
         }
     }
 }
-
-#[cfg(test)]
-mod tests;

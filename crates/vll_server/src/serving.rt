@@ -182,6 +182,3 @@ fn unfinished<N: Name>(left: NotClosed<N, Placing>) -> ServeFault
         waiting: left.waiting,
     }
 }
-
-#[cfg(test)]
-mod tests;

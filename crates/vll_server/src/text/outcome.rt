@@ -47,6 +47,3 @@ pub(crate) fn write_text<W: Sink>(writer: &mut W, text: &[u8]) -> Result<(), Wri
     }
     writer.flush().map_err(|_| WriteFault::Write)
 }
-
-#[cfg(test)]
-mod tests;

@@ -5,29 +5,29 @@ use vll_core::MOST_WAITING;
 use vll_sca::MOST_BITS;
 use vll_workers::MOST_WORKERS;
 
-/// How `vll run` runs a scenario.
+/// How a scenario is served, by `serve_as`.
 #[derive(Clone, Copy, Debug)]
-pub(crate) struct RunOptions {
+pub struct RunOptions {
     /// How many worker threads make the calls.
-    pub(crate) workers: Workers,
+    pub workers: Workers,
     /// How many calls may wait at a time. None: as many as the scenario says.
-    pub(crate) cap: Option<Cap>,
+    pub cap: Option<Cap>,
     /// How many places the contention analysis has for the records. None: as many as the scenario says.
-    pub(crate) bits: Option<Bits>,
+    pub bits: Option<Bits>,
 }
 
 /// A number of worker threads.
-pub(crate) type Workers = UpTo<MOST_WORKERS>;
+pub type Workers = UpTo<MOST_WORKERS>;
 
 /// A number of calls that may wait at a time.
-pub(crate) type Cap = UpTo<MOST_WAITING>;
+pub type Cap = UpTo<MOST_WAITING>;
 
 /// A number of places for the contention analysis.
-pub(crate) type Bits = UpTo<MOST_BITS>;
+pub type Bits = UpTo<MOST_BITS>;
 
 /// A whole number from 1 to `MOST`.
 #[derive(Clone, Copy, Debug)]
-pub(crate) struct UpTo<const MOST: u32>(u32);
+pub struct UpTo<const MOST: u32>(u32);
 
 impl<const MOST: u32> Model for UpTo<MOST> {
     ghost Value = { ℕ };
@@ -41,7 +41,7 @@ impl<const MOST: u32> Model for UpTo<MOST> {
 
 impl<const MOST: u32> UpTo<MOST> {
     /// The number, or `None` if it is 0 or greater than `MOST`.
-    pub(crate) fn new(number: u32) -> Option<UpTo<MOST>>
+    pub fn new(number: u32) -> Option<UpTo<MOST>>
         ensures some { IsSome result ↔ ((1 ≤ number) × (number ≤ MOST)) }
         ensures value { IfSome result (λ n. n ≡ number) }
     {
@@ -52,7 +52,8 @@ impl<const MOST: u32> UpTo<MOST> {
         }
     }
 
-    pub(crate) fn get(self) -> u32
+    /// The number, from 1 to `MOST`.
+    pub fn get(self) -> u32
         ensures value { result ≡ self.entry }
         ensures least { 1 ≤ result }
         ensures most { result ≤ MOST }

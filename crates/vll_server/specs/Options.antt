@@ -1,0 +1,13 @@
+-- A scenario as it is served if options are given.
+use Rattle.std.specs.Prelude.{unwrap_or}
+use Rattle.vll_scenario.specs.Setup.{Setup}
+use Rattle.vll_server.specs.declared.options.RunOptions.{RunOptions}
+
+-- the scenario with the cap and the number of bits that the options give, and the same in all else
+abbrev pub with_options : RunOptions → Setup → Setup
+with_options o s = record s {
+  config = record s.config {
+    cap = unwrap_or o.cap s.config.cap;
+    bits = unwrap_or o.bits s.config.bits;
+  };
+}
