@@ -139,6 +139,3 @@ impl<H: Place> Core<H> {
         self.machine.words()
     }
 }
-
-#[cfg(test)]
-mod tests;

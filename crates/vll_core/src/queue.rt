@@ -254,6 +254,4 @@ fn is_waiting(status: Status) -> bool
     matches!(status, Status::Waiting)
 }
 
-#[cfg(test)]
-mod tests;
 mod window;

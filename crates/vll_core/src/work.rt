@@ -215,6 +215,3 @@ fn is_write(claim: Option<Claim>) -> bool
 {
     matches!(claim, Some(claim) if matches!(claim.mode, Mode::Write))
 }
-
-#[cfg(test)]
-mod tests;

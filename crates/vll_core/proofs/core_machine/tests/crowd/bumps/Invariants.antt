@@ -1,6 +1,0 @@
-use Rattle.std.proofs.Common.{All}
-use Rattle.vll_check.specs.Calls.{Fits}
-use Rattle.vll_core.proofs.core_machine.tests.crowd.bumps.Given as goal
-
-abbrev pub invariant-loop : goal.invariant-loop
-invariant-loop l = All (Fits l.library) l.script.items

@@ -1,0 +1,145 @@
+// What is done to a core, and what has to come of it.
+use crate::opening::opened;
+use crate::words::{said, standing};
+use std::alloc::{AllocError, Global};
+use std::process::Abort;
+use std::test::Fail;
+use vll_core::{Core, Event, Ticket};
+use vll_sca::Placing;
+
+// An event, in which a ticket is its number.
+#[derive(Clone, Copy, Debug)]
+pub(crate) enum Step {
+    Find(u32),
+    Enter(u32),
+    Claim,
+    Admit,
+    Front,
+    Scan,
+    Load(u32),
+    Store(u32),
+    Release(u32),
+    Finish(u32),
+}
+
+pub(crate) fn event(step: Step) -> Event {
+    match step {
+        Step::Find(client) => Event::Find(client),
+        Step::Enter(client) => Event::Enter(client),
+        Step::Claim => Event::Claim,
+        Step::Admit => Event::Admit,
+        Step::Front => Event::Front,
+        Step::Scan => Event::Scan,
+        Step::Load(ticket) => Event::Load(Ticket(ticket)),
+        Step::Store(ticket) => Event::Store(Ticket(ticket)),
+        Step::Release(ticket) => Event::Release(Ticket(ticket)),
+        Step::Finish(ticket) => Event::Finish(Ticket(ticket)),
+    }
+}
+
+#[derive(Clone, Copy)]
+pub(crate) enum Act<'a> {
+    // Each of these events in turn is answered in these words.
+    Play(&'a [(Step, &'a str)]),
+    // Each of these events is refused in these words, and leaves the calls, their statuses and the words.
+    Refuse(&'a [(Step, &'a str)]),
+    // The core is drained, by so many events.
+    Drain(u64),
+    // As many calls run, and as many wait.
+    Counts(u32, u32),
+    // The core has these words.
+    Words(&'a [u64]),
+    // This stands in the core.
+    Stands(&'a str),
+}
+
+// What a core answers an event.
+fn answer(alloc: Global, core: &mut Core<Placing>, step: Step) -> Result<String, AllocError> {
+    said(alloc, core.step(event(step)))
+}
+
+pub(crate) fn play(
+    rt: &(impl AllocGlobal + Abort),
+    core: &mut Core<Placing>,
+    steps: &[(Step, &str)],
+) -> Result<(), Fail> {
+    for (step, words) in steps {
+        let said = answer(rt.alloc(), core, *step)?;
+        assert_eq!(rt; said.as_str(), *words, "{step:?}");
+    }
+    Ok(())
+}
+
+fn check_standing(
+    rt: &(impl AllocGlobal + Abort),
+    core: &Core<Placing>,
+    text: &str,
+) -> Result<(), Fail> {
+    let now = standing(rt.alloc(), core)?;
+    assert_eq!(rt; now.as_str(), text);
+    Ok(())
+}
+
+fn refuse(
+    rt: &(impl AllocGlobal + Abort),
+    core: &mut Core<Placing>,
+    steps: &[(Step, &str)],
+) -> Result<(), Fail> {
+    let before = standing(rt.alloc(), core)?;
+    for (step, words) in steps {
+        play(rt, core, &[(*step, *words)])?;
+        let after = standing(rt.alloc(), core)?;
+        assert_eq!(rt; after, before, "{step:?}");
+    }
+    Ok(())
+}
+
+fn check_drain(rt: &impl Abort, core: &mut Core<Placing>, made: u64) {
+    assert_eq!(rt; core.drain(), made);
+}
+
+fn check_counts(rt: &impl Abort, core: &Core<Placing>, running: u32, waiting: u32) {
+    assert_eq!(rt; core.running(), running);
+    assert_eq!(rt; core.waiting(), waiting);
+}
+
+fn check_words(rt: &impl Abort, core: &Core<Placing>, words: &[u64]) {
+    assert_eq!(rt; core.words(), words);
+}
+
+fn perform(
+    rt: &(impl AllocGlobal + Abort),
+    core: &mut Core<Placing>,
+    act: Act,
+) -> Result<(), Fail> {
+    match act {
+        Act::Play(steps) => play(rt, core, steps),
+        Act::Refuse(steps) => refuse(rt, core, steps),
+        Act::Drain(made) => {
+            check_drain(rt, core, made);
+            Ok(())
+        }
+        Act::Counts(running, waiting) => {
+            check_counts(rt, core, running, waiting);
+            Ok(())
+        }
+        Act::Words(words) => {
+            check_words(rt, core, words);
+            Ok(())
+        }
+        Act::Stands(text) => check_standing(rt, core, text),
+    }
+}
+
+// Goes through these acts in turn, with the core of a scenario.
+pub(crate) fn run(
+    rt: &(impl AllocGlobal + Abort),
+    scenario: &str,
+    acts: &[Act],
+) -> Result<(), Fail> {
+    let mut core = opened(rt.alloc(), scenario)?;
+    for each in acts {
+        perform(rt, &mut core, *each)?;
+    }
+    Ok(())
+}

@@ -1,0 +1,102 @@
+// As many calls as a core can have entered, all of one record.
+ghost use Rattle.std.specs.Prelude.{All, IfOk};
+ghost use Rattle.vll_check.specs.Calls.{Fits};
+
+use crate::acts::Step::{Admit, Claim, Enter};
+use crate::acts::play;
+use std::alloc::Global;
+use std::process::Abort;
+use std::test::Fail;
+use vll_check::{CallFault, Library};
+use vll_core::{Config, Core};
+use vll_proc::Call;
+use vll_sca::Placing;
+use vll_test_procedures::library;
+
+// A bump of record 0.
+fn bump(library: &Library) -> Result<Call, CallFault>
+    ensures { IfOk result (Fits library.now) }
+{
+    library.call("bump", &[0])
+}
+
+// So many bumps of record 0.
+fn bumps(alloc: Global, library: &Library, count: usize) -> Result<Vec<Call>, Fail>
+    ensures { IfOk result (λ script. All (Fits library.now) script.items) }
+{
+    let mut script = Vec::new(alloc);
+    for _ in 0..count {
+        let call = bump(library)?;
+        script.push(call)?;
+    }
+    Ok(script)
+}
+
+// The scripts of two clients: of as many bumps as can enter, and of one.
+fn scripts(alloc: Global, library: &Library) -> Result<Vec<Vec<Call>>, Fail>
+    ensures { IfOk result (λ scripts. All (λ script. All (Fits library.now) script.items) scripts.items) }
+{
+    let mut scripts = Vec::new(alloc);
+    for count in [65_536, 1] {
+        let script = bumps(alloc, library, count)?;
+        scripts.push(script)?;
+    }
+    Ok(scripts)
+}
+
+// A core over one record that is 0, with these scripts, in which as many calls may enter and wait as can.
+fn core(alloc: Global) -> Result<Core<Placing>, Fail> {
+    let library = library(alloc, 1)?;
+    let scripts = scripts(alloc, &library)?;
+    let records = vec![in alloc; 0]?;
+    let config = Config {
+        cap: 65_536,
+        limit: 65_536,
+        bits: 64,
+    };
+    let core = Core::open(alloc, records, library, scripts, config, Placing::Modulo)?;
+    Ok(core)
+}
+
+// A bump enters behind so many others.
+fn enter_behind(
+    rt: &(impl AllocGlobal + Abort),
+    core: &mut Core<Placing>,
+    others: u16,
+) -> Result<(), Fail> {
+    let word = u64::from(others) * 4_294_967_296;
+    let claimed = format!(in rt.alloc(); "claimed {word} denied")?;
+    let admitted = format!(in rt.alloc(); "blocked {others}")?;
+    play(
+        rt,
+        core,
+        &[
+            (Enter(0), "opened"),
+            (Claim, claimed.as_str()),
+            (Admit, admitted.as_str()),
+        ],
+    )
+}
+
+#[test]
+fn as_many_calls_as_can_wait_for_one_record_and_end(rt: HostRuntime) -> Result<(), Fail> {
+    let mut core = core(rt.alloc())?;
+    play(
+        &rt,
+        &mut core,
+        &[
+            (Enter(0), "opened"),
+            (Claim, "claimed 0 granted"),
+            (Admit, "free 0"),
+        ],
+    )?;
+    for others in 1..=65_535 {
+        enter_behind(&rt, &mut core, others)?;
+    }
+    assert_eq!(rt; core.words(), [0, 0, 281_474_976_710_656].as_slice());
+    play(&rt, &mut core, &[(Enter(1), "refused spent")])?;
+    // Four steps for the first, and five for each that waits.
+    assert_eq!(rt; core.drain(), 4 + 5 * 65_535);
+    assert_eq!(rt; core.words(), [0, 65_536, 0].as_slice());
+    Ok(())
+}

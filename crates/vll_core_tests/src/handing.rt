@@ -1,0 +1,182 @@
+// Calls that are handed in.
+ghost use Rattle.std.specs.Prelude.{◌≡◌, ◌<◌, IfOk, length};
+ghost use Rattle.vll_check.specs.Calls.{IsReady};
+ghost use Rattle.vll_core.specs.Shown.{library_of};
+
+use self::Turn::{Hand, Then};
+use crate::acts::Step::{self, Admit, Claim, Enter, Find, Finish, Front, Load, Release, Store};
+use crate::acts::event;
+use crate::words::{said, words_of};
+use std::alloc::{AllocError, Global};
+use std::process::Abort;
+use std::test::Fail;
+use vll_check::{CallFault, Library};
+use vll_core::Core;
+use vll_proc::Call;
+use vll_sca::Placing;
+use vll_test_procedures::parts;
+
+// One call may wait, and the script is empty. Two calls may enter, or three.
+const LIMIT_OF_2: &str = r#"{"version":1,"records":[0],
+ "procs":[
+  {"name":"bump","args":1,"keys":[["write","arg",0]],
+   "body":[["set",0,["add",["key",0],1]],["reply",["key",0]]]}],
+ "clients":[[]],"cap":1,"limit":2,"bits":64}"#;
+
+const LIMIT_OF_3: &str = r#"{"version":1,"records":[0],
+ "procs":[
+  {"name":"bump","args":1,"keys":[["write","arg",0]],
+   "body":[["set",0,["add",["key",0],1]],["reply",["key",0]]]}],
+ "clients":[[]],"cap":1,"limit":3,"bits":64}"#;
+
+// One call may wait, and the script has a call that adds 1 to the record that record 0 leads to.
+const VIA: &str = r#"{"version":1,"records":[0],
+ "procs":[
+  {"name":"bump","args":1,"keys":[["write","arg",0]],
+   "body":[["set",0,["add",["key",0],1]],["reply",["key",0]]]},
+  {"name":"via","args":1,"keys":[["read","arg",0],["write","through",0]],
+   "body":[["set",1,["add",["key",1],1]],["reply",["key",1]]]}],
+ "clients":[[{"proc":"via","args":[0]}]],"cap":1,"limit":4,"bits":64}"#;
+
+// What is done to a core: the call is handed in for client 0, or an event is stepped.
+#[derive(Clone, Copy, Debug)]
+enum Turn {
+    Hand,
+    Then(Step),
+}
+
+// What a core answers when the call is handed in.
+fn handed(core: &mut Core<Placing>, call: &Call) -> &'static str
+    requires client { 0 < length core.old.state.scripts }
+    requires ready { IsReady (library_of core.old) call.now }
+    ensures library { library_of core.new ≡ library_of core.old }
+    ensures clients { length core.new.state.scripts ≡ length core.old.state.scripts }
+{
+    match core.enter(0, *call) {
+        Ok(()) => "opened",
+        Err(refusal) => words_of(refusal),
+    }
+}
+
+fn answer(
+    alloc: Global,
+    core: &mut Core<Placing>,
+    call: &Call,
+    turn: Turn,
+) -> Result<String, AllocError>
+    requires client { 0 < length core.old.state.scripts }
+    requires ready { IsReady (library_of core.old) call.now }
+    ensures library { library_of core.new ≡ library_of core.old }
+    ensures clients { length core.new.state.scripts ≡ length core.old.state.scripts }
+{
+    match turn {
+        Hand => String::from_str(alloc, handed(core, call)),
+        Then(step) => said(alloc, core.step(event(step))),
+    }
+}
+
+fn check_said(rt: &impl Abort, turn: Turn, said: &str, words: &str) {
+    assert_eq!(rt; said, words, "{turn:?}");
+}
+
+fn play(
+    rt: &(impl AllocGlobal + Abort),
+    core: &mut Core<Placing>,
+    call: &Call,
+    turns: &[(Turn, &str)],
+) -> Result<(), Fail>
+    requires client { 0 < length core.old.state.scripts }
+    requires ready { IsReady (library_of core.old) call.now }
+{
+    for (turn, words) in turns {
+        let said = answer(rt.alloc(), core, call, *turn)?;
+        check_said(rt, *turn, said.as_str(), words);
+    }
+    Ok(())
+}
+
+// A bump of record 0, which needs no value.
+fn bump(library: &Library) -> Result<Call, CallFault>
+    ensures { IfOk result (IsReady library.now) }
+{
+    let call = library.call("bump", &[0])?;
+    Ok(library.with_found(&call, 0))
+}
+
+// The core of a scenario that has a client, and a bump of record 0 that is ready for it.
+fn opened(alloc: Global, scenario: &str) -> Result<(Core<Placing>, Call), Fail>
+    ensures client { IfOk result (λ r. 0 < length r.0.state.scripts) }
+    ensures ready { IfOk result (λ r. IsReady (library_of r.0) r.1) }
+{
+    let parts = parts(alloc, scenario)?;
+    let bump = bump(&parts.library)?;
+    if parts.scripts.is_empty() {
+        return Err(Fail::new("a scenario without a client"));
+    }
+    let core = Core::open(
+        alloc,
+        parts.records,
+        parts.library,
+        parts.scripts,
+        parts.config,
+        parts.placing,
+    )?;
+    Ok((core, bump))
+}
+
+// Goes through these turns with the core of a scenario. The call that is handed in each time is a bump of record 0.
+fn run(
+    rt: &(impl AllocGlobal + Abort),
+    scenario: &str,
+    turns: &[(Turn, &str)],
+) -> Result<(), Fail> {
+    let (mut core, bump) = opened(rt.alloc(), scenario)?;
+    play(rt, &mut core, &bump, turns)
+}
+
+// If as many calls as the limit are entered, that is reported, also if as many as the cap wait.
+#[test]
+fn cap_and_limit_hold_of_calls_that_are_handed_in(rt: HostRuntime) -> Result<(), Fail> {
+    for (scenario, last) in [(LIMIT_OF_2, "refused spent"), (LIMIT_OF_3, "refused busy")] {
+        run(
+            &rt,
+            scenario,
+            &[
+                (Hand, "opened"),
+                (Hand, "refused turn open"),
+                (Then(Claim), "claimed 0 granted"),
+                (Then(Admit), "free 0"),
+                (Hand, "opened"),
+                (Then(Claim), "claimed 4294967296 denied"),
+                (Then(Admit), "blocked 1"),
+                (Hand, last),
+            ],
+        )?;
+    }
+    Ok(())
+}
+
+#[test]
+fn value_is_kept_while_calls_are_handed_in(rt: HostRuntime) -> Result<(), Fail> {
+    run(
+        &rt,
+        VIA,
+        &[
+            (Then(Find(0)), "found 0"),
+            (Hand, "opened"),
+            (Hand, "refused turn open"),
+            (Then(Claim), "claimed 0 granted"),
+            (Then(Admit), "free 0"),
+            (Hand, "opened"),
+            (Then(Claim), "claimed 4294967296 denied"),
+            (Then(Admit), "blocked 1"),
+            (Hand, "refused busy"),
+            (Then(Load(0)), "loaded 0"),
+            (Then(Store(0)), "stored"),
+            (Then(Release(0)), "released 8589934592"),
+            (Then(Finish(0)), "replied committed 1"),
+            (Then(Front), "run 1"),
+            (Then(Enter(0)), "opened"),
+        ],
+    )
+}

@@ -1,0 +1,21 @@
+//! What a core and a queue answer, step by step: the tests of vll_core.
+#![tactic(auto)]
+
+#[cfg(test)]
+mod acts;
+#[cfg(test)]
+mod crowd;
+#[cfg(test)]
+mod draining;
+#[cfg(test)]
+mod handing;
+#[cfg(test)]
+mod opening;
+#[cfg(test)]
+mod queue;
+#[cfg(test)]
+mod refusals;
+#[cfg(test)]
+mod running;
+#[cfg(test)]
+mod words;

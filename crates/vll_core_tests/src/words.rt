@@ -1,0 +1,125 @@
+// Answers, and what stands in a core, in words.
+use std::alloc::{AllocError, Global};
+use vll_core::{Core, Line, Refusal, Seen, Ticket};
+use vll_proc::{Outputs, Reason, Reply};
+use vll_sca::{Placing, Status};
+
+fn push_reason(text: &mut String, why: Reason) -> Result<(), AllocError> {
+    match why {
+        Reason::Code(code) => write!(text, "code {code}"),
+        Reason::Overflow => text.push_str("overflow"),
+        Reason::Underflow => text.push_str("underflow"),
+        Reason::ZeroDivisor => text.push_str("zero divisor"),
+        Reason::Moved => text.push_str("moved"),
+    }
+}
+
+fn push_outputs(text: &mut String, outputs: &Outputs) -> Result<(), AllocError> {
+    for i in 0..outputs.len() {
+        if let Some(output) = outputs.get(i) {
+            write!(text, " {output}")?;
+        }
+    }
+    Ok(())
+}
+
+fn push_reply(text: &mut String, reply: &Reply) -> Result<(), AllocError> {
+    match reply {
+        Reply::Committed(outputs) => {
+            text.push_str("committed")?;
+            push_outputs(text, outputs)
+        }
+        Reply::Aborted(why) => {
+            text.push_str("aborted ")?;
+            push_reason(text, *why)
+        }
+    }
+}
+
+fn push_request(text: &mut String, old: u64, granted: bool) -> Result<(), AllocError> {
+    let answer = if granted { "granted" } else { "denied" };
+    write!(text, "claimed {old} {answer}")
+}
+
+fn push_ticket(text: &mut String, answer: &str, ticket: Ticket) -> Result<(), AllocError> {
+    let number = ticket.0;
+    write!(text, "{answer} {number}")
+}
+
+fn push_seen(text: &mut String, seen: &Seen) -> Result<(), AllocError> {
+    match seen {
+        Seen::Found(value) => write!(text, "found {value}"),
+        Seen::Opened => text.push_str("opened"),
+        Seen::Claimed { old, granted } => push_request(text, *old, *granted),
+        Seen::Free(ticket) => push_ticket(text, "free", *ticket),
+        Seen::Blocked(ticket) => push_ticket(text, "blocked", *ticket),
+        Seen::Run(ticket) => push_ticket(text, "run", *ticket),
+        Seen::Loaded(value) => write!(text, "loaded {value}"),
+        Seen::Stored => text.push_str("stored"),
+        Seen::Released(old) => write!(text, "released {old}"),
+        Seen::Replied(reply) => {
+            text.push_str("replied ")?;
+            push_reply(text, reply)
+        }
+    }
+}
+
+pub(crate) fn words_of(refusal: Refusal) -> &'static str {
+    match refusal {
+        Refusal::TurnOpen => "refused turn open",
+        Refusal::NoTurn => "refused no turn",
+        Refusal::NoCall => "refused no call",
+        Refusal::Spent => "refused spent",
+        Refusal::Busy => "refused busy",
+        Refusal::NotRunning => "refused not running",
+        Refusal::OutOfStep => "refused out of step",
+        Refusal::Idle => "refused idle",
+    }
+}
+
+// What an event was answered.
+pub(crate) fn said(alloc: Global, answer: Result<Seen, Refusal>) -> Result<String, AllocError> {
+    let mut text = String::new(alloc);
+    match answer {
+        Ok(seen) => push_seen(&mut text, &seen)?,
+        Err(refusal) => text.push_str(words_of(refusal))?,
+    }
+    Ok(text)
+}
+
+// Where a call stands, or its reply.
+fn push_state(text: &mut String, state: Option<Status>, line: &Line) -> Result<(), AllocError> {
+    match (state, &line.reply) {
+        (Some(Status::Running), None) => text.push_str("running"),
+        (Some(Status::Waiting), None) => text.push_str("waiting"),
+        (Some(Status::Gone), Some(reply)) => push_reply(text, reply),
+        _ => text.push_str("neither running nor waiting nor gone"),
+    }
+}
+
+fn push_calls(text: &mut String, core: &Core<Placing>) -> Result<(), AllocError> {
+    for (ticket, line) in (0..65_536).zip(core.journal()) {
+        let client = line.client;
+        write!(text, "call {ticket} client {client} ")?;
+        push_state(text, core.state(Ticket(ticket)), line)?;
+        text.push_str("\n")?;
+    }
+    Ok(())
+}
+
+fn push_records(text: &mut String, words: &[u64]) -> Result<(), AllocError> {
+    for record in 0..words.len() / 2 {
+        if let (Some(value), Some(pair)) = (words.get(1 + 2 * record), words.get(2 + 2 * record)) {
+            writeln!(text, "record {record} value {value} pair {pair}")?;
+        }
+    }
+    Ok(())
+}
+
+// What stands in a core: a line for each entered call, and then one for each record.
+pub(crate) fn standing(alloc: Global, core: &Core<Placing>) -> Result<String, AllocError> {
+    let mut text = String::new(alloc);
+    push_calls(&mut text, core)?;
+    push_records(&mut text, core.words())?;
+    Ok(text)
+}
