@@ -5,7 +5,6 @@
 mod answer;
 mod rooms;
 mod runs;
-mod scripts;
 mod texts;
 mod unready;
 

@@ -5,7 +5,6 @@ ghost use Rattle.vll_engine.specs.Shown.{library_of, name_of};
 ghost use Rattle.vll_sca.specs.Placing.{placing};
 
 use crate::answer::Answer;
-use crate::scripts::{opening, tokens};
 use crate::unready::Unready;
 use crate::{begin, end};
 use std::alloc::Global;
@@ -16,6 +15,7 @@ use vll_core::Line;
 use vll_engine::{Closed, Name, Opening};
 use vll_proc::{Call, Reply};
 use vll_sca::Placing;
+use vll_scripts::{opening, tokens};
 use vll_server::{MOST_CLIENTS, Plain, Scenario, ScenarioFault, read_scenario};
 use vll_workers::{OpenGate, RunFault, Token, run, run_limited};
 

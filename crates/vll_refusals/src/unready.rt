@@ -1,6 +1,5 @@
 use std::alloc::{AllocError, AllocFailed};
 use std::io;
-use vll_core::OpenFault;
 use vll_server::ScenarioFault;
 
 /// The call could not be made: what it needs was not there.
@@ -27,12 +26,6 @@ impl From<io::Error> for Unready {
 
 impl From<ScenarioFault> for Unready {
     fn from(_: ScenarioFault) -> Unready {
-        Unready
-    }
-}
-
-impl From<OpenFault> for Unready {
-    fn from(_: OpenFault) -> Unready {
         Unready
     }
 }

@@ -10,20 +10,20 @@ use Rattle.vll_sca.specs.declared.place.Placing.{Placing}
 use Rattle.vll_sca.specs.Placing.{placing}
 use Rattle.vll_engine.specs.Shown.{OpeningShown, library_of, name_of}
 use Rattle.vll_scenario.proofs.Bounds.{scripts_short}
-use Rattle.vll_refusals.proofs.scripts.opening.Goals as goal
+use Rattle.vll_scripts.proofs.scripts.opening.Goals as goal
 
-pub returns-clause-short : goal.returns-clause-short
-returns-clause-short c =
+pub returns-in-Ok-clause-short : goal.returns-in-Ok-clause-short
+returns-in-Ok-clause-short c =
     let few = subst (λ (scripts : List (List Call)). sum_by length scripts ≤ MOST_CALLS) (sym c.into_parts-records.ensures.scripts) c.into_parts-records.ensures.kept.sizes.few_calls in
     scripts_short c.into_parts-records.result.scripts.items few
 
 -- the engine's library is the scenario's
-pub returns-clause-fits : goal.returns-clause-fits
-returns-clause-fits c =
+pub returns-in-Ok-clause-fits : goal.returns-in-Ok-clause-fits
+returns-in-Ok-clause-fits c =
     let parts = c.into_parts-records.result in
-    let opened : library_of (name_of placing c.in_ok-opening.opening) ≡ record { records = length parts.records.items; procs = parts.library.procs } =
-    ap (λ (o : OpeningShown Placing). library_of (name_of placing o)) c.in_ok-opening.ensures.opened in
-    let kept : library_of (name_of placing c.in_ok-opening.opening) ≡ parts.library =
+    let opened : library_of (name_of placing c.in-Ok.opening) ≡ record { records = length parts.records.items; procs = parts.library.procs } =
+    ap (λ (o : OpeningShown Placing). library_of (name_of placing o)) c.in-Ok.ensures.opened in
+    let kept : library_of (name_of placing c.in-Ok.opening) ≡ parts.library =
     opened
     ∙ ap₂ (λ (records : List ℕ) (library : Catalog). record { records = length records; procs = library.procs }) c.into_parts-records.ensures.records c.into_parts-records.ensures.library
     ∙ sym c.into_parts-records.ensures.library in

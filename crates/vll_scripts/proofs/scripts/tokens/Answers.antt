@@ -1,4 +1,4 @@
-use Rattle.std.proofs.Common.{◌≡◌, ◌≤◌, ◌<◌, ◌^◌, ◌++◌, ◌∷◌, [], List, suc, ◌∙◌, sym, ap, subst, length, arith, length-append, add-one, nat_eq, Some}
+use Rattle.std.proofs.Common.{◌≡◌, ◌≤◌, ◌<◌, ◌^◌, ◌++◌, ◌∷◌, [], List, suc, ◌∙◌, sym, ap, subst, length, arith, length-append, add-one, Some}
 use Rattle.std.specs.Global.{Vec}
 use Rattle.std.specs.List.{All}
 use Rattle.std.specs.Option.{option_to_list}
@@ -8,11 +8,11 @@ use Rattle.vll_check.specs.Calls.{Fits}
 use Rattle.vll_counters.specs.Shown.{SessionShown}
 use Rattle.vll_engine.specs.Shown.{library_of}
 use Rattle.vll_workers.specs.Shown.{TokenShown}
-use Rattle.vll_workers.specs.Tokens.{AreFit, IsFit, clients_of}
+use Rattle.vll_workers.specs.Tokens.{AreFit, IsFit}
 use Rattle.vll_workers.proofs.Distinct.{above_push, distinct_none, distinct_push}
 use Rattle.vll_workers.proofs.Fit.{fit_push}
 use Rattle.vll_server.proofs.Handed.{last_session}
-use Rattle.vll_refusals.proofs.scripts.tokens.Goals as goal
+use Rattle.vll_scripts.proofs.scripts.tokens.Goals as goal
 
 pub loop-script-init : goal.loop-script-init
 loop-script-init g c =

@@ -6,7 +6,7 @@ use Rattle.vll_counters.specs.Shown.{AreNewSessions}
 use Rattle.vll_engine.specs.Shown.{library_of}
 use Rattle.vll_workers.specs.Tokens.{AreFit, clients_of}
 use Rattle.vll_scenario.specs.declared.limits.TheConstants.{MOST_CLIENTS}
-use Rattle.vll_refusals.proofs.scripts.tokens.Given as goal
+use Rattle.vll_scripts.proofs.scripts.tokens.Given as goal
 
 abbrev pub invariant-loop-script : goal.invariant-loop-script
 invariant-loop-script g l = record {

@@ -1,4 +1,3 @@
-//! The scripts of a scenario, and the engine and the tokens for them.
 ghost use Rattle.std.specs.Prelude.{◌≡◌, ◌≤◌, ◌<◌, ◌^◌, All, IfOk, length, nat_eq, sum_by};
 ghost use Rattle.std.specs.List.{IsDistinct};
 ghost use Rattle.vll_check.specs.Calls.{Fits};
@@ -8,21 +7,21 @@ ghost use Rattle.vll_sca.specs.Placing.{placing};
 ghost use Rattle.vll_scenario.specs.Setup.{lists_of};
 ghost use Rattle.vll_workers.specs.Tokens.{AreFit, clients_of};
 
-use crate::unready::Unready;
 use std::alloc::{AllocError, Global};
-use vll_core::{Config, MOST_CALLS};
+use vll_core::{Config, MOST_CALLS, OpenFault};
 use vll_engine::{Name, Opening, Session};
 use vll_proc::Call;
 use vll_sca::Placing;
-use vll_server::{MOST_CLIENTS, Scenario, ScenarioParts};
+use vll_scenario::{MOST_CLIENTS, Scenario, ScenarioParts};
 use vll_workers::Token;
 
-/// An engine over a scenario's records and procedures, with a client for each script, that takes as many calls as
-/// the scripts have, and the scripts.
-pub(crate) fn opening(
+/// An engine over a scenario's records and procedures, which has no name yet, and the scripts. The engine has the
+/// scenario's cap, bits and hash, a client for each script, and takes as many calls as the scripts have. All its
+/// memory is taken here, and for want of it the call fails.
+pub fn opening(
     alloc: Global,
     scenario: Scenario,
-) -> Result<(Opening<Placing>, Vec<Vec<Call>>), Unready>
+) -> Result<(Opening<Placing>, Vec<Vec<Call>>), AllocError>
     ensures clients { IfOk result (λ made. made.0.clients ≡ length made.1.items) }
     ensures few { IfOk result (λ made. length made.1.items ≤ MOST_CLIENTS) }
     ensures short { IfOk result (λ made. All (λ script. length script.items < 2 ^ 32) made.1.items) }
@@ -37,16 +36,24 @@ pub(crate) fn opening(
         ..
     } = scenario.into_parts();
     let config = Config {
+        cap: config.cap,
         limit: number_of_calls(scripts.as_slice()).max(1),
-        ..config
+        bits: config.bits,
     };
     let clients = scripts.len() as u32;
-    let opening = Opening::new(alloc, records, library, config, placing, clients)?;
-    Ok((opening, scripts))
+    match Opening::new(alloc, records, library, config, placing, clients) {
+        Ok(opening) => Ok((opening, scripts)),
+        Err(OpenFault::NoMemory) => Err(AllocError),
+        // A scenario has the sizes that an engine can be opened with.
+        Err(OpenFault::Records | OpenFault::Limit | OpenFault::Cap | OpenFault::Bits) => {
+            unreachable!()
+        }
+    }
 }
 
-/// A token for each client, the last one's first, with its session and its script.
-pub(crate) fn tokens<N: Name>(
+/// A token for each client, the last one's first, with its session and its script. The sessions are those with which
+/// an engine of this name starts, one for each script, in order. It fails for want of memory.
+pub fn tokens<N: Name>(
     alloc: Global,
     sessions: Vec<Session>,
     scripts: Vec<Vec<Call>>,
@@ -72,6 +79,7 @@ pub(crate) fn tokens<N: Name>(
 // How many calls all scripts have together.
 fn number_of_calls(scripts: &[Vec<Call>]) -> u32
     requires { sum_by length (lists_of scripts.now) ≤ MOST_CALLS }
+    ensures { result ≡ sum_by length (lists_of scripts.now) }
 {
     let mut count = 0;
     for script in scripts {
