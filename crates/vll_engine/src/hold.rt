@@ -131,9 +131,11 @@ impl<'a, N: Name, H: Place + Send + Drop> Hold<'a, N, H> {
         Some(self.guard.pass(seat, ticket))
     }
 
-    /// The same, unless a scan is put off. A scan by this call that finds none among many that wait puts the next one off
-    /// until calls have been finished, at most one for each eight of those, so that what such scans cost a call does not
-    /// grow with the calls that wait. A call that waits is held up by this until it is at the front at most.
+    /// The same, unless a scan is put off. A scan that finds none owes as many entries as calls wait. Each finished call
+    /// pays for eight of them, and each time that this call puts a scan off for 64. One is put off while 64 or more are
+    /// owed and 64 calls or more wait, so that what such scans cost a call does not grow with the calls that wait. At most
+    /// one time in a row for each 64 that wait this answers `None` though a scan would find a call. Whoever is about to
+    /// leave the engine alone asks `next_scan` in its place.
     pub fn next_scan_if_due(&mut self) -> Option<Pass>
         ensures { IfSome result (IsFresh N.engine) }
     {

@@ -1,12 +1,12 @@
-// A scan that is put off while many calls wait.
-ghost use Rattle.std.specs.Prelude.{◌≡◌, IfSome};
+// Scans that are put off while many calls wait.
+ghost use Rattle.std.specs.Prelude.{◌≡◌, ◌≤◌, IfSome};
 ghost use Rattle.vll_engine.specs.Pass.{IsFresh};
 ghost use Rattle.vll_engine.specs.Shown.{name_of};
 ghost use Rattle.vll_sca.specs.Placing.{placing};
 
 use crate::opening::opening;
 use crate::playing::{
-    begins_blocked, begins_free, closes, finishes, is_given, is_not_given, last_of, started,
+    begins_blocked, begins_free, closed_of, finishes, is_given, is_not_given, last_of, started,
 };
 use std::marker::Brand;
 use std::process::Abort;
@@ -15,11 +15,6 @@ use std::test::*;
 use vll_engine::{Engine, Name, Opening, Pass, Session};
 use vll_sca::Placing;
 
-// So many bumps wait for record 0, under the tickets from this one on.
-const WAITING: u32 = 72;
-
-const FIRST: u32 = 3;
-
 // The pass that a scan gives, if one is due.
 fn scans<N: Name, R: Wait>(rt: &R, engine: &Engine<N, Placing>) -> Option<Pass>
     ensures { IfSome result (IsFresh N.engine) }
@@ -27,33 +22,110 @@ fn scans<N: Name, R: Wait>(rt: &R, engine: &Engine<N, Placing>) -> Option<Pass>
     engine.hold(rt).next_scan_if_due()
 }
 
-// Bumps of record 0 are blocked.
+// So many bumps of record 0 are blocked, under the tickets from this one on.
 fn begins_many<N: Name, R: Wait + Abort>(
     rt: &R,
     engine: &Engine<N, Placing>,
     session: Session,
+    from: u32,
+    many: u16,
 ) -> Session
-    requires { session.table ≡ N.engine.table }
+    requires few { from ≤ 8 }
+    requires session { session.table ≡ N.engine.table }
     ensures { result.table ≡ N.engine.table }
 {
     let mut session = session;
-    for ticket in FIRST..FIRST + WAITING {
+    for ticket in from..from + u32::from(many) {
         begins_blocked(rt, engine, &mut session, 0, ticket);
     }
     session
 }
 
 // They run one after the other, each at the front.
-fn finishes_many<N: Name, R: Wait + Abort>(rt: &R, engine: &Engine<N, Placing>) {
-    for ticket in FIRST..FIRST + WAITING {
-        let pass = is_given::<N, R>(rt, engine.next_front(rt), ticket);
-        finishes(rt, engine, pass, ticket as u64 - 1);
+fn finishes_many<N: Name, R: Wait + Abort>(
+    rt: &R,
+    engine: &Engine<N, Placing>,
+    from: u32,
+    many: u16,
+)
+    requires { from ≤ 8 }
+{
+    for index in 0..u32::from(many) {
+        let pass = is_given::<N, R>(rt, engine.next_front(rt), from + index);
+        finishes(rt, engine, pass, u64::from(index) + 2);
     }
 }
 
-// Tickets 0, 1 and 2 run, 72 calls wait for record 0, and ticket 75 for record 1. A scan finds none. So the next is put
-// off until two calls are gone: ticket 1, by which ticket 75 may run, and ticket 2.
-fn scans_once_two_are_gone<N: Name, R: Wait + Abort>(rt: &R, opening: Opening<Placing>)
+// So many times in a row a scan is put off.
+fn are_put_off<N: Name, R: Wait + Abort>(rt: &R, engine: &Engine<N, Placing>, times: u8) {
+    for _ in 0..times {
+        let scanned = scans(rt, engine);
+        is_not_given(rt, engine, scanned);
+    }
+}
+
+// The next scan, which asks whether one is due or does not ask.
+fn next_scan<N: Name, R: Wait>(rt: &R, engine: &Engine<N, Placing>, if_due: bool) -> Option<Pass>
+    ensures { IfSome result (IsFresh N.engine) }
+{
+    if if_due {
+        return scans(rt, engine);
+    }
+    engine.next_scan(rt)
+}
+
+// Tickets 0 and 1 run, so many calls wait for record 0, and the last one for record 1. A scan finds none. Then ticket 1
+// is gone, and the last call may run. The scan is put off so many times, and then finds it.
+fn scans_after_some_are_put_off<N: Name, R: Wait + Abort>(
+    rt: &R,
+    opening: Opening<Placing>,
+    many: u16,
+    times: u8,
+    if_due: bool,
+)
+    requires { N.engine ≡ name_of placing opening }
+{
+    let (engine, mut sessions) = started::<N>(opening);
+    let mut session = last_of::<N>(rt, &mut sessions);
+    let zero = begins_free(rt, &engine, &mut session, 0, 0);
+    let one = begins_free(rt, &engine, &mut session, 1, 1);
+    let mut session = begins_many(rt, &engine, session, 2, many);
+    let last = 2 + u32::from(many);
+    begins_blocked(rt, &engine, &mut session, 1, last);
+    are_put_off(rt, &engine, 1);
+    finishes(rt, &engine, one, 1);
+    are_put_off(rt, &engine, times);
+    let found = is_given::<N, R>(rt, next_scan(rt, &engine, if_due), last);
+    finishes(rt, &engine, found, 2);
+    finishes(rt, &engine, zero, 1);
+    finishes_many(rt, &engine, 2, many);
+    let closed = closed_of(rt, engine, sessions);
+    let value = u64::from(many) + 1;
+    assert_eq!(rt; closed.records.as_slice(), [value, 2].as_slice());
+}
+
+// While fewer than 64 wait, no scan is put off. Of more each owes one, a finished call pays for 8, and each time that a
+// scan is put off for 64, until fewer than 64 are owed. The engine's own call puts none off.
+#[test]
+fn scan_is_put_off_for_so_long(rt: HostRuntime) -> Result<(), Fail> {
+    for (many, times, if_due) in [
+        (9, 0, true),
+        (40, 0, true),
+        (72, 1, true),
+        (81, 1, true),
+        (1_000, 15, true),
+        (1_000, 3, false),
+    ] {
+        let calls = u32::from(many) + 3;
+        let opening = opening(rt.alloc(), 2, calls, calls, 1)?;
+        scans_after_some_are_put_off::<Brand, HostRuntime>(&rt, opening, many, times, if_due);
+    }
+    Ok(())
+}
+
+// Two calls run on records of their own, each with one that waits for it, and 81 wait for record 0. Once both are gone
+// each scan finds one: a scan that finds a call owes nothing.
+fn scans_twice_in_a_row<N: Name, R: Wait + Abort>(rt: &R, opening: Opening<Placing>)
     requires { N.engine ≡ name_of placing opening }
 {
     let (engine, mut sessions) = started::<N>(opening);
@@ -61,25 +133,24 @@ fn scans_once_two_are_gone<N: Name, R: Wait + Abort>(rt: &R, opening: Opening<Pl
     let zero = begins_free(rt, &engine, &mut session, 0, 0);
     let one = begins_free(rt, &engine, &mut session, 1, 1);
     let two = begins_free(rt, &engine, &mut session, 2, 2);
-    let mut session = begins_many(rt, &engine, session);
-    begins_blocked(rt, &engine, &mut session, 1, FIRST + WAITING);
-    let at_first = scans(rt, &engine);
+    begins_blocked(rt, &engine, &mut session, 1, 3);
+    begins_blocked(rt, &engine, &mut session, 2, 4);
+    let _session = begins_many(rt, &engine, session, 5, 81);
     finishes(rt, &engine, one, 1);
-    let put_off = scans(rt, &engine);
     finishes(rt, &engine, two, 1);
-    let found = is_given::<N, R>(rt, scans(rt, &engine), FIRST + WAITING);
-    finishes(rt, &engine, found, 2);
-    is_not_given(rt, &engine, at_first);
-    is_not_given(rt, &engine, put_off);
+    let first = is_given::<N, R>(rt, scans(rt, &engine), 3);
+    let second = is_given::<N, R>(rt, scans(rt, &engine), 4);
+    finishes(rt, &engine, first, 2);
+    finishes(rt, &engine, second, 2);
     finishes(rt, &engine, zero, 1);
-    finishes_many(rt, &engine);
-    let clients = [0; 76];
-    closes(rt, engine, sessions, &[73, 2, 1], &clients);
+    finishes_many(rt, &engine, 5, 81);
+    let closed = closed_of(rt, engine, sessions);
+    assert_eq!(rt; closed.records.as_slice(), [82, 2, 2].as_slice());
 }
 
 #[test]
-fn scan_is_put_off_until_calls_are_gone(rt: HostRuntime) -> Result<(), Fail> {
-    let opening = opening(rt.alloc(), 3, 76, 73, 1)?;
-    scans_once_two_are_gone::<Brand, HostRuntime>(&rt, opening);
+fn scan_that_finds_a_call_puts_none_off(rt: HostRuntime) -> Result<(), Fail> {
+    let opening = opening(rt.alloc(), 3, 86, 86, 1)?;
+    scans_twice_in_a_row::<Brand, HostRuntime>(&rt, opening);
     Ok(())
 }

@@ -81,17 +81,23 @@ impl Pace {
         self.idle = 0;
     }
 
+    // Whether the worker leaves after a round that finds no call that may run.
+    pub(crate) fn is_leaving(&self, had_token: bool) -> bool {
+        !had_token && (!self.takes_ahead() || self.idle >= MOST_IDLE)
+    }
+
     // Waits after a round that found no call that may run, longer each time. Tells whether to go on: a worker leaves
     // after rounds that had no token, and rests less long between these.
     pub(crate) fn rest(&mut self, had_token: bool) -> bool {
+        if self.is_leaving(had_token) {
+            return false;
+        }
         let mut longest = LONGEST_OF_FEW;
         if had_token {
             self.idle = 0;
             longest = self.longest;
-        } else if !self.takes_ahead() || self.idle >= MOST_IDLE {
-            return false;
         } else {
-            self.idle += 1;
+            self.idle = self.idle.saturating_add(1);
         }
         self.pause = longest.min(self.pause.saturating_mul(2).saturating_add(FIRST_PAUSE));
         for turn in 0..self.pause {

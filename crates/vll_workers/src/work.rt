@@ -166,7 +166,8 @@ impl<'a, N: Name, H: Place + Send + Drop, T: Roster, W: Wait, G: Gate> Work<'a, 
     }
 
     // The call at the front, if it waits. Else the tokens' next calls begin, and it is those that are free; if there is
-    // none, it is the one that the scan finds. Tells whether there was a token.
+    // none, it is the one that the scan finds. A worker that would leave scans whatever scans before it have cost, so that
+    // no call is left that may run. Tells whether there was a token.
     fn find(
         self,
         worker: &mut Worker<T>,
@@ -201,7 +202,12 @@ impl<'a, N: Name, H: Place + Send + Drop, T: Roster, W: Wait, G: Gate> Work<'a, 
             self.put_back(worker, tokens, tried);
         }
         if passes.is_empty() {
-            if let Some(pass) = hold.next_scan_if_due() {
+            let found = if pace.is_leaving(had_token) {
+                hold.next_scan()
+            } else {
+                hold.next_scan_if_due()
+            };
+            if let Some(pass) = found {
                 passes.push(pass);
             }
         }

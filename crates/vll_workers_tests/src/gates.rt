@@ -47,20 +47,22 @@ impl Gate for Meeting {
     }
 }
 
-// Counts the calls, and adds up their tickets.
+// Counts the calls, and adds up their tickets, before they are executed and after they have their replies.
 #[derive(Drop)]
 pub(crate) struct Tally {
     pub(crate) before: AtomicU64,
-    pub(crate) after: AtomicU64,
     pub(crate) tickets: AtomicU64,
+    pub(crate) after: AtomicU64,
+    pub(crate) told: AtomicU64,
 }
 
 impl Tally {
     pub(crate) fn new() -> Tally {
         Tally {
             before: AtomicU64::new(0),
-            after: AtomicU64::new(0),
             tickets: AtomicU64::new(0),
+            after: AtomicU64::new(0),
+            told: AtomicU64::new(0),
         }
     }
 }
@@ -72,8 +74,9 @@ impl Gate for Tally {
             .fetch_add(u64::from(ticket.0), Ordering::SeqCst);
     }
 
-    fn after(&self, _ticket: Ticket) {
+    fn after(&self, ticket: Ticket) {
         self.after.fetch_add(1, Ordering::SeqCst);
+        self.told.fetch_add(u64::from(ticket.0), Ordering::SeqCst);
     }
 }
 

@@ -10,6 +10,8 @@ mod limited;
 #[cfg(test)]
 mod opening;
 #[cfg(test)]
+mod put_off;
+#[cfg(test)]
 mod runs;
 #[cfg(test)]
 mod tokens;

@@ -166,7 +166,7 @@ fn no_tokens_is_well(rt: HostRuntime) -> Result<(), Fail> {
 }
 
 // The bump of a record begins free.
-fn begins<N: Name, R: Wait + Abort>(
+pub(crate) fn begins<N: Name, R: Wait + Abort>(
     rt: &R,
     engine: &Engine<N, Placing>,
     session: &mut Session,
@@ -185,7 +185,7 @@ fn begins<N: Name, R: Wait + Abort>(
 }
 
 // The bump of a record begins blocked, under this ticket.
-fn waits<N: Name, R: Wait + Abort>(
+pub(crate) fn waits<N: Name, R: Wait + Abort>(
     rt: &R,
     engine: &Engine<N, Placing>,
     session: &mut Session,
@@ -207,7 +207,7 @@ fn waits<N: Name, R: Wait + Abort>(
 }
 
 // A pass is spent to its end.
-fn ends<N: Name>(wait: &impl Wait, engine: &Engine<N, Placing>, pass: Pass)
+pub(crate) fn ends<N: Name>(wait: &impl Wait, engine: &Engine<N, Placing>, pass: Pass)
     requires { IsFresh N.engine pass }
 {
     let released = engine.release(engine.execute(pass));
@@ -215,7 +215,7 @@ fn ends<N: Name>(wait: &impl Wait, engine: &Engine<N, Placing>, pass: Pass)
 }
 
 // The last session of a list.
-fn last_of<N: Name>(rt: &impl Abort, sessions: &mut Vec<Session>) -> Session
+pub(crate) fn last_of<N: Name>(rt: &impl Abort, sessions: &mut Vec<Session>) -> Session
     requires { All (λ s. s.table ≡ N.engine.table) sessions.old.items }
     ensures session { result.table ≡ N.engine.table }
     ensures others { All (λ s. s.table ≡ N.engine.table) sessions.new.items }
@@ -243,7 +243,7 @@ fn leaves_a_kept_pass<N: Name + Send + Sync, R: Wait + Threads + Abort + Sync>(
     let other = begins(rt, &engine, &mut second, 1);
     waits(rt, &engine, &mut second, 1, Ticket(2));
     ends(rt, &engine, other);
-    let ran = runs_the_waiting_call(rt, alloc, &engine, idle);
+    let ran = runs_through(rt, alloc, &engine, idle, 0, (1, 2));
     let reply = engine.reply(rt, &mut second, Ticket(2));
     ends(rt, &engine, kept);
     assert_eq!(rt; output_of(&reply), Some(2));
@@ -251,26 +251,31 @@ fn leaves_a_kept_pass<N: Name + Send + Sync, R: Wait + Threads + Abort + Sync>(
     ran
 }
 
-// One worker, with a token of no calls, brings ticket 2 to its reply and nothing else.
-fn runs_the_waiting_call<N: Name + Send + Sync, R: Wait + Threads + Abort + Sync>(
+// One worker, with a token of so many bumps of record 1, executes so many calls, whose tickets have this sum.
+pub(crate) fn runs_through<N: Name + Send + Sync, R: Wait + Threads + Abort + Sync>(
     rt: &R,
     alloc: Global,
     engine: &Engine<N, Placing>,
     session: Session,
+    times: u32,
+    executed: (u64, u64),
 ) -> Result<(), Fail>
     requires { session.table ≡ N.engine.table }
 {
     let gate = Tally::new();
     let mut tokens = Vec::new(alloc);
-    let token = bumping::<N>(rt, alloc, engine.library(), session, 0, 0)?;
+    let token = bumping::<N>(rt, alloc, engine.library(), session, 1, times)?;
     tokens.push(token)?;
     match run(rt, rt, alloc, engine, tokens, 1, &gate) {
         Ok(tokens) => assert_eq!(rt; tokens.len(), 1),
         Err(_) => panic!(rt; "the run has a fault"),
     }
-    assert_eq!(rt; gate.before.load(Ordering::SeqCst), 1);
-    assert_eq!(rt; gate.after.load(Ordering::SeqCst), 1);
-    assert_eq!(rt; gate.tickets.load(Ordering::SeqCst), 2);
+    let before = gate.before.load(Ordering::SeqCst);
+    let tickets = gate.tickets.load(Ordering::SeqCst);
+    let after = gate.after.load(Ordering::SeqCst);
+    let told = gate.told.load(Ordering::SeqCst);
+    assert_eq!(rt; (before, tickets), executed);
+    assert_eq!(rt; (after, told), executed);
     Ok(())
 }
 

@@ -11,7 +11,8 @@ ghost use Rattle.vll_engine.specs.Shown.{words_of};
 use super::Locked;
 use crate::name::Name;
 use crate::pass::Pass;
-use vll_core::Ticket;
+use crate::patience::Patience;
+use vll_core::{Queue, Ticket};
 use vll_counters::{PassSeat, QueueSeat, Words};
 use vll_sca::Place;
 
@@ -36,7 +37,7 @@ impl<N: Name, H: Place> Locked<N, H> {
         ensures line { IfSome result (λ p. IsPassAt (lines self.new) p.0 p.1) }
         ensures queue { self.new ≡ scanned H.place_of self.old }
     {
-        let ticket = self.queue.scan()?;
+        let ticket = scan(&mut self.queue, &mut self.patience)?;
         Some((give_pass(words, &mut self.seat, ticket), ticket))
     }
 
@@ -48,12 +49,10 @@ impl<N: Name, H: Place> Locked<N, H> {
         ensures line { IfSome result (λ p. IsPassAt (lines self.new) p.0 p.1) }
         ensures queue { self.new ≡ started_if self.old (option_map (λ p. p.1) result) }
     {
-        if !self.patience.is_due() {
+        if !self.patience.is_due(self.queue.waiting()) {
             return None;
         }
-        let found = self.next_scan(words);
-        self.patience.scanned(found.is_some(), self.queue.waiting());
-        found
+        self.next_scan(words)
     }
 
     // The pass of a seat, with the call that stands in its ticket's line.
@@ -70,6 +69,16 @@ impl<N: Name, H: Place> Locked<N, H> {
             call: line.call,
         }
     }
+}
+
+// The ticket that the contention analysis finds begins to run. What the scan has cost is noted.
+fn scan<H: Place>(queue: &mut Queue<H>, patience: &mut Patience) -> Option<Ticket>
+    ensures ticket { result ≡ found_by H.place_of queue.old }
+    ensures scanned { queue.new ≡ scanned H.place_of queue.old }
+{
+    let found = queue.scan();
+    patience.scanned(found.is_some(), queue.waiting());
+    found
 }
 
 // The seat of a call that waited and that nothing before it holds back.

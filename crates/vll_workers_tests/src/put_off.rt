@@ -1,0 +1,125 @@
+// Runs in which a scan is put off, since one before it found none among many calls that wait.
+ghost use Rattle.std.specs.Prelude.{◌≡◌};
+ghost use Rattle.vll_engine.specs.Pass.{IsFresh};
+ghost use Rattle.vll_engine.specs.Shown.{name_of};
+ghost use Rattle.vll_sca.specs.Placing.{placing};
+
+use crate::opening::opening_of;
+use crate::runs::{begins, ends, last_of, runs_through, waits};
+use std::alloc::Global;
+use std::marker::Brand;
+use std::process::Abort;
+use std::sync::Wait;
+use std::test::*;
+use std::thread::Threads;
+use vll_core::{Config, Ticket};
+use vll_engine::{Engine, Name, Opening, Pass, Session};
+use vll_sca::Placing;
+
+// So many bumps of record 0 wait, and behind them one of record 1.
+fn wait_behind<N: Name, R: Wait + Abort>(
+    rt: &R,
+    engine: &Engine<N, Placing>,
+    session: Session,
+    many: u16,
+) -> Session
+    requires { session.table ≡ N.engine.table }
+    ensures { result.table ≡ N.engine.table }
+{
+    let many = u32::from(many);
+    let mut session = session;
+    for ticket in 2..many + 2 {
+        waits(rt, engine, &mut session, 0, Ticket(ticket));
+    }
+    waits(rt, engine, &mut session, 1, Ticket(many + 2));
+    session
+}
+
+// The calls that wait run one after the other, each at the front.
+fn ends_all<N: Name, R: Wait + Abort>(rt: &R, engine: &Engine<N, Placing>, many: u16) {
+    for _ in 0..many {
+        match engine.next_front(rt) {
+            Some(pass) => ends(rt, engine, pass),
+            None => panic!(rt; "the front does not wait"),
+        }
+    }
+}
+
+// Ticket 0 runs and stays so, and so many calls wait for its record. Behind them a call waits for ticket 1. A run scans
+// in vain. Then ticket 1 is gone. A second run, with a token of so many bumps of record 1, has to find that call.
+fn finds_what_may_run<N: Name + Send + Sync, R: Wait + Threads + Abort + Sync>(
+    rt: &R,
+    alloc: Global,
+    opening: Opening<Placing>,
+    many: u16,
+    times: u8,
+) -> Result<(), Fail>
+    requires { N.engine ≡ name_of placing opening }
+{
+    let (engine, mut sessions) = opening.start::<N>();
+    let idle = last_of::<N>(rt, &mut sessions);
+    let late = last_of::<N>(rt, &mut sessions);
+    let mut first = last_of::<N>(rt, &mut sessions);
+    let kept = begins(rt, &engine, &mut first, 0);
+    let other = begins(rt, &engine, &mut first, 1);
+    let _first = wait_behind(rt, &engine, first, many);
+    let ran = runs_twice(rt, alloc, &engine, (idle, late), other, (many, times));
+    ends(rt, &engine, kept);
+    ends_all(rt, &engine, many);
+    ran
+}
+
+// A run without a call executes none. Then ticket 1 ends, and a run of so many bumps of record 1 executes these and the
+// last call that waits.
+fn runs_twice<N: Name + Send + Sync, R: Wait + Threads + Abort + Sync>(
+    rt: &R,
+    alloc: Global,
+    engine: &Engine<N, Placing>,
+    sessions: (Session, Session),
+    other: Pass,
+    counts: (u16, u8),
+) -> Result<(), Fail>
+    requires sessions { (sessions.0.table ≡ N.engine.table) × (sessions.1.table ≡ N.engine.table) }
+    requires fresh { IsFresh N.engine other }
+{
+    let (idle, late) = sessions;
+    let (many, times) = counts;
+    let in_vain = runs_through(rt, alloc, engine, idle, 0, (0, 0));
+    ends(rt, engine, other);
+    in_vain?;
+    let last = u64::from(many) + 2;
+    let mut tickets = last;
+    for time in 1..=u64::from(times) {
+        tickets = tickets.saturating_add(last.saturating_add(time));
+    }
+    let executed = (1 + u64::from(times), tickets);
+    runs_through(rt, alloc, engine, late, u32::from(times), executed)
+}
+
+#[test]
+fn run_leaves_no_call_that_may_run(rt: HostRuntime) -> Result<(), Fail> {
+    for many in [1, 40, 72, 2_000] {
+        let config = Config {
+            cap: 2_001,
+            limit: 2_003,
+            bits: 64,
+        };
+        let opening = opening_of(rt.alloc(), 2, config, 3)?;
+        finds_what_may_run::<Brand, HostRuntime>(&rt, rt.alloc(), opening, many, 0)?;
+    }
+    Ok(())
+}
+
+#[test]
+fn run_whose_queue_is_full_finds_what_may_run(rt: HostRuntime) -> Result<(), Fail> {
+    for many in [40, 72, 2_000] {
+        let config = Config {
+            cap: u32::from(many) + 1,
+            limit: 2_100,
+            bits: 64,
+        };
+        let opening = opening_of(rt.alloc(), 2, config, 3)?;
+        finds_what_may_run::<Brand, HostRuntime>(&rt, rt.alloc(), opening, many, 1)?;
+    }
+    Ok(())
+}
