@@ -356,13 +356,14 @@ class Generator(unittest.TestCase):
 class RandomTests(unittest.TestCase):
     """tools/random_tests, with programs that are right and wrong."""
 
-    def said_of(self, kind, script):
+    def said_of(self, kind, script, *options):
         """The status and the lines of random tests of a program that is this script, over three seeds."""
         with tempfile.TemporaryDirectory() as room:
             program = Path(room) / 'program'
             program.write_text(f'#!/bin/sh\n{script}\n')
             program.chmod(0o755)
             command = [sys.executable, TOOLS / 'random_tests', kind, '7', '3', '--size', '30', '--program', program]
+            command += options
             changed = os.environ | {'TMPDIR': room}
             ran = subprocess.run(command, env=changed, capture_output=True, text=True, check=False)
             self.assertEqual(ran.stderr, '')
@@ -371,6 +372,13 @@ class RandomTests(unittest.TestCase):
     def test_right_program_passes(self):
         script = f'exec "{sys.executable}" "{TOOLS}/replay_model.py" /dev/stdin'
         self.assertEqual(self.said_of('replay', script), (0, ['replay: 3 passed, 0 failed']))
+
+    def test_moved_is_wrong_with_one_worker_alone(self):
+        for workers, wanted in [(1, True), (2, False)]:
+            with self.subTest(workers):
+                status, lines = self.said_of('run', 'echo call 0 client 0 aborted moved', '--workers', str(workers))
+                self.assertEqual((status, len(lines)), (1, 4))
+                self.assertEqual([': a call is aborted as moved, though' in line for line in lines[:3]], [wanted] * 3)
 
     def test_wrong_programs_fail(self):
         right = f'"{sys.executable}" "{TOOLS}/replay_model.py" /dev/stdin'

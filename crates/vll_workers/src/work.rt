@@ -3,7 +3,7 @@ ghost use Rattle.crossbeam_queue.specs.Passes.{view};
 ghost use Rattle.vll_engine.specs.Pass.{IsFresh, IsReleased};
 ghost use Rattle.vll_workers.specs.Private.Pool.{AreSame, HasInHand, all_parts};
 ghost use Rattle.vll_workers.specs.Private.Work.{IsAtWork};
-ghost use Rattle.vll_workers.specs.Tokens.{AreFit, clients_of};
+ghost use Rattle.vll_workers.specs.Tokens.{AreFit, IsFit, clients_of};
 
 use crate::batch::{Batch, BatchRoom};
 use crate::gate::Gate;
@@ -133,7 +133,8 @@ impl<'a, N: Name, H: Place + Send + Drop, T: Roster, W: Wait, G: Gate> Work<'a, 
         had_token
     }
 
-    // Takes a token from the pool, if there is one, and looks at the words that its next call claims.
+    // Takes a token from the pool, if there is one, and looks at the words that its next call claims. Tells whether
+    // another one may be taken after it. If the call has an indirect key none is, so that it is the first to begin.
     fn take_one(self, worker: &mut Worker<T>, tokens: &mut Stack<Token>) -> bool
         requires fit { AreFit N.engine T.tokens }
         requires old { IsAtWork T.tokens self.pool.now worker.old tokens.old }
@@ -147,8 +148,20 @@ impl<'a, N: Name, H: Place + Send + Drop, T: Roster, W: Wait, G: Gate> Work<'a, 
         if let Some(call) = token.upcoming() {
             self.engine.look(call);
         }
+        let is_indirect = self.is_indirect(&token);
         tokens.push(token);
-        true
+        !is_indirect
+    }
+
+    // Whether the token's next call has an indirect key. What it finds is best found while no call of this worker's has
+    // begun and is not executed yet: such a call may store to the record that is looked at, and abort the other one.
+    fn is_indirect(self, token: &Token) -> bool
+        requires { IsFit N.engine token.now }
+    {
+        match token.upcoming() {
+            Some(call) => self.engine.library().source(call).is_some(),
+            None => false,
+        }
     }
 
     // Takes so many tokens from the pool, or fewer if there are not as many or no room.
@@ -243,7 +256,8 @@ impl<'a, N: Name, H: Place + Send + Drop, T: Roster, W: Wait, G: Gate> Work<'a, 
     }
 
     // Begins the next call of the last token, and tells whether it is free: then there is one more pass. The token is
-    // set aside, or stays with the worker if no call is left or the engine takes no more.
+    // set aside, or stays with the worker if no call is left or the engine takes no more. A call with an indirect key
+    // begins as the first of a batch, and is left for another one if it is not.
     fn begin_next(
         self,
         worker: &mut Worker<T>,
@@ -269,6 +283,10 @@ impl<'a, N: Name, H: Place + Send + Drop, T: Roster, W: Wait, G: Gate> Work<'a, 
         };
         if token.is_through() {
             worker.keep(self.pool, token);
+            return false;
+        }
+        if !passes.is_empty() && self.is_indirect(&token) {
+            tried.push(token);
             return false;
         }
         match token.begin(hold) {

@@ -16,6 +16,15 @@ returns-then-is_through-clause-new g c =
     one_kept g.T.Roster.tokens c.args.self.pool.now c.args.worker.now c.keep.new.self (c.pop.new.self ++ c.args.tried.now) c.in-Some.token (popped g.T.Roster.tokens c.args.self.pool.now c.args.worker.now c.args.tokens.now c.pop.new.self c.args.tried.now c.in-Some.token c.requires.old c.in-Some.ensures.some)
     c.keep.ensures.kept c.keep.ensures.pass c.keep.ensures.view
 
+pub is_indirect-requires-after_bounds : goal.is_indirect-requires-after_bounds
+is_indirect-requires-after_bounds g c κs within =
+    own_fits g.N.Name.engine g.T.Roster.tokens c.in-Some.token c.requires.fit
+    (own_of g.T.Roster.tokens c.args.self.pool.now c.args.worker.now (c.pop.new.self ++ c.args.tried.now) c.in-Some.token (popped g.T.Roster.tokens c.args.self.pool.now c.args.worker.now c.args.tokens.now c.pop.new.self c.args.tried.now c.in-Some.token c.requires.old c.in-Some.ensures.some))
+
+pub returns-then-is_indirect-clause-new : goal.returns-then-is_indirect-clause-new
+returns-then-is_indirect-clause-new g c =
+    set_aside g.T.Roster.tokens c.args.self.pool.now c.args.worker.now c.pop.new.self c.args.tried.now c.push.new.self c.in-Some.token (popped g.T.Roster.tokens c.args.self.pool.now c.args.worker.now c.args.tokens.now c.pop.new.self c.args.tried.now c.in-Some.token c.requires.old c.in-Some.ensures.some) c.push.ensures
+
 pub begin-requires-clause-fit : goal.begin-requires-clause-fit
 begin-requires-clause-fit g c κs within =
     own_fits g.N.Name.engine g.T.Roster.tokens c.in-Some.token c.requires.fit
@@ -37,14 +46,14 @@ keep-requires-in-Refused-Spent-clause-held g c =
 
 pub returns-in-Free-clause-new : goal.returns-in-Free-clause-new
 returns-in-Free-clause-new g c =
-    set_aside g.T.Roster.tokens c.args.self.pool.now c.args.worker.now c.pop.new.self c.args.tried.now c.push.new.self c.begin.new.self
+    set_aside g.T.Roster.tokens c.args.self.pool.now c.args.worker.now c.pop.new.self c.args.tried.now c.push-in-Free.new.self c.begin.new.self
     (begun g.N.Name.engine g.T.Roster.tokens c.args.self.pool.now c.args.worker.now (c.pop.new.self ++ c.args.tried.now) c.in-Some.token c.begin.new.self c.begin.result (popped g.T.Roster.tokens c.args.self.pool.now c.args.worker.now c.args.tokens.now c.pop.new.self c.args.tried.now c.in-Some.token c.requires.old c.in-Some.ensures.some) (record { left = c.is_through.ensures.left c.if-is_through.false; token = c.begin.ensures.token; answer = c.begin.ensures.answer; table = c.begin.ensures.session }))
-    c.push.ensures
+    c.push-in-Free.ensures
 
 pub returns-in-Free-clause-passes : goal.returns-in-Free-clause-passes
 returns-in-Free-clause-passes g c =
     let e = g.N.Name.engine in
-    subst (All (IsFresh e)) (sym c.push-in-Free.ensures) (All-cons (IsFresh e) c.in-Free.pass c.args.passes.now (fresh_pass e c.in-Some.token c.begin.new.self c.begin.result c.in-Free.pass (record { left = c.is_through.ensures.left c.if-is_through.false; token = c.begin.ensures.token; answer = c.begin.ensures.answer; table = c.begin.ensures.session }) c.in-Free.is) c.requires.passes)
+    subst (All (IsFresh e)) (sym c.push-in-Free-2.ensures) (All-cons (IsFresh e) c.in-Free.pass c.args.passes.now (fresh_pass e c.in-Some.token c.begin.new.self c.begin.result c.in-Free.pass (record { left = c.is_through.ensures.left c.if-is_through.false; token = c.begin.ensures.token; answer = c.begin.ensures.answer; table = c.begin.ensures.session }) c.in-Free.is) c.requires.passes)
 
 pub returns-in-Blocked-clause-new : goal.returns-in-Blocked-clause-new
 returns-in-Blocked-clause-new g c =

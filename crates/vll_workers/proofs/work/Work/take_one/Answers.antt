@@ -4,13 +4,16 @@ use Rattle.vll_proc.specs.declared.call.Call.{Call}
 use Rattle.vll_workers.specs.Private.Work.{IsAtWork}
 use Rattle.vll_workers.specs.Shown.{TokenShown}
 use Rattle.vll_workers.proofs.AtWork.{one_more}
-use Rattle.vll_workers.proofs.Owned.{call_fits}
+use Rattle.vll_workers.proofs.Owned.{call_fits, own_fits}
 use Rattle.vll_workers.proofs.work.Work.take_one.Goals as goal
 
 pub look-requires-after_bounds : goal.look-requires-after_bounds
 look-requires-after_bounds g c κs within =
     call_fits g.N.Name.engine g.T.Roster.tokens c.in-Some.token c.in-Some.token.next c.in-Some-upcoming.call.now c.requires.fit c.in-Some.ensures.own
     (sym c.upcoming.ensures.call ∙ ap (option_map (λ (b : Bor Call). b.now)) c.in-Some-upcoming.is)
+
+pub is_indirect-is_indirect-requires-after_bounds : goal.is_indirect-is_indirect-requires-after_bounds
+is_indirect-is_indirect-requires-after_bounds g c κs within = own_fits g.N.Name.engine g.T.Roster.tokens c.in-Some.token c.requires.fit c.in-Some.ensures.own
 
 pub returns-clause-new : goal.returns-clause-new
 returns-clause-new g c =
