@@ -39,6 +39,26 @@ fn close_hands_all_back_while_calls_are_left(rt: HostRuntime) -> Result<(), Fail
     Ok(())
 }
 
+// A call runs and none waits: its pass is out while the engine stays open, and is spent then.
+fn closes_once_the_pass_is_spent<N: Name, R: Wait + Abort>(rt: &R, opening: Opening<Placing>)
+    requires { N.engine ≡ name_of placing opening }
+{
+    let (engine, mut sessions) = started::<N>(opening);
+    let mut session = last_of::<N>(rt, &mut sessions);
+    let pass = begins_free(rt, &engine, &mut session, 0, 0);
+    let (engine, mut sessions) = stays_open(rt, engine, sessions, 1, 0);
+    finishes(rt, &engine, pass, 1);
+    put_back::<N>(rt, &mut sessions, session);
+    closes(rt, engine, sessions, &[1], &[0]);
+}
+
+#[test]
+fn close_waits_for_a_pass_that_is_out(rt: HostRuntime) -> Result<(), Fail> {
+    let opening = opening(rt.alloc(), 1, 1, 8, 1)?;
+    closes_once_the_pass_is_spent::<Brand, HostRuntime>(&rt, opening);
+    Ok(())
+}
+
 // The call of ticket 0 is released before ticket 1 begins, and finished behind it.
 fn is_finished_later<N: Name, R: Wait + Abort>(rt: &R, opening: Opening<Placing>)
     requires { N.engine ≡ name_of placing opening }

@@ -37,27 +37,17 @@ fn all_bump_one_record<N: Name + Send + Sync, R: Wait + Threads + Abort + Sync>(
     }
     let closed = closed_of(rt, engine, Vec::new(alloc));
     assert_eq!(rt; closed.records.as_slice(), [6_400].as_slice());
+    assert_eq!(rt; closed.pairs.as_slice(), [0].as_slice());
     assert_eq!(rt; closed.journal.len(), 6_400);
-    replies_rise(rt, alloc, closed.journal.as_slice())
+    are_numbered(rt, closed.journal.as_slice());
+    Ok(())
 }
 
-// Each client's replies rise strictly, from 1 on.
-fn replies_rise(rt: &impl Abort, alloc: Global, journal: &[Line]) -> Result<(), Fail> {
-    let mut latest = vec![in alloc; 0; CLIENTS as usize]?;
-    for line in journal {
-        let client = line.client;
-        let Some(output) = output_of(&line.reply) else {
-            panic!(rt; "a call of client {client} has no output")
-        };
-        match latest.get_mut(client as usize) {
-            Some(before) => {
-                assert!(rt; *before < output);
-                *before = output;
-            }
-            None => panic!(rt; "there is no client {client}"),
-        }
+// The reply of each ticket is one more than the ticket.
+fn are_numbered(rt: &impl Abort, journal: &[Line]) {
+    for (ticket, line) in journal.iter().enumerate() {
+        assert_eq!(rt; output_of(&line.reply), Some(ticket as u64 + 1));
     }
-    Ok(())
 }
 
 // One call may wait, and the analysis has one place for all records.

@@ -15,7 +15,7 @@ use std::test::*;
 use std::thread::Threads;
 use vll_engine::{Name, Opening};
 use vll_sca::Placing;
-use vll_workers::{Gate, OpenGate, RunError, RunFault, run_limited};
+use vll_workers::{Gate, OpenGate, RunError, RunFault, run, run_limited};
 
 // Four clients of 1,000 calls each on one record, and eight workers, of which one may be started.
 fn counts_with_one_start<N: Name + Send + Sync, R: Wait + Threads + Abort + Sync>(
@@ -121,6 +121,33 @@ fn calling_thread_works_beside_the_one_that_is_started(rt: HostRuntime) -> Resul
     runs_under::<Brand, HostRuntime, Meeting>(&rt, rt.alloc(), opening, 2, &gate)?;
     assert_eq!(&rt; gate.has_begun.load(Ordering::SeqCst), 1);
     assert!(&rt; gate.turns.load(Ordering::SeqCst) < 100_000_000);
+    Ok(())
+}
+
+// Eight workers, all of which are started, have three calls under way at once.
+fn runs_with_eight<N: Name + Send + Sync, R: Wait + Threads + Abort + Sync, G: Gate + Sync>(
+    rt: &R,
+    alloc: Global,
+    opening: Opening<Placing>,
+    gate: &G,
+) -> Result<(), Fail>
+    requires { N.engine ≡ name_of placing opening }
+{
+    let (engine, sessions) = opening.start::<N>();
+    let tokens = all_bumping::<N>(rt, alloc, engine.library(), sessions, 8, 1)?;
+    match run(rt, rt, alloc, &engine, tokens, 8, gate) {
+        Ok(tokens) => are_home(rt, tokens.as_slice(), 8, 1),
+        Err(_) => panic!(rt; "the run has a fault"),
+    }
+    Ok(())
+}
+
+#[test]
+fn eight_workers_have_three_calls_at_once(rt: HostRuntime) -> Result<(), Fail> {
+    let opening = opening(rt.alloc(), 8, 8, 8)?;
+    let gate = Crowd::new();
+    runs_with_eight::<Brand, HostRuntime, Crowd>(&rt, rt.alloc(), opening, &gate)?;
+    assert_eq!(&rt; gate.had_three.load(Ordering::SeqCst), 1);
     Ok(())
 }
 
