@@ -3,40 +3,72 @@ ghost use Rattle.vll_proc.specs.Made.{IsCallOf};
 ghost use Rattle.vll_proc.specs.WellFormed.{IsWellFormed};
 
 use crate::fault::Fault;
-use crate::shapes::{Operator, Part, Shape};
-use sqlite_items::Items;
+use crate::shapes::Shape;
 use std::alloc::Global;
 use std::time::CpuClock;
-use vll_check::{Library, check};
-use vll_proc::{Call, Edition, Frame, KeyAt, KeyDecl, Proc, Text};
-use vll_record::Mode;
+use vll_check::Library;
+use vll_proc::{Call, Frame, Proc};
+use vll_server::{Plain, ScenarioParts, read_scenario};
 
 // The bodies: by size, then by what they are made of.
 const SHAPES: [Shape; 23] = [
-    Shape::Same(Part::Bump, 1),
+    Shape::Same("bump", 1, 4, r#"["set",0,["add",["key",0],1]]"#),
     Shape::Mixed(30),
     Shape::Mixed(500),
     Shape::Mixed(1_024),
-    Shape::Same(Part::Operator(Operator::Add), 120),
-    Shape::Same(Part::Operator(Operator::Sub), 120),
-    Shape::Same(Part::Operator(Operator::Mul), 120),
-    Shape::Same(Part::Operator(Operator::Div), 120),
-    Shape::Same(Part::Operator(Operator::Rem), 120),
-    Shape::Same(Part::Operator(Operator::Min), 120),
-    Shape::Same(Part::Operator(Operator::Max), 120),
-    Shape::Same(Part::Operator(Operator::Equal), 120),
-    Shape::Same(Part::Operator(Operator::Less), 120),
-    Shape::Same(Part::Operator(Operator::Not), 160),
-    Shape::Same(Part::SumsOnTheLeft, 8),
-    Shape::Same(Part::SumsOnTheRight, 8),
-    Shape::Same(Part::Let, 240),
-    Shape::Same(Part::Set, 240),
-    Shape::Same(Part::Reply, 8),
-    Shape::Same(Part::Then, 120),
-    Shape::Same(Part::Else, 120),
-    Shape::Same(Part::NestedIfs, 8),
-    Shape::Same(Part::Abort, 1),
+    Shape::Same("add", 120, 4, r#"["let",0,["add",["key",0],2]]"#),
+    Shape::Same("sub", 120, 4, r#"["let",0,["sub",["key",0],2]]"#),
+    Shape::Same("mul", 120, 4, r#"["let",0,["mul",["key",0],2]]"#),
+    Shape::Same("div", 120, 4, r#"["let",0,["div",["key",0],2]]"#),
+    Shape::Same("rem", 120, 4, r#"["let",0,["rem",["key",0],2]]"#),
+    Shape::Same("min", 120, 4, r#"["let",0,["min",["key",0],2]]"#),
+    Shape::Same("max", 120, 4, r#"["let",0,["max",["key",0],2]]"#),
+    Shape::Same("equal", 120, 4, r#"["let",0,["equal",["key",0],2]]"#),
+    Shape::Same("less", 120, 4, r#"["let",0,["less",["key",0],2]]"#),
+    Shape::Same("not", 160, 3, r#"["let",0,["not",["key",0]]]"#),
+    Shape::Nested {
+        name: "sums, nested on the left",
+        copies: 8,
+        first: r#"["let",0,"#,
+        opening: r#"["add","#,
+        inner: r#"["key",0]"#,
+        closing: ",2]",
+        last: "]",
+    },
+    Shape::Nested {
+        name: "sums, nested on the right",
+        copies: 8,
+        first: r#"["let",0,"#,
+        opening: r#"["add",2,"#,
+        inner: r#"["key",0]"#,
+        closing: "]",
+        last: "]",
+    },
+    Shape::Same("let", 240, 2, r#"["let",0,2]"#),
+    Shape::Same("set", 240, 2, r#"["set",0,2]"#),
+    Shape::Same("reply", 8, 2, r#"["reply",2]"#),
+    Shape::Same("if, its first list", 120, 4, r#"["if",1,[["let",0,2]],[]]"#),
+    Shape::Same(
+        "if, its second list",
+        120,
+        4,
+        r#"["if",0,[],[["let",0,2]]]"#,
+    ),
+    Shape::Nested {
+        name: "if, nested",
+        copies: 8,
+        first: "",
+        opening: r#"["if",1,["#,
+        inner: r#"["let",0,2]"#,
+        closing: "],[]]",
+        last: "",
+    },
+    Shape::Same("abort", 1, 1, r#"["abort",7]"#),
 ];
+
+// The scenario with a body, up to its first statement.
+const BEFORE: &str = r#"{"version":1,"records":[0],"clients":[],
+ "procs":[{"name":"body","args":0,"keys":[["write","fixed",0]],"body":["#;
 
 // What the record holds at first. No operator aborts on it.
 const VALUE: u64 = 1_000_000;
@@ -147,17 +179,10 @@ fn opened() -> Frame {
 
 // The library of one procedure with this body, over one record, which it writes.
 fn library(alloc: Global, shape: Shape) -> Result<Library, Fault> {
-    let key = KeyDecl {
-        mode: Mode::Write,
-        at: KeyAt::Fixed(0),
-    };
-    let procedure = Proc {
-        edition: Edition::One,
-        name: Text::new(String::from_str(alloc, "body")?),
-        args: 0,
-        keys: Items::from_slice(alloc, &[key])?,
-        body: shape.body(alloc)?,
-    };
-    let procs = vec![in alloc; check(procedure, 1)?]?;
-    Ok(Library::new(1, procs)?)
+    let mut text = String::from_str(alloc, BEFORE)?;
+    shape.push(alloc, &mut text)?;
+    text.push_str("]}]}")?;
+    let scenario = read_scenario(alloc, &mut Plain::new(text.as_bytes()))?;
+    let ScenarioParts { library, .. } = scenario.into_parts();
+    Ok(library)
 }

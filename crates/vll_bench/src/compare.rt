@@ -5,7 +5,6 @@ ghost use Rattle.vll_workers.specs.declared.running.TheConstants.{MOST_WORKERS};
 use crate::fault::Fault;
 use crate::plain::{time_mutex, time_serial};
 use crate::runs;
-use crate::scripts::opening;
 use crate::timed::{Count, Timed};
 use std::alloc::{AllocError, Global};
 use std::io::Read;
@@ -13,6 +12,7 @@ use std::marker::Brand;
 use std::sync::Wait;
 use std::thread::Threads;
 use std::time::Clock;
+use vll_scripts::opening;
 use vll_server::{Plain, ScenarioParts, read_scenario};
 use vll_workers::MOST_WORKERS;
 

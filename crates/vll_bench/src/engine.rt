@@ -51,7 +51,7 @@ fn time_of<N: Name, R: Wait + CpuClock>(
     let call = made(engine.library())?;
     let start = rt.thread_cpu_time()?;
     for _ in 0..CALLS {
-        cycle(rt, &engine, &mut session, call)?;
+        cycle(rt, &engine, &mut session, &call)?;
     }
     Ok(rt.thread_cpu_time()?.saturating_sub(start))
 }
@@ -61,13 +61,13 @@ fn cycle<N: Name>(
     rt: &impl Wait,
     engine: &Engine<N, Placing>,
     session: &mut Session,
-    call: Call,
+    call: &Call,
 ) -> Result<(), Fault>
     requires session { session.old.table ≡ N.engine.table }
-    requires fits { Fits (library_of N.engine) call }
+    requires fits { Fits (library_of N.engine) call.now }
     ensures { session.new.table ≡ session.old.table }
 {
-    match engine.begin(rt, session, &call) {
+    match engine.begin(rt, session, call) {
         Begun::Free(pass) => {
             let done = engine.execute(pass);
             engine.finish(rt, engine.release(done));

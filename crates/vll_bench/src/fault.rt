@@ -1,6 +1,6 @@
 use std::alloc::{AllocError, AllocFailed};
 use std::io;
-use vll_check::{CallFault, CheckFault, NameTwice};
+use vll_check::CallFault;
 use vll_core::{OpenFault, Refusal};
 use vll_server::ScenarioFault;
 use vll_workers::RunFault;
@@ -11,9 +11,6 @@ pub(crate) enum Fault {
     NoMemory,
     /// The command line, the clock or standard output failed.
     System,
-    /// The procedure was not accepted.
-    Check(CheckFault),
-    NameTwice,
     Call(CallFault),
     Open(OpenFault),
     Event(Refusal),
@@ -46,18 +43,6 @@ impl<T: Drop> From<AllocFailed<T>> for Fault {
 impl From<io::Error> for Fault {
     fn from(_: io::Error) -> Fault {
         Fault::System
-    }
-}
-
-impl From<CheckFault> for Fault {
-    fn from(fault: CheckFault) -> Fault {
-        Fault::Check(fault)
-    }
-}
-
-impl From<NameTwice> for Fault {
-    fn from(_: NameTwice) -> Fault {
-        Fault::NameTwice
     }
 }
 

@@ -9,7 +9,6 @@ mod fault;
 mod plain;
 mod runs;
 mod scans;
-mod scripts;
 mod setup;
 mod shapes;
 mod task;

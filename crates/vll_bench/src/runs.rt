@@ -4,7 +4,6 @@ ghost use Rattle.vll_engine.specs.Shown.{library_of, name_of};
 ghost use Rattle.vll_sca.specs.Placing.{placing};
 
 use crate::fault::Fault;
-use crate::scripts::{opening, tokens};
 use crate::timed::{Count, Timed};
 use std::alloc::Global;
 use std::io::Read;
@@ -15,6 +14,7 @@ use std::time::{Clock, Instant};
 use vll_engine::{Name, Opening};
 use vll_proc::{Call, Reply};
 use vll_sca::Placing;
+use vll_scripts::{opening, tokens};
 use vll_server::{Line, MOST_CLIENTS, Plain, read_scenario};
 use vll_workers::{MOST_WORKERS, OpenGate, RunError, run};
 

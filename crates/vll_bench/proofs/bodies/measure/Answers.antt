@@ -1,5 +1,5 @@
 -- The library has the procedure of each call that it makes, and it is well-formed.
-use Rattle.std.proofs.Common.{◌≡◌, sym, subst}
+use Rattle.std.proofs.Common.{◌≡◌, subst}
 use Rattle.vll_proc.specs.Made.{IsCallOf}
 use Rattle.vll_proc.specs.WellFormed.{IsWellFormed}
 use Rattle.vll_check.specs.Calls.{CallsProcedure}
