@@ -17,7 +17,7 @@ use std::alloc::{AllocError, Global};
 use std::marker::Model;
 use std::snapshot::Snapshot;
 use vll_check::Library;
-use vll_record::{RecordId, pair_word};
+use vll_record::{Claim, granted, pair_word};
 
 /// The words: the turn word 0, and each record's value word and pair word. Threads change them in single atomic steps,
 /// each by a seat, and the rule holds between any two steps. Contracts see which words they are, and the procedures
@@ -130,12 +130,13 @@ impl Words {
         Ok((Words { table, room }, QueueSeat { seat }))
     }
 
-    /// A load of the record's pair word, which tells nothing and changes nothing: the word is near when a request comes
-    /// to it soon after.
-    pub fn look(&self, id: RecordId)
-        requires { id < length self.now.base.records }
+    /// A load of the pair word of the claim's record, which changes nothing: the word is near when a request comes to it
+    /// soon after. Whether a request would have been granted by the word as it was; by now it may be another one, and no
+    /// contract says more.
+    pub fn look(&self, claim: Claim) -> bool
+        requires { claim.id < length self.now.base.records }
     {
-        let _ = self.table.shared.peek(pair_word(id));
+        granted(claim.mode, self.table.shared.peek(pair_word(claim.id)))
     }
 
     /// The words once no turn is open and no call waits or runs: each value is what the entered calls make of the

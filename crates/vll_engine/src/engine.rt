@@ -80,12 +80,13 @@ impl<N: Name, H: Place + Send + Drop> Engine<N, H> {
         Hold::new(self.locked.lock(wait), &self.words, &self.library, latch)
     }
 
-    /// A load of the pair word of each record that the call claims, which tells nothing and changes nothing: a call that
-    /// begins soon after finds the words near. It takes no lock.
-    pub fn look(&self, call: &Call)
+    /// A load of the pair word of each record that the call claims, which changes nothing: a call that begins soon after
+    /// finds the words near. Whether each claim would have been granted by its word as it was: it is a hint, since the words
+    /// may be others by now. The record of an indirect key is not known yet, and is not among them. It takes no lock.
+    pub fn look(&self, call: &Call) -> bool
         requires { Fits (library_of N.engine) call.now }
     {
-        execution::look::<N>(&self.words, call);
+        execution::look::<N>(&self.words, call)
     }
 
     /// A session's client enters a call, which requests all its claims and gets the next ticket. `Free` with a pass

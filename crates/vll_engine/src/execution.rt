@@ -20,22 +20,24 @@ use vll_counters::{PassSeat, Words};
 use vll_proc::{Call, Frame, Reply};
 use vll_record::{Claims, MOST_CLAIMS, Mode};
 
-// Looks at the pair word of each record that the call claims.
-pub(crate) fn look<N: Name>(words: &Words, call: &Call)
+// Looks at the pair word of each record that the call claims. Tells whether each claim looks free.
+pub(crate) fn look<N: Name>(words: &Words, call: &Call) -> bool
     requires words { words.now ≡ words_of N.engine }
     requires catalog { IsCatalog (library_of N.engine) }
     requires fits { Fits (library_of N.engine) call.now }
 {
-    look_all(words, &call.claims);
+    look_all(words, &call.claims)
 }
 
-// Looks at the pair word of each claim.
-fn look_all(words: &Words, claims: &Claims)
+// Looks at the pair word of each claim, also behind one that does not look free.
+fn look_all(words: &Words, claims: &Claims) -> bool
     requires there { All (λ (c : Claim). c.id < length words.now.base.records) claims.now }
 {
+    let mut are_free = true;
     for claim in claims.iter() {
-        words.look(claim.id);
+        are_free &= words.look(claim);
     }
+    are_free
 }
 
 // The call of a pass makes all its loads, runs its body, and makes all its stores unless it aborts.

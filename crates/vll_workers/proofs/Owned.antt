@@ -29,6 +29,5 @@ own_fits e handed t fit own = record {
 }
 
 -- the library fits the token's calls
-pub call_fits : (e : Named) (handed : List TokenShown) (t : TokenShown) (i : ℕ) (call : Call)
-    → AreFit e handed → IsOf handed t → slice_get t.script i ≡ Some call → Fits (library_of e) call
-call_fits e handed t i call fit own is = all_at (Fits (library_of e)) t.script i call (own_fits e handed t fit own).fits is
+pub call_fits : (e : Named) (t : TokenShown) (i : ℕ) (call : Call) → IsFit e t → slice_get t.script i ≡ Some call → Fits (library_of e) call
+call_fits e t i call fit is = all_at (Fits (library_of e)) t.script i call fit.fits is

@@ -50,9 +50,14 @@ impl Pace {
         self.most > 0
     }
 
-    // How many tokens are to be taken before the next hold: one at least, unless the last round found the front, since
+    // How many tokens may be in hand before a hold, with those whose calls are put off.
+    pub(crate) fn most(&self) -> usize {
+        self.most
+    }
+
+    // How many calls are to be ready before the next hold: one at least, unless the last round found the front, since
     // the next one may find it too and then needs none.
-    pub(crate) fn tokens(&self) -> usize {
+    pub(crate) fn calls(&self) -> usize {
         if self.had_front {
             self.now
         } else {

@@ -11,6 +11,9 @@ use vll_engine::{Begun, Hold, Name, Session};
 use vll_proc::Call;
 use vll_sca::Place;
 
+// So often is a call put off before it begins all the same.
+const MOST_PUT_OFF: u32 = 64;
+
 /// A client's turn in a run: its session, its script, and how many calls of the script have entered. Whoever holds
 /// it enters the client's calls, so they enter one after the other.
 #[derive(Drop)]
@@ -19,6 +22,8 @@ pub struct Token {
     script: Vec<Call>,
     next: u32,
     session: Session,
+    // How often the next call was put off.
+    put_off: u32,
 }
 
 impl Model for Token {
@@ -45,6 +50,7 @@ impl Token {
             script,
             next: 0,
             session,
+            put_off: 0,
         }
     }
 
@@ -94,6 +100,17 @@ impl Token {
         self.next as usize == self.script.len()
     }
 
+    // The next call is put off, and this tells so, unless it was put off often enough.
+    pub(crate) fn put_off(&mut self) -> bool
+        ensures { self.new ≡ self.old }
+    {
+        let may_wait = self.put_off < MOST_PUT_OFF;
+        if may_wait {
+            self.put_off += 1;
+        }
+        may_wait
+    }
+
     // The next call begins, and counts as entered unless it is refused.
     pub(crate) fn begin<N: Name, H: Place + Send + Drop>(
         &mut self,
@@ -112,6 +129,7 @@ impl Token {
         let begun = hold.begin(&mut self.session, call);
         if !matches!(&begun, Begun::Refused(_)) {
             self.next += 1;
+            self.put_off = 0;
         }
         begun
     }

@@ -116,7 +116,9 @@ impl<'a, N: Name, H: Place + Send + Drop, T: Roster, W: Wait, G: Gate> Work<'a, 
         ensures released { batch.new.released ≡ [] }
         ensures finished { batch.new.finished ≡ [] }
     {
-        self.take_some(worker, &mut batch.tokens, batch.pace.tokens());
+        let most = batch.pace.most().saturating_sub(batch.tokens.len());
+        let calls = batch.pace.calls();
+        self.take_some(worker, &mut batch.tokens, &mut batch.tried, most, calls);
         let mut hold = self.engine.hold(self.wait);
         self.finish_all(&mut hold, &mut batch.released, &mut batch.finished);
         let had_token = self.find(
@@ -133,24 +135,52 @@ impl<'a, N: Name, H: Place + Send + Drop, T: Roster, W: Wait, G: Gate> Work<'a, 
         had_token
     }
 
-    // Takes a token from the pool, if there is one, and looks at the words that its next call claims. Tells whether
-    // another one may be taken after it. If the call has an indirect key none is, so that it is the first to begin.
-    fn take_one(self, worker: &mut Worker<T>, tokens: &mut Stack<Token>) -> bool
+    // Takes a token from the pool, if there is one: it is set aside if its next call is put off. Tells whether another one
+    // may be taken after it: not if that call has an indirect key, so that it is the first to begin.
+    fn take_one(
+        self,
+        worker: &mut Worker<T>,
+        tokens: &mut Stack<Token>,
+        tried: &mut Stack<Token>,
+    ) -> bool
         requires fit { AreFit N.engine T.tokens }
-        requires old { IsAtWork T.tokens self.pool.now worker.old tokens.old }
-        requires room { length tokens.old < MOST_BATCH }
-        ensures new { IsAtWork T.tokens self.entry.pool.now worker.new tokens.new }
+        requires old { IsAtWork T.tokens self.pool.now worker.old (tokens.old ++ tried.old) }
+        requires room { length tokens.old + length tried.old < MOST_BATCH }
+        ensures new { IsAtWork T.tokens self.entry.pool.now worker.new (tokens.new ++ tried.new) }
         ensures parts { (view worker.new.pass).parts ≡ (view worker.old.pass).parts }
+        ensures few { length tokens.new + length tried.new ≤ MOST_BATCH }
     {
-        let Some(token) = worker.take(self.wait, self.pool) else {
+        let Some(mut token) = worker.take(self.wait, self.pool) else {
             return false;
         };
-        if let Some(call) = token.upcoming() {
-            self.engine.look(call);
+        if self.is_put_off(&mut token) {
+            tried.push(token);
+            return true;
         }
         let is_indirect = self.is_indirect(&token);
         tokens.push(token);
         !is_indirect
+    }
+
+    // Whether the token's next call is put off: if its source is being written, what it finds there is likely to have moved
+    // by the time it runs.
+    fn is_put_off(self, token: &mut Token) -> bool
+        requires { IsFit N.engine token.old }
+        ensures { token.new ≡ token.old }
+    {
+        let looks_free = self.looks_free(token);
+        !looks_free && self.is_indirect(token) && token.put_off()
+    }
+
+    // Looks at the words that the token's next call claims, so that they are near when it begins. Whether each claim looks
+    // free.
+    fn looks_free(self, token: &Token) -> bool
+        requires { IsFit N.engine token.now }
+    {
+        match token.upcoming() {
+            Some(call) => self.engine.look(call),
+            None => true,
+        }
     }
 
     // Whether the token's next call has an indirect key. What it finds is best found while no call of this worker's has
@@ -164,15 +194,25 @@ impl<'a, N: Name, H: Place + Send + Drop, T: Roster, W: Wait, G: Gate> Work<'a, 
         }
     }
 
-    // Takes so many tokens from the pool, or fewer if there are not as many or no room.
-    fn take_some(self, worker: &mut Worker<T>, tokens: &mut Stack<Token>, count: usize)
+    // Takes tokens from the pool, at most so many, until so many calls are ready to begin.
+    fn take_some(
+        self,
+        worker: &mut Worker<T>,
+        tokens: &mut Stack<Token>,
+        tried: &mut Stack<Token>,
+        most: usize,
+        calls: usize,
+    )
         requires fit { AreFit N.engine T.tokens }
-        requires old { IsAtWork T.tokens self.pool.now worker.old tokens.old }
-        ensures new { IsAtWork T.tokens self.entry.pool.now worker.new tokens.new }
+        requires old { IsAtWork T.tokens self.pool.now worker.old (tokens.old ++ tried.old) }
+        requires few { length tokens.old + length tried.old ≤ MOST_BATCH }
+        ensures new { IsAtWork T.tokens self.entry.pool.now worker.new (tokens.new ++ tried.new) }
         ensures parts { (view worker.new.pass).parts ≡ (view worker.old.pass).parts }
+        ensures few { length tokens.new + length tried.new ≤ MOST_BATCH }
     {
-        for _ in 0..count {
-            if tokens.len() == MOST_BATCH || !self.take_one(worker, tokens) {
+        for _ in 0..most {
+            let is_full = tokens.len() + tried.len() == MOST_BATCH;
+            if is_full || tokens.len() >= calls || !self.take_one(worker, tokens, tried) {
                 return;
             }
         }
@@ -192,8 +232,8 @@ impl<'a, N: Name, H: Place + Send + Drop, T: Roster, W: Wait, G: Gate> Work<'a, 
     ) -> bool
         requires fit { AreFit N.engine T.tokens }
         requires limit { T.limit ≡ N.engine.config.limit }
-        requires old { IsAtWork T.tokens self.pool.now worker.old tokens.old }
-        requires tried { tried.old ≡ [] }
+        requires old { IsAtWork T.tokens self.pool.now worker.old (tokens.old ++ tried.old) }
+        requires few { length tokens.old + length tried.old ≤ MOST_BATCH }
         requires passes { passes.old ≡ [] }
         ensures new { IsAtWork T.tokens self.entry.pool.now worker.new (tokens.new ++ tried.new) }
         ensures parts { (view worker.new.pass).parts ≡ (view worker.old.pass).parts }
@@ -205,9 +245,7 @@ impl<'a, N: Name, H: Place + Send + Drop, T: Roster, W: Wait, G: Gate> Work<'a, 
             return true;
         }
         pace.saw_front(false);
-        if tokens.is_empty() {
-            self.take_one(worker, tokens);
-        }
+        self.take_at_last(worker, tokens, tried);
         let had_token = !tokens.is_empty();
         self.begin_all(worker, hold, tokens, tried, passes, pace);
         // A worker that takes tokens under a hold alone leaves once it finds the pool empty there.
@@ -227,6 +265,28 @@ impl<'a, N: Name, H: Place + Send + Drop, T: Roster, W: Wait, G: Gate> Work<'a, 
         had_token
     }
 
+    // If no call is ready tokens are taken until one is. If there is none it is a call that was put off.
+    fn take_at_last(
+        self,
+        worker: &mut Worker<T>,
+        tokens: &mut Stack<Token>,
+        tried: &mut Stack<Token>,
+    )
+        requires fit { AreFit N.engine T.tokens }
+        requires old { IsAtWork T.tokens self.pool.now worker.old (tokens.old ++ tried.old) }
+        requires few { length tokens.old + length tried.old ≤ MOST_BATCH }
+        ensures new { IsAtWork T.tokens self.entry.pool.now worker.new (tokens.new ++ tried.new) }
+        ensures parts { (view worker.new.pass).parts ≡ (view worker.old.pass).parts }
+        ensures few { length tokens.new + length tried.new ≤ MOST_BATCH }
+    {
+        self.take_some(worker, tokens, tried, MOST_BATCH, 1);
+        if tokens.is_empty() {
+            if let Some(token) = tried.pop() {
+                tokens.push(token);
+            }
+        }
+    }
+
     // Begins the tokens' next calls, up to the first that is not free.
     fn begin_all(
         self,
@@ -239,8 +299,8 @@ impl<'a, N: Name, H: Place + Send + Drop, T: Roster, W: Wait, G: Gate> Work<'a, 
     )
         requires fit { AreFit N.engine T.tokens }
         requires limit { T.limit ≡ N.engine.config.limit }
-        requires old { IsAtWork T.tokens self.pool.now worker.old tokens.old }
-        requires tried { tried.old ≡ [] }
+        requires old { IsAtWork T.tokens self.pool.now worker.old (tokens.old ++ tried.old) }
+        requires few { length tokens.old + length tried.old ≤ MOST_BATCH }
         requires passes { passes.old ≡ [] }
         ensures new { IsAtWork T.tokens self.entry.pool.now worker.new (tokens.new ++ tried.new) }
         ensures parts { (view worker.new.pass).parts ≡ (view worker.old.pass).parts }

@@ -1,9 +1,11 @@
 -- The tokens that were taken are in hand.
-use Rattle.std.proofs.Common.{◌≡◌}
+use Rattle.std.proofs.Common.{◌≡◌, ◌≤◌, ◌+◌, ◌++◌, length}
 use Rattle.crossbeam_queue.specs.Passes.{view}
+use Rattle.vll_workers.specs.declared.stack.TheConstants.{MOST_BATCH}
 use Rattle.vll_workers.specs.Private.Work.{IsAtWork}
 use Rattle.vll_workers.proofs.work.Work.take_some.Given as goal
 
 abbrev pub invariant-loop : goal.invariant-loop
 invariant-loop g l =
-    IsAtWork g.T.Roster.tokens l.self.pool.now l.worker l.tokens × ((view l.worker.pass).parts ≡ (view l.initial.worker.pass).parts)
+    IsAtWork g.T.Roster.tokens l.self.pool.now l.worker (l.tokens ++ l.tried) × ((view l.worker.pass).parts ≡ (view l.initial.worker.pass).parts)
+    × (length l.tokens + length l.tried ≤ MOST_BATCH)
