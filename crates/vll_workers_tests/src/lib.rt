@@ -15,3 +15,5 @@ mod put_off;
 mod runs;
 #[cfg(test)]
 mod tokens;
+#[cfg(test)]
+mod told;

@@ -16,14 +16,21 @@ use vll_proc::{Call, Reply};
 use vll_sca::Placing;
 use vll_workers::Token;
 
+// The call of a procedure for a record.
+pub(crate) fn call_of(rt: &impl Abort, library: &Library, name: &str, record: u64) -> Call
+    ensures { Fits library.now result }
+{
+    match library.call(name, &[record]) {
+        Ok(call) => call,
+        Err(_) => panic!(rt; "there is no {name} of record {record}"),
+    }
+}
+
 // The bump of a record.
 pub(crate) fn bump_of(rt: &impl Abort, library: &Library, record: u64) -> Call
     ensures { Fits library.now result }
 {
-    match library.call("bump", &[record]) {
-        Ok(call) => call,
-        Err(_) => panic!(rt; "there is no bump of record {record}"),
-    }
+    call_of(rt, library, "bump", record)
 }
 
 // A script of so many bumps of a record.
@@ -62,6 +69,22 @@ pub(crate) fn bumping<N: Name>(
     Ok(Token::new(session.client(), session, script))
 }
 
+// The last session of an engine that was opened, and those before it.
+pub(crate) fn last_and_others<N: Name>(
+    rt: &impl Abort,
+    sessions: Vec<Session>,
+) -> (Session, Vec<Session>)
+    requires { AreNewSessions N.engine.table N.engine.clients sessions.items }
+    ensures last { result.0.table ≡ N.engine.table }
+    ensures others { AreNewSessions N.engine.table (length result.1.items) result.1.items }
+{
+    let mut sessions = sessions;
+    match sessions.pop() {
+        Some(session) => (session, sessions),
+        None => panic!(rt; "there is no session"),
+    }
+}
+
 // A token for each session, of so many bumps of the record with its client's number, where there are so many.
 pub(crate) fn all_bumping<N: Name>(
     rt: &impl Abort,
@@ -73,6 +96,24 @@ pub(crate) fn all_bumping<N: Name>(
 ) -> Result<Vec<Token>, Fail>
     requires library { library.now ≡ library_of N.engine }
     requires sessions { AreNewSessions N.engine.table N.engine.clients sessions.items }
+    requires records { 0 < records }
+    ensures fit { IfOk result (λ t. AreFit N.engine t.items) }
+    ensures distinct { IfOk result (λ t. IsDistinct nat_eq (clients_of t.items)) }
+{
+    all_bumping_of::<N>(rt, alloc, library, sessions, records, times)
+}
+
+// The same for the sessions of the first clients alone.
+pub(crate) fn all_bumping_of<N: Name>(
+    rt: &impl Abort,
+    alloc: Global,
+    library: &Library,
+    sessions: Vec<Session>,
+    records: u32,
+    times: u32,
+) -> Result<Vec<Token>, Fail>
+    requires library { library.now ≡ library_of N.engine }
+    requires sessions { AreNewSessions N.engine.table (length sessions.items) sessions.items }
     requires records { 0 < records }
     ensures fit { IfOk result (λ t. AreFit N.engine t.items) }
     ensures distinct { IfOk result (λ t. IsDistinct nat_eq (clients_of t.items)) }
