@@ -32,7 +32,7 @@ fn finds_the_bumped_value<N: Name, R: Wait + Abort>(rt: &R, opening: Opening<Pla
 
 #[test]
 fn begin_finds_by_the_value_of_a_call_that_is_finished(rt: HostRuntime) -> Result<(), Fail> {
-    let opening = opening_over(rt.alloc(), [1, 10, 20], 2)?;
+    let opening = opening_over(rt.alloc(), [1, 10, 20], 2, 1)?;
     finds_the_bumped_value::<Brand, HostRuntime>(&rt, opening);
     Ok(())
 }
@@ -55,7 +55,7 @@ fn moved_source_aborts<N: Name, R: Wait + Abort>(rt: &R, opening: Opening<Placin
 
 #[test]
 fn call_is_aborted_if_its_source_has_moved(rt: HostRuntime) -> Result<(), Fail> {
-    let opening = opening_over(rt.alloc(), [1, 10, 20], 2)?;
+    let opening = opening_over(rt.alloc(), [1, 10, 20], 2, 1)?;
     moved_source_aborts::<Brand, HostRuntime>(&rt, opening);
     Ok(())
 }

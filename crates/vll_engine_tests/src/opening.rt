@@ -45,6 +45,7 @@ pub(crate) fn opening_over(
     alloc: Global,
     values: [u64; 3],
     limit: u32,
+    clients: u32,
 ) -> Result<Opening<Placing>, Fail> {
     let library = library(alloc, 3)?;
     let values = Vec::from_array(alloc, values)?;
@@ -53,7 +54,7 @@ pub(crate) fn opening_over(
         limit,
         bits: 64,
     };
-    let opening = Opening::new(alloc, values, library, config, Placing::Modulo, 1)?;
+    let opening = Opening::new(alloc, values, library, config, Placing::Modulo, clients)?;
     Ok(opening)
 }
 

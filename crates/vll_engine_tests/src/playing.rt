@@ -47,7 +47,7 @@ pub(crate) fn put_back<N: Name>(rt: &impl Abort, sessions: &mut Vec<Session>, se
 }
 
 // The call of a procedure for a record.
-fn call_of(rt: &impl Abort, library: &Library, name: &str, record: u64) -> Call
+pub(crate) fn call_of(rt: &impl Abort, library: &Library, name: &str, record: u64) -> Call
     ensures { Fits library.now result }
 {
     match library.call(name, &[record]) {
