@@ -12,16 +12,17 @@ use crate::playing::{
 };
 use std::marker::Brand;
 use std::process::Abort;
-use std::sync::Wait;
+use std::sync::atomic::{AtomicU64, Ordering};
+use std::sync::{Barrier, Wait};
 use std::test::*;
 use std::thread::{Threads, join};
-use vll_core::Ticket;
+use vll_core::{Line, Ticket};
 use vll_engine::{Begun, Engine, Hold, Name, Opening, Pass, Released, Session};
 use vll_proc::Call;
 use vll_sca::Placing;
 
 // A session's client begins a call under a hold: its pass if it is free, and its ticket if it is blocked.
-fn begins_under<N: Name, R: Abort>(
+pub(crate) fn begins_under<N: Name, R: Abort>(
     rt: &R,
     hold: &mut Hold<'_, N, Placing>,
     session: &mut Session,
@@ -121,13 +122,15 @@ fn begins<N: Name, R: Wait + Abort>(
     }
 }
 
-// Under one hold a released call is finished and the next bump begins. It is free, and is released.
+// Under one hold, which no other thread has a part of, a released call is finished and the next bump begins. It is free,
+// and is released.
 fn goes_on<N: Name, R: Wait + Abort>(
     rt: &R,
     engine: &Engine<N, Placing>,
     session: &mut Session,
     record: u64,
     released: Released,
+    holders: &AtomicU64,
 ) -> Released
     requires session { session.old.table ≡ N.engine.table }
     requires released { IsReleased N.engine released }
@@ -136,13 +139,24 @@ fn goes_on<N: Name, R: Wait + Abort>(
 {
     let call = bump_of(rt, engine.library(), record);
     let mut hold = engine.hold(rt);
+    let others = holders.fetch_add(1, Ordering::SeqCst);
     hold.finish(released);
     let begun = begins_under(rt, &mut hold, session, &call);
+    holders.fetch_sub(1, Ordering::SeqCst);
     drop(hold);
+    assert_eq!(rt; others, 0);
     match begun {
         Ok(pass) => releases(rt, engine, pass),
         Err(_) => panic!(rt; "the next call is blocked"),
     }
+}
+
+// What two threads meet at: before each pair of bumps the one that comes first waits for the other. It is counted who
+// has a hold.
+#[derive(Drop)]
+struct Meeting {
+    barrier: Barrier,
+    holders: AtomicU64,
 }
 
 // A client makes its pairs of bumps.
@@ -151,20 +165,41 @@ fn bumps<N: Name, R: Wait + Abort>(
     engine: &Engine<N, Placing>,
     session: Session,
     record: u64,
+    meeting: &Meeting,
 ) -> Session
     requires { session.table ≡ N.engine.table }
     ensures { result.table ≡ N.engine.table }
 {
     let mut session = session;
     for _ in 0..PAIRS {
+        meeting.barrier.wait(rt);
         let first = begins(rt, engine, &mut session, record);
-        let second = goes_on(rt, engine, &mut session, record, first);
+        let second = goes_on(rt, engine, &mut session, record, first, &meeting.holders);
         engine.finish(rt, second);
     }
     session
 }
 
-// Two threads bump a record each, and then the engine is closed.
+// Each bump replies how many its client has made by then. Whenever both have made a pair, neither is ahead.
+fn are_made_in_turn(rt: &impl Abort, lines: &[Line]) {
+    let mut zero: u64 = 0;
+    let mut one: u64 = 0;
+    for (index, line) in lines.iter().enumerate() {
+        let output = line.reply.as_ref().and_then(output_of);
+        if line.client == 0 {
+            zero = zero.saturating_add(1);
+            assert_eq!(rt; output, Some(zero));
+        } else {
+            one = one.saturating_add(1);
+            assert_eq!(rt; output, Some(one));
+        }
+        if index % 4 == 3 {
+            assert_eq!(rt; zero, one);
+        }
+    }
+}
+
+// Two threads bump a record each, pair by pair, and then the engine is closed.
 fn bumps_by_two_threads<N: Name + Send + Sync, R: Wait + Threads + Abort + Sync>(
     rt: &R,
     opening: Opening<Placing>,
@@ -174,17 +209,22 @@ fn bumps_by_two_threads<N: Name + Send + Sync, R: Wait + Threads + Abort + Sync>
     let (engine, mut sessions) = started::<N>(opening);
     let one = last_of::<N>(rt, &mut sessions);
     let zero = last_of::<N>(rt, &mut sessions);
+    let meeting = Meeting {
+        barrier: Barrier::new(2),
+        holders: AtomicU64::new(0),
+    };
+    let met = &meeting;
     let engine_now = &engine;
     let (zero, one) = join(
         rt,
         move || -> Session
             requires { zero.table ≡ N.engine.table }
             ensures { result.table ≡ N.engine.table }
-        { bumps(rt, engine_now, zero, 0) },
+        { bumps(rt, engine_now, zero, 0, met) },
         move || -> Session
             requires { one.table ≡ N.engine.table }
             ensures { result.table ≡ N.engine.table }
-        { bumps(rt, engine_now, one, 1) },
+        { bumps(rt, engine_now, one, 1, met) },
     );
     put_back::<N>(rt, &mut sessions, zero);
     put_back::<N>(rt, &mut sessions, one);
@@ -192,6 +232,7 @@ fn bumps_by_two_threads<N: Name + Send + Sync, R: Wait + Threads + Abort + Sync>
     let bumped = 2 * PAIRS as u64;
     assert_eq!(rt; closed.records.as_slice(), [bumped, bumped].as_slice());
     assert_eq!(rt; closed.journal.len(), 4 * PAIRS as usize);
+    are_made_in_turn(rt, closed.journal.as_slice());
 }
 
 #[test]

@@ -1,5 +1,6 @@
 // Gates that watch which calls are executed.
-use std::sync::atomic::{AtomicU64, Ordering};
+use std::sync::atomic::{AtomicBool, AtomicU64, Ordering};
+use std::thread::yield_now;
 use vll_core::Ticket;
 use vll_workers::Gate;
 
@@ -112,5 +113,43 @@ impl Gate for Crowd {
 
     fn after(&self, _ticket: Ticket) {
         self.inside.fetch_sub(1, Ordering::SeqCst);
+    }
+}
+
+// How often a worker at its halt looks whether it may go on, which takes some seconds.
+const HALT_LOOKS: u32 = 20_000_000;
+
+// Holds the worker back that has finished the call of one ticket, until it may go on.
+#[derive(Drop)]
+pub(crate) struct Halt {
+    ticket: Ticket,
+    pub(crate) has_come: AtomicBool,
+    pub(crate) may_go: AtomicBool,
+}
+
+impl Halt {
+    pub(crate) fn new(ticket: Ticket) -> Halt {
+        Halt {
+            ticket,
+            has_come: AtomicBool::new(false),
+            may_go: AtomicBool::new(false),
+        }
+    }
+}
+
+impl Gate for Halt {
+    fn before(&self, _ticket: Ticket) {}
+
+    fn after(&self, ticket: Ticket) {
+        if ticket != self.ticket {
+            return;
+        }
+        self.has_come.store(true, Ordering::SeqCst);
+        for _ in 0..HALT_LOOKS {
+            if self.may_go.load(Ordering::SeqCst) {
+                return;
+            }
+            yield_now();
+        }
     }
 }

@@ -14,6 +14,8 @@ mod put_off;
 #[cfg(test)]
 mod runs;
 #[cfg(test)]
+mod staying;
+#[cfg(test)]
 mod tokens;
 #[cfg(test)]
 mod told;

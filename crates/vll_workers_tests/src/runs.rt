@@ -141,7 +141,7 @@ fn run_is_spent_only_at_the_limit(rt: HostRuntime) -> Result<(), Fail> {
     Ok(())
 }
 
-// Without tokens there is nothing to do, and no thread is started.
+// Without tokens no thread is started: a worker would bring the call to its reply that waits and may run.
 fn has_none<N: Name + Send + Sync, R: Wait + Threads + Abort + Sync>(
     rt: &R,
     alloc: Global,
@@ -149,18 +149,26 @@ fn has_none<N: Name + Send + Sync, R: Wait + Threads + Abort + Sync>(
 )
     requires { N.engine ≡ name_of placing opening }
 {
-    let (engine, _) = opening.start::<N>();
+    let (engine, mut sessions) = opening.start::<N>();
+    let mut session = last_of::<N>(rt, &mut sessions);
+    let zero = begins(rt, &engine, &mut session, 0);
+    waits(rt, &engine, &mut session, 0, Ticket(1));
+    ends(rt, &engine, zero);
     let tokens = Vec::new(alloc);
     match run(rt, rt, alloc, &engine, tokens, 8, &OpenGate) {
         Ok(tokens) => assert!(rt; tokens.is_empty()),
         Err(_) => panic!(rt; "the run has a fault"),
     }
-    closes(rt, engine, Vec::new(alloc), &[0], &[]);
+    match engine.next_front(rt) {
+        Some(pass) => ends(rt, &engine, pass),
+        None => panic!(rt; "a worker was there"),
+    }
+    closes(rt, engine, Vec::new(alloc), &[2], &[1, 2]);
 }
 
 #[test]
 fn no_tokens_is_well(rt: HostRuntime) -> Result<(), Fail> {
-    let opening = opening(rt.alloc(), 1, 1, 0)?;
+    let opening = opening(rt.alloc(), 1, 2, 1)?;
     has_none::<Brand, HostRuntime>(&rt, rt.alloc(), opening);
     Ok(())
 }
