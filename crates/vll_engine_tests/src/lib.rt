@@ -10,6 +10,8 @@ mod finding;
 #[cfg(test)]
 mod holding;
 #[cfg(test)]
+mod looking;
+#[cfg(test)]
 mod opening;
 #[cfg(test)]
 mod playing;
