@@ -19,9 +19,9 @@ class WorkOf(unittest.TestCase):
         for more, kind in (
             ([], 'proof'),
             (['--test'], 'tests'),
-            (['--incremental', '/tmp/rt-edits-7-x/seed'], 'seed'),
-            (['--incremental', '/tmp/rt-edits-7-x/12'], 'edits'),
-            (['--incremental', '/work/low/out/incremental'], 'proof'),
+            (['--incremental', '/room/rt-edits-7-x/seed'], 'seed'),
+            (['--incremental', '/room/rt-edits-7-x/12'], 'edits'),
+            (['--incremental', '/house/low/out/incremental'], 'proof'),
         ):
             self.assertEqual(gate_times.work_of(begin + more), ('low', kind))
 
