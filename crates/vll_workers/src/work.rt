@@ -162,8 +162,8 @@ impl<'a, N: Name, H: Place + Send + Drop, T: Roster, W: Wait, G: Gate> Work<'a, 
         !is_indirect
     }
 
-    // Whether the token's next call is put off: if its source is being written, what it finds there is likely to have moved
-    // by the time it runs.
+    // Whether the token's next call is put off: it has an indirect key, and a claim of it looks denied. If that is the one
+    // on its source, what it finds there is likely to have moved by the time it runs.
     fn is_put_off(self, token: &mut Token) -> bool
         requires { IsFit N.engine token.old }
         ensures { token.new ≡ token.old }
