@@ -5,15 +5,12 @@ use Rattle.std.proofs.lemmas.List.Elements.{All-cons, All-head, All-tail}
 use Rattle.std.proofs.lemmas.List.Sorted.{All-permutation, IsPermutation-append_left, IsPermutation-middle, IsPermutation-sym}
 use Rattle.atomic_table.specs.Seated.{TableId}
 use Rattle.crossbeam_queue.specs.Passes.{IsSamePass, view}
-use Rattle.vll_engine.specs.declared.begun.Begun.{Begun}
-use Rattle.vll_engine.specs.Shown.{Named}
 use Rattle.vll_workers.specs.declared.pool.Hand.{Hand}
 use Rattle.vll_workers.specs.Private.Pool.{HasInHand, HoldsMore, HoldsOne, IsPut, IsTaken, Working}
 use Rattle.vll_workers.specs.Private.Work.{IsAtWork}
 use Rattle.vll_workers.specs.Shown.{TokenShown}
 use Rattle.vll_workers.specs.Tokens.{IsOf, clients_of}
-use Rattle.vll_workers.proofs.Gained.{IsBegun, of_begun}
-use Rattle.vll_workers.proofs.Hands.{begun_hand, given, more_held, one_held, put_by, reordered, still, taken}
+use Rattle.vll_workers.proofs.Hands.{given, more_held, one_held, put_by, renewed, reordered, still, taken}
 
 -- a token more is taken
 pub one_more : (handed : List TokenShown) (table : TableId) (old new : Working) (ts : List TokenShown) (t : TokenShown) → IsAtWork handed table old ts → new.kept ≡ old.kept → IsSamePass old.pass new.pass
@@ -50,6 +47,18 @@ set_aside handed table w ts others new t at is =
     } in
     subst (λ (l : List TokenShown). IsAtWork handed table w (ts ++ l)) (sym is) aside
 
+-- one that was set aside is taken back
+pub taken_back : (handed : List TokenShown) (table : TableId) (w : Working) (ts others rest : List TokenShown) (t : TokenShown) → IsAtWork handed table w (ts ++ others) → others ≡ t ∷ rest
+    → IsAtWork handed table w ((t ∷ ts) ++ rest)
+taken_back handed table w ts others rest t at is =
+    let aside : IsAtWork handed table w (ts ++ t ∷ rest) = subst (λ (l : List TokenShown). IsAtWork handed table w (ts ++ l)) is at in
+    let moved : IsPermutation (ts ++ t ∷ rest) (t ∷ (ts ++ rest)) = IsPermutation-middle ts t rest in
+    record {
+      hand = reordered table w.pass ((ts ++ t ∷ rest) ++ w.kept) ((t ∷ (ts ++ rest)) ++ w.kept) aside.hand (IsPermutation-append_left w.kept (ts ++ t ∷ rest) (t ∷ (ts ++ rest)) moved);
+      own = All-permutation (IsOf handed) (ts ++ t ∷ rest) (t ∷ (ts ++ rest)) moved aside.own;
+      part = aside.part;
+    }
+
 pub own_of : (handed : List TokenShown) (table : TableId) (w : Working) (ts : List TokenShown) (t : TokenShown) → IsAtWork handed table w (t ∷ ts) → IsOf handed t
 own_of handed table w ts t at = All-head (IsOf handed) t ts at.own
 
@@ -59,12 +68,12 @@ held handed table w ts t at = one_held table w.pass t (ts ++ w.kept) at.hand
 pub held_more : (handed : List TokenShown) (table : TableId) (w : Working) (ts : List TokenShown) (t : TokenShown) → IsAtWork handed table w (t ∷ ts) → HoldsMore (view w.pass).holds t.client (clients_of w.kept)
 held_more handed table w ts t at = more_held table w.pass t ts w.kept at.hand
 
--- a call of it began
-pub begun : (e : Named) (handed : List TokenShown) (table : TableId) (w : Working) (ts : List TokenShown) (t new : TokenShown) (b : Begun) → IsAtWork handed table w (t ∷ ts) → IsBegun e t new b
+-- calls of it began
+pub renewed_at_work : (handed : List TokenShown) (table : TableId) (w : Working) (ts : List TokenShown) (t new : TokenShown) → IsAtWork handed table w (t ∷ ts) → IsOf handed new → new.client ≡ t.client
     → IsAtWork handed table w (new ∷ ts)
-begun e handed table w ts t new b at begins = record {
-  hand = begun_hand table w.pass t new new.session b (ts ++ w.kept) at.hand begins.token;
-  own = All-cons (IsOf handed) new ts (of_begun e handed t new b (own_of handed table w ts t at) begins) (All-tail (IsOf handed) t ts at.own);
+renewed_at_work handed table w ts t new at own whose = record {
+  hand = renewed table w.pass t new (ts ++ w.kept) at.hand whose;
+  own = All-cons (IsOf handed) new ts own (All-tail (IsOf handed) t ts at.own);
   part = at.part;
 }
 

@@ -179,6 +179,15 @@ of_begun e handed t new begun of begins =
     let answer = begins.answer next.0 next.1 in
     begun_of e handed t new next.0 (with_found (library_of e) next.0 answer.value) begun of next.1 begins.token answer.same answer.begins begins.table
 
+-- it is the same client's
+pub client_begun : (e : Named) (t new : TokenShown) (begun : Begun) → IsBegun e t new begun → new.client ≡ t.client
+client_begun e t new begun begins = ap (λ (u : TokenShown). u.client) begins.token ∙ stays begun
+  where
+    stays : (b : Begun) → (begun_token t new.session b).client ≡ t.client
+    stays (Free pass) = refl
+    stays (Blocked ticket) = refl
+    stays (Refused why) = refl
+
 -- the pass of a call that is free is fresh
 pub fresh_pass : (e : Named) (t new : TokenShown) (begun : Begun) (pass : PassShown) → IsBegun e t new begun → begun ≡ Free pass → IsFresh e pass
 fresh_pass e t new begun pass begins is =

@@ -1,16 +1,12 @@
 -- What a worker has in hand, step by step.
-use Rattle.std.proofs.Common.{◌≡◌, ◌<◌, ◌≤◌, ℕ, List, [], ◌∷◌, ◌++◌, length, refl, sym, ap, ◌∙◌, arith}
+use Rattle.std.proofs.Common.{◌≡◌, ◌<◌, ◌≤◌, ℕ, List, [], ◌∷◌, ◌++◌, length, sym, ap, ◌∙◌, arith}
 use Rattle.std.specs.Prelude.{IsPermutation, sum_by}
 use Rattle.std.proofs.lemmas.List.{length-append, length-map, map-append}
 use Rattle.std.proofs.lemmas.List.Sorted.{IsPermutation-map, sum_by-IsPermutation}
 use Rattle.std.proofs.lemmas.List.Sums.{sum_by-append, sum_by-cons}
 use Rattle.atomic_table.specs.Seated.{TableId}
 use Rattle.crossbeam_queue.specs.Passes.{IsSamePass, Pass, view}
-use Rattle.vll_counters.specs.Shown.{SessionShown}
-use Rattle.vll_engine.specs.declared.begun.Begun.{Begun}
-use Rattle.vll_engine.specs.declared.begun.Begun.TheVariants.{Free, Blocked, Refused}
 use Rattle.vll_workers.specs.declared.pool.Hand.{Hand}
-use Rattle.vll_workers.specs.Private.Begin.{begun_token}
 use Rattle.vll_workers.specs.Private.Pool.{AreSame, HasInHand, HoldsMore, HoldsOne, IsPassIn, IsPut, IsTaken, joined, new_hand}
 use Rattle.vll_workers.specs.Shown.{TokenShown}
 use Rattle.vll_workers.specs.Tokens.{clients_of}
@@ -105,14 +101,9 @@ fewer_kept holds client n capacity kept more few room =
     let c : length (clients_of kept) ≡ length kept = length-map kept (λ (u : TokenShown). u.client) in
     omega (arith, a, b, c, few, room)
 
--- a token whose call began is its client's still
-pub begun_hand : (table : TableId) (p : PoolPass) (t new : TokenShown) (s : SessionShown) (begun : Begun) (kept : List TokenShown) → HasInHand table p (t ∷ kept)
-    → new ≡ begun_token t s begun → HasInHand table p (new ∷ kept)
-begun_hand table p t new s begun kept hand is =
-    let client : t.client ≡ new.client = sym (ap (λ (u : TokenShown). u.client) is ∙ stays begun) in
-    record { of = hand.of; holds = λ h. hand.holds h ∙ ap (λ (c : ℕ). sum_by h (c ∷ clients_of kept)) client }
-  where
-    stays : (b : Begun) → (begun_token t s b).client ≡ t.client
-    stays (Free pass) = refl
-    stays (Blocked ticket) = refl
-    stays (Refused why) = refl
+-- another form of a client's token, in the place of the one in hand
+pub renewed : (table : TableId) (p : PoolPass) (t new : TokenShown) (rest : List TokenShown) → HasInHand table p (t ∷ rest) → new.client ≡ t.client → HasInHand table p (new ∷ rest)
+renewed table p t new rest hand whose = record {
+  of = hand.of;
+  holds = λ h. hand.holds h ∙ ap (λ (c : ℕ). sum_by h (c ∷ clients_of rest)) (sym whose);
+}

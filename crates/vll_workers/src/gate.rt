@@ -11,6 +11,13 @@ pub trait Gate {
 
     /// The call has got its reply.
     fn after(&self, ticket: Ticket);
+
+    /// Whether a function of this gate may wait for another call. As long as this says so, a worker puts its clients'
+    /// tokens back before it tells of a call, so that other workers can make those clients' next calls. Without that it
+    /// may keep them in hand for some time.
+    fn may_wait(&self) -> bool {
+        true
+    }
 }
 
 /// The gate that does nothing.
@@ -21,4 +28,8 @@ impl Gate for OpenGate {
     fn before(&self, _ticket: Ticket) {}
 
     fn after(&self, _ticket: Ticket) {}
+
+    fn may_wait(&self) -> bool {
+        false
+    }
 }

@@ -16,6 +16,12 @@ const FIRST_PAUSE: u32 = 32;
 // A pause lets another thread run after so many turns.
 const TURNS_A_YIELD: u32 = 64;
 
+// The most calls that are to be ready before a hold.
+const MOST_CALLS: u32 = 8;
+
+// So many rounds in a row a worker keeps its tokens in hand before they go back to the pool.
+const ROUNDS_IN_HAND: u32 = 16;
+
 // So many rounds in a row may find no token before a worker leaves.
 const MOST_IDLE: u32 = 16;
 
@@ -24,11 +30,14 @@ const MOST_IDLE: u32 = 16;
 #[derive(Clone, Copy)]
 pub(crate) struct Pace {
     most: usize,
-    now: usize,
+    now: u32,
     longest: u32,
     pause: u32,
     idle: u32,
     had_front: bool,
+    keeps: bool,
+    // So many more rounds the tokens stay in hand.
+    rounds: u32,
 }
 
 impl Pace {
@@ -37,11 +46,13 @@ impl Pace {
         let longest = workers.saturating_mul(TURNS_A_WORKER);
         Pace {
             most,
-            now: most,
+            now: MOST_CALLS,
             longest: longest.clamp(LONGEST_OF_FEW, LONGEST_OF_MANY),
             pause: 0,
             idle: 0,
             had_front: false,
+            keeps: false,
+            rounds: ROUNDS_IN_HAND,
         }
     }
 
@@ -57,11 +68,11 @@ impl Pace {
 
     // How many calls are to be ready before the next hold: one at least, unless the last round found the front, since
     // the next one may find it too and then needs none.
-    pub(crate) fn calls(&self) -> usize {
+    pub(crate) fn calls(&self) -> u32 {
         if self.had_front {
-            self.now
+            self.now.saturating_sub(1)
         } else {
-            self.now.max(self.most.min(1))
+            self.now
         }
     }
 
@@ -70,14 +81,28 @@ impl Pace {
         self.had_front = had_front;
     }
 
-    // A call that began may run.
-    pub(crate) fn quicken(&mut self) {
-        self.now = self.most.min(self.now.saturating_add(1));
+    // So many calls began that may run, and whether another one was held back.
+    pub(crate) fn began(&mut self, free: u32, was_held: bool) {
+        if was_held {
+            self.now = self.now.min(free.max(1));
+        } else if free >= self.now {
+            self.now = MOST_CALLS.min(self.now.saturating_add(1));
+        }
     }
 
-    // A call that began waits, or was refused.
-    pub(crate) fn slacken(&mut self) {
-        self.now /= 2;
+    // The worker may keep tokens in hand, if there are enough for all.
+    pub(crate) fn keep_tokens(&mut self) {
+        self.keeps = self.takes_ahead();
+    }
+
+    // Whether the tokens stay in hand for the next round.
+    pub(crate) fn stay_in_hand(&mut self) -> bool {
+        if self.rounds == 0 {
+            self.rounds = ROUNDS_IN_HAND;
+            return false;
+        }
+        self.rounds -= 1;
+        self.keeps
     }
 
     // A call that may run was found.

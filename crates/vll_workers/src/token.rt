@@ -1,4 +1,4 @@
-ghost use Rattle.std.specs.Prelude.{◌≡◌, ◌<◌, ◌≤◌, ◌==◌, ◌^◌, IfNone, Some, true, false, length, slice_get};
+ghost use Rattle.std.specs.Prelude.{◌≡◌, ◌<◌, ◌≤◌, ◌==◌, ◌^◌, ◌+◌, Some, true, false, length, slice_get};
 ghost use Rattle.std.specs.Option.{option_map};
 ghost use Rattle.vll_proc.specs.declared.call.Call.{Call};
 ghost use Rattle.vll_engine.specs.Begin.{FindsAndBegins};
@@ -24,6 +24,8 @@ pub struct Token {
     session: Session,
     // How often the next call was put off.
     put_off: u32,
+    // How many of the next calls looked free when they were looked at last.
+    ready: u32,
 }
 
 impl Model for Token {
@@ -51,6 +53,7 @@ impl Token {
             next: 0,
             session,
             put_off: 0,
+            ready: 0,
         }
     }
 
@@ -84,12 +87,11 @@ impl Token {
         self.session
     }
 
-    // The next call as it lies in the script, where one is left.
-    pub(crate) fn upcoming(&self) -> Option<&Call>
-        ensures call { option_map (λ c. c.now) result ≡ slice_get self.now.script self.now.next }
-        ensures through { IfNone result (IsThrough self.now) }
+    // The call so many places behind the next one as it lies in the script, if there is one.
+    pub(crate) fn upcoming(&self, ahead: u32) -> Option<&Call>
+        ensures { option_map (λ c. c.now) result ≡ slice_get self.now.script (self.now.next + ahead) }
     {
-        self.script.get(self.next as usize)
+        self.script.get(self.next as usize + ahead as usize)
     }
 
     // Every call has entered.
@@ -109,6 +111,18 @@ impl Token {
             self.put_off += 1;
         }
         may_wait
+    }
+
+    // So many of the next calls look free.
+    pub(crate) fn looked(&mut self, ready: u32)
+        ensures { self.new ≡ self.old }
+    {
+        self.ready = ready;
+    }
+
+    // How many of the next calls looked free.
+    pub(crate) fn ready(&self) -> u32 {
+        self.ready
     }
 
     // The next call begins, and counts as entered unless it is refused.

@@ -1,4 +1,4 @@
--- The tokens of the batch are in hand, and each call that was executed has released its claims.
+-- The tokens that were kept are in hand, and each call that was executed has released its claims.
 use Rattle.std.proofs.Common.{◌≡◌, ◌≤◌, [], All, length}
 use Rattle.vll_engine.specs.Pass.{IsReleased}
 use Rattle.vll_workers.specs.declared.stack.TheConstants.{MOST_BATCH}
@@ -8,5 +8,5 @@ use Rattle.vll_workers.proofs.work.Work.run.Given as goal
 
 abbrev pub invariant-loop : goal.invariant-loop
 invariant-loop g l =
-    IsAtWork g.T.Roster.tokens l.self.pool.now l.worker l.batch.tokens × ((view l.worker.pass).parts ≡ (view l.initial.worker.pass).parts)
-    × (l.batch.tried ≡ []) × (l.batch.passes ≡ []) × All (IsReleased g.N.Name.engine) l.batch.released × (length l.batch.released ≤ MOST_BATCH) × (l.batch.finished ≡ [])
+    IsAtWork g.T.Roster.tokens l.self.pool.now l.worker l.batch.tried × ((view l.worker.pass).parts ≡ (view l.initial.worker.pass).parts)
+    × (length l.batch.tried ≤ MOST_BATCH) × (l.batch.tokens ≡ []) × (l.batch.passes ≡ []) × All (IsReleased g.N.Name.engine) l.batch.released × (length l.batch.released ≤ MOST_BATCH) × (l.batch.finished ≡ [])

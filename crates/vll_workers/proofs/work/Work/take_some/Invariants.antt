@@ -1,4 +1,4 @@
--- The tokens that were taken are in hand.
+-- The tokens that were taken, and those that were kept in hand, are in hand.
 use Rattle.std.proofs.Common.{◌≡◌, ◌≤◌, ◌+◌, ◌++◌, length}
 use Rattle.crossbeam_queue.specs.Passes.{view}
 use Rattle.vll_workers.specs.declared.stack.TheConstants.{MOST_BATCH}

@@ -1,0 +1,198 @@
+// What a worker does under a hold: it looks for calls that may run, and begins others.
+ghost use Rattle.std.specs.Prelude.{◌≡◌, ◌≤◌, ◌+◌, ◌++◌, [], All, length};
+ghost use Rattle.crossbeam_queue.specs.Passes.{view};
+ghost use Rattle.vll_engine.specs.Pass.{IsFresh};
+ghost use Rattle.vll_workers.specs.Private.Settled.{IsSettled};
+ghost use Rattle.vll_workers.specs.Private.Work.{IsAtWork};
+ghost use Rattle.vll_workers.specs.Tokens.{AreFit, IsFit, IsOf};
+
+use super::Work;
+use crate::gate::Gate;
+use crate::pace::Pace;
+use crate::roster::Roster;
+use crate::stack::{MOST_BATCH, Stack};
+use crate::token::Token;
+use crate::worker::Worker;
+use std::sync::Wait;
+use vll_engine::{BeginRefusal, Begun, Hold, Name, Pass};
+use vll_sca::Place;
+
+// What became of a token's calls that were to begin.
+enum Course {
+    // All that began are free.
+    Free,
+    // One waits, or may not begin now.
+    Held,
+    // The engine takes no more.
+    Spent,
+}
+
+impl<N: Name, H: Place + Send + Drop, T: Roster, W: Wait, G: Gate> Work<'_, N, H, T, W, G> {
+    // The call at the front, if it waits. Else the tokens' next calls begin, and it is those that are free; if there is
+    // none, it is the one that the scan finds. So no worker rests or leaves while a call waits that may run. Tells whether
+    // there was a token.
+    pub(super) fn find(
+        self,
+        worker: &mut Worker<T>,
+        hold: &mut Hold<'_, N, H>,
+        tokens: &mut Stack<Token>,
+        tried: &mut Stack<Token>,
+        passes: &mut Stack<Pass>,
+        pace: &mut Pace,
+    ) -> bool
+        requires fit { AreFit N.engine T.tokens }
+        requires limit { T.limit ≡ N.engine.config.limit }
+        requires old { IsAtWork T.tokens self.pool.now worker.old (tokens.old ++ tried.old) }
+        requires few { length tokens.old + length tried.old ≤ MOST_BATCH }
+        requires passes { passes.old ≡ [] }
+        ensures new { IsAtWork T.tokens self.entry.pool.now worker.new (tokens.new ++ tried.new) }
+        ensures few { length tokens.new + length tried.new ≤ MOST_BATCH }
+        ensures parts { (view worker.new.pass).parts ≡ (view worker.old.pass).parts }
+        ensures passes { All (IsFresh N.engine) passes.new }
+    {
+        if let Some(pass) = hold.next_front() {
+            pace.saw_front(true);
+            passes.push(pass);
+            return true;
+        }
+        pace.saw_front(false);
+        if tokens.is_empty() {
+            self.take_some(worker, tokens, tried, MOST_BATCH, 1);
+        }
+        let had_token = !tokens.is_empty();
+        self.begin_all(worker, hold, tokens, tried, passes, pace);
+        // A worker that takes tokens under a hold alone leaves once it finds the pool empty there.
+        if !pace.takes_ahead() {
+            self.put_back(worker, tokens, tried);
+        }
+        if passes.is_empty() {
+            if let Some(pass) = hold.next_scan() {
+                passes.push(pass);
+            }
+        }
+        had_token
+    }
+
+    // Begins the tokens' next calls.
+    fn begin_all(
+        self,
+        worker: &mut Worker<T>,
+        hold: &mut Hold<'_, N, H>,
+        tokens: &mut Stack<Token>,
+        tried: &mut Stack<Token>,
+        passes: &mut Stack<Pass>,
+        pace: &mut Pace,
+    )
+        requires fit { AreFit N.engine T.tokens }
+        requires limit { T.limit ≡ N.engine.config.limit }
+        requires old { IsAtWork T.tokens self.pool.now worker.old (tokens.old ++ tried.old) }
+        requires few { length tokens.old + length tried.old ≤ MOST_BATCH }
+        requires passes { passes.old ≡ [] }
+        ensures new { IsAtWork T.tokens self.entry.pool.now worker.new (tokens.new ++ tried.new) }
+        ensures few { length tokens.new + length tried.new ≤ MOST_BATCH }
+        ensures parts { (view worker.new.pass).parts ≡ (view worker.old.pass).parts }
+        ensures passes { All (IsFresh N.engine) passes.new }
+    {
+        let mut was_held = false;
+        for _ in 0..tokens.len() {
+            was_held |= !self.begin_next(worker, hold, tokens, tried, passes);
+        }
+        pace.began(passes.len() as u32, was_held);
+    }
+
+    // Begins the next calls of the last token, and tells whether all that began are free. The token is set aside, or stays
+    // with the worker if no call is left or the engine takes no more. As long as nothing began its words are looked at once
+    // more, and its call is put off if that does not look free now. A call with an indirect key begins as the first of a
+    // batch, and is left for another one if it is not.
+    fn begin_next(
+        self,
+        worker: &mut Worker<T>,
+        hold: &mut Hold<'_, N, H>,
+        tokens: &mut Stack<Token>,
+        tried: &mut Stack<Token>,
+        passes: &mut Stack<Pass>,
+    ) -> bool
+        requires fit { AreFit N.engine T.tokens }
+        requires limit { T.limit ≡ N.engine.config.limit }
+        requires old { IsAtWork T.tokens self.pool.now worker.old (tokens.old ++ tried.old) }
+        requires few { length tokens.old + length tried.old ≤ MOST_BATCH }
+        requires passes { All (IsFresh N.engine) passes.old }
+        ensures new { IsAtWork T.tokens self.entry.pool.now worker.new (tokens.new ++ tried.new) }
+        ensures few { length tokens.new + length tried.new ≤ MOST_BATCH }
+        ensures parts { (view worker.new.pass).parts ≡ (view worker.old.pass).parts }
+        ensures passes { All (IsFresh N.engine) passes.new }
+    {
+        let Some(mut token) = tokens.pop() else {
+            return true;
+        };
+        if token.is_through() {
+            worker.keep(self.pool, token);
+            return true;
+        }
+        if self.is_left(&mut token, passes) {
+            tried.push(token);
+            return false;
+        }
+        match self.begin_calls(hold, &mut token, passes) {
+            Course::Free => {
+                tried.push(token);
+                true
+            }
+            Course::Held => {
+                tried.push(token);
+                false
+            }
+            Course::Spent => {
+                worker.keep(self.pool, token);
+                false
+            }
+        }
+    }
+
+    // Whether the token's next call is left for another batch.
+    fn is_left(self, token: &mut Token, passes: &Stack<Pass>) -> bool
+        requires { IsFit N.engine token.old }
+        ensures { token.new ≡ token.old }
+    {
+        if token.ready() == 0 {
+            return true;
+        }
+        if passes.is_empty() {
+            return self.look_at(token, token.ready()) == 0;
+        }
+        self.is_indirect(token, 0)
+    }
+
+    // Begins as many of the token's next calls as looked free, one at least, up to the first that is not free now or until
+    // the batch is full.
+    fn begin_calls(
+        self,
+        hold: &mut Hold<'_, N, H>,
+        token: &mut Token,
+        passes: &mut Stack<Pass>,
+    ) -> Course
+        requires fit { AreFit N.engine T.tokens }
+        requires limit { T.limit ≡ N.engine.config.limit }
+        requires own { IsOf T.tokens token.old }
+        requires passes { All (IsFresh N.engine) passes.old }
+        ensures own { IsOf T.tokens token.new }
+        ensures client { token.new.client ≡ token.old.client }
+        ensures passes { All (IsFresh N.engine) passes.new }
+        ensures spent { result ≡ Course.Spent → IsSettled T.limit token.new }
+    {
+        for _ in 0..token.ready() {
+            if passes.len() == MOST_BATCH {
+                return Course::Free;
+            }
+            if token.is_through() {
+                return Course::Free;
+            }
+            match token.begin(hold) {
+                Begun::Free(pass) => passes.push(pass),
+                Begun::Blocked(_) | Begun::Refused(BeginRefusal::Busy) => return Course::Held,
+                Begun::Refused(BeginRefusal::Spent) => return Course::Spent,
+            }
+        }
+        Course::Free
+    }
+}

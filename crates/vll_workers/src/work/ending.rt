@@ -1,0 +1,98 @@
+// What a worker does with what it has begun: it executes calls, finishes them, and puts the tokens back.
+ghost use Rattle.std.specs.Prelude.{◌≡◌, ◌≤◌, ◌+◌, ◌++◌, [], All, length};
+ghost use Rattle.crossbeam_queue.specs.Passes.{view};
+ghost use Rattle.vll_engine.specs.Pass.{IsFresh, IsReleased};
+ghost use Rattle.vll_workers.specs.Private.Work.{IsAtWork};
+
+use super::Work;
+use crate::gate::Gate;
+use crate::roster::Roster;
+use crate::stack::{MOST_BATCH, Stack};
+use crate::token::Token;
+use crate::worker::Worker;
+use std::sync::Wait;
+use vll_core::Ticket;
+use vll_engine::{Hold, Name, Pass, Released};
+use vll_sca::Place;
+
+impl<N: Name, H: Place + Send + Drop, T: Roster, W: Wait, G: Gate> Work<'_, N, H, T, W, G> {
+    // Puts the tokens back into the pool, those that were tried behind the others.
+    pub(super) fn put_back(
+        self,
+        worker: &mut Worker<T>,
+        tokens: &mut Stack<Token>,
+        tried: &mut Stack<Token>,
+    )
+        requires old { IsAtWork T.tokens self.pool.now worker.old (tokens.old ++ tried.old) }
+        ensures new { IsAtWork T.tokens self.entry.pool.now worker.new [] }
+        ensures parts { (view worker.new.pass).parts ≡ (view worker.old.pass).parts }
+        ensures tokens { tokens.new ≡ [] }
+        ensures tried { tried.new ≡ [] }
+    {
+        while let Some(token) = tokens.pop() {
+            worker.put(self.wait, self.pool, token);
+        }
+        while let Some(token) = tried.pop() {
+            worker.put(self.wait, self.pool, token);
+        }
+    }
+
+    // Keeps the tokens in hand for the next round: those that are left go to those that were tried.
+    pub(super) fn keep_in_hand(
+        self,
+        worker: &Worker<T>,
+        tokens: &mut Stack<Token>,
+        tried: &mut Stack<Token>,
+    )
+        requires old { IsAtWork T.tokens self.pool.now worker.now (tokens.old ++ tried.old) }
+        requires few { length tokens.old + length tried.old ≤ MOST_BATCH }
+        ensures new { IsAtWork T.tokens self.entry.pool.now worker.now tried.new }
+        ensures tokens { tokens.new ≡ [] }
+        ensures few { length tried.new ≤ MOST_BATCH }
+    {
+        while let Some(token) = tokens.pop() {
+            tried.push(token);
+        }
+    }
+
+    // Executes the calls, and releases the claims of each right after it.
+    pub(super) fn execute_all(self, passes: &mut Stack<Pass>, released: &mut Stack<Released>)
+        requires passes { All (IsFresh N.engine) passes.old }
+        requires few { length passes.old ≤ MOST_BATCH }
+        requires released { released.old ≡ [] }
+        ensures passes { passes.new ≡ [] }
+        ensures released { All (IsReleased N.engine) released.new }
+        ensures few { length released.new ≤ MOST_BATCH }
+    {
+        while let Some(pass) = passes.pop() {
+            self.gate.before(pass.ticket());
+            released.push(self.engine.release(self.engine.execute(pass)));
+        }
+    }
+
+    // Finishes the calls that were executed.
+    pub(super) fn finish_all(
+        self,
+        hold: &mut Hold<'_, N, H>,
+        released: &mut Stack<Released>,
+        finished: &mut Stack<Ticket>,
+    )
+        requires released { All (IsReleased N.engine) released.old }
+        requires few { length released.old ≤ MOST_BATCH }
+        requires finished { finished.old ≡ [] }
+        ensures { released.new ≡ [] }
+    {
+        while let Some(done) = released.pop() {
+            finished.push(hold.finish(done).0);
+        }
+    }
+
+    // Tells that the calls are finished.
+    pub(super) fn tell_all(self, finished: &mut Stack<Ticket>)
+        ensures { finished.new ≡ [] }
+    {
+        while let Some(ticket) = finished.pop() {
+            self.gate.after(ticket);
+        }
+    }
+}
