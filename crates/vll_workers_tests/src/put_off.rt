@@ -1,4 +1,4 @@
-// Runs in which a scan is put off, since one before it found none among many calls that wait.
+// Runs in which many calls wait, and one of a call that is put off.
 ghost use Rattle.std.specs.Prelude.{◌≡◌};
 ghost use Rattle.vll_engine.specs.Pass.{IsFresh};
 ghost use Rattle.vll_engine.specs.Shown.{name_of};
@@ -6,6 +6,7 @@ ghost use Rattle.vll_sca.specs.Placing.{placing};
 
 use crate::opening::opening_of;
 use crate::runs::{begins, ends, last_of, runs_through, waits};
+use crate::tokens::{all_bumping_of, closed_of, last_and_others};
 use std::alloc::Global;
 use std::marker::Brand;
 use std::process::Abort;
@@ -15,6 +16,7 @@ use std::thread::Threads;
 use vll_core::{Config, Ticket};
 use vll_engine::{Engine, Name, Opening, Pass, Session};
 use vll_sca::Placing;
+use vll_workers::{OpenGate, run};
 
 // So many bumps of record 0 wait, and behind them one of record 1.
 fn wait_behind<N: Name, R: Wait + Abort>(
@@ -122,4 +124,46 @@ fn run_whose_queue_is_full_finds_what_may_run(rt: HostRuntime) -> Result<(), Fai
         finds_what_may_run::<Brand, HostRuntime>(&rt, rt.alloc(), opening, many, 1)?;
     }
     Ok(())
+}
+
+// How many calls each of two clients makes.
+const TIMES: u16 = 1_000;
+
+// A pass of record 1 is kept. Of two clients one adds to record 0 and one to record 1, whose calls so look denied: its
+// first call is put off while the other client's begin, and begins all the same.
+fn begins_what_looks_denied<N: Name + Send + Sync, R: Wait + Threads + Abort + Sync>(
+    rt: &R,
+    alloc: Global,
+    opening: Opening<Placing>,
+) -> Result<(), Fail>
+    requires { N.engine ≡ name_of placing opening }
+{
+    let (engine, sessions) = opening.start::<N>();
+    let (mut session, sessions) = last_and_others::<N>(rt, sessions);
+    let library = engine.library();
+    let tokens = all_bumping_of::<N>(rt, alloc, library, sessions, 2, u32::from(TIMES))?;
+    let kept = begins(rt, &engine, &mut session, 1);
+    match run(rt, rt, alloc, &engine, tokens, 1, &OpenGate) {
+        Ok(tokens) => assert_eq!(rt; tokens.len(), 2),
+        Err(_) => panic!(rt; "the run has a fault"),
+    }
+    ends(rt, &engine, kept);
+    ends_all(rt, &engine, TIMES);
+    let closed = closed_of(rt, engine, Vec::new(alloc));
+    match closed.journal.iter().position(|line| line.client == 1) {
+        Some(ticket) => assert!(rt; 64 < ticket && ticket < 800, "it has ticket {ticket}"),
+        None => panic!(rt; "it has not begun"),
+    }
+    Ok(())
+}
+
+#[test]
+fn call_that_looks_denied_begins_behind_some_others(rt: HostRuntime) -> Result<(), Fail> {
+    let config = Config {
+        cap: 2_000,
+        limit: 2_001,
+        bits: 64,
+    };
+    let opening = opening_of(rt.alloc(), 2, config, 3)?;
+    begins_what_looks_denied::<Brand, HostRuntime>(&rt, rt.alloc(), opening)
 }
