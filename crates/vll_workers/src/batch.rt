@@ -7,9 +7,9 @@ use std::alloc::{AllocError, Global};
 use vll_core::Ticket;
 use vll_engine::{Pass, Released};
 
-// What a worker has under way: tokens whose next call is to begin, tokens whose call was tried and that go back to the
-// pool, passes of calls that may run, calls that were executed, and the tickets of those that are finished and not told
-// of yet.
+// What a worker has under way: tokens whose next calls are to begin, tokens whose calls were tried and that go back to the
+// pool or stay in hand, passes of calls that may run, calls that were executed, and the tickets of those that are finished
+// and not told of yet.
 pub(crate) struct Batch {
     pub(crate) tokens: Stack<Token>,
     pub(crate) tried: Stack<Token>,

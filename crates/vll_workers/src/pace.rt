@@ -1,3 +1,4 @@
+use crate::stack::MOST_BATCH;
 use std::hint::spin_loop;
 use std::thread::yield_now;
 
@@ -16,8 +17,8 @@ const FIRST_PAUSE: u32 = 32;
 // A pause lets another thread run after so many turns.
 const TURNS_A_YIELD: u32 = 64;
 
-// The most calls that are to be ready before a hold.
-const MOST_CALLS: u32 = 8;
+// The most calls that are to be ready before a hold: as many as a batch has room for.
+const MOST_CALLS: u32 = MOST_BATCH as u32;
 
 // So many rounds in a row a worker keeps its tokens in hand before they go back to the pool.
 const ROUNDS_IN_HAND: u32 = 16;
@@ -25,7 +26,8 @@ const ROUNDS_IN_HAND: u32 = 16;
 // So many rounds in a row may find no token before a worker leaves.
 const MOST_IDLE: u32 = 16;
 
-// How many tokens a worker takes from the pool before a hold, and how long it waits after a round that came to nothing.
+// How many tokens a worker takes before a hold and how many calls it begins, for how many rounds it keeps the tokens in
+// hand, and how long it waits after a round that came to nothing.
 // It is a matter of speed alone.
 #[derive(Clone, Copy)]
 pub(crate) struct Pace {
@@ -66,8 +68,8 @@ impl Pace {
         self.most
     }
 
-    // How many calls are to be ready before the next hold: one at least, unless the last round found the front, since
-    // the next one may find it too and then needs none.
+    // How many calls are to be ready before the next hold: one less if the last round found the front, since the next one
+    // may find it too and then begins none.
     pub(crate) fn calls(&self) -> u32 {
         if self.had_front {
             self.now.saturating_sub(1)

@@ -24,7 +24,7 @@ pub struct Token {
     session: Session,
     // How often the next call was put off.
     put_off: u32,
-    // How many of the next calls looked free when they were looked at last.
+    // How many of the next calls are ready to begin, as they were looked at last.
     ready: u32,
 }
 
@@ -113,14 +113,14 @@ impl Token {
         may_wait
     }
 
-    // So many of the next calls look free.
+    // So many of the next calls are ready to begin.
     pub(crate) fn looked(&mut self, ready: u32)
         ensures { self.new ≡ self.old }
     {
         self.ready = ready;
     }
 
-    // How many of the next calls looked free.
+    // How many of the next calls are ready to begin.
     pub(crate) fn ready(&self) -> u32 {
         self.ready
     }
