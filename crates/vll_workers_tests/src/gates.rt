@@ -7,6 +7,9 @@ use vll_workers::Gate;
 // How long the first call waits for the second.
 const MOST_TURNS: u64 = 100_000_000;
 
+// How long the first call waits for many others, in turns that let other threads run.
+const PATIENT_TURNS: u64 = 5_000_000;
+
 // Holds ticket 0 back until ticket 1 has its reply.
 #[derive(Drop)]
 pub(crate) struct Meeting {
@@ -78,6 +81,45 @@ impl Gate for Tally {
     fn after(&self, ticket: Ticket) {
         self.after.fetch_add(1, Ordering::SeqCst);
         self.told.fetch_add(u64::from(ticket.0), Ordering::SeqCst);
+    }
+}
+
+// Holds the first call back that it is told of until so many calls have their replies.
+#[derive(Drop)]
+pub(crate) struct Patient {
+    awaited: u64,
+    has_come: AtomicBool,
+    replies: AtomicU64,
+    pub(crate) is_met: AtomicBool,
+}
+
+impl Patient {
+    pub(crate) fn new(awaited: u64) -> Patient {
+        Patient {
+            awaited,
+            has_come: AtomicBool::new(false),
+            replies: AtomicU64::new(0),
+            is_met: AtomicBool::new(false),
+        }
+    }
+}
+
+impl Gate for Patient {
+    fn before(&self, _ticket: Ticket) {
+        if self.has_come.swap(true, Ordering::SeqCst) {
+            return;
+        }
+        for _ in 0..PATIENT_TURNS {
+            if self.replies.load(Ordering::SeqCst) >= self.awaited {
+                self.is_met.store(true, Ordering::SeqCst);
+                return;
+            }
+            yield_now();
+        }
+    }
+
+    fn after(&self, _ticket: Ticket) {
+        self.replies.fetch_add(1, Ordering::SeqCst);
     }
 }
 

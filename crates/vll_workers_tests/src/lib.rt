@@ -19,3 +19,5 @@ mod staying;
 mod tokens;
 #[cfg(test)]
 mod told;
+#[cfg(test)]
+mod waited_for;

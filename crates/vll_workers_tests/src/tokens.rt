@@ -1,4 +1,4 @@
-// Tokens over bump, and what comes of them.
+// Tokens, and what comes of them.
 ghost use Rattle.std.specs.Prelude.{◌≡◌, ◌<◌, ◌^◌, All, IfOk, length, nat_eq};
 ghost use Rattle.std.specs.List.{IsDistinct};
 ghost use Rattle.vll_check.specs.Calls.{Fits};
@@ -33,11 +33,12 @@ pub(crate) fn bump_of(rt: &impl Abort, library: &Library, record: u64) -> Call
     call_of(rt, library, "bump", record)
 }
 
-// A script of so many bumps of a record.
+// A script of so many calls of a procedure for a record.
 fn script(
     rt: &impl Abort,
     alloc: Global,
     library: &Library,
+    name: &str,
     record: u64,
     times: u32,
 ) -> Result<Vec<Call>, Fail>
@@ -46,7 +47,7 @@ fn script(
 {
     let mut script = Vec::with_capacity(alloc, times as usize)?;
     for _ in 0..times {
-        script.push_reserved(bump_of(rt, library, record));
+        script.push_reserved(call_of(rt, library, name, record));
     }
     Ok(script)
 }
@@ -65,7 +66,25 @@ pub(crate) fn bumping<N: Name>(
     ensures fit { IfOk result (IsFit N.engine) }
     ensures client { IfOk result (λ t. t.client ≡ session.session.client) }
 {
-    let script = script(rt, alloc, library, record, times)?;
+    calling::<N>(rt, alloc, library, session, "bump", record, times)
+}
+
+// A token of so many calls of a procedure for a record.
+fn calling<N: Name>(
+    rt: &impl Abort,
+    alloc: Global,
+    library: &Library,
+    session: Session,
+    name: &str,
+    record: u64,
+    times: u32,
+) -> Result<Token, Fail>
+    requires library { library.now ≡ library_of N.engine }
+    requires session { session.table ≡ N.engine.table }
+    ensures fit { IfOk result (IsFit N.engine) }
+    ensures client { IfOk result (λ t. t.client ≡ session.session.client) }
+{
+    let script = script(rt, alloc, library, name, record, times)?;
     Ok(Token::new(session.client(), session, script))
 }
 
@@ -118,11 +137,30 @@ pub(crate) fn all_bumping_of<N: Name>(
     ensures fit { IfOk result (λ t. AreFit N.engine t.items) }
     ensures distinct { IfOk result (λ t. IsDistinct nat_eq (clients_of t.items)) }
 {
+    all_calling::<N>(rt, alloc, library, sessions, "bump", records, times)
+}
+
+// The same of another procedure for a record.
+pub(crate) fn all_calling<N: Name>(
+    rt: &impl Abort,
+    alloc: Global,
+    library: &Library,
+    sessions: Vec<Session>,
+    name: &str,
+    records: u32,
+    times: u32,
+) -> Result<Vec<Token>, Fail>
+    requires library { library.now ≡ library_of N.engine }
+    requires sessions { AreNewSessions N.engine.table (length sessions.items) sessions.items }
+    requires records { 0 < records }
+    ensures fit { IfOk result (λ t. AreFit N.engine t.items) }
+    ensures distinct { IfOk result (λ t. IsDistinct nat_eq (clients_of t.items)) }
+{
     let mut sessions = sessions;
     let mut tokens = Vec::new(alloc);
     while let Some(session) = sessions.pop() {
         let record = u64::from(session.client() % records);
-        let token = bumping::<N>(rt, alloc, library, session, record, times)?;
+        let token = calling::<N>(rt, alloc, library, session, name, record, times)?;
         tokens.push(token)?;
     }
     Ok(tokens)

@@ -8,7 +8,7 @@ pub loop-preserved : goal.loop-preserved
 loop-preserved g c =
     let fits = Fits c.args.library.now in
     record {
-      fits = subst (λ (calls : List Call). All fits calls) (sym c.push_reserved.ensures.items) (All-push fits c.loop.script.items c.bump_of.result c.loop.invariant.fits c.bump_of.ensures);
+      fits = subst (λ (calls : List Call). All fits calls) (sym c.push_reserved.ensures.items) (All-push fits c.loop.script.items c.call_of.result c.loop.invariant.fits c.call_of.ensures);
       count = omega arith;
       room = omega arith;
     }
