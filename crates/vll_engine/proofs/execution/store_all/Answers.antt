@@ -1,4 +1,5 @@
-use Rattle.std.proofs.Common.{◌≡◌, true, Some, filter, length, slice_get, slice_index, sym, ap, ◌∙◌, rules}
+use Rattle.std.proofs.Common.{◌≡◌, true, Some, filter, length, slice_get, slice_index, sym, ap, ◌∙◌, rules, arith}
+use Rattle.std.proofs.lemmas.Grind.{common_steps}
 use Rattle.vll_record.specs.Claim.{is_write}
 use Rattle.vll_proc.specs.Serial.{apply}
 use Rattle.vll_core.specs.State.{writes}
@@ -21,3 +22,6 @@ store-requires-clause-value c =
     let at : slice_get c.args.claims.now c.loop-claim.cell ≡ Some c.in-Some.claim = next_at c.loop-claim.yielded c.loop-claim.claim-iterator c.next.new.self c.args.claims.now c.in-Some.claim c.loop-claim.cell i.all c.in-Some.ensures.steps i.count in
     c.get.ensures ∙ (c.requires.frame c.loop-claim.cell c.in-Some.claim at).1
     ∙ sym (ap (λ (s : PassShown). slice_index (apply c.args.words.now.base.procs s.pass.call (records_before_pass c.args.words.now.base s.pass)).records c.in-Some.claim.id) i.pass)
+
+pub loop-claim-preserved : goal.loop-claim-preserved
+loop-claim-preserved c = grind (arith, common_steps)

@@ -1,4 +1,5 @@
-use Rattle.std.proofs.Common.{◌≤◌, List, sym, subst}
+use Rattle.std.proofs.Common.{◌≤◌, List, arith, sym, subst}
+use Rattle.std.proofs.lemmas.Grind.{common_steps}
 use Rattle.std.specs.Prelude.{sum_by, length}
 use Rattle.std.specs.Global.{Vec}
 use Rattle.std.specs.List.{All}
@@ -18,3 +19,6 @@ returns-in-Ok-clause-short c =
 pub returns-in-Ok-clause-fits : goal.returns-in-Ok-clause-fits
 returns-in-Ok-clause-fits c =
     subst (λ (library : Catalog). All (λ (script : Vec Call). All (Fits library) script.items) c.into_parts-records.result.scripts.items) c.into_parts-records.ensures.library c.into_parts-records.ensures.fits
+
+pub returns-in-Ok-clause-opened : goal.returns-in-Ok-clause-opened
+returns-in-Ok-clause-opened c = grind (arith, common_steps)

@@ -1,4 +1,4 @@
-use Rattle.std.proofs.Common.{◌<◌, ◌^◌, arith, subst}
+use Rattle.std.proofs.Common.{◌<◌, ◌^◌, arith, subst, rules}
 use Rattle.vll_core.specs.Machine.{step}
 use Rattle.vll_core.specs.Private.Draining.{left}
 use Rattle.vll_core.specs.Shown.{Shown, opening_of}
@@ -25,3 +25,6 @@ loop-event-preserved g c =
 
 pub returns-clause-few : goal.returns-clause-few
 returns-clause-few g c = omega (arith, c.loop-event.invariant.lessened, left_most c.args.self.now.state)
+
+pub loop-event-init : goal.loop-event-init
+loop-event-init g c = search rules

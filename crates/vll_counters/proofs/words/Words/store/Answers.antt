@@ -1,4 +1,4 @@
-use Rattle.std.proofs.Common.{ap, sym, ◌∙◌}
+use Rattle.std.proofs.Common.{ap, sym, ◌∙◌, rules}
 use Rattle.vll_counters.specs.Shown.{WordsShown, PassShown}
 use Rattle.vll_counters.proofs.Seats.{pass_me, value_there, stores_at}
 use Rattle.vll_counters.proofs.words.Words.store.Goals as goal
@@ -11,3 +11,6 @@ store-requires c =
       value_there _ _ _ _ _ base c.self.invariant.words c.requires.there c.value_word.ensures,
       stores_at _ _ _ _ _ c.args.pass.now.pass c.args.id _ _ base (pass_me _ _ _ c.pass.invariant c.pass.view_is) c.value_word.ensures c.requires.next c.requires.there c.requires.loaded c.requires.commits c.requires.value,
     )
+
+pub returns : goal.returns
+returns c = search rules

@@ -1,4 +1,4 @@
-use Rattle.std.proofs.Common.{◌≡◌, ◌∙◌, None, ap, sym}
+use Rattle.std.proofs.Common.{◌≡◌, ◌∙◌, None, ap, sym, rules}
 use Rattle.vll_check.specs.Calls.{source}
 use Rattle.vll_check.specs.Catalog.{Catalog}
 use Rattle.vll_engine.specs.Shown.{library_of}
@@ -11,3 +11,6 @@ returns-in-None-clause-answer g c =
     let call = c.args.call.now in
     let none : source (library_of e) call ≡ None = sym (ap (λ (l : Catalog). source l call) c.args.self.now.library_is) ∙ sym c.source.ensures.source ∙ c.in-None.is in
     begins_without e c.args.session.now.session c.begin_ready.new.session.session call c.begin_ready.result c.args.self.now.catalog c.requires.fits none c.begin_ready.ensures.answer c.begin_ready.ensures.given
+
+pub returns-in-Some-clause-answer : goal.returns-in-Some-clause-answer
+returns-in-Some-clause-answer g c = search rules

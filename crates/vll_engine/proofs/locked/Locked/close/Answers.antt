@@ -1,4 +1,4 @@
-use Rattle.std.proofs.Common.{ap, subst, sym, ◌∙◌}
+use Rattle.std.proofs.Common.{ap, subst, sym, ◌∙◌, rules}
 use Rattle.vll_counters.specs.Shown.{QueueShown, WordsShown}
 use Rattle.vll_counters.specs.Told.{IsAtEnd}
 use Rattle.vll_engine.specs.Private.Kept.{AreOwn}
@@ -18,3 +18,9 @@ pub returns-clause-sessions : goal.returns-clause-sessions
 returns-clause-sessions g c =
     have_calls_of c.args.sessions.items c.self.inside.seat.lines c.divided.result.journal.items
     (c.divided.ensures.journal ∙ c.into_journal.ensures.lines ∙ sym c.self.invariant.lines_are) c.visit_all.ensures.sessions
+
+pub returns-then-running-gt0-clause-running : goal.returns-then-running-gt0-clause-running
+returns-then-running-gt0-clause-running g c = search rules
+
+pub returns-then-running-gt0-clause-left : goal.returns-then-running-gt0-clause-left
+returns-then-running-gt0-clause-left g c = search rules

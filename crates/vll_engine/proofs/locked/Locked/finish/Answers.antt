@@ -1,4 +1,4 @@
-use Rattle.std.proofs.Common.{sym, ap, ◌∙◌, subst}
+use Rattle.std.proofs.Common.{sym, ap, ◌∙◌, subst, rules}
 use Rattle.vll_counters.specs.Shown.{WordsShown, after, queue_view}
 use Rattle.vll_counters.specs.Steps.{finished as ended}
 use Rattle.vll_engine.specs.Pass.{DoneShown, IsReleased}
@@ -15,3 +15,6 @@ invariant_of-self g c =
     subst (IsKept e g.H.Place.place_of c.join_pass.new.queue) (sym c.remove.ensures)
     (kept_finished e g.H.Place.place_of c.self.inside.seat c.join_pass.new.queue c.self.inside.queue c.released.inside.seat.pass c.released.inside.ticket c.released.inside.reply c.self.invariant c.join_pass.ensures.pass c.released.invariant
     (reply_is e shown released.of released.reply) seat)
+
+pub returns-clause-ticket : goal.returns-clause-ticket
+returns-clause-ticket g c = search rules

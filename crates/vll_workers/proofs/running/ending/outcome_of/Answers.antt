@@ -30,3 +30,6 @@ returns-clause-ok g c =
     c.into_tokens-tokens.ensures.own c.sort_unstable_by_key.ensures.permutation
     (IsNonDecreasingBy-from_sort_by_key (λ (t : TokenShown). t.client) _ c.sort_unstable_by_key.ensures.sorted (λ a r q k. search rules)) in
     (back, subst (All IsThrough) c.as_slice.ensures.value c.if-not-are_through.ensures)
+
+pub returns-then-not-are_through-clause-spent : goal.returns-then-not-are_through-clause-spent
+returns-then-not-are_through-clause-spent g c = search rules

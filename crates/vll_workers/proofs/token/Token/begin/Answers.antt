@@ -1,4 +1,4 @@
-use Rattle.std.proofs.Common.{ap, subst, sym, ◌∙◌}
+use Rattle.std.proofs.Common.{ap, subst, sym, ◌∙◌, rules}
 use Rattle.std.proofs.lemmas.Option.{same_Some}
 use Rattle.vll_proc.specs.declared.call.Call.{Call}
 use Rattle.vll_check.specs.Calls.{Fits as FitsIn}
@@ -27,3 +27,9 @@ returns-else-not-matches-clause-answer g c call at =
     let t = c.args.self.now in
     let found = next_call c.deref.result.now c.self.inside.script.items t c.self.inside.next c.in-Some.call.now c.deref.ensures.value (ap (λ (u : TokenShown). u.script) c.self.view_is) (ap (λ (u : TokenShown). u.next) c.self.view_is) c.in-Some.ensures.lookup.3 in
     subst (λ (x : SessionView × Call). FindsAndBegins g.N.Name.engine x.0 c.begin-begun.new.session.session x.1 c.begin-begun.result) (λ i. ((c.self.view_is i).session.session, same_Some c.in-Some.call.now call (sym found ∙ at) i)) c.begin-begun.ensures.answer
+
+pub returns-then-not-matches-clause-token : goal.returns-then-not-matches-clause-token
+returns-then-not-matches-clause-token g c = search rules
+
+pub returns-else-not-matches-clause-token : goal.returns-else-not-matches-clause-token
+returns-else-not-matches-clause-token g c = search rules

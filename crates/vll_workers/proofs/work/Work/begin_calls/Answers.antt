@@ -1,4 +1,4 @@
-use Rattle.std.proofs.Common.{◌∙◌, All, ap, inr, subst, sym}
+use Rattle.std.proofs.Common.{◌∙◌, All, ap, inr, subst, sym, rules}
 use Rattle.std.proofs.lemmas.List.Elements.{All-cons}
 use Rattle.vll_engine.specs.declared.begun.Begun.TheVariants.{Refused}
 use Rattle.vll_engine.specs.Pass.{IsFresh}
@@ -32,3 +32,12 @@ loop-preserved g c =
       client_begun e c.loop.token c.begin.new.self c.begin.result (record { left = c.is_through.ensures.left c.if-is_through.false; token = c.begin.ensures.token; answer = c.begin.ensures.answer; table = c.begin.ensures.session }) ∙ c.loop.invariant.1,
       subst (All (IsFresh e)) (sym c.push.ensures) (All-cons (IsFresh e) c.in-Free.pass c.loop.passes (fresh_pass e c.loop.token c.begin.new.self c.begin.result c.in-Free.pass (record { left = c.is_through.ensures.left c.if-is_through.false; token = c.begin.ensures.token; answer = c.begin.ensures.answer; table = c.begin.ensures.session }) c.in-Free.is) c.loop.invariant.2),
     )
+
+pub push-requires : goal.push-requires
+push-requires g c = search rules
+
+pub returns-in-Blocked-clause-spent : goal.returns-in-Blocked-clause-spent
+returns-in-Blocked-clause-spent g c = search rules
+
+pub returns-in-Blocked-2-clause-spent : goal.returns-in-Blocked-2-clause-spent
+returns-in-Blocked-2-clause-spent g c = search rules
