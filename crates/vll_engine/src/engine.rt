@@ -151,6 +151,7 @@ impl<N: Name, H: Place + Send + Drop> Engine<N, H> {
 
     /// Loads each claim's record, runs the body, and stores each Write claim's record unless the call aborts. It takes
     /// no lock, and other calls may make their own steps between any two of these.
+    #[inline(always)]
     pub fn execute(&self, pass: Pass) -> Done
         requires pass { IsFresh N.engine pass }
         ensures done { IsDone N.engine result }
@@ -160,6 +161,7 @@ impl<N: Name, H: Place + Send + Drop> Engine<N, H> {
     }
 
     /// The call releases each of its claims. It takes no lock.
+    #[inline(always)]
     pub fn release(&self, done: Done) -> Released
         requires done { IsDone N.engine done }
         ensures released { IsReleased N.engine result }

@@ -41,6 +41,7 @@ fn look_all(words: &Words, claims: &Claims) -> bool
 }
 
 // The call of a pass makes all its loads, runs its body, and makes all its stores unless it aborts.
+#[inline(always)]
 pub(crate) fn execute<N: Name>(words: &Words, library: &Library, pass: Pass) -> Done
     requires words { words.now ≡ words_of N.engine }
     requires library { library.now ≡ library_of N.engine }
@@ -108,6 +109,7 @@ fn store_all(words: &Words, seat: &mut PassSeat, claims: &Claims, frame: &Frame)
 }
 
 // The call of a pass releases each of its claims.
+#[inline(always)]
 pub(crate) fn release<N: Name>(words: &Words, done: Done) -> Released
     requires words { words.now ≡ words_of N.engine }
     requires catalog { IsCatalog (library_of N.engine) }

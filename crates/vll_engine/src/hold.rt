@@ -91,6 +91,7 @@ impl<'a, N: Name, H: Place + Send + Drop> Hold<'a, N, H> {
     }
 
     // The session's client enters a call that is ready, or is refused.
+    #[inline(always)]
     pub(crate) fn begin_ready(&mut self, session: &mut Session, call: &Call) -> Begun
         requires session { session.old.table ≡ N.engine.table }
         requires ready { IsReady (library_of N.engine) call.now }
@@ -116,6 +117,7 @@ impl<'a, N: Name, H: Place + Send + Drop> Hold<'a, N, H> {
     }
 
     /// A pass for the lowest ticket that is not gone, if it waits, as by `Engine::next_front`.
+    #[inline(always)]
     pub fn next_front(&mut self) -> Option<Pass>
         ensures { IfSome result (IsFresh N.engine) }
     {
@@ -144,6 +146,7 @@ impl<'a, N: Name, H: Place + Send + Drop> Hold<'a, N, H> {
     }
 
     /// The call is gone, and its line gets the reply, as by `Engine::finish`.
+    #[inline(always)]
     pub fn finish(&mut self, released: Released) -> (Ticket, Reply)
         requires released { IsReleased N.engine released }
         ensures ticket { result.0 ≡ released.pass.ticket }

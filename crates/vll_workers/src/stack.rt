@@ -48,6 +48,7 @@ impl<X> Stack<X> {
         self.items.is_empty()
     }
 
+    #[inline(always)]
     pub(crate) fn push(&mut self, value: X)
         requires { length self.old < MOST_BATCH }
         ensures { self.new ≡ value ∷ self.old }
@@ -55,6 +56,7 @@ impl<X> Stack<X> {
         self.items.push_reserved(value);
     }
 
+    #[inline(always)]
     pub(crate) fn pop(&mut self) -> Option<X>
         ensures some { IfSome result (λ value. self.old ≡ value ∷ self.new) }
         ensures none { IfNone result ((self.old ≡ []) × (self.new ≡ [])) }

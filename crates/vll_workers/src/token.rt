@@ -126,6 +126,7 @@ impl Token {
     }
 
     // The next call begins, and counts as entered unless it is refused.
+    #[inline(always)]
     pub(crate) fn begin<N: Name, H: Place + Send + Drop>(
         &mut self,
         hold: &mut Hold<'_, N, H>,
