@@ -6,8 +6,9 @@
 - docs/DEFINITIONS.md: a name in the first column of a table is declared in the file of its row, or, if the table has no
   such column, in the crate of its section. What stands under "What the headline needs" is just what the clause
   reaches. Any other name is declared somewhere.
-- docs/PROMISES.md: the functions of a row stand in the crate of its section, and its clauses at one of them.
-- docs/ALGORITHM.md: each function stands in the crate that is named beside it.
+- docs/PROMISES.md: each function of a row stands in the crate that is named behind it, and the row's clauses at one of
+  its functions.
+- docs/ALGORITHM.md: each function stands in the crate that is named behind it.
 - docs/HEADLINE.md: what it quotes stands so in a source.
 - every page: a function that is named with its type is there, a link leads to a file and to a heading, and an outcome
   that stands below a command is the one beside the scenario.
@@ -23,12 +24,12 @@ from sources import Sources, Specs
 TOP = Path(__file__).resolve().parent.parent
 NAME = re.compile(r'`([^`]+)`')
 HEADING = re.compile(r'(#+) +(.*)')
+# Names with the crate that has them behind them: `Queue::admit` (vll_core), or `delta`, `granted` (vll_record).
+IN_CRATE = re.compile(r'((?:`[^`]+`(?:, | and )?)+) \((vll\w*)\)')
 COMMAND = re.compile(r'`\./vll (?:run|replay)[^`<]*< ([\w./-]+)\.json`[^`]* prints$')
 
 # Words of DEFINITIONS.md that stand in code marks and are no names of this repository.
-OTHERS = set('''
-    Appends Consumes IsAtEnd SeqCst serde_json arg key local add less null
-    '''.split())
+OTHERS = set('Appends Consumes null use'.split())
 
 
 class Page:
@@ -109,19 +110,22 @@ class Checks:
             self.wrong.append(f'{page.name}:{number}: {words}')
 
     def definitions(self, page):
+        self.declarations(page)
         listed = {}
         for number, second, above, cells in page.rows():
-            names = names_in(next(iter(cells.values())))
-            crate = crate_in(above) or crate_in(second)
-            files = NAME.findall(cells.get('File', ''))
-            for name in names:
-                if second == 'What the headline needs':
-                    listed.setdefault(above, {})[name] = number
-                where = [f'{crate}/{file}' if crate else file for file in files]
-                is_so = self.declared(name, where) if where else self.sources.is_declared(name, crate)
-                self.look(page, number, is_so, f'{name} is not declared in {" or ".join(where) or crate}')
+            if second == 'What the headline needs':
+                listed.setdefault(above, {}).update(dict.fromkeys(names_in(next(iter(cells.values()))), number))
         self.look(page, 1, bool(listed), 'nothing is listed under "What the headline needs"')
         self.headline(page, listed)
+
+    def declarations(self, page):
+        """What the first column of a table names is declared where the row or the section says, and any name somewhere."""
+        for number, second, above, cells in page.rows():
+            crate = crate_in(above) or crate_in(second)
+            where = [f'{crate}/{file}' if crate else file for file in NAME.findall(cells.get('File', ''))]
+            for name in names_in(next(iter(cells.values()))):
+                is_so = self.declared(name, where) if where else self.sources.is_declared(name, crate)
+                self.look(page, number, is_so, f'{name} is not declared in {" or ".join(where) or crate}')
         for number, line, _, _ in page.sections():
             for name in names_in(line):
                 is_so = name in OTHERS or self.sources.is_declared(name, None)
@@ -146,28 +150,28 @@ class Checks:
                 known |= reached | set(names)
 
     def promises(self, page):
-        for number, second, above, cells in page.rows():
+        for number, _, _, cells in page.rows():
             if 'Function' not in cells:
                 continue
-            crate = crate_in(above) or crate_in(second)
-            functions = NAME.findall(cells['Function'])
-            clauses = NAME.findall(cells.get('Clauses', ''))
-            found = {name: self.sources.clauses_of(name, crate) for name in functions}
-            for name in functions:
-                self.look(page, number, found[name] is not None, f'{name} is no function of {crate}')
-            theirs = {clause for name in functions for clause in found[name] or ()}
-            for clause in clauses:
-                self.look(page, number, clause in theirs, f'{clause} is no clause of {", ".join(functions)}')
+            functions = names_with_crates(cells['Function'])
+            names = [name for name, _ in functions]
+            theirs = set()
+            for name in NAME.findall(cells['Function']):
+                self.look(page, number, name in names, f'no crate stands behind {name}')
+            for name, crate in functions:
+                clauses = self.sources.clauses_of(name, crate)
+                self.look(page, number, clauses is not None, f'{name} is no function of {crate}')
+                theirs |= clauses or set()
+            for clause in NAME.findall(cells.get('Clauses', '')):
+                self.look(page, number, clause in theirs, f'{clause} is no clause of {", ".join(names)}')
             for name in NAME.findall(cells.get('Over the definitions', '')):
                 self.look(page, number, self.sources.is_declared(name, None), f'{name} is not declared in any crate')
 
     def algorithm(self, page):
-        """Names with the crate behind them: `Queue::admit` (vll_core), or `delta`, `granted` (vll_record)."""
         for number, line, _, _ in page.sections():
-            for names, crate in re.findall(r'((?:`[^`]+`(?:, | and )?)+) \((vll_\w+)\)', line):
-                for name in NAME.findall(names):
-                    is_so = self.sources.clauses_of(name, crate) is not None or self.sources.is_declared(name, crate)
-                    self.look(page, number, is_so, f'{name} is not in {crate}')
+            for name, crate in names_with_crates(line):
+                is_so = self.sources.clauses_of(name, crate) is not None or self.sources.is_declared(name, crate)
+                self.look(page, number, is_so, f'{name} is not in {crate}')
 
     def quotations(self, page):
         for number, _, block in page.blocks():
@@ -206,6 +210,11 @@ class Checks:
 def names_in(text):
     """The words in code marks that are names: letters, digits and '_', of more than one letter."""
     return [name for name in NAME.findall(text) if re.fullmatch(r'[A-Za-z_]\w+', name)]
+
+
+def names_with_crates(text):
+    """Each name that a crate stands behind, with the crate."""
+    return [(name, crate) for names, crate in IN_CRATE.findall(text) for name in NAME.findall(names)]
 
 
 def crate_in(heading):

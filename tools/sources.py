@@ -1,15 +1,16 @@
-"""What the sources declare: the definitions of specs/, and the types, functions and clauses of src/."""
+"""What the sources declare: the definitions of specs/ with their comments, and the types, functions and clauses of src/."""
 import re
 from functools import cache
+from typing import NamedTuple
 
 # A declaration of a definition, behind the words that may stand before its name.
-DECLARATION = re.compile(r'\s*(?:(?:abbrev|unfoldable|opaque|pub|record|data) )+(?!(?:mod|mutual)\b)([A-Za-z_]\w*)')
+DECLARATION = re.compile(r'\s*(?:(?:abbrev|unfoldable|opaque|pub|record|data) )+(?!(?:mod|mutual)\b)([A-Za-z_]\w*|◌\S+◌)')
 USE = re.compile(r'use Rattle\.(\w+)\.specs\.([\w.]+)\.\{(.*)\}')
 ITEM = re.compile(r'\s*(?:pub(?:\(\w+\))? )?(?:struct|enum|trait|const|type|fn) (\w+)')
 MEMBER = re.compile(r'    (?:(?:pub(?:\(\w+\))? )?([a-z_]\w*):|([A-Z]\w*)(?:\(.*\)| \{.*)?,?$)')
-FUNCTION = re.compile(r'(\s*)(?:pub(?:\(\w+\))? )?(?:const )?fn (\w+)')
+FUNCTION = re.compile(r'(\s*)(pub )?(?:pub\(\w+\) )?(?:const )?fn (\w+)')
 TRAIT = re.compile(r'(?:pub )?trait (\w+)')
-CLAUSE = re.compile(r'\s*(?:ensures|requires)\b\s*(\w*)')
+CLAUSE = re.compile(r'\s*(ensures|requires)\b\s*(\w*)')
 COMMENT = re.compile(r'\s*(?:--|//|$)')
 
 
@@ -24,6 +25,21 @@ def self_type(head):
         head = head[end + 1:]
     found = re.match(r'[&\s]*(\w+)', re.split(r' for ', head)[-1])
     return found[1] if found else ''
+
+
+class Function(NamedTuple):
+    """A function of a file, as its head tells it."""
+    # behind its type or its trait, as `Claims::add`, or alone
+    name: str
+    # `pub`, or one of a trait
+    is_public: bool
+    # one that an `impl` of a trait has
+    is_of_trait: bool
+    # the `///` lines
+    comment: list[str]
+    # the names of its clauses, in order; an empty one if a clause has none
+    requires: list[str]
+    ensures: list[str]
 
 
 class Sources:
@@ -56,8 +72,8 @@ class Sources:
         found = {}
         for file, lines in self.files.items():
             if file.endswith('.rt') and crate in (None, file.split('/')[0]):
-                for name, clauses in functions_of(lines):
-                    found.setdefault(name, set()).update(clauses)
+                for function in functions_of(lines):
+                    found.setdefault(function.name, set()).update(function.requires + function.ensures)
         return found
 
     def clauses_of(self, name, crate):
@@ -83,38 +99,65 @@ def has_run(lines, wanted):
 
 
 def functions_of(lines):
-    """Each function of a file, with the names of its clauses."""
-    found_all, group, clauses = [], '', None
+    """Each function of a file."""
+    found_all, group, of, comment, head = [], '', '', [], None
     for line in lines:
+        words = line.strip()
         if line.startswith('impl'):
-            group = self_type(line[4:].strip())
+            group, of = self_type(line[4:].strip()), 'impl for' if ' for ' in line else 'impl'
         elif TRAIT.match(line):
-            group = TRAIT.match(line)[1]
+            group, of = TRAIT.match(line)[1], 'trait'
         elif line.startswith('}'):
-            group = ''
+            group, of = '', ''
         found = FUNCTION.match(line)
+        clause = CLAUSE.match(line)
         if found:
-            clauses = set()
-            found_all.append((f'{group}::{found[2]}' if group and found[1] else found[2], clauses))
-        elif clauses is not None and CLAUSE.match(line):
-            clauses.add(CLAUSE.match(line)[1])
+            name = f'{group}::{found[3]}' if group and found[1] else found[3]
+            head = Function(name, bool(found[2]) or of == 'trait', of == 'impl for', comment, [], [])
+            found_all.append(head)
+        elif head and clause:
+            getattr(head, clause[1]).append(clause[2])
+        if words == '{' or words.endswith((' {', '{}')):
+            head = None
+        if words.startswith('///'):
+            comment = [*comment, words[3:].strip()]
+        elif not words.startswith('#['):
+            comment = []
     return found_all
 
 
+def comments_over(lines):
+    """The comment that ends right above a line, by the number of that line from 0."""
+    found, above = {}, []
+    for number, line in enumerate(lines):
+        words = line.strip()
+        if words.startswith('--'):
+            above.append(words[2:].strip())
+        elif above:
+            found[number] = ' '.join(above)
+            above = []
+    return found
+
+
 class Specs:
-    """The definitions of specs/, and which of them each one cites."""
+    """The definitions of specs/, the comment over each, and which others each one cites."""
 
     def __init__(self, top):
         self.imports = {}
         self.texts = {}
+        # The first comment of a file, and the comment over a definition or over its group. It is empty if there is none.
+        self.heads = {}
+        self.comments = {}
         for path in sorted(top.glob('crates/*/specs/**/*.antt')):
             crate, _, *inside = path.relative_to(top / 'crates').with_suffix('').parts
             self.read((crate, '.'.join(inside)), path.read_text().splitlines())
 
     def read(self, file, lines):
         self.imports[file] = {}
-        name, group = None, -1
-        for line in lines:
+        over = comments_over(lines)
+        self.heads[file] = next(iter(over.values()), '')
+        name, group, over_group = None, -1, ''
+        for number, line in enumerate(lines):
             words = line.strip()
             indent = len(line) - len(line.lstrip())
             if not words or words.startswith('--'):
@@ -125,10 +168,12 @@ class Specs:
             if group >= 0 and indent <= group:
                 group = -1
             if re.match(r'(?:abbrev mutual|module)\b', words):
-                group, name = indent, None
+                group, name, over_group = indent, None, over.get(number, '')
                 continue
             if indent == group + 2 if group >= 0 else indent == 0:
                 name = self.name_at(file, words, name)
+                if DECLARATION.match(words):
+                    self.comments[(*file, name)] = over.get(number) or (over_group if group >= 0 else '')
             if name:
                 self.texts.setdefault((*file, name), []).append(words)
 
