@@ -8,6 +8,7 @@ use Rattle.vll_record.specs.declared.claim.Mode.{Mode}
 use Rattle.vll_record.specs.declared.claim.Mode.TheVariants.{Read, Write}
 use Rattle.vll_record.specs.declared.claim.Claim.{Claim}
 
+-- a claim for writing
 abbrev pub is_write : Claim → Bool
 is_write c = elim c.mode [ Read ↦ false | Write ↦ true ]
 
@@ -28,6 +29,7 @@ abbrev pub stronger : Mode → Mode → Mode
 stronger Write m = Write
 stronger Read m = m
 
+-- the stronger of a mode and another one, if there is another one
 abbrev pub stronger_of : Mode → Option Mode → Option Mode
 stronger_of m None = Some m
 stronger_of m (Some n) = Some (stronger m n)

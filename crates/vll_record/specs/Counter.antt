@@ -6,7 +6,7 @@ use Rattle.vll_record.specs.declared.claim.Claim.{Claim}
 use Rattle.vll_record.specs.declared.pair.Pair.{Pair}
 use Rattle.vll_record.specs.Claim.{is_write}
 
--- what a request adds to a pair word, and a release takes from it
+-- what a request adds to a pair word, and a release takes from it: 2^32 for Write, 1 for Read
 abbrev pub delta_of : Mode → ℕ
 delta_of Read = 1
 delta_of Write = 2 ^ 32
@@ -15,7 +15,7 @@ delta_of Write = 2 ^ 32
 abbrev pub claims_on : ℕ → List Claim → List Claim
 claims_on r cs = filter (λ (c : Claim). c.id == r) cs
 
--- the Write claims times 2^32, and the Read claims
+-- the pair word of a list of claims: the number of its Write claims times 2^32, and that of its Read claims
 abbrev pub pair_word_of : List Claim → ℕ
 pair_word_of cs = count_by is_write cs * 2 ^ 32 + count_by (λ c. not (is_write c)) cs
 

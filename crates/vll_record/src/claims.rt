@@ -15,6 +15,9 @@ use modes::Modes;
 /// How many claims a call has at most.
 pub const MOST_CLAIMS: usize = 32;
 
+// As docs/SCENARIO.md says.
+const _: () = prove!(MOST_CLAIMS == 32);
+
 /// Up to `MOST_CLAIMS` claims, strictly rising by record number. Contracts see them as their list.
 #[derive(Clone, Copy)]
 pub struct Claims {
@@ -140,6 +143,7 @@ impl PartialEq for Claims {
 
     ghost laws = { Prim.search (comparing, rules) };
 
+    /// Whether the two are the same list of claims.
     fn eq(&self, other: &Claims) -> bool
         ensures value { result ≡ pointwise is_same_claim self.now other.now }
         ensures same { IsTrue result ↔ (self.now ≡ other.now) }

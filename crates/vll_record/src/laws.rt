@@ -39,16 +39,16 @@ pub fn halves_count_the_claims()
     ensures word { (cs : List Claim) → length cs < 2 ^ 32 → pair_word_of cs < 2 ^ 64 }
 {}
 
-/// A request opens its claim after those that are open. That adds its delta to the pair word of
-/// its record, and leaves that of each other record.
+/// A request adds its claim's delta to the pair word of its record, and leaves that of each other record. The claim is
+/// opened after those that are open.
 pub fn request_adds_its_delta()
     ensures { (r : ℕ) (cs : List Claim) (c : Claim)
         → pair_word_of (claims_on r (cs ++ c ∷ []))
         ≡ pair_word_of (claims_on r cs) + (if c.id == r then delta_of c.mode else 0) }
 {}
 
-/// A release closes a claim that stands anywhere among those that are open. That takes its delta
-/// from the pair word of its record, and leaves that of each other record.
+/// A release takes its claim's delta from the pair word of its record, and leaves that of each other record. The claim
+/// may stand anywhere among those that are open.
 pub fn release_takes_its_delta()
     ensures { (r : ℕ) (xs ys : List Claim) (c : Claim)
         → pair_word_of (claims_on r (xs ++ c ∷ ys))

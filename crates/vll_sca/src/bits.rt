@@ -11,6 +11,9 @@ use std::marker::Model;
 /// The most bits that records can share: 2^20.
 pub const MOST_BITS: u32 = 1_048_576;
 
+// As docs/SCENARIO.md says.
+const _: () = prove!(MOST_BITS == 1_048_576);
+
 /// The room for a scan: two arrays of bits that records share. Contracts see the number of bits.
 #[derive(Drop)]
 pub struct Bits {
