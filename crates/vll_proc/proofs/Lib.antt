@@ -9,4 +9,5 @@ pub mod Runs
 pub mod Local
 pub mod Kept
 pub mod Declared
+pub mod Joined
 pub mod Rows

@@ -15,6 +15,7 @@ use Rattle.vll_proc.specs.declared.syntax.Stmt.TheBlock.{hidden-the_row-Stmt-0}
 use Rattle.vll_proc.specs.declared.syntax.KeyDecl.{KeyDecl}
 use Rattle.vll_proc.specs.Made.{call_of}
 use Rattle.vll_proc.specs.Serial.{apply}
+use Rattle.vll_proc.specs.Epochs.{replies_by_epochs}
 use Rattle.vll_proc.specs.WellFormed.{IsWellFormed, body_reads_set, nothing_set, has_few_keys, has_few_replies, has_few_turns, is_light, weight}
 
 abbrev pub transfer_keys : List KeyDecl
@@ -125,6 +126,11 @@ overflows = refl
 sums : apply procs (call_of 2 2 sum2 (1 ∷ 0 ∷ []) None) (70 ∷ 80 ∷ []) ≡ record { records = 70 ∷ 80 ∷ []; reply = Committed (150 ∷ []) }
 unfolding hidden hidden-the_row-Expr-0
 sums = refl
+
+-- the second epoch begins with what the first has left
+in_two_epochs : replies_by_epochs procs (((0, call_of 2 0 transfer (0 ∷ 1 ∷ 30 ∷ []) None) ∷ []) ∷ ((1, call_of 2 1 bump (1 ∷ []) None) ∷ []) ∷ []) (100 ∷ 50 ∷ []) ≡ Committed (70 ∷ []) ∷ Committed (81 ∷ []) ∷ []
+unfolding hidden hidden-the_row-Expr-0
+in_two_epochs = refl
 
 -- the reason of the left operand is the one that is answered
 left_first : apply procs (call_of 0 3 odd_sum (18446744073709551615 ∷ []) None) [] ≡ record { records = []; reply = Aborted Overflow }

@@ -1,5 +1,6 @@
 pub mod Meaning
 pub mod Serial
+pub mod Epochs
 pub mod WellFormed
 pub mod Made
 pub mod Same

@@ -49,7 +49,7 @@ call_of count n p args found = record {
   cells = laid MOST_CLAIMS 0 (map (λ (k : KeyDecl). place_for (claims_of (asked count p args found)) (record_named count args found k.at)) p.keys);
 }
 
--- a key position names a record, as far as this hangs on what was found
+-- a key position names a record, as far as this depends on what was found
 abbrev pub is_led : Option ℕ → KeyAt → Bool
 is_led found (at.Fixed r) = true
 is_led found (at.Arg i) = true

@@ -16,29 +16,35 @@ abbrev pub and_then : {A B : Type 0} → Result A Reason → (A → Result B Rea
 and_then (Ok a) go = go a
 and_then (Err why) go = Err why
 
--- a number of 64 bits
+-- a number, or an overflow if it has more than 64 bits
 abbrev pub fitting : ℕ → Result ℕ Reason
 fitting n = if nat_lt n (2 ^ 64) then Ok n else Err Overflow
 
+-- the sum, or an overflow
 abbrev pub sum : ℕ → ℕ → Result ℕ Reason
 sum x y = fitting (x + y)
 
+-- the left number less the right one, or an underflow if the right one is greater
 abbrev pub difference : ℕ → ℕ → Result ℕ Reason
 difference x y = if nat_lt x y then Err Underflow else Ok (x - y)
 
+-- the product, or an overflow
 abbrev pub product : ℕ → ℕ → Result ℕ Reason
 product x y = fitting (x * y)
 
--- rounded down
+-- the quotient, rounded down, or a zero divisor
 abbrev pub quotient : ℕ → ℕ → Result ℕ Reason
 quotient x y = if y == 0 then Err ZeroDivisor else Ok (x / y)
 
+-- what the division leaves over, or a zero divisor
 abbrev pub remainder : ℕ → ℕ → Result ℕ Reason
 remainder x y = if y == 0 then Err ZeroDivisor else Ok (x % y)
 
+-- the lesser of two numbers
 abbrev pub lesser : ℕ → ℕ → Result ℕ Reason
 lesser x y = Ok (min x y)
 
+-- the greater of two numbers
 abbrev pub greater : ℕ → ℕ → Result ℕ Reason
 greater x y = Ok (max x y)
 
@@ -46,9 +52,11 @@ greater x y = Ok (max x y)
 abbrev pub truth : Bool → ℕ
 truth b = if b then 1 else 0
 
+-- 1 if two numbers are equal, else 0
 abbrev pub equality : ℕ → ℕ → Result ℕ Reason
 equality x y = Ok (truth (x == y))
 
+-- 1 if the left number is less than the right one, else 0
 abbrev pub order : ℕ → ℕ → Result ℕ Reason
 order x y = Ok (truth (nat_lt x y))
 
@@ -60,10 +68,11 @@ pub record Scene : Type 0 where
   pub records : List ℕ
   pub outputs : List ℕ
 
+-- what an expression means: in a scene a value, or the reason that ends the call
 abbrev pub Value : Type 0
 Value = Scene → Result ℕ Reason
 
--- both operands, the left one first
+-- both operands, the left one first; the right one too, unless the left one ends the call
 abbrev pub both : (ℕ → ℕ → Result ℕ Reason) → Value → Value → Value
 both f a b s = and_then (a s) (λ x. and_then (b s) (λ y. f x y))
 
@@ -72,6 +81,7 @@ abbrev pub negated : Value → Value
 negated a s = and_then (a s) (λ x. Ok (truth (x == 0)))
 
 abbrev mutual
+  -- the value of an expression, or the reason that ends the call
   pub value_of : Expr → Value
   value_of (Num n) s = Ok n
   value_of (Arg i) s = Ok (slice_index s.args i)
@@ -93,6 +103,7 @@ abbrev mutual
   operand end_of-Expr s = Ok 0
   operand (more_of-Expr e rest) s = value_of e s
 
+-- what a statement means: from a scene the scene behind it, or the reason that ends the call
 abbrev pub Action : Type 0
 Action = Scene → Result Scene Reason
 
@@ -107,6 +118,7 @@ repeated zero act s = Ok s
 repeated (suc n) act s = and_then (act s) (repeated n act)
 
 abbrev mutual
+  -- what a statement does to the locals, the records and the outputs, or the reason that ends the call
   pub effect : Stmt → Action
   effect (Let i e) s = and_then (value_of e s) (λ v. Ok (record s { locals = slice_set s.locals i v }))
   effect (Set i e) s = and_then (value_of e s) (λ v. Ok (record s { records = slice_set s.records (slice_index s.named i) v }))
@@ -120,7 +132,7 @@ abbrev mutual
   list_effect end_of-Stmt s = Ok s
   list_effect (more_of-Stmt st rest) s = and_then (effect st s) (list_effect rest)
 
--- the record that a value leads to, where there are so many records
+-- the record that a value leads to, where there are so many records: its remainder by their number
 abbrev pub led_to : ℕ → Option ℕ → Option ℕ
 led_to count None = None
 led_to count (Some v) = Some (v % count)
@@ -168,7 +180,7 @@ has_moved None found s = false
 has_moved (Some i) None s = false
 has_moved (Some i) (Some v) s = not (slice_index s.records (slice_index s.named i) == v)
 
--- a body begins if what was found still stands
+-- a body begins if what was found still stands, and else ends with `Moved`
 abbrev pub unless_moved : Proc → Call → Action
 unless_moved p c s = if has_moved (source_of p.keys) c.found s then Err Moved else Ok s
 

@@ -50,3 +50,12 @@ answer procs calls records i = answer_at procs (slice_get calls i) (before procs
     answer_at : List Proc → Option Made → List ℕ → Option Reply
     answer_at procs None now = None
     answer_at procs (Some made) now = Some (apply procs made.1 now).reply
+
+-- the replies of all calls of a list, one at a time
+abbrev pub replies : List Proc → List Made → List ℕ → List Reply
+replies procs [] records = []
+replies procs (made ∷ more) records = (apply procs made.1 records).reply ∷ replies procs more (apply procs made.1 records).records
+
+-- a call keeps a property of records: if it is applied to any records that have it, those that it leaves have it
+abbrev pub Keeps : List Proc → (List ℕ → Type 0) → Made → Type 0
+Keeps procs Has made = (records : List ℕ) → Has records → Has (apply procs made.1 records).records

@@ -57,7 +57,7 @@ abbrev mutual
   operand_leaves test end_of-Expr = true
   operand_leaves test (more_of-Expr e rest) = all_leaves test e
 
--- a test of leaves holds of each expression in a statement, and a test of statements of each `Let` and `Set`
+-- a test of leaves holds of each expression in a statement, and a test of statements of each `Let` and `Set`, with all that is in its lists
 abbrev mutual
   pub throughout : (Expr → Bool) → (Stmt → Bool) → Stmt → Bool
   throughout leaf test (Let i e) = test (Let i e) && all_leaves leaf e
@@ -106,10 +106,11 @@ abbrev pub sets_no_read_key : List KeyDecl → Stmt → Bool
 sets_no_read_key keys (Set i e) = is_not_read (slice_get keys i)
 sets_no_read_key keys st = true
 
--- each passes
+-- every expression passes
 abbrev pub any_leaf : Expr → Bool
 any_leaf e = true
 
+-- every statement passes
 abbrev pub any_stmt : Stmt → Bool
 any_stmt st = true
 
@@ -286,52 +287,67 @@ abbrev pub most_keys : Edition → ℕ
 most_keys One = FIRST_MOST_KEYS
 most_keys Two = MOST_CLAIMS
 
--- the tests, one by one
+-- no more arguments than a call may have
 abbrev pub has_few_args : Proc → Bool
 has_few_args p = nat_le p.args MOST_ARGS
 
+-- no more key positions than the edition allows
 abbrev pub has_few_keys : Proc → Bool
 has_few_keys p = nat_le (length p.keys) (most_keys p.edition)
 
+-- each argument that places a key is declared
 abbrev pub has_declared_key_args : Proc → Bool
 has_declared_key_args p = list_all (argument_is_declared p.args) p.keys
 
+-- each fixed record is one of the records: the only test that looks at their number
 abbrev pub has_records : ℕ → Proc → Bool
 has_records records p = list_all (record_is_there records) p.keys
 
+-- each key position that is read or set is declared
 abbrev pub has_known_keys : Proc → Bool
 has_known_keys p = list_all (throughout (key_is_below (length p.keys)) (set_is_below (length p.keys))) p.body
 
+-- no key position that is declared Read is set
 abbrev pub has_writable_keys : Proc → Bool
 has_writable_keys p = list_all (throughout any_leaf (sets_no_read_key p.keys)) p.body
 
+-- each argument that is read is declared
 abbrev pub has_known_args : Proc → Bool
 has_known_args p = list_all (throughout (arg_is_below p.args) any_stmt) p.body
 
+-- each local that is read or given a value is one of those there are
 abbrev pub has_known_locals : Proc → Bool
 has_known_locals p = list_all (throughout local_is_known let_is_known) p.body
 
+-- each local that is read is surely set before
 abbrev pub reads_set_locals : Proc → Bool
 reads_set_locals p = body_reads_set nothing_set p.body
 
+-- no more outputs than a reply may have
 abbrev pub has_few_replies : Proc → Bool
 has_few_replies p = nat_le (sum_by replies p.body) MOST_OUTPUTS
 
+-- the body is no deeper than a body may be
 abbrev pub is_shallow : Proc → Bool
 is_shallow p = nat_le (body_depth p.body) MOST_DEPTH
 
+-- the body has no more statements and expressions than a body may have
 abbrev pub is_short : Proc → Bool
 is_short p = nat_le (sum_by stmt_nodes p.body) MOST_NODES
 
+-- each indirect key position finds its record by an earlier one, which names its own by itself
 abbrev pub has_earlier_sources : Proc → Bool
 has_earlier_sources p = have_sources p.keys 0 p.keys
 
+-- at most one key position is indirect
 abbrev pub has_one_indirect_key : Proc → Bool
 has_one_indirect_key p = nat_le (sum_by indirect p.keys) 1
 
+-- each `Repeat` in the body may stand in a procedure of its edition
 abbrev pub has_few_turns : Proc → Bool
 has_few_turns p = list_all (turns_are_few p.edition) p.body
 
+-- the body is no more work than a body may be
 abbrev pub is_light : Proc → Bool
 is_light p = nat_le (sum_by weight p.body) MOST_WEIGHT
 

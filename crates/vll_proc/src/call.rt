@@ -51,6 +51,7 @@ impl PartialEq for Call {
 
     ghost laws = { is_same_call-laws };
 
+    /// Whether the two are the same call: of one procedure, with the same arguments, value found, claims and cells.
     fn eq(&self, other: &Call) -> bool
         ensures value { result ≡ is_same_call self.now other.now }
         ensures same { IsTrue result ↔ (self.now ≡ other.now) }

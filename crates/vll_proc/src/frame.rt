@@ -69,7 +69,8 @@ impl Frame {
     /// Where a record was found by a value that its source's cell no longer holds, nothing of the
     /// body is run, and the reason is `Moved`.
     /// After `Committed` the cells hold the records' new values, after `Aborted` they are as
-    /// before. It takes no memory.
+    /// before. The reply, and the values that are left, are those of the body's meaning on any whole list of as many
+    /// records as the call was made for, whose values the cells hold. It takes no memory.
     pub fn run(&mut self, procedure: &Proc, call: &Call) -> Reply
         requires formed { IsWellFormed procedure.now }
         requires made { (n : ℕ) × IsCallOf n procedure.now call.now }

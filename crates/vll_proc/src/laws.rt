@@ -1,16 +1,20 @@
-//! What holds of each call of a well-formed procedure, stated once for those who apply calls.
+//! What holds of each call of a well-formed procedure, and of calls that run one at a time, stated once for those who apply
+//! calls.
 
-ghost use Rattle.std.specs.Prelude.{◌≡◌, ◌≢◌, ℕ, List, length, map, Some, slice_index};
+ghost use Rattle.std.specs.Prelude.{◌≡◌, ◌≢◌, ℕ, ◌+◌, ◌<◌, List, ◌++◌, length, map, All, Some, slice_get, slice_index};
 ghost use Rattle.vll_record.specs.Claim.{mode_on};
 ghost use Rattle.vll_record.specs.declared.claim.Mode.TheVariants.{Write};
 ghost use Rattle.vll_proc.specs.declared.call.Call.{Call};
 ghost use Rattle.vll_proc.specs.declared.syntax.Proc.{Proc};
 ghost use Rattle.vll_proc.specs.Cells.{AgreeAt};
+ghost use Rattle.vll_proc.specs.Epochs.{in_a_row, end_by_epochs, replies_by_epochs};
 ghost use Rattle.vll_proc.specs.Made.{IsCallOf};
 ghost use Rattle.vll_proc.specs.Meaning.{Scene, effect, in_turn};
-ghost use Rattle.vll_proc.specs.Serial.{applied};
+ghost use Rattle.vll_proc.specs.Serial.{Made, Keeps, answer, applied, before, end, replies};
 ghost use Rattle.vll_proc.specs.Undeclared.{AgreeOnDeclared, EndsAlike};
 ghost use Rattle.vll_proc.specs.WellFormed.{IsWellFormed};
+
+use crate::property::Property;
 
 /// A call changes no record that it does not claim for writing.
 pub fn changes_claimed_records_alone()
@@ -40,4 +44,35 @@ pub fn depends_on_claimed_records_alone()
 pub fn meets_nothing_undeclared()
     ensures { (p : Proc) (s t : Scene) → IsWellFormed p → AgreeOnDeclared p s t
         → EndsAlike (in_turn (map effect p.body) s) (in_turn (map effect p.body) t) }
+{}
+
+/// A serial run of one list of calls, and then of another from where the first ended, answers and ends as the run of both
+/// in a row.
+pub fn serial_runs_join()
+    ensures first { (procs : List Proc) (calls more : List Made) (records : List ℕ) (i : ℕ) → i < length calls
+        → answer procs calls records i ≡ answer procs (calls ++ more) records i }
+    ensures second { (procs : List Proc) (calls more : List Made) (records : List ℕ) (i : ℕ)
+        → answer procs more (end procs calls records) i ≡ answer procs (calls ++ more) records (length calls + i) }
+    ensures end { (procs : List Proc) (calls more : List Made) (records : List ℕ)
+        → end procs more (end procs calls records) ≡ end procs (calls ++ more) records }
+{}
+
+/// The replies of all epochs, one epoch's behind the other's, are those of one serial run of all their calls, however many
+/// epochs there are, and so are the records at the end. In such a list of replies each call has its answer.
+pub fn epochs_are_one_serial_run()
+    ensures replies { (procs : List Proc) (epochs : List (List Made)) (records : List ℕ)
+        → replies_by_epochs procs epochs records ≡ replies procs (in_a_row epochs) records }
+    ensures end { (procs : List Proc) (epochs : List (List Made)) (records : List ℕ)
+        → end_by_epochs procs epochs records ≡ end procs (in_a_row epochs) records }
+    ensures answers { (procs : List Proc) (calls : List Made) (records : List ℕ) (i : ℕ)
+        → slice_get (replies procs calls records) i ≡ answer procs calls records i }
+{}
+
+/// An invariant carries over: if the opening records have a property and each call of a list keeps it, the records before
+/// every call and at the end have it.
+pub fn invariants_carry_over<P: Property>()
+    ensures before { (procs : List Proc) (calls : List Made) (records : List ℕ) → P.holds records
+        → All (Keeps procs P.holds) calls → (i : ℕ) → P.holds (before procs calls records i) }
+    ensures end { (procs : List Proc) (calls : List Made) (records : List ℕ) → P.holds records
+        → All (Keeps procs P.holds) calls → P.holds (end procs calls records) }
 {}

@@ -24,3 +24,20 @@ pub const MOST_TURNS: u8 = 64;
 
 /// How much work a body is at most: each of its statements and expressions, as often as it is run.
 pub const MOST_WEIGHT: u32 = 65_536;
+
+// As docs/SCENARIO.md says.
+const _: () = prove!(MOST_ARGS == 8);
+
+const _: () = prove!(FIRST_MOST_KEYS == 16);
+
+const _: () = prove!(MOST_LOCALS == 8);
+
+const _: () = prove!(MOST_OUTPUTS == 8);
+
+const _: () = prove!(MOST_DEPTH == 32);
+
+const _: () = prove!(MOST_NODES == 1_024);
+
+const _: () = prove!(MOST_TURNS == 64);
+
+const _: () = prove!(MOST_WEIGHT == 65_536);

@@ -83,6 +83,7 @@ impl PartialEq for Outputs {
 
     ghost laws = { Prim.search (comparing, rules) };
 
+    /// Whether the two are the same list of outputs.
     fn eq(&self, other: &Outputs) -> bool
         ensures value { result ≡ pointwise ◌==◌ self.now other.now }
         ensures same { IsTrue result ↔ (self.now ≡ other.now) }

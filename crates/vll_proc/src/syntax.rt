@@ -141,6 +141,7 @@ impl Text {
         Text { inner: text }
     }
 
+    /// The text, as a `str`.
     pub fn as_str(&self) -> &str
         ensures { result.now ≡ self.now }
     {
