@@ -19,7 +19,7 @@ use Rattle.vll_check.specs.Names.{number_named}
 abbrev pub place_is_there : ℕ → List ℕ → KeyDecl → Bool
 place_is_there records args k = elim k.at [ at.Fixed r ↦ true | at.Arg i ↦ nat_lt (slice_index args i) records | at.Through i ↦ true ]
 
--- the call of a procedure
+-- the call of a procedure, with nothing found, or the lowest fault that stands
 abbrev pub call_to : ℕ → ℕ → Option Proc → List ℕ → Result Call CallFault
 call_to records n None args = Err UnknownProc
 call_to records n (Some p) args =
@@ -30,11 +30,11 @@ abbrev pub call_numbered : ℕ → List Proc → Option ℕ → List ℕ → Res
 call_numbered records procs None args = Err UnknownProc
 call_numbered records procs (Some n) args = call_to records n (slice_get procs n) args
 
--- the call of the procedure with a name
+-- the call of the procedure with a name, or the lowest fault that stands
 abbrev pub call_made : Catalog → List ℕ → List ℕ → Result Call CallFault
 call_made c name args = call_numbered c.records c.procs (number_named name c.procs) args
 
--- the call is one that the library makes
+-- the call is one that the library makes, of some name and some arguments
 abbrev pub Fits : Catalog → Call → Type 0
 Fits c call = (name : List ℕ) × (args : List ℕ) × (call_made c name args ≡ Ok call)
 
@@ -66,10 +66,11 @@ found_by records (Some p) call v = if is_some (source_of p.keys) then call_of re
 abbrev pub with_found : Catalog → Call → ℕ → Call
 with_found c call v = found_by c.records (slice_get c.procs call.number) call v
 
--- a call without what it finds: its procedure and its arguments
+-- a call without what it finds: its procedure and its arguments, with no value found, no claims and no cells
 abbrev pub bare : Call → Call
 bare call = record call { found = None; claims = []; cells = [] }
 
+-- the same of each call of a list
 abbrev pub bares : List Call → List Call
 bares calls = map bare calls
 

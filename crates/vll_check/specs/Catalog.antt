@@ -4,6 +4,7 @@ use Rattle.vll_proc.specs.declared.syntax.Proc.{Proc}
 use Rattle.vll_check.specs.Faults.{check_fault}
 use Rattle.vll_check.specs.Names.{has_name_twice}
 
+-- what contracts see of a `Library`: its procedures, in the order in which they were handed in, and the number of records for which each of them passed
 pub record Catalog : Type 0 where
   pub records : ℕ
   pub procs : List Proc

@@ -2,6 +2,7 @@
 use Rattle.std.specs.Prelude.{ℕ}
 use Rattle.vll_proc.specs.declared.syntax.Proc.{Proc}
 
+-- what contracts see of a `Checked`: the procedure, the number of records for which it passed, and a number and a place by which its library finds it again
 pub record Entry : Type 0 where
   pub procedure : Proc
   pub records : ℕ

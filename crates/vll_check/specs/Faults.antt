@@ -10,7 +10,7 @@ abbrev pub fault_unless : Bool → CheckFault → Option CheckFault → Option C
 fault_unless true fault behind = behind
 fault_unless false fault behind = Some fault
 
--- the tests in order
+-- the fault of the lowest of the sixteen tests that a procedure fails for so many records, if it fails one
 abbrev pub check_fault : ℕ → Proc → Option CheckFault
 check_fault records p =
     fault_unless (has_few_args p) TooManyArgs

@@ -26,8 +26,8 @@ pub fn fitting_calls_are_of_the_records()
     ensures like { (c : Catalog) (calls found : List Call) → All (Fits c) calls → All (IsReady c) found → bares found ≡ bares calls → AreFound c calls found }
 {}
 
-/// A call that is ready is one of a checked, well-formed procedure of its own, and claims only
-/// records that are there.
+/// A call that is ready was made for a checked, well-formed procedure with its number, has found what it needs, and
+/// claims only records that are there.
 #[tactic(auto, using(crate::proofs::Fitting::ready_well))]
 pub fn ready_calls_have_their_procedure()
     ensures { (c : Catalog) (call : Call) → IsCatalog c → IsReady c call → CallsProcedure c call }

@@ -38,8 +38,9 @@ impl Model for Library {
 }
 
 impl Library {
-    /// The library of these procedures, each checked for this number of records. Their numbers are their places
-    /// in the list, from 0. It refuses exactly a list in which two have one name, and drops it. It takes no memory.
+    /// The library of these procedures, fewer than 2^32 and each checked for this number of records. Their numbers are
+    /// their places in the list, from 0. It refuses exactly a list in which two have one name, and drops it. It takes no
+    /// memory.
     pub fn new(records: u32, mut procs: Vec<Checked>) -> Result<Library, NameTwice>
         requires for_records { All (λ c. c.records ≡ records) procs.items }
         requires few { length procs.items < 2 ^ 32 }
@@ -92,7 +93,8 @@ impl Library {
 
     /// The call of the procedure with a name, or the lowest fault that stands: `UnknownProc` where no
     /// procedure has the name, `ArgCount` where there are not as many arguments as it declares, and
-    /// `RecordRange` where an argument that places a key is not below the number of records. It takes no memory.
+    /// `RecordRange` where an argument that places a key is not below the number of records. Nothing is found for the call
+    /// yet, and its claims are those that the keys ask for; an indirect one asks for none. It takes no memory.
     pub fn call(&self, name: &str, args: &[u64]) -> Result<Call, CallFault>
         ensures { result ≡ call_made self.now name.now args.now }
     {
@@ -112,8 +114,8 @@ impl Library {
         }
     }
 
-    /// The record by whose value a call finds the record of its indirect key, and `None` exactly where its procedure has no
-    /// indirect key: such a call is ready as it is. It takes no memory.
+    /// The record by whose value a call that fits finds the record of its indirect key, and `None` exactly where its
+    /// procedure has no indirect key: such a call is ready as it is. It takes no memory.
     pub fn source(&self, call: &Call) -> Option<RecordId>
         requires { Fits self.now call.now }
         ensures source { result ≡ source self.now call.now }
@@ -125,7 +127,7 @@ impl Library {
         source_for(self.records(), checked.proc(), place, call)
     }
 
-    /// The call with a value that was found: its indirect key names the record whose number is the value's remainder by the
+    /// A call that fits, with a value that was found: its indirect key names the record whose number is the value's remainder by the
     /// number of records, and the claims are those of all its keys. Without an indirect key the call as it was. It takes no
     /// memory.
     pub fn with_found(&self, call: &Call, value: u64) -> Call
