@@ -34,7 +34,7 @@ pub data Change (o : Opening) (s : State) : Move → State → Type 0 where
       → Change o s (by_event event.Admit) (record s { entries = s.entries ++ record { client = turn.client; call = turn.call; status = status; loads = 0; stores = 0; releases = 0 } ∷ []; turn = None })
   fronted : (t : ℕ) (f : IsFront s t) → Change o s (by_event event.Front) (with_entry s t (record f.entry { status = Running }))
   picked : (t : ℕ) (p : IsPicked s t) → Change o s (by_event event.Scan) (with_entry s t (record p.entry { status = Running }))
-  woken : (t : ℕ) (e : Entered) → slice_get s.entries t ≡ Some e → is_clear s t e.call.claims ≡ true → Change o s (wake t) (with_entry s t (record e { status = Running }))
+  woken : (t : ℕ) (e : Entered) → slice_get s.entries t ≡ Some e → is_waiting e.status ≡ true → is_clear s t e.call.claims ≡ true → Change o s (wake t) (with_entry s t (record e { status = Running }))
   loaded : (t : ℕ) (e : Entered) (c : Claim) → slice_get s.entries t ≡ Some e → is_running e.status ≡ true → slice_get e.call.claims e.loads ≡ Some c
       → Change o s (by_event (event.Load t)) (with_entry s t (record e { loads = e.loads + 1 }))
   stored : (t : ℕ) (e : Entered) → slice_get s.entries t ≡ Some e → is_running e.status ≡ true → nat_lt e.loads (length e.call.claims) ≡ false → has_stored o.base s t e ≡ false
@@ -71,13 +71,13 @@ entry_runs (Some d) e h = step (is_running d.status) refl h
     step true is k = (k, ap (λ (x : Entered). is_running x.status) (sym (same_Some d e k)) ∙ is)
     step false is k = absurd (cc k)
 
-entry_waits : (x : Option Entered) (e : Entered) → if_waiting x ≡ Some e → x ≡ Some e
+entry_waits : (x : Option Entered) (e : Entered) → if_waiting x ≡ Some e → (x ≡ Some e) × (is_waiting e.status ≡ true)
 entry_waits None e h = absurd (cc h)
-entry_waits (Some d) e h = step (is_waiting d.status) h
+entry_waits (Some d) e h = step (is_waiting d.status) refl h
   where
-    step : (b : Bool) → (if b then Some d else None) ≡ Some e → Some d ≡ Some e
-    step true k = k
-    step false k = absurd (cc k)
+    step : (b : Bool) → is_waiting d.status ≡ b → (if b then Some d else None) ≡ Some e → (Some d ≡ Some e) × (is_waiting e.status ≡ true)
+    step true is k = (k, ap (λ (x : Entered). is_waiting x.status) (sym (same_Some d e k)) ∙ is)
+    step false is k = absurd (cc k)
 
 status_put : (s : State) (t : ℕ) (e : Entered) (status : Status) → slice_get s.entries t ≡ Some e → with_status s t status ≡ with_entry s t (record e { status = status })
 status_put s t e status at = step (slice_get s.entries t) at
@@ -193,7 +193,7 @@ change_of o s (wake t) out h =
     let a = found (if_waiting (slice_get s.entries t)) _ _ out h in
     let at = entry_waits (slice_get s.entries t) a.0 a.1 in
     let b = refused_not (not (is_clear s t a.0.call.claims)) _ _ out a.2 in
-    run_change o s (wake t) t a.0 _ out at (woken t a.0 at (not_no _ b.0)) b.1
+    run_change o s (wake t) t a.0 _ out at.0 (woken t a.0 at.0 at.1 (not_no _ b.0)) b.1
 change_of o s (hand client call) out h =
     let a = refused_not (is_some s.turn) _ _ out h in
     let c = refused_not (nat_le o.limit (length s.entries)) _ _ out a.1 in

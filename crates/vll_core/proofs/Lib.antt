@@ -14,6 +14,7 @@ pub mod Picked
 pub mod Changes
 pub mod Waits
 pub mod Reached
+pub mod Once
 pub mod Clients
 pub mod Counters
 pub mod Values

@@ -1,5 +1,5 @@
 -- Which item stands at which place of a list.
-use Rattle.std.proofs.Common.{◌≡◌, ℕ, zero, suc, Bool, true, false, not, refl, sym, arith, ◌<◌, ◌≤◌, ◌⊎◌, inl, inr, ◌+◌, List, [], ◌∷◌, length, drop, ap, ◌∙◌, subst, slice_get, slice_set, Some, cond, ◌++◌, take, add-one, ⊎_elim, All}
+use Rattle.std.proofs.Common.{◌≡◌, ◌≢◌, ℕ, zero, suc, Bool, true, false, not, refl, sym, arith, ◌<◌, ◌≤◌, ◌⊎◌, inl, inr, ◌+◌, List, [], ◌∷◌, length, drop, ap, ◌∙◌, subst, slice_get, slice_set, Some, cond, ◌++◌, take, add-one, ⊎_elim, All}
 use Rattle.std.proofs.Math.Seq.{take-suc, drop-cons}
 use Rattle.std.proofs.lemmas.Option.{slice_get_within, get_or_from_slice_get, same_Some, same_Some}
 use Rattle.std.specs.List.{position_or_len}
@@ -42,6 +42,14 @@ pub get_set : {X : Type 0} (es : List X) (t : ℕ) (e f : X) → slice_get es t 
 get_set [] t e f at = absurd (cc at)
 get_set (x ∷ es) zero e f at = refl
 get_set (x ∷ es) (suc t) e f at = get_set es t e f at
+
+-- the other items stay
+pub get_set_other : {X : Type 0} (es : List X) (t : ℕ) (f : X) (v : ℕ) → v ≢ t → slice_get (slice_set es t f) v ≡ slice_get es v
+get_set_other [] t f v apart = refl
+get_set_other (x ∷ es) zero f zero apart = absurd (apart refl)
+get_set_other (x ∷ es) zero f (suc v) apart = refl
+get_set_other (x ∷ es) (suc t) f zero apart = refl
+get_set_other (x ∷ es) (suc t) f (suc v) apart = get_set_other es t f v (λ same. apart (ap suc same))
 
 -- an item of a list with one more behind it
 pub at_push : {X : Type 0} (es : List X) (x : X) (t : ℕ) (e : X) → slice_get (es ++ x ∷ []) t ≡ Some e → (slice_get es t ≡ Some e) ⊎ ((t ≡ length es) × (e ≡ x))

@@ -13,6 +13,7 @@ use Rattle.vll_proc.specs.Meaning.{Scene, body}
 use Rattle.vll_proc.specs.declared.call.Call.{Call}
 use Rattle.vll_proc.specs.declared.call.Reason.{Reason}
 use Rattle.vll_proc.specs.declared.syntax.Proc.{Proc}
+use Rattle.vll_proc.proofs.Joined.{answer_of_first}
 use Rattle.vll_proc.proofs.Kept.{length-applied}
 use Rattle.vll_core.proofs.Places.{take_next}
 use Rattle.vll_core.proofs.OwnClaims.{mode_hit}
@@ -100,12 +101,6 @@ records_pushed o s x turn t within =
 pub later_leave_states : LaterCallsLeaveSerialStates
 later_leave_states procs calls more records i within = ap (λ (ms : List Made). end procs ms records) (take-append-le i calls more within)
 
-item_before : (xs ys : List Made) (i : ℕ) → i < length xs → slice_get (xs ++ ys) i ≡ slice_get xs i
-item_before [] ys i within = absurd (omega (arith, within))
-item_before (x ∷ xs) ys zero within = refl
-item_before (x ∷ xs) ys (suc i) within = item_before xs ys i (omega (arith, within))
-
 -- nor what a call of the list answers
 pub later_leave_answers : LaterCallsLeaveSerialAnswers
-later_leave_answers procs calls more records i within =
-    rw (item_before calls more i within, take-append-le i calls more (omega (arith, within))) refl
+later_leave_answers = answer_of_first

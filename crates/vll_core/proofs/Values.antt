@@ -172,7 +172,7 @@ other_values o s m next r kept (admitted turn status is all here free) other =
     (λ records many none. proper_keeps o.base turn.call records r many (kept.turn turn is).proper none)
 other_values o s m next r kept (fronted t f) other = value_same o.base s t f.entry Running f.entry.releases r f.at
 other_values o s m next r kept (picked t p) other = value_same o.base s t p.entry Running p.entry.releases r p.at
-other_values o s m next r kept (woken t e at clear) other = value_same o.base s t e Running e.releases r at
+other_values o s m next r kept (woken t e at waits clear) other = value_same o.base s t e Running e.releases r at
 other_values o s m next r kept (loaded t e c at runs left) other = value_load o s t e c r kept at runs left
 other_values o s m next r kept (stored t e at runs all left) other =
     let f : Entered = record e { stores = e.stores + 1 } in

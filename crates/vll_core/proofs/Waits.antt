@@ -57,7 +57,7 @@ capped_change o s m next capped (admitted turn status is all here free) =
     record { within = omega (arith, more, one, room); turn = λ other same. absurd (cc same) }
 capped_change o s m next capped (fronted t f) = capped_put o s t f.entry _ capped f.at (λ h. absurd (cc h))
 capped_change o s m next capped (picked t p) = capped_put o s t p.entry _ capped p.at (λ h. absurd (cc h))
-capped_change o s m next capped (woken t e at clear) = capped_put o s t e _ capped at (λ h. absurd (cc h))
+capped_change o s m next capped (woken t e at waits clear) = capped_put o s t e _ capped at (λ h. absurd (cc h))
 capped_change o s m next capped (loaded t e c at runs left) = capped_put o s t e _ capped at (λ h. h)
 capped_change o s m next capped (stored t e at runs all left) = capped_put o s t e _ capped at (λ h. h)
 capped_change o s m next capped (released t e c at runs all left) = capped_put o s t e _ capped at (λ h. h)

@@ -1,5 +1,5 @@
 -- What holds in every state that lawful moves reach, of which calls it holds, and of calls that run one at a time.
-use Rattle.std.specs.Prelude.{◌≡◌, ℕ, suc, ◌+◌, ◌≤◌, ◌<◌, true, false, not, List, ◌++◌, length, map, count_by, Some, None, Ok, All, slice_get, slice_index}
+use Rattle.std.specs.Prelude.{◌≡◌, ◌≢◌, ℕ, suc, ◌+◌, ◌≤◌, ◌<◌, true, false, not, List, ◌++◌, length, map, count_by, Some, None, Ok, All, slice_get, slice_index}
 use Rattle.vll_record.specs.declared.claim.Claim.{Claim}
 use Rattle.vll_record.specs.Claim.{is_write}
 use Rattle.vll_record.specs.Counter.{claims_on}
@@ -15,8 +15,8 @@ use Rattle.vll_core.specs.declared.seen.Seen.TheVariants.{Loaded}
 use Rattle.vll_sca.specs.Status.{is_waiting, is_gone}
 use Rattle.vll_sca.specs.Scan.{scan}
 use Rattle.vll_core.specs.State.{Opening, Entered, State, Turn, entered, open_claims, counter, writes, records_before, value, is_clear}
-use Rattle.vll_core.specs.Machine.{waiting, running_count, front, scanned, step, opened, run}
-use Rattle.vll_core.specs.Moves.{Move, move, IsProper, AreProper, IsReached, requested_by, stored_by, released_by, delta_if, is_on}
+use Rattle.vll_core.specs.Machine.{waiting, running_count, front, scanned, running, step, opened, run}
+use Rattle.vll_core.specs.Moves.{Move, move, IsProper, AreProper, IsReached, Leads, requested_by, stored_by, released_by, delta_if, is_on}
 
 -- every list of events, refused ones among them, reaches such a state
 abbrev pub EventListsReach : Type 0
@@ -83,7 +83,7 @@ SerialStatesStay =
     (o : Opening) (s next : State) (m : Move) (seen : Seen) (t : ℕ)
     → move o s m ≡ Ok (seen, next) → t ≤ length s.entries → records_before o.base next t ≡ records_before o.base s t
 
--- no record has more open claims, nor more of either mode, than the limit of calls
+-- no record has more open claims, nor more of either mode, than the limit of calls; so with a limit of at most 65,536 neither half of a counter wraps
 abbrev pub CountersStayWithinTheLimit : Type 0
 CountersStayWithinTheLimit =
     (o : Opening) (s : State) (r : ℕ) → IsReached o s
@@ -122,3 +122,22 @@ abbrev pub LaterCallsLeaveSerialAnswers : Type 0
 LaterCallsLeaveSerialAnswers =
     (procs : List Proc) (calls more : List Made) (records : List ℕ) (i : ℕ)
     → i < length calls → answer procs (calls ++ more) records i ≡ answer procs calls records i
+
+-- a move leaves the entry of a ticket that is gone as it was
+abbrev pub GoneTicketsStay : Type 0
+GoneTicketsStay =
+    (o : Opening) (s next : State) (m : Move) (seen : Seen) (t : ℕ) (e : Entered)
+    → move o s m ≡ Ok (seen, next) → slice_get s.entries t ≡ Some e → is_gone e.status ≡ true → slice_get next.entries t ≡ Some e
+
+-- no move leads a ticket that is running or gone back to waiting
+abbrev pub StartedTicketsDoNotWait : Type 0
+StartedTicketsDoNotWait =
+    (o : Opening) (s next : State) (m : Move) (seen : Seen) (t : ℕ) (e : Entered)
+    → move o s m ≡ Ok (seen, next) → slice_get s.entries t ≡ Some e → is_waiting e.status ≡ false
+    → (f : Entered) × (slice_get next.entries t ≡ Some f) × (is_waiting f.status ≡ false)
+
+-- a ticket that has run is not started again: wherever moves lead, one that does not run before a move does not run behind it
+abbrev pub TicketsStartOnce : Type 0
+TicketsStartOnce =
+    (o : Opening) (s later next : State) (m : Move) (seen : Seen) (t : ℕ)
+    → running s t ≢ None → Leads o s later → move o later m ≡ Ok (seen, next) → running later t ≡ None → running next t ≡ None

@@ -57,6 +57,11 @@ pub data IsReached (o : Opening) : State → Type 0 where
   begun : (scripts : List (List Call)) → AreProper o.base scripts → IsReached o (opened scripts)
   moved : (s : State) (m : Move) (seen : Seen) (next : State) → IsReached o s → IsLawful o m → move o s m ≡ Ok (seen, next) → IsReached o next
 
+-- moves lead from one state to another
+pub data Leads (o : Opening) (s : State) : State → Type 0 where
+  stays : Leads o s s
+  goes : (between : State) (m : Move) (seen : Seen) (next : State) → Leads o s between → move o between m ≡ Ok (seen, next) → Leads o s next
+
 -- the next claim that a turn requests
 abbrev pub turn_request : Option Turn → Option Claim
 turn_request None = None

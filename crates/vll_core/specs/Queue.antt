@@ -34,9 +34,11 @@ lines q = map (λ (e : QueueEntry). e.line) q.entries
 abbrev pub statuses : {H : Type 0} → Queued H → List Status
 statuses q = map (λ (e : QueueEntry). e.status) q.entries
 
+-- a line has a reply
 abbrev pub has_reply : Line → Bool
 has_reply l = is_some l.reply
 
+-- a call runs or waits
 abbrev pub is_left : Status → Bool
 is_left s = not (is_gone s)
 

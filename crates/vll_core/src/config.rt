@@ -9,6 +9,13 @@ pub const MOST_CALLS: u32 = 65_536;
 /// The most entered calls that can be let wait at a time.
 pub const MOST_WAITING: u32 = 65_536;
 
+// As docs/SCENARIO.md says.
+const _: () = prove!(MOST_RECORDS == 65_536);
+
+const _: () = prove!(MOST_CALLS == 65_536);
+
+const _: () = prove!(MOST_WAITING == 65_536);
+
 /// What is chosen at the opening.
 #[derive(Clone, Copy, PartialEq, Eq, Debug)]
 pub struct Config {

@@ -70,7 +70,7 @@ impl<H: Place + Drop> Core<H> {
 }
 
 impl<H: Place> Core<H> {
-    /// Takes one step of the machine, or refuses it by the lowest refusal that stands. A refused event
+    /// Takes one step, or refuses it by the lowest refusal that stands, as the plain machine does. A refused event
     /// changes nothing. It takes no memory.
     pub fn step(&mut self, event: Event) -> Result<Seen, Refusal>
         ensures answer { result ≡ told (step (opening_of H.place_of self.old) self.old.state event) }

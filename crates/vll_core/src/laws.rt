@@ -1,7 +1,7 @@
 // Laws of the machine of atomic steps, each the contract of a function that does nothing. A lawful
 // move is an event of the machine, the start of any waiting ticket that is clear, or the opening of
 // a turn for a call that is handed in.
-ghost use Rattle.vll_core.specs.Laws.{EventListsReach, RunningTicketsAreClear, FrontTicketIsClear, ScanTicketIsClear, OpenTurnsHaveRoom, WaitingStaysWithinTheCap, LoadsSeeTheSerialState, CountersChangeByDeltas, StoresMakeTheSerialState, OtherValuesStay, SerialStatesStay, CountersStayWithinTheLimit, FinishedMachinesHaveTheSerialEnd, ReadyCallIsProper, FittingScriptsAreProper, LaterCallsLeaveSerialStates, LaterCallsLeaveSerialAnswers};
+ghost use Rattle.vll_core.specs.Laws.{EventListsReach, RunningTicketsAreClear, FrontTicketIsClear, ScanTicketIsClear, OpenTurnsHaveRoom, WaitingStaysWithinTheCap, LoadsSeeTheSerialState, CountersChangeByDeltas, StoresMakeTheSerialState, OtherValuesStay, SerialStatesStay, CountersStayWithinTheLimit, FinishedMachinesHaveTheSerialEnd, ReadyCallIsProper, FittingScriptsAreProper, LaterCallsLeaveSerialStates, LaterCallsLeaveSerialAnswers, GoneTicketsStay, StartedTicketsDoNotWait, TicketsStartOnce};
 
 /// Every list of events, refused ones among them, reaches a state of which the other laws hold.
 #[tactic(auto, using(crate::proofs::Reached::lists_reach))]
@@ -96,4 +96,12 @@ pub fn fitting_calls_are_proper()
 pub fn later_calls_leave_serial_runs()
     ensures states { LaterCallsLeaveSerialStates }
     ensures answers { LaterCallsLeaveSerialAnswers }
+{}
+
+/// No move leads a ticket from gone to anything else, nor from running or gone back to waiting. So a ticket that has run
+/// never starts again, wherever moves lead: it gets one pass, ever.
+pub fn tickets_start_once()
+    ensures gone { GoneTicketsStay }
+    ensures started { StartedTicketsDoNotWait }
+    ensures once { TicketsStartOnce }
 {}

@@ -23,7 +23,7 @@ pub use laws::{
     finished_machines_have_the_serial_end, fitting_calls_are_proper, front_ticket_is_clear,
     later_calls_leave_serial_runs, loads_see_the_serial_state, open_turns_have_room,
     other_values_stay, running_tickets_are_clear, scan_ticket_is_clear, serial_states_stay,
-    stores_make_the_serial_state, waiting_stays_within_the_cap,
+    stores_make_the_serial_state, tickets_start_once, waiting_stays_within_the_cap,
 };
 pub use line::Line;
 pub use machine::Machine;

@@ -6,8 +6,8 @@ use vll_record::{Claims, MOST_CLAIMS};
 /// A call in the order of entry, with the client that entered it, and its reply once it is finished.
 #[derive(Clone, Copy)]
 pub struct Line {
-    pub client: u32,
     pub call: Call,
+    pub client: u32,
     pub reply: Option<Reply>,
 }
 
@@ -26,8 +26,8 @@ impl Line {
             cells: [0; MOST_CLAIMS],
         };
         Line {
-            client: 0,
             call,
+            client: 0,
             reply: None,
         }
     }

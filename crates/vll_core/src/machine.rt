@@ -149,7 +149,7 @@ impl<H: Place + Drop> Machine<H> {
 }
 
 impl<H: Place> Machine<H> {
-    /// Takes one step of the machine, or refuses it by the lowest refusal that stands. A refused event
+    /// Takes one step, or refuses it by the lowest refusal that stands, as the plain machine does. A refused event
     /// changes nothing. The library is the one of the opening. It takes no memory.
     pub fn step(&mut self, library: &Library, event: Event) -> Result<Seen, Refusal>
         requires same { library.now ≡ library_of self.old }

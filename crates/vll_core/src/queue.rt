@@ -14,16 +14,13 @@ use crate::ticket::Ticket;
 use std::alloc::{AllocError, Global};
 use std::marker::Model;
 use vll_proc::{Call, Reply};
-use vll_sca::{Bits, Entry, Place, Status};
+use vll_sca::{Bits, Place, Status};
 
 /// The entered calls in order of entry, each with its line and its status, and the contention analysis of them.
 /// All room is taken in `open`. Contracts see what was chosen at the opening, and the list of entries.
 #[derive(Drop)]
 pub struct Queue<H: Place> {
-    cap: u32,
-    limit: u32,
-    bits: Bits,
-    hash: H,
+    // What each call changes lies together.
     journal: Vec<Line>,
     statuses: Vec<Status>,
     // What the analysis reads of the entries that are left.
@@ -33,6 +30,10 @@ pub struct Queue<H: Place> {
     // The last scan found none, and since then no call was removed and none entered that waits. So the next scan would
     // find none.
     is_fruitless: bool,
+    cap: u32,
+    limit: u32,
+    bits: Bits,
+    hash: H,
 }
 
 impl<H: Place> Model for Queue<H> {
@@ -51,8 +52,8 @@ impl<H: Place> Model for Queue<H> {
 }
 
 impl<H: Place + Drop> Queue<H> {
-    /// A queue in which nothing is entered, with room for `limit` calls, each place of which is written once, so that
-    /// the system has mapped it before the first call. The lowest fault that stands is returned: `Limit`, `Cap` or
+    /// A queue in which nothing is entered, with room for `limit` calls. Each place of the room is written once, so that the
+    /// system has mapped it before the first call. The lowest fault that stands is returned: `Limit`, `Cap` or
     /// `Bits`, before any memory is asked for; if none stands, `NoMemory` is the only one.
     pub fn open(alloc: Global, config: Config, hash: H) -> Result<Queue<H>, OpenFault>
         ensures refused { Refuses (config_fault config) result }
@@ -75,16 +76,16 @@ impl<H: Place + Drop> Queue<H> {
         let statuses = list_with_room(alloc, room, Status::Gone)?;
         let window = Window::with_room(alloc, config.limit)?;
         Ok(Queue {
-            cap: config.cap,
-            limit: config.limit,
-            bits,
-            hash,
             journal,
             statuses,
             window,
             waiting: 0,
             running: 0,
             is_fruitless: false,
+            cap: config.cap,
+            limit: config.limit,
+            bits,
+            hash,
         })
     }
 
@@ -161,8 +162,8 @@ impl<H: Place> Queue<H> {
     {
         let ticket = Ticket(self.journal.len() as u32);
         self.journal.push_reserved(Line {
-            client,
             call: *call,
+            client,
             reply: None,
         });
         let status = if free {
@@ -174,10 +175,7 @@ impl<H: Place> Queue<H> {
             Status::Waiting
         };
         self.statuses.push_reserved(status);
-        self.window.push(Entry {
-            claims: call.claims,
-            status,
-        });
+        self.window.push(&call.claims, status);
         ticket
     }
 

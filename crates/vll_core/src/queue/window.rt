@@ -59,13 +59,16 @@ impl Window {
     }
 
     /// Puts an entry that is left at the end. Its ticket is the number of those before it. No memory is taken.
-    pub(crate) fn push(&mut self, entry: Entry)
+    pub(crate) fn push(&mut self, claims: &Claims, status: Status)
         requires room { self.old.next < self.old.room }
-        requires left { is_left entry.status ≡ true }
-        ensures { self.new ≡ with_entry self.old entry }
+        requires left { is_left status ≡ true }
+        ensures { self.new ≡ with_entry self.old (record { claims = claims.now; status = status }) }
     {
         self.tickets.push_reserved(self.next);
-        self.entries.push_reserved(entry);
+        self.entries.push_reserved(Entry {
+            claims: *claims,
+            status,
+        });
         self.next += 1;
     }
 
