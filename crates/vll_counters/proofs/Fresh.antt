@@ -40,7 +40,7 @@ fresh_change o s m next (admitted turn status is all here free) fresh = λ t e a
     by_place t e (inr p) waits = record { loads = ap (λ (x : Entered). x.loads) p.1; stores = ap (λ (x : Entered). x.stores) p.1; releases = ap (λ (x : Entered). x.releases) p.1 }
 fresh_change o s m next (fronted t f) fresh = fresh_set s t (record f.entry { status = Running }) refl fresh
 fresh_change o s m next (picked t p) fresh = fresh_set s t (record p.entry { status = Running }) refl fresh
-fresh_change o s m next (woken t e at clear) fresh = fresh_set s t (record e { status = Running }) refl fresh
+fresh_change o s m next (woken t e at waits clear) fresh = fresh_set s t (record e { status = Running }) refl fresh
 fresh_change o s m next (loaded t e c at runs left) fresh = fresh_set s t _ (running_not_waiting e.status runs) fresh
 fresh_change o s m next (stored t e at runs all left) fresh = fresh_set s t _ (running_not_waiting e.status runs) fresh
 fresh_change o s m next (released t e c at runs all left) fresh = fresh_set s t _ (running_not_waiting e.status runs) fresh

@@ -15,3 +15,4 @@ pub mod Coming
 pub mod Bounds
 pub mod Seats
 pub mod Between
+pub mod Open

@@ -1,13 +1,18 @@
--- What the rule says of tickets, passes and sessions, wherever it holds.
-use Rattle.std.specs.Prelude.{◌≡◌, ℕ, true, false, Some, slice_get}
+-- What the rule says of tickets, passes, sessions and pair words, wherever it holds.
+use Rattle.std.specs.Prelude.{◌≡◌, ℕ, ◌<◌, true, false, length, Some, slice_get, slice_index}
 use mathlib.Core.Option as opt
 use lib.ListN.{get_elem?}
+use Rattle.vll_record.specs.Counter.{claims_on, pair_word_of}
+use Rattle.vll_record.specs.Word.{pair_word_of_record}
 use Rattle.vll_sca.specs.Status.{is_waiting, is_running}
 use Rattle.vll_core.specs.State.{Base, Entered, is_clear}
 use Rattle.vll_counters.specs.declared.views.PassView.{PassView}
+use Rattle.vll_counters.specs.declared.views.QueueView.{QueueView}
 use Rattle.vll_counters.specs.declared.views.SessionView.{SessionView}
 use Rattle.vll_counters.specs.declared.views.View.{View}
+use Rattle.vll_counters.specs.declared.views.View.TheVariants.{Queue}
 use Rattle.vll_counters.specs.Views.{pass_in, session_in}
+use Rattle.vll_counters.specs.Open.{open_in}
 use Rattle.vll_counters.specs.Rule.{Moment, Rule}
 
 -- each ticket that is running or gone is clear
@@ -41,3 +46,10 @@ abbrev pub ClientsHaveOneSession : Type 0
 ClientsHaveOneSession =
     (base : Base) (m : Moment) (rule : Rule base m) (i j : ℕ) (v w : View) (g h : SessionView)
     → get_elem? m.views i ≡ opt.some v → session_in v ≡ Some g → get_elem? m.views j ≡ opt.some w → session_in w ≡ Some h → g.client ≡ h.client → i ≡ j
+
+-- each pair word counts the open claims on its record, 2^32 for each Write claim and 1 for each Read claim
+abbrev pub PairWordsCountOpenClaims : Type 0
+PairWordsCountOpenClaims =
+    (base : Base) (m : Moment) (q : QueueView) (r : ℕ)
+    → Rule base m → get_elem? m.views 0 ≡ opt.some (Queue q) → r < length base.records
+    → slice_index m.words (pair_word_of_record r) ≡ pair_word_of (claims_on r (open_in q m.views))

@@ -5,4 +5,5 @@ pub mod Told
 pub mod Shown
 pub mod Laid
 pub mod Kept
+pub mod Open
 pub mod Laws

@@ -72,12 +72,13 @@ pub record HasSeen (calls : List Made) (statuses : List Status) (g : SessionView
   pub own : calls_by g.client g.seen ≡ calls_by g.client calls
   pub given : (k t : ℕ) → slice_get g.given k ≡ Some t → slice_get statuses t ≡ Some Gone
 
--- each session that a seat has is its client's, at that seat alone
+-- a session that a seat has is at that seat alone and of a client of the opening, and it has seen what it should
 pub record IsSession (calls : List Made) (statuses : List Status) (clients : ℕ) (seat_of : ℕ → ℕ) (seat : ℕ) (g : SessionView) : Type 0 where
   pub there : seat_of g.client ≡ seat
   pub client : g.client < clients
   pub has_seen : HasSeen calls statuses g
 
+-- each session that a seat has is such a session
 abbrev pub AreSessions : List Made → List Status → ℕ → (ℕ → ℕ) → List View → Type 0
 AreSessions calls statuses clients seat_of views =
     (seat : ℕ) (v : View) (g : SessionView) → get_elem? views seat ≡ opt.some v → session_in v ≡ Some g → IsSession calls statuses clients seat_of seat g

@@ -39,10 +39,12 @@ pub record QueueShown : Type 0 where
   pub session : Option SessionView
   pub clients : ℕ
 
+-- what contracts see of a session's seat: of which words it is, and its view
 pub record SessionShown : Type 0 where
   pub table : TableId
   pub session : SessionView
 
+-- what contracts see of a pass's seat: of which words it is, and its view
 pub record PassShown : Type 0 where
   pub table : TableId
   pub pass : PassView
@@ -51,20 +53,25 @@ pub record PassShown : Type 0 where
 abbrev pub queue_view : QueueShown → QueueView
 queue_view s = record { lines = s.lines; statuses = s.statuses; turn = s.turn; pass = None; session = s.session; clients = s.clients }
 
+-- what the queue's seat knows in a view of it
 abbrev pub queue_in : View → QueueView
 queue_in (Queue q) = q
 queue_in v = first_queue 0
 
+-- what a session knows in a view of its seat
 abbrev pub session_of : View → SessionView
 session_of (Session g) = g
 session_of v = new_session 0
 
+-- a claim that stands for none
 abbrev pub no_claim : Claim
 no_claim = record { id = 0; mode = Read }
 
+-- a call that stands for none
 abbrev pub no_call : Call
 no_call = record { number = 0; arg_count = 0; args = []; found = None; claims = []; cells = [] }
 
+-- what a pass knows in a view of its seat
 abbrev pub pass_of_view : View → PassView
 pass_of_view (Pass p) = p
 pass_of_view v = new_pass 0 no_call []

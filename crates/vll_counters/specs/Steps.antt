@@ -22,17 +22,21 @@ use Rattle.vll_counters.specs.Views.{calls_in}
 abbrev pub first_queue : ℕ → QueueView
 first_queue clients = record { lines = []; statuses = []; turn = None; pass = None; session = None; clients = clients }
 
+-- the view of the queue's seat before there is a client
 abbrev pub first_view : View
 first_view = Queue (first_queue 0)
 
+-- a change of the view of the queue's seat
 abbrev pub on_queue : (QueueView → QueueView) → View → View
 on_queue f (Queue q) = Queue (f q)
 on_queue f v = v
 
+-- a change of the view of a pass's seat
 abbrev pub on_pass : (PassView → PassView) → View → View
 on_pass f (Pass p) = Pass (f p)
 on_pass f v = v
 
+-- a change of the view of a session's seat
 abbrev pub on_session : (SessionView → SessionView) → View → View
 on_session f (Session g) = Session (f g)
 on_session f v = v
@@ -43,23 +47,28 @@ on_session f v = v
 abbrev pub new_session : ℕ → SessionView
 new_session client = record { client = client; seen = []; given = []; waited = 0 }
 
+-- there is one client more
 abbrev pub more_clients : View → View
 more_clients v = on_queue (λ q. record q { clients = suc q.clients }) v
 
+-- the view of the session that is made for this client
 abbrev pub session_made : View → View
 session_made (Queue q) = Session (new_session q.clients)
 session_made v = Spent
 
 -- ---- a pass or a session comes to the queue
 
+-- a pass or a session that comes stands in the view of the queue's seat
 abbrev pub taken_in : View → QueueView → QueueView
 taken_in (Pass p) q = record q { pass = Some p }
 taken_in (Session g) q = record q { session = Some g }
 taken_in v q = q
 
+-- the view of the queue's seat when another seat has come to it
 abbrev pub joined : View → View → View
 joined v w = on_queue (taken_in w) v
 
+-- the seat that has come knows nothing any more
 abbrev pub spent : View
 spent = Spent
 
@@ -70,6 +79,7 @@ abbrev pub turn_of : Option Call → Option SessionView → Option TurnView
 turn_of (Some call) (Some g) = Some (record { client = g.client; call = call; requested = 0; granted = true })
 turn_of call g = None
 
+-- a turn is open for the call that the session at the queue brings, if it brings one
 abbrev pub opened : Option Call → QueueView → QueueView
 opened call q = record q { turn = turn_of call q.session }
 
@@ -77,6 +87,7 @@ opened call q = record q { turn = turn_of call q.session }
 abbrev pub asked : Claim → ℕ → TurnView → TurnView
 asked c old turn = record turn { requested = turn.requested + 1; granted = turn.granted && is_granted c.mode old }
 
+-- the open turn has requested this claim, and found this pair word
 abbrev pub requested : Claim → ℕ → QueueView → QueueView
 requested c old q = record q { turn = option_map (asked c old) q.turn }
 
@@ -84,6 +95,7 @@ requested c old q = record q { turn = option_map (asked c old) q.turn }
 abbrev pub told : List Made → SessionView → SessionView
 told calls g = record g { seen = calls }
 
+-- the line of the turn's call, without a reply
 abbrev pub new_line : TurnView → Line
 new_line turn = record { client = turn.client; call = turn.call; reply = None }
 
@@ -99,6 +111,7 @@ admitted turn q =
 
 -- ---- a pass is given: to the call whose turn is open, or to one that waits
 
+-- the pass of a ticket is given: the open turn's call enters, or if no turn is open the waiting call of the ticket runs
 abbrev pub pass_given : ℕ → Option TurnView → QueueView → QueueView
 pass_given t None q = record q { statuses = slice_set q.statuses t Running }
 pass_given t (Some turn) q = admitted turn q
@@ -107,18 +120,22 @@ pass_given t (Some turn) q = admitted turn q
 abbrev pub new_pass : ℕ → Call → List Line → PassView
 new_pass t call lines = record { ticket = t; call = call; seen = take (suc t) (calls_in lines); loads = 0; stores = 0; releases = 0; loaded = [] }
 
+-- the view of the pass of a ticket that has made no step
 abbrev pub pass_at : ℕ → List Line → View
 pass_at t lines = elim (slice_get lines t) [ None ↦ Spent | Some l ↦ Pass (new_pass t l.call lines) ]
 
+-- the view of the queue's seat when a pass is given
 abbrev pub pass_kept : ℕ → View → View
 pass_kept t v = on_queue (λ q. pass_given t q.turn q) v
 
+-- the view of the pass that is given
 abbrev pub pass_made : ℕ → View → View
 pass_made t (Queue q) = pass_at t (pass_given t q.turn q).lines
 pass_made t v = Spent
 
 -- ---- the session at the queue leaves; if its turn is open, its call enters
 
+-- the call of the open turn enters, if a turn is open
 abbrev pub turn_ended : Option TurnView → QueueView → QueueView
 turn_ended None q = q
 turn_ended (Some turn) q = admitted turn q
@@ -128,25 +145,31 @@ abbrev pub leaving : Option ℕ → QueueView → SessionView → SessionView
 leaving None q g = record g { seen = calls_in q.lines; waited = count_by is_waiting q.statuses }
 leaving (Some t) q g = record g { seen = calls_in q.lines; given = g.given ++ t ∷ []; waited = count_by is_waiting q.statuses }
 
+-- the view of the session that leaves, if there is one
 abbrev pub session_left : Option ℕ → QueueView → Option SessionView → View
 session_left given q None = Spent
 session_left given q (Some g) = Session (leaving given q g)
 
+-- the view of the queue's seat when its session has left
 abbrev pub session_kept : View → View
 session_kept v = on_queue (λ q. record (turn_ended q.turn q) { session = None }) v
 
+-- the view of the session that leaves the queue
 abbrev pub session_given : Option ℕ → View → View
 session_given given (Queue q) = session_left given (turn_ended q.turn q) q.session
 session_given given v = Spent
 
 -- ---- a pass loads, stores and releases
 
+-- the pass has loaded this value
 abbrev pub loaded : ℕ → PassView → PassView
 loaded n p = record p { loads = p.loads + 1; loaded = p.loaded ++ n ∷ [] }
 
+-- the pass has made one more store
 abbrev pub stored : PassView → PassView
 stored p = record p { stores = p.stores + 1 }
 
+-- the pass has made one more release
 abbrev pub released : PassView → PassView
 released p = record p { releases = p.releases + 1 }
 
@@ -173,9 +196,11 @@ module _ (base : Base) where
     pass = None;
   }
 
+  -- the view of the queue's seat when a pass has ended, if there is one
   abbrev pub finished_by : Option PassView → QueueView → QueueView
   finished_by None q = q
   finished_by (Some p) q = finished p q
 
+  -- the view of the queue's seat when the pass that has come has ended
   abbrev pub ended : QueueView → QueueView
   ended q = finished_by q.pass q

@@ -86,7 +86,7 @@ pub record WasThere (base : Base) (calls : List Made) (given : List ℕ) (bound 
   pub value : v ≡ slice_index (before base.procs calls base.records ticket) r
   pub behind : (k t : ℕ) (m : Made) → slice_get given k ≡ Some t → slice_get calls t ≡ Some m → is_claimed_by m.1 r ≡ true → t < ticket
 
--- a session has found a record's present value, at a moment of its own: it has then seen all calls that have entered, with no more of its client, and each ticket whose reply it was given is one of theirs
+-- a session has found a record's present value, at a moment of its own: it has then seen all calls that have entered, with no more of its client; each ticket whose reply it was given is one of theirs, and among them the value was there
 pub record HasFound (base : Base) (old new : SessionView) (r v : ℕ) : Type 0 where
   pub now : SessionMoment base old
   pub present : v ≡ value base now.rule.state r
@@ -166,23 +166,30 @@ pub record IsAtEnd (base : Base) (lines : List Line) (words : List ℕ) : Type 0
   pub replied : (t : ℕ) (l : Line) → slice_get lines t ≡ Some l → l.reply ≡ answer base.procs (calls_in lines) base.records t
 
 module _ {S : Type 0} where
+  -- a request changes the turn, and tells the record's counter at its moment
   abbrev pub RequestTells : Base → Claim → Step S → Me S View → ℕ → Me S View → Type 0
   RequestTells base c st v n w = (w ≡ (on_queue (requested c n) v.0, v.1)) × AtQueue (λ q. IsCounterNow base q c.id n) v.0
 
+  -- the opening of a turn tells what the queue's seat learns of the session that has come
   abbrev pub OpenTells : Base → Option Call → Step S → Me S View → ℕ → Me S View → Type 0
   OpenTells base call st v n w = (w ≡ (on_queue (opened call) v.0, v.1)) × AtQueue (λ q. (g : SessionView) → q.session ≡ Some g → KnowsSession base q g) v.0
 
+  -- a load changes the pass, and tells the record's value
   abbrev pub LoadTells : Base → ℕ → Step S → Me S View → ℕ → Me S View → Type 0
   LoadTells base r st v n w = (w ≡ (on_pass (loaded n) v.0, v.1)) × AtPass (λ p. IsValueNow base p r n) v.0
 
+  -- a find changes the session, and tells what it has found
   abbrev pub FindTells : Base → ℕ → Step S → Me S View → ℕ → Me S View → Type 0
   FindTells base r st v n w = (new : SessionView) × ((w ≡ (on_session (λ g. new) v.0, v.1)) × AtSession (λ g. HasFound base g new r n) v.0)
 
+  -- a store changes the pass, and tells nothing
   abbrev pub StoreTells : Step S → Me S View → ℕ → Me S View → Type 0
   StoreTells st v n w = w ≡ (on_pass stored v.0, v.1)
 
+  -- a release changes the pass, and tells the record's counter at its moment
   abbrev pub ReleaseTells : Base → ℕ → Step S → Me S View → ℕ → Me S View → Type 0
   ReleaseTells base r st v n w = (w ≡ (on_pass released v.0, v.1)) × AtPass (λ p. IsCountedNow base p r n) v.0
 
+  -- the end of a call tells what the queue's seat learns of the pass that has come
   abbrev pub EndTells : Base → Step S → Me S View → ℕ → Me S View → Type 0
   EndTells base st v n w = (w ≡ (on_queue (ended base) v.0, v.1)) × AtQueue (λ q. (p : PassView) → q.pass ≡ Some p → KnowsPass q p) v.0

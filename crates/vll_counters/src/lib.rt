@@ -13,7 +13,10 @@ mod steps;
 mod views;
 mod words;
 
-pub use laws::{clients_have_one_session, tickets_are_clear, tickets_have_one_pass};
+pub use laws::{
+    clients_have_one_session, pair_words_count_open_claims, tickets_are_clear,
+    tickets_have_one_pass,
+};
 pub use no_memory::NoMemory;
 pub use pass_seat::PassSeat;
 pub use queue_seat::QueueSeat;

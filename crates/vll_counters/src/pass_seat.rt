@@ -74,7 +74,7 @@ impl Words {
     }
 
     /// The pass releases its next claim, by one fetch_sub on the record's pair word, once all its stores are made. It
-    /// returns the word before that, which is the record's counter at the moment of the step.
+    /// returns the word before that. The clause calls it the record's counter at a moment that fits what the pass knew.
     pub fn release(&self, pass: &mut PassSeat, claim: Claim) -> u64
         requires same { pass.old.table ≡ self.now.table }
         requires next { slice_get pass.old.pass.call.claims pass.old.pass.releases ≡ Some claim }

@@ -35,7 +35,7 @@ impl Model for QueueSeat {
 
 impl Words {
     /// The open turn requests its next claim, by one fetch_add on the record's pair word. It returns the word before
-    /// that, which is the record's counter at the moment of the step.
+    /// that. The clause calls it the record's counter at a moment that fits what the queue's seat knew.
     pub fn request(&self, queue: &mut QueueSeat, claim: Claim) -> u64
         requires same { queue.old.table ≡ self.now.table }
         requires next { next_claim queue.old.turn ≡ Some claim }
@@ -86,7 +86,7 @@ impl Words {
         }
     }
 
-    /// The pass of a call that has made all its stores and releases comes back and is spent: the call is gone, and
+    /// The pass of a running call that has made all its stores and releases comes back and is spent: the call is gone, and
     /// its line has its serial reply.
     pub fn join_pass(&self, queue: &mut QueueSeat, pass: PassSeat)
         requires same { (queue.old.table ≡ self.now.table) × (pass.table ≡ self.now.table) }

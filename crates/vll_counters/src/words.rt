@@ -17,7 +17,7 @@ use std::alloc::{AllocError, Global};
 use std::marker::Model;
 use std::snapshot::Snapshot;
 use vll_check::Library;
-use vll_record::{Claim, granted, pair_word};
+use vll_record::{Claim, granted, pair_word, value_word};
 
 /// The words: the turn word 0, and each record's value word and pair word. Threads change them in single atomic steps,
 /// each by a seat, and the rule holds between any two steps. Contracts see which words they are, and the procedures
@@ -130,12 +130,13 @@ impl Words {
         Ok((Words { table, room }, QueueSeat { seat }))
     }
 
-    /// A load of the pair word of the claim's record, which changes nothing: the word is near when a request comes to it
-    /// soon after. Whether a request would have been granted by the word as it was; by now it may be another one, and no
+    /// A load of the two words of the claim's record, which changes nothing: they are near when a request and a load come to
+    /// them soon after; they need not lie on one line of the cache. Whether a request would have been granted by the word as it was; by now it may be another one, and no
     /// contract says more.
     pub fn look(&self, claim: Claim) -> bool
         requires { claim.id < length self.now.base.records }
     {
+        let _ = self.table.shared.peek(value_word(claim.id));
         granted(claim.mode, self.table.shared.peek(pair_word(claim.id)))
     }
 
