@@ -1,8 +1,10 @@
+pub mod Attempts
 pub mod Ending
 pub mod Entering
 pub mod Keeps
 pub mod Learning
 pub mod Looking
+pub mod Onto
 pub mod Opens
 pub mod Starting
 pub mod There

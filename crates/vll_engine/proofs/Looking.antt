@@ -83,7 +83,7 @@ looked_up e old new call entering r v fits source_is found is q there =
 
 -- ---- the call begins
 
-saw_more : (old mid new : SessionView) → SawOthers old mid → SawOthers mid new → SawOthers old new
+pub saw_more : (old mid new : SessionView) → SawOthers old mid → SawOthers mid new → SawOthers old new
 saw_more old mid new first then = record {
   client = then.client ∙ first.client;
   others = first.others ++ then.others;
@@ -104,7 +104,7 @@ saw_more_own old mid new call t first then =
     }
 
 -- the answer for a session that has looked before
-begins_more : (e : Named) (old mid new : SessionView) (call : Call) (begun : Begun) → SawOthers old mid → Begins e mid new call begun → Begins e old new call begun
+pub begins_more : (e : Named) (old mid new : SessionView) (call : Call) (begun : Begun) → SawOthers old mid → Begins e mid new call begun → Begins e old new call begun
 begins_more e old mid new call (Free pass) first h = (saw_more_own old mid new call pass.pass.ticket first h.0, h.1)
 begins_more e old mid new call (Blocked ticket) first h = saw_more_own old mid new call ticket first h
 begins_more e old mid new call (Refused why) first h = (saw_more old mid new first h.0, h.1)

@@ -2,6 +2,8 @@ pub mod Shown
 pub mod Sessions
 pub mod Pass
 pub mod Begin
+pub mod Onto
+pub mod Calling
 pub mod Closed
 pub mod Found
 pub mod Private

@@ -7,3 +7,5 @@ pub mod Replied
 pub mod Seats
 pub mod Worked
 pub mod Looked
+pub mod Onto
+pub mod Attempt

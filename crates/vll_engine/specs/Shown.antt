@@ -28,6 +28,7 @@ library_of e = catalog_of e.base
 abbrev pub no_table : TableId
 no_table = record { words = 0; slots = 0; views_name = 0; atom = 0; block = 0; offset = 0; slot_names = [] }
 
+-- the name of no engine
 abbrev pub no_engine : Named
 no_engine = record {
   table = no_table;

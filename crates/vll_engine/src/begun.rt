@@ -12,6 +12,16 @@ pub enum Begun {
     Refused(BeginRefusal),
 }
 
+/// What comes of a call that begins, if its pass goes onto a list.
+pub enum BegunOnto {
+    /// Each claim was granted: the call may run, by the last pass of the list.
+    Free,
+    /// A claim was denied: the call waits under this ticket, until `next_front` or `next_scan` gives a pass for it.
+    Blocked(Ticket),
+    /// The call has not entered, and has no claim.
+    Refused(BeginRefusal),
+}
+
 // The same at the lock. A call that is free has a seat there, and its pass is made of it outside, where the call is.
 pub(crate) enum Admission {
     Free(PassSeat, Ticket),

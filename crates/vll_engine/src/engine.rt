@@ -1,10 +1,11 @@
-ghost use Rattle.std.specs.Prelude.{◌≡◌, ◌<◌, ◌+◌, ◌++◌, ◌∷◌, [], All, IfErr, IfNone, IfOk, IfSome, IsSome, Some, length, slice_get};
-ghost use Rattle.vll_check.specs.Calls.{Fits, source as source_in};
+ghost use Rattle.std.specs.Prelude.{◌≡◌, ◌<◌, ◌+◌, ◌++◌, ◌∷◌, [], All, IfErr, IfNone, IfOk, IfSome, IsSome, Some, length, slice_get, vec_capacity};
+ghost use Rattle.vll_check.specs.Calls.{Fits};
 ghost use Rattle.vll_check.specs.Catalog.{IsCatalog};
 ghost use Rattle.vll_proc.specs.Serial.{answer};
 ghost use Rattle.vll_counters.specs.Views.{calls_in};
 ghost use Rattle.vll_engine.specs.Begin.{FindsAndBegins};
 ghost use Rattle.vll_engine.specs.Closed.{IsSerial};
+ghost use Rattle.vll_engine.specs.Onto.{IsOfLast};
 ghost use Rattle.vll_engine.specs.Pass.{IsDone, IsFresh, IsReleased, StaysOf};
 ghost use Rattle.vll_engine.specs.Sessions.{HasItsCalls, SawOthers};
 ghost use Rattle.vll_engine.specs.Shown.{library_of, words_of};
@@ -20,12 +21,12 @@ use crate::name::Name;
 use crate::pass::{Done, Pass, Released};
 use crate::room::Room;
 use crate::session::Session;
+use crossbeam_utils::CachePadded;
 use std::sync::{Mutex, Wait};
 use vll_check::Library;
 use vll_core::Ticket;
 use vll_counters::Words;
 use vll_proc::{Call, Reply};
-use vll_record::RecordId;
 use vll_sca::Place;
 
 /// The engine. Many threads may share it; each call that takes `wait` holds the lock once, and no other call takes it.
@@ -34,9 +35,11 @@ use vll_sca::Place;
 pub struct Engine<N: Name, H: Place + Send + Drop> {
     library: Library,
     words: Words,
-    locked: Mutex<Locked<N, H>>,
+    // It is cold, and keeps what every thread reads apart from what each hold changes.
     room: Room,
-    latch: Latch,
+    locked: Mutex<Locked<N, H>>,
+    // Who waits looks at it all the time, so it lies apart from what a hold changes.
+    latch: CachePadded<Latch>,
     ghost library_is: { library ≡ library_of N.engine },
     ghost catalog: { IsCatalog library },
     ghost words_are: { words ≡ words_of N.engine },
@@ -60,9 +63,9 @@ impl<N: Name, H: Place + Send + Drop> Engine<N, H> {
         Engine {
             library,
             words,
-            locked: Mutex::new(locked),
             room,
-            latch: Latch::new(),
+            locked: Mutex::new(locked),
+            latch: CachePadded::new(Latch::new()),
         }
     }
 
@@ -76,11 +79,12 @@ impl<N: Name, H: Place + Send + Drop> Engine<N, H> {
     /// The lock, kept until the hold is dropped: what is called on the hold needs no lock of its own, and no call of
     /// another thread that needs one comes between.
     pub fn hold(&self, wait: &impl Wait) -> Hold<'_, N, H> {
-        let latch = self.latch.enter().then_some(&self.latch);
+        let latch: &Latch = &self.latch;
+        let latch = latch.enter().then_some(latch);
         Hold::new(self.locked.lock(wait), &self.words, &self.library, latch)
     }
 
-    /// A load of the pair word of each record that the call claims, which changes nothing: a call that begins soon after
+    /// A load of the pair word of each record that a call which fits claims. It changes nothing: a call that begins soon after
     /// finds the words near. Whether each claim would have been granted by its word as it was: it is a hint, since the words
     /// may be others by now. The record of an indirect key is not known yet, and is not among them. It takes no lock.
     pub fn look(&self, call: &Call) -> bool
@@ -97,9 +101,9 @@ impl<N: Name, H: Place + Send + Drop> Engine<N, H> {
     ///
     /// If the call has an indirect key its source is loaded first, without a claim and before the lock is taken, and what
     /// enters is the call with the value found; a refusal drops it. The source held the value before the call's ticket or
-    /// an earlier one, and behind each of the session's calls that claim it and whose reply the session was given. If the
-    /// source has another value when the body begins the call is aborted with `Reason::Moved`; the engine does not try
-    /// again.
+    /// an earlier one, and behind each call that claims it and whose reply the session was given. If the source has
+    /// another value when the body begins the call is aborted with `Reason::Moved`; the engine does not try again. The
+    /// pass of a call that may run is for this call, with what it found.
     pub fn begin(&self, wait: &impl Wait, session: &mut Session, call: &Call) -> Begun
         requires session { session.old.table ≡ N.engine.table }
         requires fits { Fits (library_of N.engine) call.now }
@@ -109,29 +113,11 @@ impl<N: Name, H: Place + Send + Drop> Engine<N, H> {
     {
         match self.library.source(call) {
             None => self.hold(wait).begin_ready(session, call),
-            Some(source) => self.find_and_begin(wait, session, call, source),
+            Some(source) => {
+                let call = find::<N>(&self.words, &self.library, session, call, source);
+                self.hold(wait).begin_ready(session, &call)
+            }
         }
-    }
-
-    // The same for a call whose indirect key's record is found by this one.
-    #[inline(never)]
-    fn find_and_begin(
-        &self,
-        wait: &impl Wait,
-        session: &mut Session,
-        call: &Call,
-        source: RecordId,
-    ) -> Begun
-        requires session { session.old.table ≡ N.engine.table }
-        requires fits { Fits (library_of N.engine) call.now }
-        requires source { source_in (library_of N.engine) call.now ≡ Some source }
-        requires there { source < (library_of N.engine).records }
-        ensures answer { FindsAndBegins N.engine session.old.session session.new.session call.now result }
-        ensures given { session.new.session.given ≡ session.old.session.given }
-        ensures session { session.new.table ≡ session.old.table }
-    {
-        let call = find::<N>(&self.words, &self.library, session, call, source);
-        self.hold(wait).begin_ready(session, &call)
     }
 
     /// A pass for the lowest ticket that is not gone, if it waits: all before it are gone.
@@ -150,7 +136,8 @@ impl<N: Name, H: Place + Send + Drop> Engine<N, H> {
     }
 
     /// Loads each claim's record, runs the body, and stores each Write claim's record unless the call aborts. It takes
-    /// no lock, and other calls may make their own steps between any two of these.
+    /// no lock, and other calls may make their own steps between any two of these. The reply is that of the serial run of
+    /// the calls that the pass has seen, at its ticket.
     #[inline(always)]
     pub fn execute(&self, pass: Pass) -> Done
         requires pass { IsFresh N.engine pass }
@@ -171,6 +158,38 @@ impl<N: Name, H: Place + Send + Drop> Engine<N, H> {
         execution::release::<N>(&self.words, done)
     }
 
+    /// Executes the call and releases its claims, as by `execute` and then `release`, with fewer copies between them.
+    #[inline(always)]
+    pub fn execute_and_release(&self, pass: Pass) -> Released
+        requires pass { IsFresh N.engine pass }
+        ensures released { IsReleased N.engine result }
+        ensures same { StaysOf pass.pass result.pass }
+    {
+        execution::execute_and_release::<N>(&self.words, &self.library, pass)
+    }
+
+    /// Takes the last pass off a list, executes its call and releases the claims, as by `execute_and_release`, but without
+    /// a copy of the call. `None` exactly if the list is empty.
+    #[inline(always)]
+    pub fn run_last(&self, passes: &mut Vec<Pass>) -> Option<Released>
+        requires passes { All (IsFresh N.engine) passes.old.items }
+        ensures released { IfSome result (IsReleased N.engine) }
+        ensures same { IfSome result (λ r. IsOfLast passes.old.items passes.new.items r.pass) }
+        ensures none { IfNone result ((passes.old.items ≡ []) × (passes.new.items ≡ [])) }
+        ensures room { vec_capacity passes.new ≡ vec_capacity passes.old }
+    {
+        let count = passes.len();
+        if count == 0 {
+            return None;
+        }
+        let last = &mut passes[count - 1];
+        let reply = execution::run_in_place::<N>(&self.words, &self.library, last);
+        let Some(pass) = passes.pop() else {
+            unreachable!()
+        };
+        Some(pass.into_released(reply))
+    }
+
     /// The call is gone, and its line gets the reply. The ticket and the reply are those of the call.
     pub fn finish(&self, wait: &impl Wait, released: Released) -> (Ticket, Reply)
         requires released { IsReleased N.engine released }
@@ -180,8 +199,9 @@ impl<N: Name, H: Place + Send + Drop> Engine<N, H> {
         self.hold(wait).finish(released)
     }
 
-    /// The reply in the ticket's line; `None` if there is no such line or it has no reply yet. The session sees all
-    /// calls that have entered; a ticket whose reply it was given is answered ever after.
+    /// The reply in the ticket's line; `None` if there is no such line or it has no reply yet. It is that of the calls which
+    /// the session has then seen, made one at a time. The session sees all calls that have entered; a ticket whose reply
+    /// it was given is answered ever after.
     pub fn reply(&self, wait: &impl Wait, session: &mut Session, ticket: Ticket) -> Option<Reply>
         requires session { session.old.table ≡ N.engine.table }
         ensures reply { IfSome result (λ reply. answer N.engine.base.procs session.new.session.seen N.engine.base.records ticket ≡ Some reply) }
@@ -194,9 +214,10 @@ impl<N: Name, H: Place + Send + Drop> Engine<N, H> {
     }
 
     /// The records, their pair words and the journal, if no call runs or waits: each line has its reply, the
-    /// records are those of the journal's calls made one at a time, and each pair word is 0. The journal begins with
-    /// what each session handed in has seen, and has all calls of its client. Else all is handed back, with the numbers
-    /// of those that run and wait. The list may lack sessions.
+    /// records are those of the journal's calls made one at a time, and each pair word is 0. Each call may enter, has found
+    /// what was there, and is of a client of the engine. The journal begins with what each session handed in has seen, and
+    /// has no other calls of its client. Else all is handed back, with the numbers of those that run and wait. The list may
+    /// lack sessions.
     pub fn close(self, sessions: Vec<Session>) -> Result<Closed, NotClosed<N, H>>
         requires sessions { All (λ s. s.table ≡ N.engine.table) sessions.items }
         ensures serial { IfOk result (λ c. IsSerial N.engine c) }
@@ -207,8 +228,8 @@ impl<N: Name, H: Place + Send + Drop> Engine<N, H> {
         let Engine {
             library,
             words,
-            locked,
             room,
+            locked,
             latch: _,
         } = self;
         locked.into_inner().close(library, words, room, sessions)

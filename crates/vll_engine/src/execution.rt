@@ -50,23 +50,77 @@ pub(crate) fn execute<N: Name>(words: &Words, library: &Library, pass: Pass) -> 
     ensures same { StaysOf pass.pass result.pass }
 {
     let Pass {
+        call,
         mut seat,
         ticket,
-        call,
     } = pass;
-    let procedure = library.proc(call.number).unwrap();
-    let mut frame = Frame::new();
-    load_all(words, &mut seat, &call.claims, &mut frame);
-    let reply = frame.run(procedure, &call);
-    if let Reply::Committed(_) = reply {
-        store_all(words, &mut seat, &call.claims, &frame);
-    }
+    let reply = work::<N>(words, library, &mut seat, &call);
     Done {
         seat,
         ticket,
         claims: call.claims,
         reply,
     }
+}
+
+// The same, and then it releases each of its claims.
+#[inline(always)]
+pub(crate) fn execute_and_release<N: Name>(words: &Words, library: &Library, pass: Pass) -> Released
+    requires words { words.now ≡ words_of N.engine }
+    requires library { library.now ≡ library_of N.engine }
+    requires catalog { IsCatalog (library_of N.engine) }
+    requires pass { IsFresh N.engine pass }
+    ensures released { IsReleased N.engine result }
+    ensures same { StaysOf pass.pass result.pass }
+{
+    let Pass {
+        call,
+        mut seat,
+        ticket,
+    } = pass;
+    let reply = work::<N>(words, library, &mut seat, &call);
+    release_all(words, &mut seat, &call.claims);
+    Released {
+        seat,
+        ticket,
+        reply,
+    }
+}
+
+// The same where the pass lies. The reply.
+#[inline(always)]
+pub(crate) fn run_in_place<N: Name>(words: &Words, library: &Library, pass: &mut Pass) -> Reply
+    requires words { words.now ≡ words_of N.engine }
+    requires library { library.now ≡ library_of N.engine }
+    requires catalog { IsCatalog (library_of N.engine) }
+    requires pass { IsFresh N.engine pass.old }
+    ensures released { IsReleased N.engine (record { table = pass.new.table; pass = pass.new.pass; reply = result }) }
+    ensures same { StaysOf pass.old.pass pass.new.pass }
+{
+    let reply = work::<N>(words, library, &mut pass.seat, &pass.call);
+    release_all(words, &mut pass.seat, &pass.call.claims);
+    reply
+}
+
+// The steps of a call whose pass has this seat: its loads, and its stores unless its body aborts. The body's reply.
+#[inline(always)]
+fn work<N: Name>(words: &Words, library: &Library, seat: &mut PassSeat, call: &Call) -> Reply
+    requires words { words.now ≡ words_of N.engine }
+    requires library { library.now ≡ library_of N.engine }
+    requires fresh { IsFresh N.engine seat.old }
+    requires call { seat.old.pass.call ≡ call.now }
+    requires few { length call.now.claims ≤ MOST_CLAIMS }
+    ensures done { IsDone N.engine (record { table = seat.new.table; pass = seat.new.pass; reply = result }) }
+    ensures same { StaysOf seat.old.pass seat.new.pass }
+{
+    let procedure = library.proc(call.number).unwrap();
+    let mut frame = Frame::new();
+    load_all(words, seat, &call.claims, &mut frame);
+    let reply = frame.run(procedure, call);
+    if let Reply::Committed(_) = reply {
+        store_all(words, seat, &call.claims, &frame);
+    }
+    reply
 }
 
 // The pass loads the record of each claim into the claim's cell.

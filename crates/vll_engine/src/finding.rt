@@ -12,7 +12,8 @@ use vll_counters::Words;
 use vll_proc::Call;
 use vll_record::RecordId;
 
-// The call with the value that its source has.
+// The call with the value that its source has. It stands apart, so that other calls do not make room for it.
+#[inline(never)]
 pub(crate) fn find<N: Name>(
     words: &Words,
     library: &Library,

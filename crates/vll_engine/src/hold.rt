@@ -1,14 +1,17 @@
-ghost use Rattle.std.specs.Prelude.{◌≡◌, ◌<◌, ◌++◌, ◌∷◌, [], IfNone, IfSome, IsSome, Some, slice_get};
+ghost use Rattle.std.specs.Prelude.{◌≡◌, ◌<◌, ◌++◌, ◌∷◌, [], IfNone, IfSome, IsSome, MatchBool, Some, length, slice_get, vec_capacity};
 ghost use Rattle.vll_check.specs.Calls.{Fits, IsReady, source as source_in};
 ghost use Rattle.vll_check.specs.Catalog.{IsCatalog};
 ghost use Rattle.vll_proc.specs.Serial.{answer};
 ghost use Rattle.vll_engine.specs.Begin.{Begins, FindsAndBegins};
+ghost use Rattle.vll_engine.specs.Onto.{FindsAndBeginsOnto, HasOneMore};
 ghost use Rattle.vll_engine.specs.Pass.{IsFresh, IsReleased};
+ghost use Rattle.vll_engine.specs.Private.Begun.{IsSeatOf, begun};
 ghost use Rattle.vll_engine.specs.Private.Looked.{IsLookedUp};
+ghost use Rattle.vll_engine.specs.Private.Onto.{BeginsOnto};
 ghost use Rattle.vll_engine.specs.Sessions.{SawOthers};
 ghost use Rattle.vll_engine.specs.Shown.{library_of, words_of};
 
-use crate::begun::{Admission, Begun};
+use crate::begun::{Admission, Begun, BegunOnto};
 use crate::finding::find;
 use crate::latch::Latch;
 use crate::locked::Locked;
@@ -70,24 +73,30 @@ impl<'a, N: Name, H: Place + Send + Drop> Hold<'a, N, H> {
     {
         match self.library.source(call) {
             None => self.begin_ready(session, call),
-            Some(source) => self.find_and_begin(session, call, source),
+            Some(source) => {
+                let call = find::<N>(self.words, self.library, session, call, source);
+                self.begin_ready(session, &call)
+            }
         }
     }
 
-    // The same for a call whose indirect key's record is found by this one. It stands apart so that other calls do not
-    // make room for what is found.
-    #[inline(never)]
-    fn find_and_begin(&mut self, session: &mut Session, call: &Call, source: RecordId) -> Begun
+    // The same at the lock: a call that may run has its seat.
+    #[inline(always)]
+    fn admit(&mut self, session: &mut Session, call: &Call) -> Admission
         requires session { session.old.table ≡ N.engine.table }
-        requires fits { Fits (library_of N.engine) call.now }
-        requires source { source_in (library_of N.engine) call.now ≡ Some source }
-        requires there { source < (library_of N.engine).records }
-        ensures answer { FindsAndBegins N.engine session.old.session session.new.session call.now result }
+        requires ready { IsReady (library_of N.engine) call.now }
+        requires looked_up { IsLookedUp N.engine session.old.session call.now }
+        ensures answer { Begins N.engine session.old.session session.new.session call.now (begun result) }
+        ensures seat { IsSeatOf call.now result }
         ensures given { session.new.session.given ≡ session.old.session.given }
         ensures session { session.new.table ≡ session.old.table }
     {
-        let call = find::<N>(self.words, self.library, session, call, source);
-        self.begin_ready(session, &call)
+        let Some(seat) = session.seat.take() else {
+            unreachable!()
+        };
+        let (admission, seat) = self.guard.begin(self.words, seat, session.client, call);
+        session.seat = Some(seat);
+        admission
     }
 
     // The session's client enters a call that is ready, or is refused.
@@ -100,20 +109,119 @@ impl<'a, N: Name, H: Place + Send + Drop> Hold<'a, N, H> {
         ensures given { session.new.session.given ≡ session.old.session.given }
         ensures session { session.new.table ≡ session.old.table }
     {
-        let Some(seat) = session.seat.take() else {
-            unreachable!()
-        };
-        let (admission, seat) = self.guard.begin(self.words, seat, session.client, call);
-        session.seat = Some(seat);
-        match admission {
+        match self.admit(session, call) {
             Admission::Free(seat, ticket) => Begun::Free(Pass {
+                call: *call,
                 seat,
                 ticket,
-                call: *call,
             }),
             Admission::Blocked(ticket) => Begun::Blocked(ticket),
             Admission::Refused(why) => Begun::Refused(why),
         }
+    }
+
+    /// As `begin`, but the pass of a call that may run is put behind the others of a list that has room for it. So the call
+    /// is copied once, to where its pass lies.
+    #[inline(always)]
+    pub fn begin_onto(
+        &mut self,
+        session: &mut Session,
+        call: &Call,
+        passes: &mut Vec<Pass>,
+    ) -> BegunOnto
+        requires session { session.old.table ≡ N.engine.table }
+        requires fits { Fits (library_of N.engine) call.now }
+        requires room { length passes.old.items < vec_capacity passes.old }
+        ensures answer { FindsAndBeginsOnto N.engine session.old.session session.new.session call.now result passes.old.items passes.new.items }
+        ensures given { session.new.session.given ≡ session.old.session.given }
+        ensures session { session.new.table ≡ session.old.table }
+        ensures room { vec_capacity passes.new ≡ vec_capacity passes.old }
+    {
+        match self.library.source(call) {
+            None => self.begin_ready_onto(session, call, passes),
+            Some(source) => self.find_and_begin_onto(session, call, source, passes),
+        }
+    }
+
+    // The same for a call with an indirect key. It stands apart, so that other calls do not make room for it.
+    #[inline(never)]
+    fn find_and_begin_onto(
+        &mut self,
+        session: &mut Session,
+        call: &Call,
+        source: RecordId,
+        passes: &mut Vec<Pass>,
+    ) -> BegunOnto
+        requires session { session.old.table ≡ N.engine.table }
+        requires fits { Fits (library_of N.engine) call.now }
+        requires source { source_in (library_of N.engine) call.now ≡ Some source }
+        requires there { source < (library_of N.engine).records }
+        requires room { length passes.old.items < vec_capacity passes.old }
+        ensures answer { FindsAndBeginsOnto N.engine session.old.session session.new.session call.now result passes.old.items passes.new.items }
+        ensures given { session.new.session.given ≡ session.old.session.given }
+        ensures session { session.new.table ≡ session.old.table }
+        ensures room { vec_capacity passes.new ≡ vec_capacity passes.old }
+    {
+        let call = find::<N>(self.words, self.library, session, call, source);
+        self.begin_ready_onto(session, &call, passes)
+    }
+
+    // The same for a call that is ready.
+    #[inline(always)]
+    fn begin_ready_onto(
+        &mut self,
+        session: &mut Session,
+        ready: &Call,
+        passes: &mut Vec<Pass>,
+    ) -> BegunOnto
+        requires session { session.old.table ≡ N.engine.table }
+        requires ready { IsReady (library_of N.engine) ready.now }
+        requires looked_up { IsLookedUp N.engine session.old.session ready.now }
+        requires room { length passes.old.items < vec_capacity passes.old }
+        ensures answer { BeginsOnto N.engine session.old.session session.new.session ready.now result passes.old.items passes.new.items }
+        ensures given { session.new.session.given ≡ session.old.session.given }
+        ensures session { session.new.table ≡ session.old.table }
+        ensures room { vec_capacity passes.new ≡ vec_capacity passes.old }
+    {
+        match self.admit(session, ready) {
+            Admission::Free(seat, ticket) => {
+                passes.push_reserved(Pass {
+                    call: *ready,
+                    seat,
+                    ticket,
+                });
+                BegunOnto::Free
+            }
+            Admission::Blocked(ticket) => BegunOnto::Blocked(ticket),
+            Admission::Refused(why) => BegunOnto::Refused(why),
+        }
+    }
+
+    /// As `next_front`, but the pass is put behind the others of a list that has room for it. Tells whether there is one.
+    #[inline(always)]
+    pub fn next_front_onto(&mut self, passes: &mut Vec<Pass>) -> bool
+        requires room { length passes.old.items < vec_capacity passes.old }
+        ensures pass { MatchBool result (HasOneMore N.engine passes.old.items passes.new.items) (passes.new.items ≡ passes.old.items) }
+        ensures room { vec_capacity passes.new ≡ vec_capacity passes.old }
+    {
+        let Some((seat, ticket)) = self.guard.next_front(self.words) else {
+            return false;
+        };
+        self.guard.push_pass(seat, ticket, passes);
+        true
+    }
+
+    /// As `next_scan`, but the pass is put behind the others of a list that has room for it. Tells whether there is one.
+    pub fn next_scan_onto(&mut self, passes: &mut Vec<Pass>) -> bool
+        requires room { length passes.old.items < vec_capacity passes.old }
+        ensures pass { MatchBool result (HasOneMore N.engine passes.old.items passes.new.items) (passes.new.items ≡ passes.old.items) }
+        ensures room { vec_capacity passes.new ≡ vec_capacity passes.old }
+    {
+        let Some((seat, ticket)) = self.guard.next_scan(self.words) else {
+            return false;
+        };
+        self.guard.push_pass(seat, ticket, passes);
+        true
     }
 
     /// A pass for the lowest ticket that is not gone, if it waits, as by `Engine::next_front`.
@@ -133,7 +241,7 @@ impl<'a, N: Name, H: Place + Send + Drop> Hold<'a, N, H> {
         Some(self.guard.pass(seat, ticket))
     }
 
-    /// The same, unless a scan is put off. A scan that finds none owes as many entries as calls wait. Each finished call
+    /// As `next_scan`, unless a scan is put off. A scan that finds none owes as many entries as calls wait. Each finished call
     /// pays for eight of them, and each time that this call puts a scan off for 64. One is put off while 64 or more are
     /// owed and 64 calls or more wait, so that what such scans cost a call does not grow with the calls that wait. At most
     /// one time in a row for each 64 that wait this answers `None` though a scan would find a call. Whoever is about to

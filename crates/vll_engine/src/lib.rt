@@ -4,6 +4,7 @@
 #![tactic(auto)]
 
 mod begun;
+mod calling;
 mod closed;
 mod engine;
 mod execution;
@@ -15,10 +16,12 @@ mod name;
 mod opening;
 mod pass;
 mod patience;
+mod rest;
 mod room;
 mod session;
 
-pub use begun::{BeginRefusal, Begun};
+pub use begun::{BeginRefusal, Begun, BegunOnto};
+pub use calling::Spent;
 pub use closed::{Closed, NotClosed};
 pub use engine::Engine;
 pub use hold::Hold;

@@ -82,7 +82,7 @@ impl<H: Place + Drop> Opening<H> {
 }
 
 impl<H: Place + Send + Drop> Opening<H> {
-    /// The engine, and a session for each client, in order. The name is one that names this opening.
+    /// The engine, and a session for each client, in order, which has seen nothing. The name is one that names this opening.
     pub fn start<N: Name>(self) -> (Engine<N, H>, Vec<Session>)
         requires named { N.engine ≡ name_of H.place_of self }
         ensures sessions { AreNewSessions N.engine.table N.engine.clients result.1.items }

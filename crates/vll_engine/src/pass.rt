@@ -9,9 +9,10 @@ use vll_record::Claims;
 /// The right to execute the call of a ticket, which runs. It is spent by `Engine::execute`, and cannot be dropped
 /// nor used twice. Contracts see what the pass knows.
 pub struct Pass {
+    // It comes first, so that it is copied once from where it lies to where the pass is kept.
+    pub(crate) call: Call,
     pub(crate) seat: PassSeat,
     pub(crate) ticket: Ticket,
-    pub(crate) call: Call,
 }
 
 impl Model for Pass {
@@ -70,6 +71,25 @@ impl Pass {
         ensures { result ≡ self.now.pass.ticket }
     {
         self.ticket
+    }
+}
+
+impl Pass {
+    // What is left of a pass whose call has made all its steps, with its reply.
+    #[inline(always)]
+    pub(crate) fn into_released(self, reply: Reply) -> Released
+        ensures { result ≡ record { table = self.table; pass = self.pass; reply = reply } }
+    {
+        let Pass {
+            call: _,
+            seat,
+            ticket,
+        } = self;
+        Released {
+            seat,
+            ticket,
+            reply,
+        }
     }
 }
 

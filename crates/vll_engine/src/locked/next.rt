@@ -1,4 +1,4 @@
-ghost use Rattle.std.specs.Prelude.{◌≡◌, IfSome, None, Some, option_map, slice_get};
+ghost use Rattle.std.specs.Prelude.{◌≡◌, ◌<◌, ◌++◌, ◌∷◌, [], length, vec_capacity, IfSome, None, Some, option_map, slice_get};
 ghost use Rattle.vll_core.specs.declared.line.Line.{Line};
 ghost use Rattle.vll_core.specs.Queue.{fronted, found_by, front_among, lines, scanned, started_if, statuses};
 ghost use Rattle.vll_counters.specs.Shown.{after, with_pass_given};
@@ -55,6 +55,23 @@ impl<N: Name, H: Place> Locked<N, H> {
         self.next_scan(words)
     }
 
+    // Puts the pass of a seat behind others, with the call that stands in its ticket's line.
+    pub(crate) fn push_pass(&self, seat: PassSeat, ticket: Ticket, passes: &mut Vec<Pass>)
+        requires line { IsPassAt (lines self.now) seat ticket }
+        requires room { length passes.old.items < vec_capacity passes.old }
+        ensures more { passes.new.items ≡ passes.old.items ++ seat ∷ [] }
+        ensures room { vec_capacity passes.new ≡ vec_capacity passes.old }
+    {
+        let Some(line) = self.queue.line(ticket) else {
+            unreachable!()
+        };
+        passes.push_reserved(Pass {
+            call: line.call,
+            seat,
+            ticket,
+        });
+    }
+
     // The pass of a seat, with the call that stands in its ticket's line.
     pub(crate) fn pass(&self, seat: PassSeat, ticket: Ticket) -> Pass
         requires line { IsPassAt (lines self.now) seat ticket }
@@ -64,9 +81,9 @@ impl<N: Name, H: Place> Locked<N, H> {
             unreachable!()
         };
         Pass {
+            call: line.call,
             seat,
             ticket,
-            call: line.call,
         }
     }
 }

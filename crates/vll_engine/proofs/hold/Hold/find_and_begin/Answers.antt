@@ -1,6 +1,0 @@
-use Rattle.vll_engine.proofs.Looking.{begins_found}
-use Rattle.vll_engine.proofs.hold.Hold.find_and_begin.Goals as goal
-
-pub returns-clause-answer : goal.returns-clause-answer
-returns-clause-answer g c =
-    begins_found g.N.Name.engine c.args.session.now.session c.find-call.new.session.session c.begin_ready.new.session.session c.args.call.now c.find-call.result c.begin_ready.result c.find-call.ensures.looked c.begin_ready.ensures.answer c.begin_ready.ensures.given

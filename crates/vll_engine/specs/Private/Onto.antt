@@ -1,0 +1,16 @@
+-- A call that is ready begins, and its pass is put behind others.
+use Rattle.std.specs.Prelude.{List}
+use Rattle.vll_proc.specs.declared.call.Call.{Call}
+use Rattle.vll_counters.specs.declared.views.SessionView.{SessionView}
+use Rattle.vll_counters.specs.Shown.{PassShown}
+use Rattle.vll_engine.specs.declared.begun.Begun.{Begun}
+use Rattle.vll_engine.specs.declared.begun.BegunOnto.{BegunOnto}
+use Rattle.vll_engine.specs.Begin.{Begins}
+use Rattle.vll_engine.specs.Onto.{IsOnto}
+use Rattle.vll_engine.specs.Shown.{Named}
+
+-- what the answer and the list say of the session, for a call that is ready
+pub record BeginsOnto (e : Named) (old new : SessionView) (call : Call) (answer : BegunOnto) (before after : List PassShown) : Type 0 where
+  pub begun : Begun
+  pub begins : Begins e old new call begun
+  pub onto : IsOnto begun answer before after

@@ -1,0 +1,42 @@
+use std::hint::spin_loop;
+use std::thread::yield_now;
+
+// The first pause, in turns of a spin loop.
+const FIRST_PAUSE: u32 = 32;
+
+// A pause lets another thread run after so many turns.
+const TURNS_A_YIELD: u32 = 64;
+
+// The longest pause, some ten microseconds.
+const LONGEST_PAUSE: u32 = 1_024;
+
+// How a thread waits that finds nothing to do: each time twice as long, until it finds something. It is a matter of
+// speed alone, and nothing is promised of it.
+#[derive(Clone, Copy)]
+pub(crate) struct Rest {
+    pause: u32,
+}
+
+impl Rest {
+    // The next pause is the shortest.
+    pub(crate) fn new() -> Rest {
+        Rest { pause: 0 }
+    }
+
+    // Something was found: the next pause is the shortest again.
+    pub(crate) fn found(&mut self) {
+        self.pause = 0;
+    }
+
+    // Waits.
+    pub(crate) fn pause(&mut self) {
+        self.pause = LONGEST_PAUSE.min(self.pause.saturating_mul(2).saturating_add(FIRST_PAUSE));
+        for turn in 0..self.pause {
+            if turn % TURNS_A_YIELD == TURNS_A_YIELD - 1 {
+                yield_now();
+            } else {
+                spin_loop();
+            }
+        }
+    }
+}
