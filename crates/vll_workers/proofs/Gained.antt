@@ -3,7 +3,7 @@ use Rattle.std.proofs.Common.{◌≡◌, ◌<◌, ◌≤◌, ℕ, zero, suc, ◌
 use Rattle.std.specs.Prelude.{filter}
 use Rattle.std.proofs.lemmas.Bool.{eq-eqb}
 use Rattle.std.proofs.lemmas.List.{append-nil, map-append}
-use Rattle.std.proofs.lemmas.List.Elements.{filter-append}
+use Rattle.std.proofs.lemmas.List.Elements.{All-push, filter-append}
 use Rattle.std.proofs.lemmas.Option.{slice_get-get_or}
 use Rattle.vll_proc.specs.declared.call.Call.{Call}
 use Rattle.vll_proc.specs.Serial.{Made}
@@ -12,14 +12,18 @@ use Rattle.vll_core.proofs.Places.{entry_at, take_next}
 use Rattle.vll_counters.specs.declared.views.SessionView.{SessionView}
 use Rattle.vll_counters.specs.Shown.{PassShown, SessionShown}
 use Rattle.vll_counters.specs.Views.{Begins, calls_by}
-use Rattle.vll_engine.specs.declared.begun.BeginRefusal.TheVariants.{Spent}
+use Rattle.vll_engine.specs.declared.begun.BeginRefusal.{BeginRefusal}
+use Rattle.vll_engine.specs.declared.begun.BeginRefusal.TheVariants.{Busy, Spent}
 use Rattle.vll_engine.specs.declared.begun.Begun.{Begun}
 use Rattle.vll_engine.specs.declared.begun.Begun.TheVariants.{Free, Blocked, Refused}
-use Rattle.vll_engine.specs.Begin.{Begins as BeginsWith, FindsAndBegins}
+use Rattle.vll_engine.specs.declared.begun.BegunOnto.{BegunOnto}
+use Rattle.vll_engine.specs.declared.begun.BegunOnto.TheVariants as onto
+use Rattle.vll_engine.specs.Begin.{Begins as BeginsWith}
+use Rattle.vll_engine.specs.Onto.{IsOnto}
 use Rattle.vll_engine.specs.Pass.{IsFresh}
 use Rattle.vll_engine.specs.Sessions.{SawOthers, SawOwn}
 use Rattle.vll_engine.specs.Shown.{Named, library_of}
-use Rattle.vll_workers.specs.Private.Begin.{begun_token}
+use Rattle.vll_workers.specs.Private.Begin.{IsBegun, begun_token}
 use Rattle.vll_workers.specs.Shown.{TokenShown}
 use Rattle.vll_workers.specs.Tokens.{Gained, IsOf, calls_between}
 
@@ -166,38 +170,56 @@ pub next_call : (lent script : List Call) (t : TokenShown) (next : ℕ) (call : 
 next_call lent script t next call lends is count found =
     (λ i. slice_get (sym (lends ∙ is) i) (sym count i)) ∙ slice_get-get_or lent next call found.0 ∙ ap Some (sym (found.1 call))
 
--- what has come of the next call of a token
-pub record IsBegun (e : Named) (t new : TokenShown) (begun : Begun) : Type 0 where
-  pub left : t.next < length t.script
-  pub token : new ≡ begun_token t new.session begun
-  pub answer : (call : Call) → slice_get t.script t.next ≡ Some call → FindsAndBegins e t.session.session new.session.session call begun
-  pub table : new.session.table ≡ t.session.table
-
-pub of_begun : (e : Named) (handed : List TokenShown) (t new : TokenShown) (begun : Begun) → IsOf handed t → IsBegun e t new begun → IsOf handed new
-of_begun e handed t new begun of begins =
-    let next = entry_at t.script t.next begins.left in
-    let answer = begins.answer next.0 next.1 in
-    begun_of e handed t new next.0 (with_found (library_of e) next.0 answer.value) begun of next.1 begins.token answer.same answer.begins begins.table
+pub of_begun : (e : Named) (handed : List TokenShown) (t new : TokenShown) (answer : BegunOnto) (before after : List PassShown) → IsOf handed t → t.next < length t.script → IsBegun e t new answer before after → IsOf handed new
+of_begun e handed t new answer before after of left begins =
+    let next = entry_at t.script t.next left in
+    let found = begins.call next.0 next.1 in
+    begun_of e handed t new next.0 (with_found (library_of e) next.0 found.value) begins.begun of next.1 begins.token found.same found.begins begins.table
 
 -- it is the same client's
-pub client_begun : (e : Named) (t new : TokenShown) (begun : Begun) → IsBegun e t new begun → new.client ≡ t.client
-client_begun e t new begun begins = ap (λ (u : TokenShown). u.client) begins.token ∙ stays begun
+pub client_begun : (e : Named) (t new : TokenShown) (answer : BegunOnto) (before after : List PassShown) → IsBegun e t new answer before after → new.client ≡ t.client
+client_begun e t new answer before after begins = ap (λ (u : TokenShown). u.client) begins.token ∙ stays begins.begun
   where
     stays : (b : Begun) → (begun_token t new.session b).client ≡ t.client
     stays (Free pass) = refl
     stays (Blocked ticket) = refl
     stays (Refused why) = refl
 
--- the pass of a call that is free is fresh
-pub fresh_pass : (e : Named) (t new : TokenShown) (begun : Begun) (pass : PassShown) → IsBegun e t new begun → begun ≡ Free pass → IsFresh e pass
-fresh_pass e t new begun pass begins is =
-    let next = entry_at t.script t.next begins.left in
-    let answer = begins.answer next.0 next.1 in
-    (subst (BeginsWith e t.session.session new.session.session (with_found (library_of e) next.0 answer.value)) is answer.begins).1.fresh
+fresh_onto : (e : Named) (old new : SessionView) (call : Call) (begun : Begun) (answer : BegunOnto) (before after : List PassShown) → BeginsWith e old new call begun → IsOnto begun answer before after → All (IsFresh e) before → All (IsFresh e) after
+fresh_onto e old new call (Free pass) answer before after begins onto fresh = subst (All (IsFresh e)) (sym onto.1) (All-push (IsFresh e) before pass fresh begins.1.fresh)
+fresh_onto e old new call (Blocked ticket) answer before after begins onto fresh = subst (All (IsFresh e)) (sym onto.1) fresh
+fresh_onto e old new call (Refused why) answer before after begins onto fresh = subst (All (IsFresh e)) (sym onto.1) fresh
+
+-- the passes are fresh, that of a call that is free among them
+pub fresh_begun : (e : Named) (t new : TokenShown) (answer : BegunOnto) (before after : List PassShown) → t.next < length t.script → IsBegun e t new answer before after → All (IsFresh e) before → All (IsFresh e) after
+fresh_begun e t new answer before after left begins fresh =
+    let next = entry_at t.script t.next left in
+    let found = begins.call next.0 next.1 in
+    fresh_onto e t.session.session new.session.session (with_found (library_of e) next.0 found.value) begins.begun answer before after found.begins begins.onto fresh
+
+spent_onto : (e : Named) (old new : SessionView) (call : Call) (begun : Begun) (answer : BegunOnto) (before after : List PassShown) → BeginsWith e old new call begun → IsOnto begun answer before after → answer ≡ onto.Refused Spent → length new.seen ≡ e.config.limit
+spent_onto e old new call (Free pass) answer before after begins onto is = absurd (cc (onto.0, is))
+spent_onto e old new call (Blocked ticket) answer before after begins onto is = absurd (cc (onto.0, is))
+spent_onto e old new call (Refused Busy) answer before after begins onto is = absurd (cc (onto.0, is))
+spent_onto e old new call (Refused Spent) answer before after begins onto is = begins.1
 
 -- a session whose call was refused because the engine takes no more has seen as many calls enter as it takes
-pub spent_session : (e : Named) (t new : TokenShown) (begun : Begun) → IsBegun e t new begun → begun ≡ Refused Spent → length new.session.session.seen ≡ e.config.limit
-spent_session e t new begun begins is =
-    let next = entry_at t.script t.next begins.left in
-    let answer = begins.answer next.0 next.1 in
-    (subst (BeginsWith e t.session.session new.session.session (with_found (library_of e) next.0 answer.value)) is answer.begins).1
+pub spent_session : (e : Named) (t new : TokenShown) (answer : BegunOnto) (before after : List PassShown) → t.next < length t.script → IsBegun e t new answer before after → answer ≡ onto.Refused Spent → length new.session.session.seen ≡ e.config.limit
+spent_session e t new answer before after left begins is =
+    let next = entry_at t.script t.next left in
+    let found = begins.call next.0 next.1 in
+    spent_onto e t.session.session new.session.session (with_found (library_of e) next.0 found.value) begins.begun answer before after found.begins begins.onto is
+
+-- a call that was not refused has entered
+pub entered_token : (t new : TokenShown) (begun : Begun) (answer : BegunOnto) (before after : List PassShown) → IsOnto begun answer before after → ((why : BeginRefusal) → ¬ answer ≡ onto.Refused why) → new ≡ record t { next = suc t.next; session = new.session }
+    → new ≡ begun_token t new.session begun
+entered_token t new (Free pass) answer before after onto entered is = is
+entered_token t new (Blocked ticket) answer before after onto entered is = is
+entered_token t new (Refused why) answer before after onto entered is = absurd (entered why onto.0)
+
+-- a call that was refused has not
+pub refused_token : (t new : TokenShown) (begun : Begun) (answer : BegunOnto) (before after : List PassShown) (why : BeginRefusal) → IsOnto begun answer before after → answer ≡ onto.Refused why → new ≡ record t { session = new.session }
+    → new ≡ begun_token t new.session begun
+refused_token t new (Free pass) answer before after why onto is token = absurd (cc (onto.0, is))
+refused_token t new (Blocked ticket) answer before after why onto is token = absurd (cc (onto.0, is))
+refused_token t new (Refused reason) answer before after why onto is token = token

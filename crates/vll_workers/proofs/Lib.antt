@@ -8,3 +8,4 @@ pub mod AtWork
 pub mod Distinct
 pub mod Settled
 pub mod Fit
+pub mod Merged

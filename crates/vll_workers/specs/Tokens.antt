@@ -1,5 +1,5 @@
 -- The tokens that a run is handed, and those that come back.
-use Rattle.std.specs.Prelude.{◌≡◌, ◌≤◌, ℕ, ◌-◌, List, ◌++◌, All, drop, length, map, take, Some, slice_get, IsPermutation}
+use Rattle.std.specs.Prelude.{◌≡◌, ◌<◌, ◌≤◌, ℕ, ◌-◌, List, ◌++◌, All, drop, length, map, take, Some, slice_get, IsPermutation}
 use Rattle.std.specs.List.Sorted.{IsStrictlyIncreasing}
 use Rattle.vll_proc.specs.declared.call.Call.{Call}
 use Rattle.vll_check.specs.Calls.{bares, Fits}
@@ -13,6 +13,7 @@ pub record IsFit (e : Named) (t : TokenShown) : Type 0 where
   pub session : t.session.table ≡ e.table
   pub fits : All (Fits (library_of e)) t.script
 
+-- each of these tokens is
 abbrev pub AreFit : Named → List TokenShown → Type 0
 AreFit e tokens = All (IsFit e) tokens
 
@@ -57,5 +58,5 @@ pub record OneIsSpent (limit : ℕ) (tokens : List TokenShown) : Type 0 where
   pub index : ℕ
   pub token : TokenShown
   pub at : slice_get tokens index ≡ Some token
-  pub left : ¬ IsThrough token
+  pub left : token.next < length token.script
   pub full : length token.session.session.seen ≡ limit

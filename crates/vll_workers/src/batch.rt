@@ -1,11 +1,12 @@
 ghost use Rattle.std.specs.Prelude.{◌≡◌, [], IfOk};
 
 use crate::pace::Pace;
+use crate::passes::Passes;
 use crate::stack::Stack;
 use crate::token::Token;
 use std::alloc::{AllocError, Global};
 use vll_core::Ticket;
-use vll_engine::{Pass, Released};
+use vll_engine::Released;
 
 // What a worker has under way: tokens whose next calls are to begin, tokens whose calls were tried and that go back to the
 // pool or stay in hand, passes of calls that may run, calls that were executed, and the tickets of those that are finished
@@ -13,7 +14,7 @@ use vll_engine::{Pass, Released};
 pub(crate) struct Batch {
     pub(crate) tokens: Stack<Token>,
     pub(crate) tried: Stack<Token>,
-    pub(crate) passes: Stack<Pass>,
+    pub(crate) passes: Passes,
     pub(crate) released: Stack<Released>,
     pub(crate) finished: Stack<Ticket>,
     pub(crate) pace: Pace,
@@ -35,7 +36,7 @@ impl BatchRoom {
         let tokens = Stack::new(alloc)?;
         let tried = Stack::new(alloc)?;
         let finished = Stack::new(alloc)?;
-        let passes = Stack::new(alloc)?;
+        let passes = Passes::new(alloc)?;
         match Stack::new(alloc) {
             Ok(released) => Ok(BatchRoom {
                 batch: Batch {

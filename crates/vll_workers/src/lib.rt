@@ -4,7 +4,9 @@
 mod batch;
 mod fault;
 mod gate;
+mod laws;
 mod pace;
+mod passes;
 mod pool;
 mod roster;
 mod running;
@@ -16,5 +18,8 @@ mod worker;
 
 pub use fault::{RunError, RunFault};
 pub use gate::{Gate, OpenGate};
+pub use laws::{
+    journals_merge_the_scripts, sessions_gain_found_calls, spent_engines_took_fewer_calls,
+};
 pub use running::{MOST_WORKERS, run, run_limited};
 pub use token::Token;

@@ -147,7 +147,7 @@ impl Join<Hand> for Hires {
 }
 
 // The tokens that no worker has in hand. The one that has been here longest is taken first. Whoever takes or puts one
-// waits for nobody.
+// takes no lock, but may turn behind a thread that was stopped in the middle of doing so.
 #[derive(Drop)]
 pub(crate) struct Pool<T: Roster> {
     queue: RuledArrayQueue<Owned<T>, Hand, Fair<T>>,

@@ -22,14 +22,17 @@ mod workplace;
 /// The most worker threads of a run.
 pub const MOST_WORKERS: u32 = 64;
 
+// As docs/SCENARIO.md says.
+const _: () = prove!(MOST_WORKERS == 64);
+
 /// Enters every call of the tokens' scripts in the engine, each script in its order, and brings them to their
 /// replies, by so many worker threads, 1 to 64. The tokens are of distinct clients of this engine. It waits until the
 /// workers have ended. Calls that were in the engine before and wait are brought on too; one whose pass is kept
 /// elsewhere is left, with those that wait for it.
 ///
 /// The tokens come back in rising order of their clients, each with `next` the length of its script. Of its client's
-/// calls, each token's session has seen just those of its script enter, from the old `next` to the new one, in order.
-/// The memory that is needed is taken before the first thread is started. If some threads cannot be started, the others
+/// calls, each token's session has seen just those of its script enter, from the old `next` to the new one, in order,
+/// each with what it found. The memory that is needed is taken before the first thread is started. If some threads cannot be started, the others
 /// and the calling thread do the work. The calling thread also makes the calls that are left once the workers have
 /// ended. If there are no tokens no thread is started.
 ///

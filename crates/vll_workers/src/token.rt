@@ -1,13 +1,13 @@
 ghost use Rattle.std.specs.Prelude.{◌≡◌, ◌<◌, ◌≤◌, ◌==◌, ◌^◌, ◌+◌, Some, true, false, length, slice_get};
 ghost use Rattle.std.specs.Option.{option_map};
-ghost use Rattle.vll_proc.specs.declared.call.Call.{Call};
-ghost use Rattle.vll_engine.specs.Begin.{FindsAndBegins};
 ghost use Rattle.vll_workers.specs.Shown.{token};
-ghost use Rattle.vll_workers.specs.Private.Begin.{begun_token};
+ghost use Rattle.vll_workers.specs.Private.Begin.{IsBegun};
 ghost use Rattle.vll_workers.specs.Tokens.{IsFit, IsThrough};
 
+use crate::passes::Passes;
+use crate::stack::MOST_BATCH;
 use std::marker::Model;
-use vll_engine::{Begun, Hold, Name, Session};
+use vll_engine::{BegunOnto, Hold, Name, Session};
 use vll_proc::Call;
 use vll_sca::Place;
 
@@ -125,24 +125,23 @@ impl Token {
         self.ready
     }
 
-    // The next call begins, and counts as entered unless it is refused.
+    // The next call begins, and counts as entered unless it is refused. If it may run, its pass is put behind the others.
     #[inline(always)]
     pub(crate) fn begin<N: Name, H: Place + Send + Drop>(
         &mut self,
         hold: &mut Hold<'_, N, H>,
-    ) -> Begun
+        passes: &mut Passes,
+    ) -> BegunOnto
         requires fit { IsFit N.engine self.old }
         requires left { self.old.next < length self.old.script }
-        ensures token { self.new ≡ begun_token self.old self.new.session result }
-        ensures answer { (call : Call) → slice_get self.old.script self.old.next ≡ Some call → FindsAndBegins N.engine self.old.session.session self.new.session.session call result }
-        ensures given { self.new.session.session.given ≡ self.old.session.session.given }
-        ensures session { self.new.session.table ≡ self.old.session.table }
+        requires room { length passes.old < MOST_BATCH }
+        ensures begun { IsBegun N.engine self.old self.new result passes.old passes.new }
     {
         let Some(call) = self.script.get(self.next as usize) else {
             unreachable!()
         };
-        let begun = hold.begin(&mut self.session, call);
-        if !matches!(&begun, Begun::Refused(_)) {
+        let begun = passes.begin(hold, &mut self.session, call);
+        if !matches!(&begun, BegunOnto::Refused(_)) {
             self.next += 1;
             self.put_off = 0;
         }

@@ -14,8 +14,7 @@ use crate::stack::{MOST_BATCH, Stack};
 use crate::token::Token;
 use crate::worker::Worker;
 use std::sync::{Mutex, Wait};
-use vll_core::Ticket;
-use vll_engine::{BeginRefusal, Begun, Engine, Hold, Name, Pass, Released};
+use vll_engine::{Engine, Name};
 use vll_sca::Place;
 
 // What the workers of a run share.

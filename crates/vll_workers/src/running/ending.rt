@@ -1,6 +1,7 @@
 ghost use Rattle.std.specs.Prelude.{◌≡◌, All, IfOk, IfErr, MatchBool, nat_eq};
 ghost use Rattle.std.specs.List.{IsDistinct};
 ghost use Rattle.vll_workers.specs.Private.Pool.{AreSame};
+ghost use Rattle.vll_workers.specs.Private.Settled.{OneHasLeft};
 ghost use Rattle.vll_workers.specs.Tokens.{AreBack, IsThrough, OneIsSpent, clients_of};
 ghost use Rattle.vll_workers.specs.declared.fault.RunFault.TheVariants as RunFault;
 
@@ -27,7 +28,7 @@ pub(super) fn outcome_of<T: Roster>(worker: Worker<T>) -> Result<Vec<Token>, Run
 
 // Whether every call of each token has entered.
 fn are_through(tokens: &[Token]) -> bool
-    ensures { MatchBool result (All IsThrough tokens.now) (¬ All IsThrough tokens.now) }
+    ensures { MatchBool result (All IsThrough tokens.now) (OneHasLeft tokens.now) }
 {
     for token in tokens {
         if token.next() as usize != token.script().len() {

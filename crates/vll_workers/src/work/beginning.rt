@@ -9,12 +9,13 @@ ghost use Rattle.vll_workers.specs.Tokens.{AreFit, IsFit, IsOf};
 use super::Work;
 use crate::gate::Gate;
 use crate::pace::Pace;
+use crate::passes::Passes;
 use crate::roster::Roster;
 use crate::stack::{MOST_BATCH, Stack};
 use crate::token::Token;
 use crate::worker::Worker;
 use std::sync::Wait;
-use vll_engine::{BeginRefusal, Begun, Hold, Name, Pass};
+use vll_engine::{BeginRefusal, BegunOnto, Hold, Name};
 use vll_sca::Place;
 
 // What became of a token's calls that were to begin.
@@ -37,7 +38,7 @@ impl<N: Name, H: Place + Send + Drop, T: Roster, W: Wait, G: Gate> Work<'_, N, H
         hold: &mut Hold<'_, N, H>,
         tokens: &mut Stack<Token>,
         tried: &mut Stack<Token>,
-        passes: &mut Stack<Pass>,
+        passes: &mut Passes,
         pace: &mut Pace,
     ) -> bool
         requires fit { AreFit N.engine T.tokens }
@@ -50,9 +51,8 @@ impl<N: Name, H: Place + Send + Drop, T: Roster, W: Wait, G: Gate> Work<'_, N, H
         ensures parts { (view worker.new.pass).parts ≡ (view worker.old.pass).parts }
         ensures passes { All (IsFresh N.engine) passes.new }
     {
-        if let Some(pass) = hold.next_front() {
+        if passes.find_front(hold) {
             pace.saw_front(true);
-            passes.push(pass);
             return true;
         }
         pace.saw_front(false);
@@ -66,9 +66,7 @@ impl<N: Name, H: Place + Send + Drop, T: Roster, W: Wait, G: Gate> Work<'_, N, H
             self.put_back(worker, tokens, tried);
         }
         if passes.is_empty() {
-            if let Some(pass) = hold.next_scan() {
-                passes.push(pass);
-            }
+            passes.find_by_scan(hold);
         }
         had_token
     }
@@ -80,7 +78,7 @@ impl<N: Name, H: Place + Send + Drop, T: Roster, W: Wait, G: Gate> Work<'_, N, H
         hold: &mut Hold<'_, N, H>,
         tokens: &mut Stack<Token>,
         tried: &mut Stack<Token>,
-        passes: &mut Stack<Pass>,
+        passes: &mut Passes,
         pace: &mut Pace,
     )
         requires fit { AreFit N.engine T.tokens }
@@ -110,7 +108,7 @@ impl<N: Name, H: Place + Send + Drop, T: Roster, W: Wait, G: Gate> Work<'_, N, H
         hold: &mut Hold<'_, N, H>,
         tokens: &mut Stack<Token>,
         tried: &mut Stack<Token>,
-        passes: &mut Stack<Pass>,
+        passes: &mut Passes,
     ) -> bool
         requires fit { AreFit N.engine T.tokens }
         requires limit { T.limit ≡ N.engine.config.limit }
@@ -150,7 +148,7 @@ impl<N: Name, H: Place + Send + Drop, T: Roster, W: Wait, G: Gate> Work<'_, N, H
     }
 
     // Whether the token's next call is left for another batch.
-    fn is_left(self, token: &mut Token, passes: &Stack<Pass>) -> bool
+    fn is_left(self, token: &mut Token, passes: &Passes) -> bool
         requires { IsFit N.engine token.old }
         ensures { token.new ≡ token.old }
     {
@@ -169,7 +167,7 @@ impl<N: Name, H: Place + Send + Drop, T: Roster, W: Wait, G: Gate> Work<'_, N, H
         self,
         hold: &mut Hold<'_, N, H>,
         token: &mut Token,
-        passes: &mut Stack<Pass>,
+        passes: &mut Passes,
     ) -> Course
         requires fit { AreFit N.engine T.tokens }
         requires limit { T.limit ≡ N.engine.config.limit }
@@ -187,10 +185,11 @@ impl<N: Name, H: Place + Send + Drop, T: Roster, W: Wait, G: Gate> Work<'_, N, H
             if token.is_through() {
                 return Course::Free;
             }
-            match token.begin(hold) {
-                Begun::Free(pass) => passes.push(pass),
-                Begun::Blocked(_) | Begun::Refused(BeginRefusal::Busy) => return Course::Held,
-                Begun::Refused(BeginRefusal::Spent) => return Course::Spent,
+            match token.begin(hold, passes) {
+                BegunOnto::Free => {}
+                BegunOnto::Blocked(_) | BegunOnto::Refused(BeginRefusal::Busy) =>
+                    return Course::Held,
+                BegunOnto::Refused(BeginRefusal::Spent) => return Course::Spent,
             }
         }
         Course::Free

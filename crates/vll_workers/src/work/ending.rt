@@ -6,13 +6,14 @@ ghost use Rattle.vll_workers.specs.Private.Work.{IsAtWork};
 
 use super::Work;
 use crate::gate::Gate;
+use crate::passes::Passes;
 use crate::roster::Roster;
 use crate::stack::{MOST_BATCH, Stack};
 use crate::token::Token;
 use crate::worker::Worker;
 use std::sync::Wait;
 use vll_core::Ticket;
-use vll_engine::{Hold, Name, Pass, Released};
+use vll_engine::{Hold, Name, Released};
 use vll_sca::Place;
 
 impl<N: Name, H: Place + Send + Drop, T: Roster, W: Wait, G: Gate> Work<'_, N, H, T, W, G> {
@@ -56,7 +57,7 @@ impl<N: Name, H: Place + Send + Drop, T: Roster, W: Wait, G: Gate> Work<'_, N, H
     }
 
     // Executes the calls, and releases the claims of each right after it.
-    pub(super) fn execute_all(self, passes: &mut Stack<Pass>, released: &mut Stack<Released>)
+    pub(super) fn execute_all(self, passes: &mut Passes, released: &mut Stack<Released>)
         requires passes { All (IsFresh N.engine) passes.old }
         requires few { length passes.old ≤ MOST_BATCH }
         requires released { released.old ≡ [] }
@@ -64,9 +65,8 @@ impl<N: Name, H: Place + Send + Drop, T: Roster, W: Wait, G: Gate> Work<'_, N, H
         ensures released { All (IsReleased N.engine) released.new }
         ensures few { length released.new ≤ MOST_BATCH }
     {
-        while let Some(pass) = passes.pop() {
-            self.gate.before(pass.ticket());
-            released.push(self.engine.release(self.engine.execute(pass)));
+        while let Some(done) = passes.run_last(self.engine, self.gate) {
+            released.push(done);
         }
     }
 

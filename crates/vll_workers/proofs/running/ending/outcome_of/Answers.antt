@@ -3,7 +3,7 @@ use Rattle.std.specs.Prelude.{All}
 use Rattle.std.specs.Global.{Vec}
 use Rattle.std.proofs.lemmas.List.Sorted.{All-permutation, IsNonDecreasingBy-from_sort_by_key}
 use Rattle.vll_workers.specs.Private.Pool.{AreSame}
-use Rattle.vll_workers.specs.Private.Settled.{IsSettled}
+use Rattle.vll_workers.specs.Private.Settled.{IsSettled, OneHasLeft}
 use Rattle.vll_workers.specs.Shown.{TokenShown}
 use Rattle.vll_workers.specs.Tokens.{AreBack, IsThrough, OneIsSpent, clients_of}
 use Rattle.vll_workers.proofs.Settled.{are_back, one_is_spent}
@@ -18,7 +18,7 @@ returns-then-not-are_through-clause-back g c =
     (IsNonDecreasingBy-from_sort_by_key (λ (t : TokenShown). t.client) _ c.sort_unstable_by_key.ensures.sorted (λ a r q k. search rules)) in
     let settled : All (IsSettled g.T.Roster.limit) c.sort_unstable_by_key.new.self.items =
     All-permutation (IsSettled g.T.Roster.limit) _ _ c.sort_unstable_by_key.ensures.permutation c.into_tokens-tokens.ensures.settled in
-    let rest : ¬ All IsThrough c.sort_unstable_by_key.new.self.items = λ all. c.if-not-are_through.ensures (subst (All IsThrough) (sym c.as_slice.ensures.value) all) in
+    let rest : OneHasLeft c.sort_unstable_by_key.new.self.items = subst OneHasLeft c.as_slice.ensures.value c.if-not-are_through.ensures in
     subst (λ (tokens : Vec TokenShown). AreBack g.T.Roster.tokens tokens.items × OneIsSpent g.T.Roster.limit tokens.items) (sym c.new.ensures.tokens)
     (back, one_is_spent g.T.Roster.limit _ settled rest)
 

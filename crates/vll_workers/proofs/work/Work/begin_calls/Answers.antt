@@ -1,8 +1,6 @@
-use Rattle.std.proofs.Common.{◌∙◌, All, ap, inr, subst, sym, rules}
-use Rattle.std.proofs.lemmas.List.Elements.{All-cons}
-use Rattle.vll_engine.specs.declared.begun.Begun.TheVariants.{Refused}
-use Rattle.vll_engine.specs.Pass.{IsFresh}
-use Rattle.vll_workers.proofs.Gained.{client_begun, fresh_pass, of_begun, spent_session}
+use Rattle.std.proofs.Common.{◌∙◌, ap, inr, sym, rules}
+use Rattle.vll_engine.specs.declared.begun.BegunOnto.TheVariants.{Refused}
+use Rattle.vll_workers.proofs.Gained.{client_begun, fresh_begun, of_begun, spent_session}
 use Rattle.vll_workers.proofs.Owned.{own_fits}
 use Rattle.vll_workers.proofs.work.Work.begin_calls.Goals as goal
 
@@ -11,30 +9,53 @@ begin-requires-clause-fit g c κs within = own_fits g.N.Name.engine g.T.Roster.t
 
 pub returns-in-Refused-Spent-clause-own : goal.returns-in-Refused-Spent-clause-own
 returns-in-Refused-Spent-clause-own g c =
-    of_begun g.N.Name.engine g.T.Roster.tokens c.loop.token c.begin.new.self c.begin.result c.loop.invariant.0 (record { left = c.is_through.ensures.left c.if-is_through.false; token = c.begin.ensures.token; answer = c.begin.ensures.answer; table = c.begin.ensures.session })
+    of_begun g.N.Name.engine g.T.Roster.tokens c.loop.token c.begin.new.self c.begin.result c.loop.passes c.begin.new.passes c.loop.invariant.0 (c.is_through.ensures.left c.if-is_through.false) c.begin.ensures.begun
+
+pub returns-in-Refused-Spent-clause-passes : goal.returns-in-Refused-Spent-clause-passes
+returns-in-Refused-Spent-clause-passes g c =
+    fresh_begun g.N.Name.engine c.loop.token c.begin.new.self c.begin.result c.loop.passes c.begin.new.passes (c.is_through.ensures.left c.if-is_through.false) c.begin.ensures.begun c.loop.invariant.2
+
+pub returns-in-Refused-Spent-clause-client : goal.returns-in-Refused-Spent-clause-client
+returns-in-Refused-Spent-clause-client g c =
+    client_begun g.N.Name.engine c.loop.token c.begin.new.self c.begin.result c.loop.passes c.begin.new.passes c.begin.ensures.begun ∙ c.loop.invariant.1
 
 pub returns-in-Refused-Spent-clause-spent : goal.returns-in-Refused-Spent-clause-spent
 returns-in-Refused-Spent-clause-spent g c is =
-    inr (spent_session g.N.Name.engine c.loop.token c.begin.new.self c.begin.result (record { left = c.is_through.ensures.left c.if-is_through.false; token = c.begin.ensures.token; answer = c.begin.ensures.answer; table = c.begin.ensures.session }) (c.in-Refused-Spent.is ∙ ap Refused c.in-Refused-Spent.field-0-is) ∙ sym c.requires.limit)
+    inr (spent_session g.N.Name.engine c.loop.token c.begin.new.self c.begin.result c.loop.passes c.begin.new.passes (c.is_through.ensures.left c.if-is_through.false) c.begin.ensures.begun (c.in-Refused-Spent.is ∙ ap Refused c.in-Refused-Spent.field-0-is) ∙ sym c.requires.limit)
 
 pub returns-in-Blocked-clause-own : goal.returns-in-Blocked-clause-own
 returns-in-Blocked-clause-own g c =
-    of_begun g.N.Name.engine g.T.Roster.tokens c.loop.token c.begin.new.self c.begin.result c.loop.invariant.0 (record { left = c.is_through.ensures.left c.if-is_through.false; token = c.begin.ensures.token; answer = c.begin.ensures.answer; table = c.begin.ensures.session })
+    of_begun g.N.Name.engine g.T.Roster.tokens c.loop.token c.begin.new.self c.begin.result c.loop.passes c.begin.new.passes c.loop.invariant.0 (c.is_through.ensures.left c.if-is_through.false) c.begin.ensures.begun
+
+pub returns-in-Blocked-clause-client : goal.returns-in-Blocked-clause-client
+returns-in-Blocked-clause-client g c =
+    client_begun g.N.Name.engine c.loop.token c.begin.new.self c.begin.result c.loop.passes c.begin.new.passes c.begin.ensures.begun ∙ c.loop.invariant.1
+
+pub returns-in-Blocked-clause-passes : goal.returns-in-Blocked-clause-passes
+returns-in-Blocked-clause-passes g c =
+    fresh_begun g.N.Name.engine c.loop.token c.begin.new.self c.begin.result c.loop.passes c.begin.new.passes (c.is_through.ensures.left c.if-is_through.false) c.begin.ensures.begun c.loop.invariant.2
 
 pub returns-in-Blocked-2-clause-own : goal.returns-in-Blocked-2-clause-own
 returns-in-Blocked-2-clause-own g c =
-    of_begun g.N.Name.engine g.T.Roster.tokens c.loop.token c.begin.new.self c.begin.result c.loop.invariant.0 (record { left = c.is_through.ensures.left c.if-is_through.false; token = c.begin.ensures.token; answer = c.begin.ensures.answer; table = c.begin.ensures.session })
+    of_begun g.N.Name.engine g.T.Roster.tokens c.loop.token c.begin.new.self c.begin.result c.loop.passes c.begin.new.passes c.loop.invariant.0 (c.is_through.ensures.left c.if-is_through.false) c.begin.ensures.begun
+
+pub returns-in-Blocked-2-clause-client : goal.returns-in-Blocked-2-clause-client
+returns-in-Blocked-2-clause-client g c =
+    client_begun g.N.Name.engine c.loop.token c.begin.new.self c.begin.result c.loop.passes c.begin.new.passes c.begin.ensures.begun ∙ c.loop.invariant.1
+
+pub returns-in-Blocked-2-clause-passes : goal.returns-in-Blocked-2-clause-passes
+returns-in-Blocked-2-clause-passes g c =
+    fresh_begun g.N.Name.engine c.loop.token c.begin.new.self c.begin.result c.loop.passes c.begin.new.passes (c.is_through.ensures.left c.if-is_through.false) c.begin.ensures.begun c.loop.invariant.2
 
 pub loop-preserved : goal.loop-preserved
-loop-preserved g c =
-    let e = g.N.Name.engine in (
-      of_begun e g.T.Roster.tokens c.loop.token c.begin.new.self c.begin.result c.loop.invariant.0 (record { left = c.is_through.ensures.left c.if-is_through.false; token = c.begin.ensures.token; answer = c.begin.ensures.answer; table = c.begin.ensures.session }),
-      client_begun e c.loop.token c.begin.new.self c.begin.result (record { left = c.is_through.ensures.left c.if-is_through.false; token = c.begin.ensures.token; answer = c.begin.ensures.answer; table = c.begin.ensures.session }) ∙ c.loop.invariant.1,
-      subst (All (IsFresh e)) (sym c.push.ensures) (All-cons (IsFresh e) c.in-Free.pass c.loop.passes (fresh_pass e c.loop.token c.begin.new.self c.begin.result c.in-Free.pass (record { left = c.is_through.ensures.left c.if-is_through.false; token = c.begin.ensures.token; answer = c.begin.ensures.answer; table = c.begin.ensures.session }) c.in-Free.is) c.loop.invariant.2),
-    )
+loop-preserved g c = (
+  of_begun g.N.Name.engine g.T.Roster.tokens c.loop.token c.begin.new.self c.begin.result c.loop.passes c.begin.new.passes c.loop.invariant.0 (c.is_through.ensures.left c.if-is_through.false) c.begin.ensures.begun,
+  client_begun g.N.Name.engine c.loop.token c.begin.new.self c.begin.result c.loop.passes c.begin.new.passes c.begin.ensures.begun ∙ c.loop.invariant.1,
+  fresh_begun g.N.Name.engine c.loop.token c.begin.new.self c.begin.result c.loop.passes c.begin.new.passes (c.is_through.ensures.left c.if-is_through.false) c.begin.ensures.begun c.loop.invariant.2,
+)
 
-pub push-requires : goal.push-requires
-push-requires g c = search rules
+pub begin-requires-clause-room : goal.begin-requires-clause-room
+begin-requires-clause-room g c = search rules
 
 pub returns-in-Blocked-clause-spent : goal.returns-in-Blocked-clause-spent
 returns-in-Blocked-clause-spent g c = search rules

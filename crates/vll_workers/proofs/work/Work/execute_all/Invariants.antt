@@ -4,9 +4,9 @@ use Rattle.vll_engine.specs.Pass.{IsFresh, IsReleased}
 use Rattle.vll_workers.specs.declared.stack.TheConstants.{MOST_BATCH}
 use Rattle.vll_workers.proofs.work.Work.execute_all.Given as goal
 
-abbrev pub invariant-loop-pass : goal.invariant-loop-pass
-invariant-loop-pass g l =
+abbrev pub invariant-loop-done : goal.invariant-loop-done
+invariant-loop-done g l =
     All (IsFresh g.N.Name.engine) l.passes × All (IsReleased g.N.Name.engine) l.released × (length l.passes + length l.released ≤ MOST_BATCH)
 
-abbrev pub decreases-loop-pass : goal.decreases-loop-pass
-decreases-loop-pass g l = length l.passes
+abbrev pub decreases-loop-done : goal.decreases-loop-done
+decreases-loop-done g l = length l.passes

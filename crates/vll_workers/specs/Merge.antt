@@ -1,0 +1,43 @@
+-- What the journal has of the scripts that a run was handed.
+use Rattle.std.specs.Prelude.{◌≡◌, ◌++◌, ℕ, List, [], All, Some, length, slice_get, unwrap_or}
+use Rattle.vll_proc.specs.declared.call.Call.{Call}
+use Rattle.vll_proc.specs.Serial.{Made}
+use Rattle.vll_check.specs.Calls.{AreFound}
+use Rattle.vll_check.specs.Catalog.{Catalog}
+use Rattle.vll_counters.specs.declared.views.SessionView.{SessionView}
+use Rattle.vll_counters.specs.Views.{calls_by, calls_in}
+use Rattle.vll_engine.specs.Closed.{IsSerial}
+use Rattle.vll_engine.specs.Sessions.{HasItsCalls}
+use Rattle.vll_engine.specs.Shown.{Named}
+use Rattle.vll_engine.specs.declared.closed.Closed.{Closed}
+use Rattle.vll_workers.specs.Shown.{TokenShown}
+use Rattle.vll_workers.specs.Tokens.{AreFit}
+
+-- each client's calls are its script, each with a value found if it has an indirect key, and no other client occurs
+abbrev pub IsMerge : Catalog → List Made → List (List Call) → Type 0
+IsMerge library calls scripts = (c : ℕ) → AreFound library (unwrap_or (slice_get scripts c) []) (calls_by c calls)
+
+-- a token with its client's script, of which no call has entered, and with its client's session, which has seen none
+pub record IsAtStart (scripts : List (List Call)) (t : TokenShown) : Type 0 where
+  pub script : slice_get scripts t.client ≡ Some t.script
+  pub none : t.next ≡ 0
+  pub whose : t.session.session.client ≡ t.client
+  pub unseen : calls_by t.client t.session.session.seen ≡ []
+
+-- the tokens with which these scripts are run: one for each client of the engine, at its start
+pub record AreForScripts (e : Named) (scripts : List (List Call)) (tokens : List TokenShown) : Type 0 where
+  pub clients : e.clients ≡ length scripts
+  pub count : length tokens ≡ length scripts
+  pub fit : AreFit e tokens
+  pub start : All (IsAtStart scripts) tokens
+
+-- what the engine leaves that was closed with the sessions of these tokens
+pub record IsClosedWith (e : Named) (tokens : List TokenShown) (closed : Closed) : Type 0 where
+  pub serial : IsSerial e closed
+  pub seen : All (λ (t : TokenShown). HasItsCalls (calls_in closed.journal.items) t.session.session) tokens
+
+-- behind the calls of its client that a session had seen, it has seen these calls of a script, each with a value found if it has an indirect key
+pub record HasFound (library : Catalog) (old new : SessionView) (calls : List Call) : Type 0 where
+  pub entered : List Call
+  pub seen : calls_by old.client new.seen ≡ calls_by old.client old.seen ++ entered
+  pub found : AreFound library calls entered

@@ -1,0 +1,35 @@
+//! What the journal has once a run's tokens are back and the engine is closed with their sessions.
+
+ghost use Rattle.std.specs.Prelude.{◌≡◌, ◌<◌, ℕ, All, List, Some, length, slice_get, sum_by};
+ghost use Rattle.vll_proc.specs.declared.call.Call.{Call};
+ghost use Rattle.vll_counters.specs.Views.{calls_in};
+ghost use Rattle.vll_engine.specs.declared.closed.Closed.{Closed};
+ghost use Rattle.vll_engine.specs.Shown.{Named, library_of};
+ghost use Rattle.vll_workers.specs.Merge.{AreForScripts, HasFound, IsClosedWith, IsMerge};
+ghost use Rattle.vll_workers.specs.Shown.{TokenShown};
+ghost use Rattle.vll_workers.specs.Tokens.{AreBack, AreFit, IsOf, IsThrough, OneIsSpent, calls_between};
+
+/// Of an engine with any hash and any number of clients: if a run was handed a token for each client's script, its
+/// tokens are back with every call entered, and the engine was closed with their sessions, then the journal merges the
+/// scripts.
+pub fn journals_merge_the_scripts()
+    ensures { (e : Named) (scripts : List (List Call)) (handed back : List TokenShown) (closed : Closed)
+        → AreForScripts e scripts handed → AreBack handed back → All IsThrough back → IsClosedWith e back closed
+        → IsMerge (library_of e) (calls_in closed.journal.items) scripts }
+{}
+
+/// If instead one of the tokens is spent, the engine took fewer calls than the scripts have.
+pub fn spent_engines_took_fewer_calls()
+    ensures { (e : Named) (scripts : List (List Call)) (handed back : List TokenShown) (closed : Closed)
+        → AreForScripts e scripts handed → AreBack handed back → OneIsSpent e.config.limit back → IsClosedWith e back closed
+        → e.config.limit < sum_by length scripts }
+{}
+
+/// What a token's session has gained since it was handed in, by any run of any engine that was closed with it, are the
+/// calls of the token's script that have entered since, each with a value found if it has an indirect key, and else just
+/// as it is.
+pub fn sessions_gain_found_calls()
+    ensures { (e : Named) (handed back : List TokenShown) (closed : Closed) → AreFit e handed → IsClosedWith e back closed
+        → (i : ℕ) (t : TokenShown) → slice_get back i ≡ Some t → (of : IsOf handed t)
+        → HasFound (library_of e) of.old.session.session t.session.session (calls_between of.old.next t.next of.old.script) }
+{}
