@@ -22,6 +22,7 @@ use Rattle.vll_scenario.specs.Setup.{Setup, has_sizes}
 use Rattle.vll_scenario.specs.declared.reading.shape.Parts.{Parts}
 use Rattle.vll_scenario.specs.Shape.{◌>>=◌, shape_of}
 
+-- the first of two, if there is one, and else the second
 abbrev pub or_else : {A : Type 0} → Option A → Option A → Option A
 or_else None b = b
 or_else (Some a) b = Some a
@@ -39,6 +40,7 @@ each_given f i (x ∷ xs) = do
   ys ← each_given f (suc i) xs
   Ok (y ∷ ys)
 
+-- what is there, unless there is a fault
 abbrev pub ok_unless : {A F : Type 0} → Option F → A → Result A F
 ok_unless None a = Ok a
 ok_unless (Some why) a = Err why
@@ -47,9 +49,11 @@ ok_unless (Some why) a = Err why
 abbrev pub first_check_from : ℕ → ℕ → List Proc → Option ScenarioFault
 first_check_from records i procs = first_fault (λ n p. option_map (fault.Check n) (check_fault records p)) i procs
 
+-- the fault of the first procedure that is not well-formed
 abbrev pub first_check : ℕ → List Proc → Option ScenarioFault
 first_check records procs = first_check_from records 0 procs
 
+-- a call, or its fault with the client and the index
 abbrev pub in_call : ℕ → ℕ → Result Call CallFault → Result Call ScenarioFault
 in_call client index (Ok c) = Ok c
 in_call client index (Err why) = Err (fault.Call client index why)
@@ -66,7 +70,7 @@ script_made catalog client script = each_given (call_at catalog client) 0 script
 abbrev pub scripts_made : Catalog → List (List Asked) → Result (List (List Call)) ScenarioFault
 scripts_made catalog scripts = each_given (script_made catalog) 0 scripts
 
--- what is chosen for the machine. Where no limit is given it is the number of calls in all scripts, at least 1
+-- what is chosen for the machine. Where it is not given, the cap is 1024, the number of bits 4096, and the limit the number of calls in all scripts, at least 1
 abbrev pub config_of : Parts → Config
 config_of p = record { cap = unwrap_or p.cap CAP; limit = unwrap_or p.limit (max 1 (sum_by length p.scripts)); bits = unwrap_or p.bits BITS }
 
@@ -81,7 +85,7 @@ setup_of p =
         Ok (record { records = p.records; procs = procs; scripts = scripts; config = config_of p; placing = unwrap_or p.placing Modulo; schedule = p.schedule })))
     else Err fault.Size
 
--- the JSON tree that bytes are, or that they are none
+-- the JSON tree that bytes are, as serde_json reads it, or that they are none
 abbrev pub IsTree : List ℕ → Option Data → Type 0
 IsTree bytes (Some d) = IsUtf8 bytes × (read bytes ≡ Some d)
 IsTree bytes None = IsUtf8 bytes → read bytes ≡ None

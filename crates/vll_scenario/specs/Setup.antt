@@ -12,6 +12,7 @@ use Rattle.vll_core.specs.declared.event.Event.{Event}
 use Rattle.vll_core.specs.Faults.{open_fault}
 use Rattle.vll_scenario.specs.declared.limits.TheConstants.{MOST_CLIENTS, MOST_EVENTS, MOST_PROCS}
 
+-- what contracts see of a `Scenario`: the records, the procedures, each client's calls, what is chosen for the machine, the hash, and the schedule
 pub record Setup : Type 0 where
   pub records : List ℕ
   pub procs : List Proc

@@ -22,6 +22,7 @@ abbrev pub ◌>>=◌ : {A B F : Type 0} → Result A F → (A → Result B F) �
 (Ok a) >>= go = go a
 (Err why) >>= go = Err why
 
+-- the fault of a part's shape, at an index
 abbrev pub shape_fault : Part → ℕ → ScenarioFault
 shape_fault part i = Shape (record { part = part; index = i })
 

@@ -123,6 +123,7 @@ place_at word d =
     if bytes_eq word (codes "arg") then option_map at.Arg (index_at d) else
     (if bytes_eq word (codes "through") then option_map at.Through (index_at d) else (if bytes_eq word (codes "fixed") then option_map at.Fixed (u32_at d) else None))
 
+-- a key of a mode and a place
 abbrev pub key_of : Mode → KeyAt → KeyDecl
 key_of mode place = record { mode = mode; at = place }
 
@@ -136,9 +137,11 @@ abbrev pub names_of : Members → List (List ℕ)
 names_of no_members = []
 names_of (member name d ms) = name ∷ names_of ms
 
+-- an object has a member of each name
 abbrev pub has_all : List (List ℕ) → Members → Bool
 has_all names ms = list_all (λ name. is_some (get_member name ms)) names
 
+-- each member of an object has one of the names
 abbrev pub has_only : List (List ℕ) → Members → Bool
 has_only names ms = list_all (λ name. list_any (bytes_eq name) names) (names_of ms)
 
@@ -159,6 +162,7 @@ member_at name d = or_null (get name d)
     or_null None = null
     or_null (Some d) = d
 
+-- the members of a procedure
 abbrev pub proc_names : List (List ℕ)
 proc_names = codes "name" ∷ codes "args" ∷ codes "keys" ∷ codes "body" ∷ []
 

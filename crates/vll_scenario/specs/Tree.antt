@@ -26,6 +26,7 @@ abbrev pub each : {A : Type 0} → (Data → Option A) → Items → Result (Lis
 each f no_items = Ok []
 each f (item d ds) = in_front (f d) (each f ds)
 
+-- the same of the items of a list, if there is a list
 abbrev pub each_of : {A : Type 0} → (Data → Option A) → Option Items → Result (List A) ℕ
 each_of f None = Err 0
 each_of f (Some ds) = each f ds

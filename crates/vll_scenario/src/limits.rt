@@ -11,3 +11,12 @@ pub const MOST_CLIENTS: usize = 1_024;
 
 /// The most events that a schedule may have.
 pub const MOST_EVENTS: usize = 1_048_576;
+
+// As docs/SCENARIO.md says.
+const _: () = prove!(MOST_BYTES == 16_777_216);
+
+const _: () = prove!(MOST_PROCS == 1_048_576);
+
+const _: () = prove!(MOST_CLIENTS == 1_024);
+
+const _: () = prove!(MOST_EVENTS == 1_048_576);

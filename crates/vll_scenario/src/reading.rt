@@ -29,8 +29,8 @@ use std::alloc::Global;
 
 /// Reads a scenario: one JSON text, whose form docs/SCENARIO.md describes.
 ///
-/// The reader is read until it gives no more bytes; once more than `MOST_BYTES` have come it is read no further.
-/// Of several faults the first is answered, in the order that `ScenarioFault` tells. `Read` comes exactly
+/// The reader is read until it gives no more bytes; once more than `MOST_BYTES` have come, at most a piece of 8,192 bytes
+/// more, it is read no further. If it tells its bytes the answer is that for just these. Of several faults the first is answered, in the order that `ScenarioFault` tells. `Read` comes exactly
 /// if the reader has failed. `NoMemory` is for want of memory, and can come in the place of any answer but
 /// `Read`. Each other answer, `Ok` among them, is that of the bytes that came.
 pub fn read_scenario<S: Source>(alloc: Global, reader: &mut S) -> Result<Scenario, ScenarioFault>

@@ -22,6 +22,11 @@ const CAP: u32 = 1_024;
 
 const BITS: u32 = 4_096;
 
+// As docs/SCENARIO.md says.
+const _: () = prove!(CAP == 1_024);
+
+const _: () = prove!(BITS == 4_096);
+
 // The scenario of its parts: the sizes are tested first, then the procedures, their names and the calls.
 pub(crate) fn setup_of(alloc: Global, parts: Parts) -> Result<Scenario, ScenarioFault>
     ensures { GivesUnlessMemory result (setup_of parts) }
