@@ -1,23 +1,22 @@
--- What an engine leaves, as the text of the serial run of its journal's calls.
+-- What an engine leaves that served a scenario, and its text.
 use Rattle.std.proofs.Common.{◌≡◌, ℕ, suc, ◌+◌, List, [], ◌∷◌, map, length, Some, refl, ap, ap₂, ◌∙◌, sym, arith, slice_get, replicate, subst, Result, Ok, Err, IfOk}
 use Rattle.std.specs.List.{enumerate_from, zip}
 use Rattle.std.proofs.Math.Seq.{take-length}
 use Rattle.vll_proc.specs.declared.call.Call.{Call}
 use Rattle.vll_proc.specs.declared.syntax.Proc.{Proc}
 use Rattle.vll_proc.specs.Serial.{Made, answer, end}
-use Rattle.vll_check.specs.Catalog.{Catalog}
 use Rattle.vll_core.specs.declared.line.Line.{Line}
+use Rattle.vll_core.specs.State.{Base, catalog_of as catalog_in}
 use Rattle.vll_core.proofs.SerialRun.{length_before}
 use Rattle.vll_counters.specs.Views.{calls_in}
 use Rattle.vll_engine.specs.declared.closed.Closed.{Closed}
 use Rattle.vll_engine.specs.Closed.{IsSerial}
-use Rattle.vll_engine.specs.Shown.{Named, library_of}
-use Rattle.vll_server.specs.declared.fault.ServeFault.{ServeFault}
-use Rattle.vll_server.specs.Merge.{IsMerge}
-use Rattle.vll_core.specs.State.{Base}
 use Rattle.vll_engine.specs.Found.{AreFoundThere}
-use Rattle.vll_server.specs.Serve.{Serves}
-use Rattle.vll_scenario.specs.Setup.{Setup, catalog_of}
+use Rattle.vll_engine.specs.Shown.{Named, library_of}
+use Rattle.vll_workers.specs.Merge.{IsMerge}
+use Rattle.vll_scenario.specs.Setup.{Setup}
+use Rattle.vll_server.specs.declared.fault.ServeFault.{ServeFault}
+use Rattle.vll_server.specs.Serve.{IsServed, base_of}
 use Rattle.vll_server.specs.Text.{answer_text, closed_text, line_words, outcome_text, serial_text}
 
 -- the lines from one on tell the replies of the serial run
@@ -39,22 +38,27 @@ end_length : (procs : List Proc) (calls : List Made) (records : List ℕ) → le
 end_length procs calls records = ap (λ (cs : List Made). length (end procs cs records)) (sym (take-length calls)) ∙ length_before procs calls records (length calls)
 
 -- the text of what is left is that of the journal's calls, made one at a time
-pub closed_text-serial : (e : Named) (c : Closed) → IsSerial e c → closed_text c ≡ serial_text e.base.procs e.base.records (calls_in c.journal.items)
-closed_text-serial e c serial =
-    let procs = e.base.procs in
-    let records = e.base.records in
+pub served_text : (s : Setup) (c : Closed) → IsServed s c → closed_text c ≡ serial_text s.procs s.records (calls_in c.journal.items)
+served_text s c served =
     let calls = calls_in c.journal.items in
-    let words = lines_tell procs calls records 0 c.journal.items (λ t l is. let same : t ≡ 0 + t = omega arith in serial.answered t l is ∙ ap (answer procs calls records) same) in
-    let pairs : c.pairs.items ≡ replicate (length (end procs calls records)) 0 = serial.none_open ∙ zeros records ∙ ap (λ n. replicate n 0) (sym (end_length procs calls records)) in
-    ap₂ outcome_text words (ap₂ zip serial.at_end pairs)
+    let words = lines_tell s.procs calls s.records 0 c.journal.items (λ t l is. let same : t ≡ 0 + t = omega arith in served.answered t l is ∙ ap (answer s.procs calls s.records) same) in
+    let pairs : c.pairs.items ≡ replicate (length (end s.procs calls s.records)) 0 = served.none_open ∙ zeros s.records ∙ ap (λ n. replicate n 0) (sym (end_length s.procs calls s.records)) in
+    ap₂ outcome_text words (ap₂ zip served.at_end pairs)
 
--- what a run of the scripts left is a served outcome
-pub serves_closed : (s : Setup) (e : Named) (scripts : List (List Call)) (r : Result Closed ServeFault) → library_of e ≡ catalog_of s → e.base.records ≡ s.records → scripts ≡ s.scripts
-    → IfOk r (IsSerial e) → IfOk r (λ (c : Closed). IsMerge (library_of e) (calls_in c.journal.items) scripts) → IfOk r (λ (c : Closed). Serves s (λ text. closed_text c ≡ text))
-serves_closed s e scripts (Ok c) library records scripts_are serial merge = (
-  calls_in c.journal.items,
-  subst (λ (x : Catalog × List (List Call)). IsMerge x.0 (calls_in c.journal.items) x.1) (λ i. (library i, scripts_are i)) merge,
-  subst (λ (b : Base). AreFoundThere b (calls_in c.journal.items)) (λ i. record { procs = (library i).procs; records = records i }) serial.found,
-  closed_text-serial e c serial ∙ ap₂ (λ (ps : List Proc) (rs : List ℕ). serial_text ps rs (calls_in c.journal.items)) (ap (λ (l : Catalog). l.procs) library) records,
-)
-serves_closed s e scripts (Err why) library records scripts_are serial merge = tt
+-- what an engine leaves that was opened for a scenario, and whose journal merges the scripts
+served : (s : Setup) (e : Named) (c : Closed) → e.base ≡ base_of s → IsMerge (library_of e) (calls_in c.journal.items) s.scripts → IsSerial e c → IsServed s c
+served s e c same merge serial =
+    let calls = calls_in c.journal.items in
+    record {
+      merge = subst (λ (b : Base). IsMerge (catalog_in b) calls s.scripts) same merge;
+      answered = subst (λ (b : Base). (t : ℕ) (l : Line) → slice_get c.journal.items t ≡ Some l → l.reply ≡ answer b.procs calls b.records t) same serial.answered;
+      at_end = subst (λ (b : Base). c.records.items ≡ end b.procs calls b.records) same serial.at_end;
+      none_open = subst (λ (b : Base). c.pairs.items ≡ map (λ (r : ℕ). 0) b.records) same serial.none_open;
+      found = subst (λ (b : Base). AreFoundThere b calls) same serial.found;
+    }
+
+pub all_served : (s : Setup) (e : Named) (scripts : List (List Call)) (r : Result Closed ServeFault) → e.base ≡ base_of s → scripts ≡ s.scripts
+    → IfOk r (IsSerial e) → IfOk r (λ (c : Closed). IsMerge (library_of e) (calls_in c.journal.items) scripts) → IfOk r (IsServed s)
+all_served s e scripts (Ok c) base scripts_are serial merge =
+    served s e c base (subst (λ (ss : List (List Call)). IsMerge (library_of e) (calls_in c.journal.items) ss) scripts_are merge) serial
+all_served s e scripts (Err why) base scripts_are serial merge = tt

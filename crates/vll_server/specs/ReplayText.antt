@@ -15,6 +15,7 @@ use Rattle.vll_core.specs.State.{Base, Opening, Entered, State, reply_at, value,
 use Rattle.vll_core.specs.Machine.{opened, answers, run}
 use Rattle.vll_server.specs.Text.{Text, reply_text, outcome_text}
 
+-- whether a request was granted
 abbrev pub grant_text : Bool → Text
 grant_text true = codes " granted"
 grant_text false = codes " denied"

@@ -1,16 +1,28 @@
 -- What serving a scenario comes to: the scripts' calls in the order in which they entered, and the text that they give.
-use Rattle.std.specs.Prelude.{List}
-use Rattle.vll_proc.specs.Serial.{Made}
+use Rattle.std.specs.Prelude.{◌≡◌, ◌<◌, ◌+◌, ℕ, List, Some, map, slice_get}
+use Rattle.vll_proc.specs.Serial.{answer, end}
+use Rattle.vll_core.specs.declared.line.Line.{Line}
 use Rattle.vll_core.specs.State.{Base}
+use Rattle.vll_counters.specs.Views.{calls_in}
+use Rattle.vll_engine.specs.declared.closed.Closed.{Closed}
 use Rattle.vll_engine.specs.Found.{AreFoundThere}
-use Rattle.vll_server.specs.Merge.{IsMerge}
+use Rattle.vll_workers.specs.Merge.{IsMerge}
 use Rattle.vll_scenario.specs.Setup.{Setup, catalog_of}
-use Rattle.vll_server.specs.Text.{Text, serial_text}
+use Rattle.vll_server.specs.Text.{Text, closed_text}
 
 -- the procedures and the records of a scenario
 abbrev pub base_of : Setup → Base
 base_of s = record { procs = s.procs; records = s.records }
 
--- the scripts' calls entered in some order that keeps each script's own, each value found was in its source, and this holds of the text of running them so, one at a time
+-- what a run of a scenario leaves: the journal merges the scripts, each of its lines has the reply and the records have the values that its calls
+-- give, run one at a time in this order, every pair word is 0, and each value found was in its source
+pub record IsServed (s : Setup) (c : Closed) : Type 0 where
+  pub merge : IsMerge (catalog_of s) (calls_in c.journal.items) s.scripts
+  pub answered : (t : ℕ) (l : Line) → slice_get c.journal.items t ≡ Some l → l.reply ≡ answer s.procs (calls_in c.journal.items) s.records t
+  pub at_end : c.records.items ≡ end s.procs (calls_in c.journal.items) s.records
+  pub none_open : c.pairs.items ≡ map (λ (r : ℕ). 0) s.records
+  pub found : AreFoundThere (base_of s) (calls_in c.journal.items)
+
+-- a run of the scenario has left something, and this holds of its text
 abbrev pub Serves : Setup → (Text → Type 0) → Type 0
-Serves s Holds = (calls : List Made) × IsMerge (catalog_of s) calls s.scripts × AreFoundThere (base_of s) calls × Holds (serial_text s.procs s.records calls)
+Serves s Holds = (closed : Closed) × IsServed s closed × Holds (closed_text closed)

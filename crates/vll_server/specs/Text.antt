@@ -11,9 +11,11 @@ use Rattle.vll_proc.specs.Serial.{Made, answer, end}
 use Rattle.vll_core.specs.declared.line.Line.{Line}
 use Rattle.vll_engine.specs.declared.closed.Closed.{Closed}
 
+-- a text as the list of its bytes
 abbrev pub Text : Type 0
 Text = List ℕ
 
+-- the words of a reason
 abbrev pub reason_text : Reason → Text
 reason_text Overflow = codes "overflow"
 reason_text Underflow = codes "underflow"
@@ -25,6 +27,7 @@ reason_text Moved = codes "moved"
 abbrev pub output_text : ℕ → Text
 output_text n = 32 ∷ decimal n
 
+-- the words of a reply
 abbrev pub reply_text : Reply → Text
 reply_text (Committed outputs) = codes "committed" ++ flat_map output_text outputs
 reply_text (Aborted why) = codes "aborted " ++ reason_text why
@@ -34,9 +37,11 @@ abbrev pub answer_text : Option Reply → Text
 answer_text None = []
 answer_text (Some r) = reply_text r
 
+-- the line of a call, with its ticket, its client and its words
 abbrev pub call_line : ℕ × (ℕ × Text) → Text
 call_line (t, (client, words)) = codes "call " ++ decimal t ++ codes " client " ++ decimal client ++ 32 ∷ words ++ 10 ∷ []
 
+-- the line of a record, with its number, its value and its pair word
 abbrev pub record_line : ℕ × (ℕ × ℕ) → Text
 record_line (r, (value, pair)) = codes "record " ++ decimal r ++ codes " value " ++ decimal value ++ codes " pair " ++ decimal pair ++ 10 ∷ []
 
@@ -44,6 +49,7 @@ record_line (r, (value, pair)) = codes "record " ++ decimal r ++ codes " value "
 abbrev pub outcome_text : List (ℕ × Text) → List (ℕ × ℕ) → Text
 outcome_text calls records = flat_map call_line (enumerate_from 0 calls) ++ flat_map record_line (enumerate_from 0 records)
 
+-- a line of the journal as a client and words
 abbrev pub line_words : Line → ℕ × Text
 line_words l = (l.client, answer_text l.reply)
 

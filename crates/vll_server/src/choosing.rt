@@ -1,9 +1,10 @@
 //! A run of a scenario with what options choose.
-ghost use Rattle.std.specs.Prelude.{◌≡◌, ◌≤◌, ◌↔◌, false, true, IfErr, OnOk};
+ghost use Rattle.std.specs.Prelude.{◌≡◌, ◌<◌, ◌≤◌, ◌+◌, ◌↔◌, ℕ, false, true, IfErr, OnOk};
 ghost use Rattle.std.specs.Io.KnownBytes.{Appends};
 ghost use Rattle.vll_scenario.specs.Streams.{AppendsBeginning};
 ghost use Rattle.vll_server.specs.Options.{with_options};
 ghost use Rattle.vll_server.specs.Serve.{Serves};
+ghost use Rattle.vll_workers.specs.declared.fault.RunFault.TheVariants as RunFault;
 
 use crate::fault::ServeFault;
 use crate::options::RunOptions;
@@ -30,6 +31,8 @@ pub fn serve_as<R: Threads + Wait + Sync, G: Gate + Sync, S: Sink>(
         → Serves (with_options options scenario) (AppendsBeginning (S.contents writer.old) (S.contents writer.new)) }
     ensures before { IfErr result (λ why. ¬ (why ≡ ServeFault.Write) → writer.new ≡ writer.old) }
     ensures failed { (result ≡ Err ServeFault.Write) ↔ (S.failed writer.new ≡ true) }
+    ensures spent { ¬ (result ≡ Err (ServeFault.Run RunFault.Spent)) }
+    ensures unfinished { (running waiting : ℕ) → result ≡ Err (ServeFault.Unfinished running waiting) → 0 < running + waiting }
 {
     let (scenario, workers) = chosen(scenario, options);
     serve(rt, rt, alloc, scenario, workers, gate, writer)

@@ -3,6 +3,7 @@
 
 mod choosing;
 mod fault;
+mod laws;
 mod options;
 mod replaying;
 mod serving;
@@ -10,9 +11,10 @@ mod text;
 
 pub use choosing::serve_as;
 pub use fault::{ReplayFault, ServeFault, WriteFault};
+pub use laws::served_texts_are_serial;
 pub use options::{Bits, Cap, RunOptions, UpTo, Workers};
 pub use replaying::replay;
-pub use serving::serve;
+pub use serving::{run_scenario, serve};
 pub use text::outcome::write_outcome;
 pub use vll_core::Line;
 pub use vll_engine::Closed;

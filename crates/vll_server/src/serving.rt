@@ -1,17 +1,17 @@
 //! A run of a scenario's scripts by worker threads, and the text of its outcome.
-ghost use Rattle.std.specs.Prelude.{◌≡◌, ◌≤◌, ◌<◌, ◌^◌, ◌↔◌, false, true, All, IfErr, IfOk, OnOk, length, sum_by};
+ghost use Rattle.std.specs.Prelude.{◌≡◌, ◌≤◌, ◌<◌, ◌+◌, ◌^◌, ◌↔◌, ℕ, false, true, All, IfErr, IfOk, OnOk, length, sum_by};
 ghost use Rattle.std.specs.Io.KnownBytes.{Appends};
 ghost use Rattle.vll_check.specs.Calls.{Fits};
 ghost use Rattle.vll_counters.specs.Views.{calls_in};
 ghost use Rattle.vll_engine.specs.Closed.{IsSerial};
+ghost use Rattle.vll_engine.specs.Sessions.{HasItsCalls};
 ghost use Rattle.vll_engine.specs.Shown.{library_of, name_of, opening};
 ghost use Rattle.vll_sca.specs.Placing.{placing};
 ghost use Rattle.vll_scenario.specs.Setup.{lists_of, catalog_of};
-ghost use Rattle.vll_server.specs.Merge.{IsMerge};
-ghost use Rattle.vll_server.specs.Serve.{Serves};
-ghost use Rattle.vll_server.specs.Private.Serving.{config_for};
+ghost use Rattle.vll_workers.specs.Merge.{IsMerge};
+ghost use Rattle.vll_server.specs.Serve.{IsServed, Serves};
+ghost use Rattle.vll_server.specs.Private.Serving.{AreLeft, config_for};
 ghost use Rattle.vll_scenario.specs.Streams.{AppendsBeginning};
-ghost use Rattle.vll_server.specs.Text.{closed_text};
 
 mod tokens;
 
@@ -23,24 +23,19 @@ use std::sync::Wait;
 use std::thread::Threads;
 use tokens::{into_sessions, tokens_of};
 use vll_core::{Config, MOST_CALLS, OpenFault};
-use vll_engine::{Closed, Name, NotClosed, Opening};
+use vll_engine::{Closed, Engine, Name, NotClosed, Opening, Session};
 use vll_proc::Call;
 use vll_sca::Placing;
 use vll_scenario::{MOST_CLIENTS, Scenario, ScenarioParts, Sink};
-use vll_workers::{Gate, MOST_WORKERS, RunError};
+use vll_workers::{Gate, MOST_WORKERS, RunError, RunFault};
 
-/// Has a scenario's scripts run by so many worker threads, 1 to `MOST_WORKERS` of `vll_workers`, and writes the text
-/// of the outcome: a line for each call in the order in which the calls entered, and then one for each record. The
-/// gate is told of each call that is executed. The scenario's cap, bits and hash are the engine's; its limit and its schedule are not read, since the
-/// engine takes as many calls as the scripts have.
-///
-/// Each script's calls enter in its order. The replies and records are those of the entered calls made one at a time,
-/// in the order in which they entered, and each pair word is 0.
+/// Has a scenario's scripts run by `run_scenario`, and writes the text of the outcome: a line for each call in the order
+/// in which the calls entered, and then one for each record.
 ///
 /// Nothing is written before the run has ended well and the engine is closed. `Run`, `Unfinished` and `NoMemory` come
 /// before that, and leave the writer as it was; `NoMemory` comes too if the text cannot be made, which is before its
 /// first byte is written. `Write` comes exactly if the writer has failed; a beginning of the text has been written
-/// then.
+/// then. What `Run` and `Unfinished` tell is told by `run_scenario`.
 pub fn serve<R: Threads + Wait + Sync, W: Wait + Sync, G: Gate + Sync, S: Sink>(
     rt: &R,
     wait: &W,
@@ -57,8 +52,10 @@ pub fn serve<R: Threads + Wait + Sync, W: Wait + Sync, G: Gate + Sync, S: Sink>(
         → Serves scenario (AppendsBeginning (S.contents writer.old) (S.contents writer.new)) }
     ensures before { IfErr result (λ why. ¬ (why ≡ ServeFault.Write) → writer.new ≡ writer.old) }
     ensures failed { (result ≡ Err ServeFault.Write) ↔ (S.failed writer.new ≡ true) }
+    ensures spent { ¬ (result ≡ Err (ServeFault.Run RunFault.Spent)) }
+    ensures unfinished { (running waiting : ℕ) → result ≡ Err (ServeFault.Unfinished running waiting) → 0 < running + waiting }
 {
-    let closed = run(rt, wait, alloc, scenario, workers, gate)?;
+    let closed = run_scenario(rt, wait, alloc, scenario, workers, gate)?;
     match write_outcome(alloc, writer, &closed) {
         Ok(()) => Ok(()),
         Err(WriteFault::NoMemory) => Err(ServeFault::NoMemory),
@@ -66,8 +63,16 @@ pub fn serve<R: Threads + Wait + Sync, W: Wait + Sync, G: Gate + Sync, S: Sink>(
     }
 }
 
-// Has a scenario's scripts run, and answers what they leave.
-fn run<R: Threads + Wait + Sync, W: Wait + Sync, G: Gate + Sync>(
+/// Has a scenario's scripts run by so many worker threads, 1 to `MOST_WORKERS` of `vll_workers`, and answers what they
+/// leave. The gate is told of each call that is executed. The scenario's cap, bits and hash are the engine's; its limit
+/// and its schedule are not read, since the engine takes as many calls as the scripts have.
+///
+/// The journal has the calls in the order in which they entered: each script's in its order, and no others. The replies
+/// and records are those of these calls made one at a time, in this order, and each pair word is 0.
+///
+/// `Run` tells what the workers' run answered, which is never that the engine is spent. `Unfinished` tells how many calls
+/// were left in the engine after the run: some were. `NoMemory` is for want of memory outside the workers' run.
+pub fn run_scenario<R: Threads + Wait + Sync, W: Wait + Sync, G: Gate + Sync>(
     rt: &R,
     wait: &W,
     alloc: Global,
@@ -76,8 +81,10 @@ fn run<R: Threads + Wait + Sync, W: Wait + Sync, G: Gate + Sync>(
     gate: &G,
 ) -> Result<Closed, ServeFault>
     requires { (1 ≤ workers) × (workers ≤ MOST_WORKERS) }
-    ensures closed { IfOk result (λ closed. Serves scenario (λ text. closed_text closed ≡ text)) }
-    ensures before { ¬ (result ≡ Err ServeFault.Write) }
+    ensures ok { IfOk result (IsServed scenario) }
+    ensures write { ¬ (result ≡ Err ServeFault.Write) }
+    ensures spent { ¬ (result ≡ Err (ServeFault.Run RunFault.Spent)) }
+    ensures unfinished { (running waiting : ℕ) → result ≡ Err (ServeFault.Unfinished running waiting) → 0 < running + waiting }
 {
     let (opening, scripts) = opening_of(alloc, scenario)?;
     run_named::<Brand, R, W, G>(rt, wait, alloc, opening, scripts, workers, gate)
@@ -149,20 +156,26 @@ fn run_named<N: Name + Send + Sync, R: Threads + Wait + Sync, W: Wait + Sync, G:
     requires few { length scripts.items ≤ MOST_CLIENTS }
     requires short { All (λ script. length script.items < 2 ^ 32) scripts.items }
     requires fits { All (λ script. All (Fits (library_of N.engine)) script.items) scripts.items }
+    requires limit { sum_by length (lists_of scripts.items) ≤ N.engine.config.limit }
     ensures serial { IfOk result (IsSerial N.engine) }
     ensures merge { IfOk result (λ closed. IsMerge (library_of N.engine) (calls_in closed.journal.items) (lists_of scripts.items)) }
-    ensures before { ¬ (result ≡ Err ServeFault.Write) }
+    ensures write { ¬ (result ≡ Err ServeFault.Write) }
+    ensures spent { ¬ (result ≡ Err (ServeFault.Run RunFault.Spent)) }
+    ensures unfinished { (running waiting : ℕ) → result ≡ Err (ServeFault.Unfinished running waiting) → 0 < running + waiting }
 {
     let (engine, sessions) = opening.start::<N>();
     let room = Vec::with_capacity(alloc, scripts.len())?;
     let tokens = tokens_of::<N>(alloc, sessions, scripts)?;
-    let tokens = match vll_workers::run(rt, wait, alloc, &engine, tokens, workers, gate) {
-        Ok(tokens) => tokens,
-        Err(error) => return Err(run_fault(error)),
-    };
-    match engine.close(into_sessions(tokens, room)) {
-        Ok(closed) => Ok(closed),
-        Err(left) => Err(unfinished(left)),
+    match vll_workers::run(rt, wait, alloc, &engine, tokens, workers, gate) {
+        Ok(tokens) => close(engine, into_sessions(tokens, room)),
+        Err(error) => match error.fault {
+            RunFault::Spent => match close(engine, into_sessions(error.tokens, room)) {
+                // The journal would have as many calls as all scripts, and yet lack one of them.
+                Ok(_) => unreachable!(),
+                Err(fault) => Err(fault),
+            },
+            RunFault::NoMemory | RunFault::Spawn => Err(run_fault(error)),
+        },
     }
 }
 
@@ -171,6 +184,19 @@ fn run_fault(error: RunError) -> ServeFault
     ensures { result ≡ ServeFault.Run error.fault }
 {
     ServeFault::Run(error.fault)
+}
+
+// What the engine leaves, or how many calls are left in it.
+fn close<N: Name>(engine: Engine<N, Placing>, sessions: Vec<Session>) -> Result<Closed, ServeFault>
+    requires { All (λ s. s.table ≡ N.engine.table) sessions.items }
+    ensures serial { IfOk result (IsSerial N.engine) }
+    ensures sessions { IfOk result (λ c. All (λ s. HasItsCalls (calls_in c.journal.items) s.session) sessions.items) }
+    ensures left { IfErr result AreLeft }
+{
+    match engine.close(sessions) {
+        Ok(closed) => Ok(closed),
+        Err(left) => Err(unfinished(left)),
+    }
 }
 
 // What is answered if calls were left in the engine.

@@ -1,5 +1,5 @@
--- What serving a scenario opens, and the tokens that its workers are handed.
-use Rattle.std.specs.Prelude.{ℕ, suc, max, List, [], ◌∷◌, length, map, sum_by}
+-- What serving a scenario opens, the tokens that its workers are handed, and what is told of calls that are left.
+use Rattle.std.specs.Prelude.{◌<◌, ◌+◌, ℕ, suc, max, List, [], ◌∷◌, length, map, sum_by}
 use Rattle.atomic_table.specs.Seated.{TableId}
 use Rattle.vll_proc.specs.declared.call.Call.{Call}
 use Rattle.vll_core.specs.declared.config.Config.{Config}
@@ -7,6 +7,8 @@ use Rattle.vll_counters.specs.Shown.{SessionShown}
 use Rattle.vll_counters.specs.Steps.{new_session}
 use Rattle.vll_workers.specs.Shown.{TokenShown, token}
 use Rattle.vll_scenario.specs.Setup.{Setup}
+use Rattle.vll_server.specs.declared.fault.ServeFault.{ServeFault}
+use Rattle.vll_server.specs.declared.fault.ServeFault.TheVariants as fault
 
 -- what is chosen for the engine that serves a scenario: as many calls as the scripts have, at least 1
 abbrev pub config_for : Setup → Config
@@ -20,3 +22,8 @@ tokens_from table client (script ∷ scripts) = token client script 0 (record { 
 -- the tokens' sessions, in order
 abbrev pub sessions_in : List TokenShown → List SessionShown
 sessions_in tokens = map (λ (t : TokenShown). t.session) tokens
+
+-- the fault tells that calls were left in the engine, and how many
+abbrev pub AreLeft : ServeFault → Type 0
+AreLeft (fault.Unfinished running waiting) = 0 < running + waiting
+AreLeft why = ⊥

@@ -1,10 +1,12 @@
-use Rattle.std.proofs.Common.{◌∙◌, Err, subst, ap}
-use Rattle.vll_scenario.specs.Streams.{AppendsBeginning}
+use Rattle.std.proofs.Common.{◌∙◌, Err, ap}
 use Rattle.vll_server.proofs.serving.serve.Goals as goal
 
--- what was written is a beginning of the text that serves
+-- what was written is the text of what the run has left
+pub returns-in-Ok-clause-ok : goal.returns-in-Ok-clause-ok
+returns-in-Ok-clause-ok g c = (c.in_ok-closed.closed, c.in_ok-closed.ensures.ok, c.in-Ok.ensures.ok)
+
+-- or a beginning of it
 pub returns-clause-write : goal.returns-clause-write
 returns-clause-write g c failed =
-    let served = c.in_ok-closed.ensures.closed in
     let written = c.write_outcome.ensures.write (c.in-Err-Write.is ∙ ap Err c.in-Err-Write.field-0-is) in
-    (served.0, served.1, served.2, subst (AppendsBeginning (g.S.Sink.contents c.args.writer.now) (g.S.Sink.contents c.write_outcome.new.writer)) served.3 written)
+    (c.in_ok-closed.closed, c.in_ok-closed.ensures.ok, written)

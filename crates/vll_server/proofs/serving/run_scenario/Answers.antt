@@ -1,4 +1,5 @@
-use Rattle.std.proofs.Common.{IfOk, sym, ap, subst}
+use Rattle.std.proofs.Common.{IfOk, List, arith, sym, ap, subst, length}
+use Rattle.std.specs.Prelude.{sum_by}
 use Rattle.std.specs.Global.{Vec}
 use Rattle.std.specs.List.{All}
 use Rattle.vll_proc.specs.declared.call.Call.{Call}
@@ -10,24 +11,30 @@ use Rattle.vll_counters.specs.Views.{calls_in}
 use Rattle.vll_engine.specs.declared.closed.Closed.{Closed}
 use Rattle.vll_engine.specs.Closed.{IsSerial}
 use Rattle.vll_engine.specs.Shown.{Named, OpeningShown, library_of, name_of}
+use Rattle.vll_workers.specs.Merge.{IsMerge}
 use Rattle.vll_scenario.specs.Setup.{lists_of}
-use Rattle.vll_server.specs.Merge.{IsMerge}
-use Rattle.vll_server.proofs.Served.{serves_closed}
-use Rattle.vll_server.proofs.serving.run.Goals as goal
+use Rattle.vll_server.proofs.Served.{all_served}
+use Rattle.vll_server.proofs.serving.run_scenario.Goals as goal
 
 -- the opening is the scenario's
-pub returns-clause-closed : goal.returns-clause-closed
-returns-clause-closed g c =
+pub returns-clause-ok : goal.returns-clause-ok
+returns-clause-ok g c =
     let opening = c.in_ok-opening.opening in
     let engine : Named = name_of placing opening in
     let opened = c.in_ok-opening.ensures.opened in
     let scripts = lists_of c.in_ok-opening.scripts.items in
     let serial : IfOk c.run_named.result (IsSerial engine) = c.run_named.ensures.serial in
     let merge : IfOk c.run_named.result (λ (closed : Closed). IsMerge (library_of engine) (calls_in closed.journal.items) scripts) = c.run_named.ensures.merge in
-    serves_closed c.args.scenario engine scripts c.run_named.result (ap (λ (o : OpeningShown Placing). library_of (name_of placing o)) opened) (ap (λ (o : OpeningShown Placing). o.records) opened) c.in_ok-opening.ensures.scripts serial merge
+    all_served c.args.scenario engine scripts c.run_named.result (ap (λ (o : OpeningShown Placing). (name_of placing o).base) opened) c.in_ok-opening.ensures.scripts serial merge
 
 -- its library makes the calls
 pub run_named-requires-clause-fits : goal.run_named-requires-clause-fits
 run_named-requires-clause-fits g c κs within =
     let library = ap (λ (o : OpeningShown Placing). library_of (name_of placing o)) c.in_ok-opening.ensures.opened in
     subst (λ (library : Catalog). All (λ (script : Vec Call). All (Fits library) script.items) c.in_ok-opening.scripts.items) (sym library) c.in_ok-opening.ensures.fits
+
+-- and it takes as many calls as the scripts have
+pub run_named-requires-clause-limit : goal.run_named-requires-clause-limit
+run_named-requires-clause-limit g c κs within =
+    let limit = ap (λ (o : OpeningShown Placing). o.config.limit) c.in_ok-opening.ensures.opened in
+    omega (arith, limit, ap (λ (scripts : List (List Call)). sum_by length scripts) c.in_ok-opening.ensures.scripts)
