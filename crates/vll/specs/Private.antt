@@ -1,2 +1,3 @@
 -- What private contracts and what types keep cite: no contract of an exported item does.
 pub mod Options
+pub mod Acting

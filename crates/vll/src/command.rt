@@ -14,13 +14,16 @@ use vll_workers::MOST_WORKERS;
 /// What the command line asks for.
 #[derive(Debug, Drop)]
 pub(crate) enum Action {
-    /// To print this help text.
-    Help(Error),
+    /// To print this text: the help or the version.
+    Tell(Error),
     /// To run the scenario that stands on standard input, in this way.
     Run(RunOptions),
     /// To replay the schedule of the scenario that stands on standard input.
     Replay,
 }
+
+// CHANGELOG.md tells what came with it.
+const VERSION: &str = "0.9.0";
 
 const EXAMPLES: &str = "Examples:
   vll run < scenario.json
@@ -52,7 +55,7 @@ const CAP: &str = "Calls that may wait at a time, 1 to 65536 [default: the scena
 const BITS: &str = "Places of the contention analysis, 1 to 1048576 [default: the scenario's bits]";
 
 /// Reads the command line, whose first word is the program's name. Words that are neither `run` with its
-/// options nor `replay` nor ask for help are `Fault::CommandLine`, and so is want of memory.
+/// options nor `replay` nor ask for help or the version are `Fault::CommandLine`, and so is want of memory.
 pub(crate) fn action_of(alloc: Global, words: &[String]) -> Result<Action, Fault> {
     match matches_of(alloc, words) {
         Ok(matches) => match matches.subcommand() {
@@ -60,8 +63,10 @@ pub(crate) fn action_of(alloc: Global, words: &[String]) -> Result<Action, Fault
             Some(("replay", _)) => Ok(Action::Replay),
             _ => Err(Fault::CommandLine),
         },
-        Err(text) if text.kind() == ErrorKind::DisplayHelp => Ok(Action::Help(text)),
-        Err(_) => Err(Fault::CommandLine),
+        Err(text) => match text.kind() {
+            ErrorKind::DisplayHelp | ErrorKind::DisplayVersion => Ok(Action::Tell(text)),
+            _ => Err(Fault::CommandLine),
+        },
     }
 }
 
@@ -79,6 +84,7 @@ fn matches_of<'a>(alloc: Global, words: &'a [String]) -> Result<ArgMatches<'a>, 
         .after_help(REPLAY_EXAMPLE);
     Command::new(alloc, "vll")
         .about("Runs the calls of a scenario as transactions")
+        .version(VERSION)
         .after_help(EXAMPLES)
         .subcommand_required(true)
         .subcommand(run)?

@@ -1,3 +1,5 @@
+ghost use Rattle.std.specs.Prelude.{◌<◌};
+
 use thiserror::Error;
 use vll_server::{ReplayFault, ScenarioFault, ServeFault};
 
@@ -8,16 +10,18 @@ pub(crate) enum Fault {
     #[error("vll: command line")]
     CommandLine,
     #[error("vll: scenario: {0}")]
-    Scenario(#[from] ScenarioFault),
+    Scenario(ScenarioFault),
     #[error("vll: run: {0}")]
-    Run(#[from] ServeFault),
+    Run(ServeFault),
     #[error("vll: {0}")]
-    Replay(#[from] ReplayFault),
+    Replay(ReplayFault),
 }
 
 impl Fault {
     /// The program's exit status: 2 if what was given is refused, and 1 if the run or the replay failed.
-    pub(crate) fn status(&self) -> u8 {
+    pub(crate) fn status(&self) -> u8
+        ensures { 0 < result }
+    {
         match self {
             Fault::CommandLine | Fault::Scenario(_) | Fault::Replay(ReplayFault::Scenario(_)) => 2,
             Fault::Run(_) | Fault::Replay(_) => 1,

@@ -2,62 +2,54 @@
 //! of it.
 #![tactic(auto)]
 
+ghost use Rattle.std.specs.Prelude.{◌≡◌, ◌↔◌, IsOk};
+ghost use Rattle.std.specs.Process.{exit_status};
+
+mod acting;
 mod command;
 mod fault;
 
-use crate::command::{Action, action_of};
+use crate::acting::act;
+use crate::command::action_of;
 use crate::fault::Fault;
 use std::process::ExitCode;
 use std::rt::Env;
 use std::sync::Wait;
 use std::thread::Threads;
 use std::{env, io};
-use vll_server::{Plain, RunOptions, read_scenario, replay, serve_as};
-use vll_workers::OpenGate;
+use vll_server::Plain;
 
 fn main(rt: HostRuntime) -> ExitCode {
-    match work(&rt) {
-        Ok(()) => ExitCode::SUCCESS,
-        Err(fault) => {
-            // If standard output itself has failed, the status alone tells of the fault.
-            let _ = println!(rt; "{fault}");
-            ExitCode::from(fault.status())
-        }
+    let done = work(&rt);
+    if let Err(fault) = &done {
+        // If standard output itself has failed, the status alone tells of the fault.
+        let _ = println!(rt; "{fault}");
+    }
+    exit_code(&done)
+}
+
+// The program's exit status, which is 0 exactly if all went well.
+fn exit_code(done: &Result<(), Fault>) -> ExitCode
+    ensures { (exit_status result ≡ 0) ↔ IsOk done.now }
+{
+    match done {
+        Ok(()) => ExitCode::from(0),
+        Err(fault) => ExitCode::from(fault.status()),
     }
 }
 
+// Does what the command line asks for, with standard input as the reader and standard output as the writer.
 fn work<R: Env + Input + Print + Eprint + AllocGlobal + Threads + Wait + Sync>(
     rt: &R,
 ) -> Result<(), Fault> {
-    let alloc = rt.alloc();
     let words = words_of(rt).map_err(|_| Fault::CommandLine)?;
-    match action_of(alloc, words.as_slice())? {
-        // A help text that cannot be printed has no line of its own.
-        Action::Help(text) => text.print(rt).map_err(|_| Fault::CommandLine),
-        Action::Run(options) => run(rt, options),
-        Action::Replay => replay_schedule(rt),
-    }
+    let action = action_of(rt.alloc(), words.as_slice())?;
+    let mut reader = Plain::new(rt.reader());
+    let mut writer = Plain::new(io::writer(rt));
+    act(rt, action, &mut reader, &mut writer)
 }
 
 // The words of the command line. One that is no text is an error.
 fn words_of(rt: &(impl Env + AllocGlobal)) -> io::Result<Vec<String>> {
     Ok(env::args(rt)?.collect(rt.alloc())?)
-}
-
-fn run<R: Input + Print + AllocGlobal + Threads + Wait + Sync>(
-    rt: &R,
-    options: RunOptions,
-) -> Result<(), Fault> {
-    let mut reader = Plain::new(rt.reader());
-    let scenario = read_scenario(rt.alloc(), &mut reader)?;
-    let mut writer = Plain::new(io::writer(rt));
-    serve_as(rt, rt.alloc(), scenario, options, &OpenGate, &mut writer)?;
-    Ok(())
-}
-
-fn replay_schedule(rt: &(impl Input + Print + AllocGlobal)) -> Result<(), Fault> {
-    let mut reader = Plain::new(rt.reader());
-    let mut writer = Plain::new(io::writer(rt));
-    replay(rt.alloc(), &mut reader, &mut writer)?;
-    Ok(())
 }

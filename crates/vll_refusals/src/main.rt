@@ -1,5 +1,5 @@
 //! Makes one of the calls that take memory, on a small input, and says whether its answer is lawful, also if memory
-//! is refused. tools/refused_memory refuses it each allocation in turn.
+//! is refused. tools/trials refuses it each allocation in turn.
 #![tactic(auto)]
 
 mod answer;

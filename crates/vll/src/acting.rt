@@ -1,0 +1,95 @@
+//! What the program does as it is asked, over any reader and writer. `main` hands in standard input and output.
+ghost use Rattle.std.specs.Prelude.{◌≡◌, ◌<◌, ◌+◌, ◌↔◌, ℕ, false, true, Err, OnOk};
+ghost use Rattle.std.specs.Io.KnownBytes.{Appends};
+ghost use Rattle.vll_scenario.specs.Streams.{AppendsBeginning};
+ghost use Rattle.vll_scenario.specs.declared.fault.ScenarioFault.{ScenarioFault};
+ghost use Rattle.vll_server.specs.Replay.{IsRead, Replays};
+ghost use Rattle.vll_server.specs.declared.fault.ReplayFault.{ReplayFault};
+ghost use Rattle.vll_server.specs.declared.fault.ReplayFault.TheVariants as replay_fault;
+ghost use Rattle.vll_server.specs.declared.fault.ServeFault.{ServeFault};
+ghost use Rattle.vll_server.specs.declared.fault.ServeFault.TheVariants as serve_fault;
+ghost use Rattle.vll_workers.specs.declared.fault.RunFault.TheVariants as run_fault;
+ghost use Rattle.vll.specs.Private.Acting.{Does, Runs};
+ghost use Rattle.vll.specs.declared.fault.Fault.TheVariants as fault;
+
+use crate::command::Action;
+use crate::fault::Fault;
+use std::alloc::Global;
+use std::sync::Wait;
+use std::thread::Threads;
+use vll_server::{RunOptions, Sink, Source, read_scenario, replay, serve_as};
+use vll_workers::OpenGate;
+
+// Does what is asked for. A text that is to be told is printed, and neither is read nor written.
+pub(crate) fn act<R: Print + Eprint + AllocGlobal + Threads + Wait + Sync, S: Source, W: Sink>(
+    rt: &R,
+    action: Action,
+    reader: &mut S,
+    writer: &mut W,
+) -> Result<(), Fault>
+    requires reader { S.failed reader.old ≡ false }
+    requires writer { W.failed writer.old ≡ false }
+    ensures ok { OnOk result (Does action (S.remaining reader.old) (S.remaining reader.new)
+        (Appends (W.contents writer.old) (W.contents writer.new))) }
+{
+    match action {
+        // A text that cannot be printed has no line of its own.
+        Action::Tell(text) => text.print(rt).map_err(|_| Fault::CommandLine),
+        Action::Run(options) => run(rt, rt.alloc(), options, reader, writer),
+        Action::Replay => replay_schedule(rt.alloc(), reader, writer),
+    }
+}
+
+// Reads a scenario, has it run as the options say, and writes the text of the outcome.
+fn run<R: Threads + Wait + Sync, S: Source, W: Sink>(
+    rt: &R,
+    alloc: Global,
+    options: RunOptions,
+    reader: &mut S,
+    writer: &mut W,
+) -> Result<(), Fault>
+    requires reader { S.failed reader.old ≡ false }
+    requires writer { W.failed writer.old ≡ false }
+    ensures ok { OnOk result (Runs options (S.remaining reader.old) (S.remaining reader.new)
+        (Appends (W.contents writer.old) (W.contents writer.new))) }
+    ensures scenario { (why : ScenarioFault) → result ≡ Err (fault.Scenario why)
+        → IsRead (S.remaining reader.old) (S.remaining reader.new) (Err why) × (writer.new ≡ writer.old) }
+    ensures write { result ≡ Err (fault.Run serve_fault.Write) → Runs options (S.remaining reader.old) (S.remaining reader.new)
+        (AppendsBeginning (W.contents writer.old) (W.contents writer.new)) }
+    ensures before { (why : ServeFault) → result ≡ Err (fault.Run why) → ¬ (why ≡ serve_fault.Write) → writer.new ≡ writer.old }
+    ensures failed { (result ≡ Err (fault.Run serve_fault.Write)) ↔ (W.failed writer.new ≡ true) }
+    ensures spent { ¬ (result ≡ Err (fault.Run (serve_fault.Run run_fault.Spent))) }
+    ensures unfinished { (running waiting : ℕ) → result ≡ Err (fault.Run (serve_fault.Unfinished running waiting))
+        → 0 < running + waiting }
+{
+    let scenario = match read_scenario(alloc, reader) {
+        Ok(scenario) => scenario,
+        Err(why) => return Err(Fault::Scenario(why)),
+    };
+    match serve_as(rt, alloc, scenario, options, &OpenGate, writer) {
+        Ok(()) => Ok(()),
+        Err(why) => Err(Fault::Run(why)),
+    }
+}
+
+// Reads a scenario, and writes the text of the replay of its schedule.
+fn replay_schedule<S: Source, W: Sink>(
+    alloc: Global,
+    reader: &mut S,
+    writer: &mut W,
+) -> Result<(), Fault>
+    requires reader { S.failed reader.old ≡ false }
+    requires writer { W.failed writer.old ≡ false }
+    ensures ok { OnOk result (Replays (S.remaining reader.old) (S.remaining reader.new)
+        (Appends (W.contents writer.old) (W.contents writer.new))) }
+    ensures write { result ≡ Err (fault.Replay replay_fault.Write)
+        → Replays (S.remaining reader.old) (S.remaining reader.new)
+        (AppendsBeginning (W.contents writer.old) (W.contents writer.new)) }
+    ensures before { (why : ReplayFault) → result ≡ Err (fault.Replay why) → ¬ (why ≡ replay_fault.Write) → writer.new ≡ writer.old }
+    ensures failed { (result ≡ Err (fault.Replay replay_fault.Write)) ↔ (W.failed writer.new ≡ true) }
+{
+    match replay(alloc, reader, writer) {
+        Ok(()) => Ok(()),
+        Err(why) => Err(Fault::Replay(why)),
+    }
+}
