@@ -1,5 +1,6 @@
 // A bank over the engine: first one client's calls, and then two clients' at the same time.
-ghost use Rattle.std.specs.Prelude.{◌≡◌, All, IfSome};
+ghost use Rattle.std.specs.Prelude.{◌≡◌, All, IfOk, IfSome, sum};
+ghost use Rattle.vll_example.specs.Bank.{procedures};
 ghost use Rattle.vll_engine.specs.Pass.{IsFresh};
 ghost use Rattle.vll_engine.specs.Shown.{name_of};
 ghost use Rattle.vll_sca.specs.Placing.{placing};
@@ -10,8 +11,8 @@ use std::alloc::Global;
 use std::marker::Brand;
 use std::sync::Wait;
 use vll_core::Config;
-use vll_engine::{Begun, Engine, Name, Opening, Pass, Session};
-use vll_proc::{Reason, Reply};
+use vll_engine::{BeginRefusal, Begun, Engine, Name, Opening, Pass, Session, Spent};
+use vll_proc::{Reason, Reply, invariants_carry_over};
 use vll_sca::Placing;
 
 /// Opens the engine over two accounts, for two clients, and serves them. All memory is taken here.
@@ -30,7 +31,8 @@ pub(crate) fn open<R: Wait + Print>(rt: &R, alloc: Global) -> Result<(), Fault> 
 // The engine takes its name from the opening. So it is started in a function over the name, whose other types have
 // nothing to do with it.
 fn serve<N: Name, R: Wait + Print>(rt: &R, opening: Opening<Placing>) -> Result<(), Fault>
-    requires { N.engine ≡ name_of placing opening }
+    requires opening { N.engine ≡ name_of placing opening }
+    requires procedures { N.engine.base.procs ≡ procedures }
 {
     let (engine, mut sessions) = opening.start::<N>();
     let Some(mut other) = last::<N>(&mut sessions) else {
@@ -44,13 +46,23 @@ fn serve<N: Name, R: Wait + Print>(rt: &R, opening: Opening<Placing>) -> Result<
         show(rt, "the transfer leaves", &reply)?;
     }
     meet(rt, &engine, &mut first, &mut other)?;
+    let accounts = close(engine, sessions)?;
+    for (account, value) in accounts.as_slice().iter().enumerate() {
+        println!(rt; "account {account} holds {value}")?;
+    }
+    Ok(())
+}
+
+// What the accounts hold at the end: in total as much as at the opening. Each call of the bank keeps the total, and what
+// each call keeps carries over.
+fn close<N: Name>(engine: Engine<N, Placing>, sessions: Vec<Session>) -> Result<Vec<u64>, Fault>
+    requires procedures { N.engine.base.procs ≡ procedures }
+    requires sessions { All (λ s. s.table ≡ N.engine.table) sessions.items }
+    ensures total { IfOk result (λ accounts. sum accounts.items ≡ sum N.engine.base.records) }
+{
+    invariants_carry_over::<Brand>();
     match engine.close(sessions) {
-        Ok(closed) => {
-            for (account, value) in closed.records.as_slice().iter().enumerate() {
-                println!(rt; "account {account} holds {value}")?;
-            }
-            Ok(())
-        }
+        Ok(closed) => Ok(closed.records),
         Err(_) => Err(Fault::Left),
     }
 }
@@ -64,7 +76,7 @@ fn last<N: Name>(sessions: &mut Vec<Session>) -> Option<Session>
     sessions.pop()
 }
 
-// Makes a call while no other one is under way, from its entry to its reply.
+// Makes a call, from its entry to its reply.
 fn call<N: Name>(
     rt: &impl Wait,
     engine: &Engine<N, Placing>,
@@ -76,10 +88,9 @@ fn call<N: Name>(
     ensures { session.new.table ≡ N.engine.table }
 {
     let call = engine.library().call(name, args)?;
-    match engine.begin(rt, session, &call) {
-        Begun::Free(pass) => Ok(run(rt, engine, pass)),
-        Begun::Blocked(_) => Err(Fault::OutOfTurn),
-        Begun::Refused(refusal) => Err(Fault::Refused(refusal)),
+    match engine.call(rt, session, &call) {
+        Ok((_, reply)) => Ok(reply),
+        Err(Spent) => Err(Fault::Refused(BeginRefusal::Spent)),
     }
 }
 

@@ -1,5 +1,9 @@
 // What the bank's clients can call.
-ghost use Rattle.std.specs.Prelude.{◌≡◌, IfOk};
+ghost use Rattle.std.specs.Prelude.{◌≡◌, ◌∷◌, [], IfOk};
+ghost use Rattle.vll_proc.specs.declared.syntax.Expr.{Add, Arg, Key, Less, Sub};
+ghost use Rattle.vll_proc.specs.declared.syntax.KeyAt.TheVariants as at;
+ghost use Rattle.vll_proc.specs.declared.syntax.Stmt.{Abort, If, Set};
+ghost use Rattle.vll_example.specs.Bank.{procedures, sum_of_two, transfer};
 
 use crate::fault::Fault;
 use sqlite_items::{Boxed, Items};
@@ -12,43 +16,59 @@ use vll_record::Mode;
 const TOO_LITTLE: u16 = 1;
 
 // A key whose record is the argument of the same place.
-fn key(mode: Mode, argument: u8) -> KeyDecl {
+fn key(mode: Mode, argument: u8) -> KeyDecl
+    ensures { result ≡ record { mode = mode; at = at.Arg argument } }
+{
     KeyDecl {
         mode,
         at: KeyAt::Arg(argument),
     }
 }
 
-fn add(alloc: Global, left: Expr, right: Expr) -> Result<Expr, AllocError> {
+fn add(alloc: Global, left: Expr, right: Expr) -> Result<Expr, AllocError>
+    ensures { IfOk result (λ e. e ≡ Add left right) }
+{
     Ok(Expr::Add(Boxed::new(alloc, left)?, Boxed::new(alloc, right)?))
 }
 
-fn sub(alloc: Global, left: Expr, right: Expr) -> Result<Expr, AllocError> {
+fn sub(alloc: Global, left: Expr, right: Expr) -> Result<Expr, AllocError>
+    ensures { IfOk result (λ e. e ≡ Sub left right) }
+{
     Ok(Expr::Sub(Boxed::new(alloc, left)?, Boxed::new(alloc, right)?))
 }
 
-fn less(alloc: Global, left: Expr, right: Expr) -> Result<Expr, AllocError> {
+fn less(alloc: Global, left: Expr, right: Expr) -> Result<Expr, AllocError>
+    ensures { IfOk result (λ e. e ≡ Less left right) }
+{
     Ok(Expr::Less(Boxed::new(alloc, left)?, Boxed::new(alloc, right)?))
 }
 
 // Aborts if the first account holds less than the amount.
-fn abort_if_too_little(alloc: Global) -> Result<Stmt, AllocError> {
+fn abort_if_too_little(alloc: Global) -> Result<Stmt, AllocError>
+    ensures { IfOk result (λ s. s ≡ If (Less (Key 0) (Arg 2)) (Abort TOO_LITTLE ∷ []) []) }
+{
     let is_less = less(alloc, Expr::Key(0), Expr::Arg(2))?;
     let mut then = Vec::new(alloc);
     then.push(Stmt::Abort(TOO_LITTLE))?;
     Ok(Stmt::If(is_less, Items::from_vec(then), Items::new(alloc)))
 }
 
-fn withdraw(alloc: Global) -> Result<Stmt, AllocError> {
+fn withdraw(alloc: Global) -> Result<Stmt, AllocError>
+    ensures { IfOk result (λ s. s ≡ Set 0 (Sub (Key 0) (Arg 2))) }
+{
     Ok(Stmt::Set(0, sub(alloc, Expr::Key(0), Expr::Arg(2))?))
 }
 
-fn deposit(alloc: Global) -> Result<Stmt, AllocError> {
+fn deposit(alloc: Global) -> Result<Stmt, AllocError>
+    ensures { IfOk result (λ s. s ≡ Set 1 (Add (Key 1) (Arg 2))) }
+{
     Ok(Stmt::Set(1, add(alloc, Expr::Key(1), Expr::Arg(2))?))
 }
 
 // Moves an amount from one account to another, and replies what is left of the first.
-fn transfer(alloc: Global) -> Result<Proc, AllocError> {
+fn transfer(alloc: Global) -> Result<Proc, AllocError>
+    ensures { IfOk result (λ p. p ≡ transfer) }
+{
     let mut body = Vec::new(alloc);
     body.push(abort_if_too_little(alloc)?)?;
     body.push(withdraw(alloc)?)?;
@@ -64,7 +84,9 @@ fn transfer(alloc: Global) -> Result<Proc, AllocError> {
 }
 
 // Replies the sum of two accounts.
-fn sum(alloc: Global) -> Result<Proc, AllocError> {
+fn sum(alloc: Global) -> Result<Proc, AllocError>
+    ensures { IfOk result (λ p. p ≡ sum_of_two) }
+{
     let mut body = Vec::new(alloc);
     body.push(Stmt::Reply(add(alloc, Expr::Key(0), Expr::Key(1))?))?;
     Ok(Proc {
@@ -78,7 +100,7 @@ fn sum(alloc: Global) -> Result<Proc, AllocError> {
 
 /// The library of both procedures, for a number of accounts.
 pub(crate) fn library(alloc: Global, accounts: u32) -> Result<Library, Fault>
-    ensures { IfOk result (λ l. l.records ≡ accounts) }
+    ensures { IfOk result (λ l. l ≡ record { records = accounts; procs = procedures }) }
 {
     let mut procs = Vec::new(alloc);
     procs.push(check(transfer(alloc)?, accounts)?)?;
