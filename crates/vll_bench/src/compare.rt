@@ -2,7 +2,9 @@
 ghost use Rattle.std.specs.Prelude.{◌≤◌};
 ghost use Rattle.vll_workers.specs.declared.running.TheConstants.{MOST_WORKERS};
 
+use crate::calls::time_calls;
 use crate::fault::Fault;
+use crate::locks::time_locks;
 use crate::plain::{time_mutex, time_serial};
 use crate::runs;
 use crate::timed::{Count, Timed};
@@ -26,6 +28,10 @@ enum Way {
     Serial,
     // On plain records, with one lock around each whole call.
     Mutex,
+    // On plain records, each with a lock of its own.
+    Locks,
+    // In the engine, each thread by `Engine::call`, with no worker.
+    Call,
     // By the engine's workers.
     Engine,
 }
@@ -36,6 +42,8 @@ impl Way {
         match self {
             Way::Serial => "serial",
             Way::Mutex => "mutex",
+            Way::Locks => "locks",
+            Way::Call => "call",
             Way::Engine => "engine",
         }
     }
@@ -50,7 +58,7 @@ struct Team {
     ghost few: { threads ≤ MOST_WORKERS },
 }
 
-const TEAMS: [Team; 7] = [
+const TEAMS: [Team; 13] = [
     Team {
         way: Way::Serial,
         threads: 1,
@@ -65,6 +73,30 @@ const TEAMS: [Team; 7] = [
     },
     Team {
         way: Way::Mutex,
+        threads: 4,
+    },
+    Team {
+        way: Way::Locks,
+        threads: 1,
+    },
+    Team {
+        way: Way::Locks,
+        threads: 2,
+    },
+    Team {
+        way: Way::Locks,
+        threads: 4,
+    },
+    Team {
+        way: Way::Call,
+        threads: 1,
+    },
+    Team {
+        way: Way::Call,
+        threads: 2,
+    },
+    Team {
+        way: Way::Call,
         threads: 4,
     },
     Team {
@@ -148,6 +180,10 @@ fn time_of<R: Threads + Wait + Clock + AllocGlobal + Sync>(
         let (opening, scripts) = opening(alloc, scenario)?;
         return runs::time_of::<Brand, R>(rt, alloc, opening, scripts, team.threads);
     }
+    if let Way::Call = team.way {
+        let (opening, scripts) = opening(alloc, scenario)?;
+        return time_calls::<Brand, R>(rt, alloc, opening, scripts, team.threads as usize);
+    }
     let ScenarioParts {
         mut records,
         library,
@@ -158,7 +194,11 @@ fn time_of<R: Threads + Wait + Clock + AllocGlobal + Sync>(
     if let Way::Serial = team.way {
         return time_serial(rt, &library, records.as_mut_slice(), scripts);
     }
-    time_mutex(rt, alloc, &library, records, scripts, team.threads as usize)
+    let threads = team.threads as usize;
+    if let Way::Locks = team.way {
+        return time_locks(rt, alloc, &library, records.as_slice(), scripts, threads);
+    }
+    time_mutex(rt, alloc, &library, records, scripts, threads)
 }
 
 // Whether each round of each team made as many calls, and committed as many if they have one order.

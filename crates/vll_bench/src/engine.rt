@@ -10,7 +10,7 @@ use std::sync::Wait;
 use std::time::{CpuClock, Duration};
 use vll_check::{CallFault, Library};
 use vll_core::MOST_CALLS;
-use vll_engine::{Begun, Engine, Name, Opening, Session};
+use vll_engine::{Begun, Engine, Name, Opening, Session, Spent};
 use vll_proc::Call;
 use vll_sca::Placing;
 
@@ -20,27 +20,35 @@ const CALLS: u32 = MOST_CALLS;
 // How often they are made. The fastest counts, since other work disturbs the others.
 const REPEATS: u32 = 5;
 
-/// Prints how many nanoseconds of processor time a bump takes from `begin` to `finish`, when one thread makes one
-/// call after the other.
+/// Prints how many nanoseconds of processor time a bump takes from `begin` to `finish`, and how many by the engine's own
+/// call, when one thread makes one call after the other.
 pub(crate) fn measure_engine<R: Wait + CpuClock + Print + AllocGlobal>(
     rt: &R,
 ) -> Result<(), Fault> {
+    let by_hand = fastest(rt, false)?;
+    println!(rt;
+        "begin, execute, release and finish of a bump, {CALLS} calls: {by_hand} ns a call"
+    )?;
+    let by_call = fastest(rt, true)?;
+    println!(rt; "call of a bump, {CALLS} calls: {by_call} ns a call")?;
+    Ok(())
+}
+
+// The nanoseconds a call of the fastest time, by the engine's own call or by hand.
+fn fastest<R: Wait + CpuClock + AllocGlobal>(rt: &R, is_call: bool) -> Result<u128, Fault> {
     let mut fastest = u128::MAX;
     for _ in 0..REPEATS {
         let opening = setup::opening(rt.alloc(), 1, CALLS)?;
-        fastest = fastest.min(time_of::<Brand, R>(rt, opening)?.as_nanos());
+        fastest = fastest.min(time_of::<Brand, R>(rt, opening, is_call)?.as_nanos());
     }
-    println!(rt;
-        "begin, execute, release and finish of a bump, {CALLS} calls: {} ns a call",
-        fastest / u128::from(CALLS)
-    )?;
-    Ok(())
+    Ok(fastest / u128::from(CALLS))
 }
 
 // The time that the calls take in an engine of this name.
 fn time_of<N: Name, R: Wait + CpuClock>(
     rt: &R,
     opening: Opening<Placing>,
+    is_call: bool,
 ) -> Result<Duration, Fault>
     requires { N.engine ≡ name_of placing opening }
 {
@@ -51,7 +59,11 @@ fn time_of<N: Name, R: Wait + CpuClock>(
     let call = made(engine.library())?;
     let start = rt.thread_cpu_time()?;
     for _ in 0..CALLS {
-        cycle(rt, &engine, &mut session, &call)?;
+        if is_call {
+            whole(rt, &engine, &mut session, &call)?;
+        } else {
+            cycle(rt, &engine, &mut session, &call)?;
+        }
     }
     Ok(rt.thread_cpu_time()?.saturating_sub(start))
 }
@@ -74,6 +86,23 @@ fn cycle<N: Name>(
             Ok(())
         }
         Begun::Blocked(_) | Begun::Refused(_) => Err(Fault::Refused),
+    }
+}
+
+// A call by the engine's own call.
+fn whole<N: Name>(
+    rt: &impl Wait,
+    engine: &Engine<N, Placing>,
+    session: &mut Session,
+    call: &Call,
+) -> Result<(), Fault>
+    requires session { session.old.table ≡ N.engine.table }
+    requires fits { Fits (library_of N.engine) call.now }
+    ensures { session.new.table ≡ session.old.table }
+{
+    match engine.call(rt, session, call) {
+        Ok(_) => Ok(()),
+        Err(Spent) => Err(Fault::Refused),
     }
 }
 

@@ -2,10 +2,12 @@
 #![tactic(auto)]
 
 mod bodies;
+mod calls;
 mod compare;
 mod engine;
 mod events;
 mod fault;
+mod locks;
 mod plain;
 mod runs;
 mod scans;
@@ -38,7 +40,8 @@ engine   what a call of the engine costs from begin to finish, on one thread
 scan     what a scan of the queue costs that finds no call, on one thread
 bodies   what a body costs, a run and a node, on one thread
 compare  what a call of the scenario costs without the engine, one after the
-         other and behind one lock, and in the engine
+         other, behind one lock and with one lock a record, and in the engine,
+         by its own call and by workers
 WORKERS  runs the scenario by so many worker threads, 1 to 64, as often as
 ROUNDS   says, and prints the nanoseconds of each run, a line each";
 

@@ -71,8 +71,8 @@ pub(crate) fn time_of<N: Name + Send + Sync, R: Threads + Wait + Clock + Sync>(
     }
 }
 
-// How many calls a journal has, and how many of them committed.
-fn count_of(journal: &[Line]) -> Count {
+/// How many calls a journal has, and how many of them committed.
+pub(crate) fn count_of(journal: &[Line]) -> Count {
     let mut count = Count::none();
     for line in journal {
         count = count.with_call(matches!(line.reply, Some(Reply::Committed(_))));

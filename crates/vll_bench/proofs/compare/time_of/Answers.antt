@@ -14,3 +14,8 @@ pub time_mutex-requires-clause-fits : goal.time_mutex-requires-clause-fits
 time_mutex-requires-clause-fits g c κs within =
     let fits = Fits c.into_parts-records.result.library in
     subst (All (λ (s : Vec Call). All fits s.items)) (sym c.as_slice-scripts.ensures.value) c.into_parts-records.ensures.fits
+
+pub time_locks-requires-clause-fits : goal.time_locks-requires-clause-fits
+time_locks-requires-clause-fits g c κs within =
+    let fits = Fits c.into_parts-records.result.library in
+    subst (All (λ (s : Vec Call). All fits s.items)) (sym c.as_slice-scripts.ensures.value) c.into_parts-records.ensures.fits
