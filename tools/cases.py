@@ -6,7 +6,7 @@ import re
 import shlex
 import subprocess
 from pathlib import Path
-from typing import NamedTuple, Optional, Union
+from typing import List, NamedTuple, Optional, Union
 
 TOP = Path(__file__).resolve().parent.parent
 FOLDERS = ('scenarios', 'examples')
@@ -28,7 +28,7 @@ class Case(NamedTuple):
     name: str
     # a file, or a table and its line
     place: str
-    words: list[bytes]
+    words: List[bytes]
     text: Source
     # nothing if what is printed is judged; a judged case may have a lawful outcome beside it
     printed: Optional[Source]

@@ -35,10 +35,10 @@ OTHERS = set('Appends Consumes null use'.split())
 class Page:
     """A page with its sections, its tables and its blocks of code."""
 
-    def __init__(self, path, top):
+    def __init__(self, path, name, text):
         self.path = path
-        self.name = str(path.relative_to(top))
-        self.lines = path.read_text().splitlines()
+        self.name = name
+        self.lines = text.splitlines()
 
     def sections(self):
         """Each line outside code with its number, the heading of its section of second rank, and the heading above."""
@@ -97,10 +97,10 @@ class Page:
 class Checks:
     """What was looked at, and what is not so."""
 
-    def __init__(self, top):
+    def __init__(self, top, sources, specs):
         self.top = top
-        self.sources = Sources(top)
-        self.specs = Specs(top)
+        self.sources = sources
+        self.specs = specs
         self.looked = 0
         self.wrong = []
 
@@ -222,10 +222,16 @@ def crate_in(heading):
     return found[0] if found else None
 
 
-def check(top):
-    checks = Checks(top)
+def pages_of(top):
+    """The texts of the pages, by their names."""
     paths = sorted([*top.glob('*.md'), *top.glob('docs/*.md'), *top.glob('examples/*.md'), *top.glob('scenarios/*.md')])
-    pages = {page.name: page for page in (Page(path, top) for path in paths)}
+    return {str(path.relative_to(top)): path.read_text() for path in paths}
+
+
+def check(top, texts, sources, specs):
+    """Compares pages of these texts with these sources."""
+    checks = Checks(top, sources, specs)
+    pages = {name: Page(top / name, name, text) for name, text in texts.items()}
     anchors = {page.path.resolve(): set(page.anchors()) for page in pages.values()}
     for page in pages.values():
         checks.functions(page)
@@ -247,7 +253,8 @@ def check(top):
 
 
 def main():
-    checks = check(Path(sys.argv[1]).resolve() if len(sys.argv) > 1 else TOP)
+    top = Path(sys.argv[1]).resolve() if len(sys.argv) > 1 else TOP
+    checks = check(top, pages_of(top), Sources(top), Specs(top))
     for line in checks.wrong:
         print(line)
     print(f'docs: {checks.looked} things looked at, {len(checks.wrong)} not so')

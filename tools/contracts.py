@@ -43,8 +43,8 @@ def section_of(crate, sources):
     lib = sources.files[f'{folder}lib.rt']
     exports = exports_of('\n'.join(lib))
     purpose = first_sentence([line[3:].strip() for line in takewhile(lambda line: line.startswith('//!'), lib)])
-    files = sorted((file for file in sources.files if file.startswith(folder)), key=lambda file: file.removesuffix('.rt'))
-    rows = [row_of(function, file.removeprefix(f'{crate}/'))
+    files = sorted((file for file in sources.files if file.startswith(folder)), key=lambda file: file[:-len('.rt')])
+    rows = [row_of(function, file[len(crate) + 1:])
             for file in files for function in functions_of(sources.files[file]) if is_listed(function, exports)]
     return '\n'.join([f'## {crate}', '', purpose, '', COLUMNS, *rows, ''])
 

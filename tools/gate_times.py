@@ -5,7 +5,7 @@
 
 The output and the status are the command's. To the file goes a table of processor minutes, a line for each crate: for
 its proof, for its tests' proof, for what its must-fail edits begin from, for these edits, and in all. The sum is the
-last line. What rt kept of earlier runs takes nothing; `rt ci --anew` does all.
+last line. In kits that keep what they proved before, that takes nothing; `rt ci --anew` does all.
 
 The minutes are those of the prover's processes that run below this command, looked at several times a second.
 """

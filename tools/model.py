@@ -44,6 +44,55 @@ OPERATORS = {
 }
 
 
+def nodes_of(tree):
+    """The nodes of a statement, an expression or a list of statements."""
+    if isinstance(tree, int):
+        return 1
+    if not tree or isinstance(tree[0], list):
+        return sum(map(nodes_of, tree))
+    if tree[0] in ('arg', 'key', 'local', 'abort'):
+        return 1
+    return 1 + sum(map(nodes_of, tree[2:] if tree[0] in ('let', 'set', 'repeat') else tree[1:]))
+
+
+def replies_of(statements):
+    """How many replies a list of statements can make."""
+    def of(statement):
+        word, *parts = statement
+        if word == 'if':
+            return max(replies_of(parts[1]), replies_of(parts[2]))
+        if word == 'repeat':
+            return parts[0] * replies_of(parts[1])
+        return int(word == 'reply')
+    return sum(map(of, statements))
+
+
+def weight_of(statements):
+    """The weight of a list of statements."""
+    def of(statement):
+        word, *parts = statement
+        if word == 'if':
+            return 1 + nodes_of(parts[0]) + weight_of(parts[1]) + weight_of(parts[2])
+        if word == 'repeat':
+            return 1 + parts[0] * weight_of(parts[1])
+        return nodes_of(statement)
+    return sum(map(of, statements))
+
+
+def depth_of(statements):
+    """How deep a list of statements is."""
+    def of(tree):
+        if isinstance(tree, int) or tree[0] in ('arg', 'key', 'local', 'abort'):
+            return 1
+        word, *parts = tree
+        if word == 'if':
+            return 1 + max(of(parts[0]), depth_of(parts[1]), depth_of(parts[2]))
+        if word == 'repeat':
+            return 1 + depth_of(parts[1])
+        return 1 + max(map(of, parts[1:] if word in ('let', 'set') else parts))
+    return max(map(of, statements), default=0)
+
+
 class Found(NamedTuple):
     """The value that was found for the indirect key of a call, where there are so many records."""
     value: int

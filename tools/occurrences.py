@@ -178,7 +178,7 @@ def why_no_scan(machine):
     waiting = [ticket for ticket in machine.unfinished() if machine.calls[ticket].status == 'waiting']
     if not waiting:
         return 'none is waiting'
-    exact = Machine(machine.scenario | {'hash': 'modulo', 'bits': len(machine.values)})
+    exact = Machine({**machine.scenario, 'hash': 'modulo', 'bits': len(machine.values)})
     exact.calls = machine.calls
     return 'each is held back' if exact.scan() is None else 'one is held back by places alone'
 

@@ -1,5 +1,5 @@
 """Makes random procedures of every form of the language, all well-formed."""
-from model import LOCALS, MOST, OPERATORS
+from model import LOCALS, MOST, OPERATORS, nodes_of
 
 MOST_ARGS = 8
 MOST_KEYS = 16
@@ -104,17 +104,6 @@ class BodyWriter:
             written.append(self.statement(depth, nodes, is_inner))
             nodes -= nodes_of(written[-1])
         return written
-
-
-def nodes_of(tree):
-    """The nodes of a statement, an expression or a list of statements."""
-    if isinstance(tree, int):
-        return 1
-    if not tree or isinstance(tree[0], list):
-        return sum(map(nodes_of, tree))
-    if tree[0] in ('arg', 'key', 'local', 'abort'):
-        return 1
-    return 1 + sum(map(nodes_of, tree[2:] if tree[0] in ('let', 'set', 'repeat') else tree[1:]))
 
 
 def bump(keys):

@@ -1,48 +1,10 @@
 """Makes scenarios of version 2 from random ones of version 1: with repeats in their bodies, and up to 32 keys."""
-from model import LOCALS
-from random_procedures import MOST_DEEP, MOST_NODES, MOST_REPLIES, nodes_of
+from model import LOCALS, depth_of, nodes_of, replies_of, weight_of
+from random_procedures import MOST_DEEP, MOST_NODES, MOST_REPLIES
 
 MOST_KEYS = 32
 MOST_TURNS = 64
 MOST_WEIGHT = 65536
-
-
-def replies_of(statements):
-    """How many replies a list of statements can make."""
-    def of(statement):
-        word, *parts = statement
-        if word == 'if':
-            return max(replies_of(parts[1]), replies_of(parts[2]))
-        if word == 'repeat':
-            return parts[0] * replies_of(parts[1])
-        return int(word == 'reply')
-    return sum(map(of, statements))
-
-
-def weight_of(statements):
-    """The weight of a list of statements."""
-    def of(statement):
-        word, *parts = statement
-        if word == 'if':
-            return 1 + nodes_of(parts[0]) + weight_of(parts[1]) + weight_of(parts[2])
-        if word == 'repeat':
-            return 1 + parts[0] * weight_of(parts[1])
-        return nodes_of(statement)
-    return sum(map(of, statements))
-
-
-def depth_of(statements):
-    """How deep a list of statements is."""
-    def of(tree):
-        if isinstance(tree, int) or tree[0] in ('arg', 'key', 'local', 'abort'):
-            return 1
-        word, *parts = tree
-        if word == 'if':
-            return 1 + max(of(parts[0]), depth_of(parts[1]), depth_of(parts[2]))
-        if word == 'repeat':
-            return 1 + depth_of(parts[1])
-        return 1 + max(map(of, parts[1:] if word in ('let', 'set') else parts))
-    return max(map(of, statements), default=0)
 
 
 def has_let(statements):

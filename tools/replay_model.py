@@ -3,13 +3,15 @@
 
     python3 tools/replay_model.py SCENARIO
 
-prints that text. It is written from docs/SCENARIO.md and docs/DEFINITIONS.md, and uses nothing of the program.
-tools/judge_replay.py compares what was printed with it.
+prints that text, or the line by which the program refuses the scenario (but for want of memory), with status 2. It is
+written from docs/SCENARIO.md and docs/DEFINITIONS.md, and uses nothing of the program. tools/judge_replay.py compares
+what was printed with it.
 """
 import sys
 
-from judging import DEEPEST, read_scenario
+from judging import DEEPEST
 from model import Found, claims_of, make, source_of
+from refusals import MOST_BYTES, Refused, scenario_of
 
 FOR_WRITING = 1 << 32
 SPREAD = 11400714819323198485
@@ -64,7 +66,7 @@ class Machine:
         self.scenario = scenario
         self.procedures = {procedure['name']: procedure for procedure in scenario['procs']}
         self.scripts = scenario['clients']
-        chosen = DEFAULTS | scenario
+        chosen = {**DEFAULTS, **scenario}
         self.cap = chosen['cap']
         self.bits = chosen['bits']
         self.hash = chosen['hash']
@@ -272,7 +274,13 @@ def main(words):
         print('usage: python3 tools/replay_model.py SCENARIO')
         return 2
     sys.setrecursionlimit(DEEPEST)
-    sys.stdout.write(replay_text(read_scenario(words[0])))
+    try:
+        with open(words[0], 'rb') as file:
+            scenario = scenario_of(file.read(MOST_BYTES + 1))
+    except (OSError, Refused) as why:
+        print(f'vll: scenario: {why if isinstance(why, Refused) else "read"}')
+        return 2
+    sys.stdout.write(replay_text(scenario))
     return 0
 
 

@@ -1,7 +1,7 @@
 """What the sources declare: the definitions of specs/ with their comments, and the types, functions and clauses of src/."""
 import re
-from functools import cache
-from typing import NamedTuple
+from functools import lru_cache
+from typing import List, NamedTuple
 
 # A declaration of a definition, behind the words that may stand before its name.
 DECLARATION = re.compile(r'\s*(?:(?:abbrev|unfoldable|opaque|pub|record|data) )+(?!(?:mod|mutual)\b)([A-Za-z_]\w*|◌\S+◌)')
@@ -36,10 +36,10 @@ class Function(NamedTuple):
     # one that an `impl` of a trait has
     is_of_trait: bool
     # the `///` lines
-    comment: list[str]
+    comment: List[str]
     # the names of its clauses, in order; an empty one if a clause has none
-    requires: list[str]
-    ensures: list[str]
+    requires: List[str]
+    ensures: List[str]
 
 
 class Sources:
@@ -50,14 +50,14 @@ class Sources:
         for path in sorted([*top.glob('crates/*/specs/**/*.antt'), *top.glob('crates/*/src/**/*.rt')]):
             self.files[str(path.relative_to(top / 'crates'))] = path.read_text().splitlines()
 
-    @cache
+    @lru_cache(maxsize=None)
     def names_of(self, file):
         """What a file declares, with the fields and variants of its types."""
         kinds = (DECLARATION,) if file.endswith('.antt') else (ITEM, MEMBER)
         found = (kind.match(line) for line in self.files.get(file, ()) for kind in kinds)
         return {name for each in found if each for name in each.groups() if name}
 
-    @cache
+    @lru_cache(maxsize=None)
     def names(self, crate):
         """What a crate declares, or all of them, with the crates' own names."""
         inside = [file for file in self.files if crate in (None, file.split('/')[0])]
@@ -66,7 +66,7 @@ class Sources:
     def is_declared(self, name, crate):
         return name in self.names(crate)
 
-    @cache
+    @lru_cache(maxsize=None)
     def functions(self, crate):
         """The clauses of each function, by `Type::name` or by `name`."""
         found = {}
@@ -80,7 +80,7 @@ class Sources:
         """The names of a function's clauses, and None if there is no such function."""
         return self.functions(crate).get(name)
 
-    @cache
+    @lru_cache(maxsize=None)
     def is_type(self, name):
         return any(function.startswith(f'{name}::') for function in self.functions(None))
 
@@ -88,7 +88,7 @@ class Sources:
         """A file has these lines, one behind the other, but for comments, empty lines and the space before each."""
         return bool(wanted) and any(has_run(lines, wanted) for lines in self.bare())
 
-    @cache
+    @lru_cache(maxsize=None)
     def bare(self):
         """The lines of each file without comments, empty lines and the space before each."""
         return [[line.strip() for line in lines if not COMMENT.match(line)] for lines in self.files.values()]

@@ -1,5 +1,6 @@
 #!/usr/bin/env python3
-"""Tests how cases are read, how tools/scenarios runs them, and that README.md and examples/README.md show what is printed.
+"""Tests how cases are read, how tools/scenarios and tools/trials find fault with wrong programs, and that README.md and
+examples/README.md show what is printed.
 
     python3 tools/test_cases.py
 """
@@ -155,7 +156,7 @@ class Reading(Room):
                  'scenarios/first and scenarios/u/first have one name')]:
             with self.subTest(fault):
                 self.setUp()
-                self.keep(FILES | files)
+                self.keep({**FILES, **files})
                 cases, faults = read_cases(self.room)
                 self.assertEqual([' '.join(sorted(told.split())) for told in faults], [' '.join(sorted(fault.split()))])
                 self.assertLessEqual(set(NAMES), {case.name for case in cases})
@@ -190,19 +191,30 @@ class Running(Room):
                 self.assertEqual((status, lines[-1]), (1, f'scenarios: {passed} passed, {len(failing)} failed'))
 
     def test_unlawful_outcome_in_a_file_fails(self):
-        self.keep(FILES | {'examples/01_both.out': UNLAWFUL})
+        self.keep({**FILES, 'examples/01_both.out': UNLAWFUL})
         status, lines = self.said_of(RIGHT)
         self.assertEqual((status, lines[-1]), (1, 'scenarios: 12 passed, 1 failed'))
         self.assertTrue(lines[0].startswith('scenario 01_both FAILED: its .out is no lawful outcome; '), lines)
 
     def test_what_is_not_there_fails(self):
         self.assertEqual(self.said_of(RIGHT), (1, ['scenarios FAILED: there is none', 'scenarios: 0 passed, 1 failed']))
-        self.keep(FILES | {'scenarios/alone.json': ''})
+        self.keep({**FILES, 'scenarios/alone.json': ''})
         self.assertEqual(self.said_of(RIGHT), (1, [
             'scenarios FAILED: there is neither scenarios/alone.out nor scenarios/alone.judge',
             'scenarios: 13 passed, 1 failed']))
         self.assertEqual(self.said_of(RIGHT, 'first', 'nobody'), (1, [
             'scenario nobody FAILED: there is none of this name', 'scenarios: 1 passed, 1 failed']))
+
+    def test_trials_of_a_program_that_does_nothing_fail(self):
+        self.keep({'program': '#!/bin/sh\nexit 0\n'})
+        program = self.room / 'program'
+        program.chmod(0o755)
+        groups = ['command_line', 'lacks', 'refused_memory']
+        command = [TOOLS / 'trials', '--program', program, '--refusals', program, *groups]
+        ran = subprocess.run(command, stdout=subprocess.PIPE, check=False)
+        self.assertEqual(ran.returncode, 1)
+        # it cannot be tried everywhere how threads are lacked
+        self.assertRegex(ran.stdout.decode(), '\ntrials: 0 passed, (24 failed, 1|25 failed, 0) skipped\n$')
 
     def test_texts_are_printed(self):
         self.keep(FILES)
@@ -215,7 +227,8 @@ def beside(schedule, printed):
     events = [json.dumps(event, separators=(',', ':')) for event in schedule]
     width = max(map(len, events), default=-3) + 3
     lines = printed.splitlines()
-    return ''.join(f'{event:{width}}{line}\n' for event, line in itertools.zip_longest(events, lines, fillvalue=''))
+    rows = itertools.zip_longest(events, lines, fillvalue='')
+    return ''.join(f'{event.ljust(width)}{line}\n' for event, line in rows)
 
 
 class Pages(unittest.TestCase):

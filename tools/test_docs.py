@@ -1,23 +1,53 @@
 #!/usr/bin/env python3
-"""Tests that tools/check_docs.py finds what is not so, and what tools/contracts.py and
+"""Tests that tools/check_docs.py finds what is not so in the pages, and what tools/contracts.py and
 tools/definitions.py print.
 
     python3 tools/test_docs.py
-
-Each test makes a small repository in a folder of its own, with pages that are right, and then spoils one file.
 """
 import contextlib
+import copy
 import io
 import re
-import shutil
-import sys
 import tempfile
 import unittest
 from pathlib import Path
 
 import contracts
 import definitions
-from check_docs import check
+from check_docs import TOP, check, pages_of
+from sources import Sources, Specs
+
+# What is spoiled: the page, the first place that a pattern matches there, what stands there then, and what is told.
+SPOILED = {
+    'a name that is not there': ('DEFINITIONS', r'\n\| `[A-Z]\w+', r'\g<0>x', 'is not declared in'),
+    'a file that is not there': ('DEFINITIONS', r'specs/\w+\.antt', 'specs/None.antt', 'is not declared in'),
+    'another file':
+        ('DEFINITIONS', r'(\| `)vll_scenario/specs/Setup', r'\1vll_check/specs/Catalog', 'is not declared in'),
+    'a name in the text': ('DEFINITIONS', r'\n\n', '\n\nIt says `IsNothingAtAll`.\n\n', 'is not declared in any crate'),
+    'a definition that is reached and not listed':
+        ('DEFINITIONS', r'`value_of`, ', '', 'value_of is reached from Serves'),
+    'one that is listed and not reached':
+        ('DEFINITIONS', r'`value_of`, ', '`value_of`, `is_write`, ', 'is not reached from Serves'),
+    'a headline without its list':
+        ('DEFINITIONS', '## What the headline needs', '## What it needs', 'nothing is listed'),
+    'a function that is not there': ('PROMISES', r'(\| `\w+::)\w+(` \(vll)', r'\1secret\2', 'is no function of vll_'),
+    'a function of another crate': ('PROMISES', r'(` \()vll_\w+', r'\1vll_sca', 'is no function of vll_sca'),
+    'a function without its crate': ('PROMISES', r'(\| `\w+::\w+`) \(vll_\w+\) \|', r'\1 |', 'no crate stands behind'),
+    'a clause that is not there': ('PROMISES', r'(\) \| `)\w+', r'\1unheard_of', 'unheard_of is no clause of'),
+    'a clause of another function': ('PROMISES', r'(\) \| `)\w+', r'\1done', 'done is no clause of'),
+    'a definition of a promise':
+        ('PROMISES', r'(\| `)\w+(` \|\n)', r'\1IsNothingAtAll\2', 'is not declared in any crate'),
+    'a function of the algorithm': ('ALGORITHM', r'`\w+` \(vll', '`claw` (vll', 'claw is not in vll'),
+    'a crate of the algorithm': ('ALGORITHM', r'(`Queue` \()vll_core', r'\1vll_sca', 'Queue is not in vll_sca'),
+    'a quotation that is not so': ('HEADLINE', r'\n```\n(\w+)', r'\n```\n\1x', 'no source has: '),
+    'a function of a type in any page':
+        ('ARCHITECTURE', r'(`[A-Z]\w+::)[a-z]\w*`', r'\1unheard_of`', 'has no function unheard_of'),
+    'a dead link': ('ARCHITECTURE', r'\]\([A-Z]+\.md', '](NOWHERE.md', 'there is no NOWHERE.md'),
+    'a dead heading': ('ARCHITECTURE', r'(\]\([A-Z]+\.md#)[\w-]+', r'\1nowhere', 'there is no heading'),
+    'an outcome that is not so': ('../README', r'committed 70', 'committed 71', 'transfer.out is not what stands here'),
+    'an outcome without its file':
+        ('../README', r'(`[^`]*< scenarios/)transfer(.json` prints)', r'\1none\2', 'scenarios/none.out is not what'),
+}
 
 CLAIM = '''-- Claims.
 use Rattle.std.specs.Prelude.{List}
@@ -49,14 +79,6 @@ module _ (c : Claim) where
     pub count : ℕ
     -- a field is no definition
     pub is : count ≡ length c
-'''
-
-WORD = '''-- Words.
-use Rattle.std.specs.Prelude.{ℕ}
-
--- it is small
-pub record IsWord (w : ℕ) : Type 0 where
-  pub small : w < 2
 '''
 
 CLAIMS = '''ghost use Rattle.vll_claims.specs.Claim.{IsClaim};
@@ -146,45 +168,6 @@ pub use claims::{
 pub use vll_base::unlisted;
 '''
 
-CRATES = '''# NAME: the libraries that it uses
-vll_empty:
-vll_claims: vll_base
-vll_base:
-vll_claims_tests: vll_claims
-vll: vll_claims
-'''
-
-DEFINITIONS = '''# Definitions
-
-It says `add` of `IsClaim`.
-
-## What the headline needs
-
-### First: `IsClaim`
-
-| Definitions | About | File |
-|---|---|---|
-| `IsClaim`, `helped`, `inner`, `outer` | a claim | `vll_claims/specs/Claim.antt` |
-| `IsWord` | a word | `vll_base/specs/Word.antt` |
-
-### Second: `Counted`
-
-| Definitions | About | File |
-|---|---|---|
-| `Counted` | how many | `vll_claims/specs/Claim.antt` |
-
-## Claims (vll_claims)
-
-| Definition | Says | File |
-|---|---|---|
-| `IsClaim`, `Counted` (`count`) | a claim is one | `specs/Claim.antt` |
-| `Claims` | the list | `src/claims.rt` |
-
-| Law | Says |
-|---|---|
-| `helped` | helps |
-'''
-
 CONTRACTS = f'''## vll_empty
 
 Nothing.
@@ -203,15 +186,7 @@ What a call claims.
 | `law` | Laws. |  | `first` | `src/claims.rt` |
 '''
 
-TABLES = '''## vll_base
-
-- `specs/Word.antt`: Words.
-
-| Definition | Says | File |
-|---|---|---|
-| `IsWord` | it is small | `specs/Word.antt` |
-
-## vll_claims
+DEFINITIONS = '''## vll_claims
 
 - `specs/Claim.antt`: Claims.
 
@@ -223,67 +198,27 @@ TABLES = '''## vll_base
 | `Counted` | how many there are | `specs/Claim.antt` |
 
 Without a comment: `helped` (`specs/Claim.antt`).
+
+## vll_base
+
+- `specs/Word.antt`: Words.
+
+| Definition | Says | File |
+|---|---|---|
+| `IsWord` | it is small | `specs/Word.antt` |
 '''
 
-PROMISES = '''# Promises
-
-## Claims
-
-| Promise | Function | Clauses | Over the definitions |
-|---|---|---|---|
-| it is put in its place | `Claims::add` (vll_claims) | `place`, `count`; asks `room` | `IsClaim` |
-| it is private | `Claims::private` (vll_claims) | | |
-| laws hold, and sources read | `law`, `Claims::read` (vll_claims), `base` (vll_base) | `first`, `based` | |
-'''
-
-ALGORITHM = '''# Algorithm
-
-| Step | Here |
-|---|---|
-| put it | `Claims::add`, `law` (vll_claims) |
-'''
-
-HEADLINE = '''# Headline
-
-```
-abbrev pub helped : Claim → Type 0
-helped c = inner c.unused
-
-pub fn law()
-    ensures first { 1 ≡ 1 }
-```
-'''
-
-README = '''# Readme
-
-`Claims::add` is told of [here](docs/PROMISES.md#claims). There is a [page](docs/DEFINITIONS.md) of definitions.
-
-`./vll run < scenarios/one.json` prints
-
-```
-call 0 client 0 committed
-record 0 value 7 pair 0
-```
-'''
-
-PAGES = {
-    'README.md': README,
-    'docs/DEFINITIONS.md': DEFINITIONS,
-    'docs/PROMISES.md': PROMISES,
-    'docs/ALGORITHM.md': ALGORITHM,
-    'docs/HEADLINE.md': HEADLINE,
+FILES = {
     'crates/vll_claims/specs/Claim.antt': CLAIM,
     'crates/vll_claims/src/claims.rt': CLAIMS,
     'crates/vll_claims/src/claim.rt': 'pub struct Claim {\n    word: u64,\n}\n',
     'crates/vll_claims/src/lib.rt': LIB,
-    'crates/vll_base/specs/Word.antt': WORD,
-    'crates/vll_base/src/main.rt': 'fn base()\n    ensures based { 1 ≡ 1 }\n{}\n',
+    'crates/vll_base/specs/Word.antt':
+        '-- Words.\n\n-- it is small\npub record IsWord (w : ℕ) : Type 0 where\n  pub small : w < 2\n',
     'crates/vll_claims_tests/src/lib.rt': 'mod claims;\n\npub use claims::tests;\n',
     'crates/vll_claims_tests/src/claims.rt': 'pub fn tests() {}\n',
     'crates/vll_empty/src/lib.rt': '//! Nothing.\n',
-    'crates.txt': CRATES,
-    'scenarios/one.json': '{}',
-    'scenarios/one.out': 'call 0 client 0 committed\nrecord 0 value 7 pair 0\n',
+    'crates.txt': '# NAME: LIBRARY ..\nvll_empty:\nvll_claims: vll_base\nvll_base:\nvll_claims_tests: vll_claims\n',
     'crates/vll_base/specs/Lib.antt': 'pub mod Word\n',
     'crates/vll_claims/specs/Lib.antt': 'pub mod Claim\npub mod Private\n',
     'crates/vll_claims/specs/Private.antt': 'pub mod Kept\n',
@@ -291,162 +226,63 @@ PAGES = {
 }
 
 
-class Repository(unittest.TestCase):
-    """A small repository in a folder of its own, with pages that are right."""
+class Pages(unittest.TestCase):
 
-    def setUp(self):
-        self.top = Path(tempfile.mkdtemp()).resolve()
-        self.addCleanup(shutil.rmtree, self.top)
-        for name, text in PAGES.items():
-            (self.top / name).parent.mkdir(parents=True, exist_ok=True)
-            (self.top / name).write_text(text)
+    @classmethod
+    def setUpClass(cls):
+        cls.texts, cls.sources, cls.specs = pages_of(TOP), Sources(TOP), Specs(TOP)
 
-    def spoil(self, name, old, new, *wanted):
-        """With `old` replaced in a file, each of these words, and nothing else, is told of."""
-        path = self.top / name
-        text = path.read_text()
-        self.assertIn(old, text)
-        path.write_text(text.replace(old, new))
-        said = check(self.top).wrong
-        self.assertEqual(len(said), len(wanted), said)
-        for line, words in zip(said, wanted):
-            self.assertIn(words, line)
+    def told_of(self, texts, sources=None, specs=None):
+        return check(TOP, texts, sources or self.sources, specs or self.specs).wrong
 
+    def test_a_spoiled_page_is_told_of(self):
+        for what, (page, pattern, other, words) in SPOILED.items():
+            name = str(Path('docs', f'{page}.md')) if '/' not in page else f'{page[3:]}.md'
+            text = re.sub(pattern, other, self.texts[name], count=1)
+            with self.subTest(what):
+                self.assertNotEqual(text, self.texts[name])
+                told = self.told_of({**self.texts, name: text})
+                self.assertTrue([line for line in told if line.startswith(name) and words in line], told)
 
-class Checked(Repository):
-    def test_all_is_so(self):
-        checks = check(self.top)
-        self.assertEqual(checks.wrong, [])
-        self.assertGreater(checks.looked, 30)
+    def test_a_page_that_is_not_there_is_told_of(self):
+        for name in 'ALGORITHM', 'DEFINITIONS', 'HEADLINE', 'PROMISES':
+            page = f'docs/{name}.md'
+            told = self.told_of({other: text for other, text in self.texts.items() if other != page})
+            self.assertIn(f'{page}: there is nothing to look at', told)
+        tables = {name: text.replace('| Function |', '| Functions |') for name, text in self.texts.items()}
+        self.assertEqual(self.told_of(tables), ['docs/PROMISES.md: there is nothing to look at'])
 
-    def test_a_name_that_is_not_there(self):
-        self.spoil('docs/DEFINITIONS.md', '| `Claims` |', '| `Clams` |',
-                   'Clams is not declared in vll_claims/src/claims.rt', 'Clams is not declared in any crate')
-
-    def test_a_name_of_another_file(self):
-        self.spoil('docs/DEFINITIONS.md', '`src/claims.rt`', '`src/claim.rt`',
-                   'Claims is not declared in vll_claims/src/claim.rt')
-
-    def test_a_file_that_is_not_there(self):
-        self.spoil('docs/DEFINITIONS.md', '`src/claims.rt`', '`src/clams.rt`', 'Claims is not declared')
-
-    def test_a_law_that_is_not_there(self):
-        self.spoil('docs/DEFINITIONS.md', '| `helped` | helps |', '| `helps` | helps |',
-                   'helps is not declared in vll_claims', 'helps is not declared in any crate')
-
-    def test_a_name_in_the_text(self):
-        self.spoil('docs/DEFINITIONS.md', 'of `IsClaim`.', 'of `IsClam`.', 'IsClam is not declared in any crate')
-
-    def test_a_definition_that_is_reached_and_not_listed(self):
-        self.spoil('docs/DEFINITIONS.md', '`inner`, `outer` |', '`inner` |',
-                   'outer is reached from IsClaim, and not listed')
-
-    def test_a_definition_of_another_crate_that_is_not_listed(self):
-        self.spoil('docs/DEFINITIONS.md', '| `IsWord` | a word | `vll_base/specs/Word.antt` |\n', '',
-                   'IsWord is reached from IsClaim, and not listed')
-
-    def test_a_definition_that_is_listed_and_not_reached(self):
-        self.spoil('docs/DEFINITIONS.md', '`inner`, `outer` |', '`inner`, `outer`, `unused` |',
-                   'unused is not reached from IsClaim')
-
-    def test_a_definition_that_comes_to_be_cited(self):
-        self.spoil('crates/vll_claims/specs/Claim.antt', 'outer c = inner c', 'outer c = unused c', 'unused is reached')
-
-    def test_a_function_that_is_not_there(self):
-        self.spoil('docs/PROMISES.md', '`Claims::private`', '`Claims::secret`',
-                   'Claims has no function secret', 'Claims::secret is no function of vll_claims')
-
-    def test_a_function_of_another_crate(self):
-        self.spoil('docs/PROMISES.md', '`Claims::read` (vll_claims)', '`Claims::read` (vll_base)',
-                   'law is no function of vll_base', 'Claims::read is no function of vll_base', 'first is no clause')
-
-    def test_a_function_without_its_crate(self):
-        self.spoil('docs/PROMISES.md', '`Claims::private` (vll_claims)', '`Claims::private`',
-                   'no crate stands behind Claims::private')
-
-    def test_a_clause_that_is_not_there(self):
-        self.spoil('docs/PROMISES.md', '`count`;', '`counted`;', 'counted is no clause of Claims::add')
-
-    def test_a_clause_of_another_function(self):
-        self.spoil('docs/PROMISES.md', '`place`, `count`', '`first`, `count`', 'first is no clause of Claims::add')
-
-    def test_a_clause_that_lost_its_name(self):
-        self.spoil('crates/vll_claims/src/claims.rt', 'ensures place {', 'ensures {', 'place is no clause')
-
-    def test_a_definition_of_a_promise(self):
-        self.spoil('docs/PROMISES.md', '| `IsClaim` |', '| `IsClam` |', 'IsClam is not declared')
-
-    def test_a_function_of_the_algorithm(self):
-        self.spoil('docs/ALGORITHM.md', '`law` (vll_claims)', '`claw` (vll_claims)', 'claw is not in vll_claims')
-
-    def test_a_crate_of_the_algorithm(self):
-        self.spoil('docs/ALGORITHM.md', '(vll_claims)', '(vll_base)',
-                   'Claims::add is not in vll_base', 'law is not in vll_base')
-
-    def test_a_quotation_that_is_not_so(self):
-        self.spoil('docs/HEADLINE.md', 'helped c = inner', 'helped c = outer', 'no source has')
-
-    def test_a_quoted_definition_that_changed(self):
-        self.spoil('crates/vll_claims/specs/Claim.antt', 'inner c.unused', 'inner c.other', 'no source has')
-
-    def test_a_page_that_is_not_there(self):
-        (self.top / 'docs/ALGORITHM.md').unlink()
-        self.assertEqual(check(self.top).wrong, ['docs/ALGORITHM.md: there is nothing to look at'])
-
-    def test_tables_without_functions(self):
-        self.spoil('docs/PROMISES.md', '| Function |', '| Functions |', 'docs/PROMISES.md: there is nothing to look at')
-
-    def test_a_headline_without_its_list(self):
-        self.spoil('docs/DEFINITIONS.md', '## What the headline needs', '## What it needs', 'nothing is listed')
-
-    def test_a_function_that_is_named_in_the_text(self):
-        self.spoil('README.md', '`Claims::add`', '`Claims::put`', 'Claims has no function put')
-
-    def test_a_dead_link(self):
-        self.spoil('README.md', '(docs/DEFINITIONS.md)', '(docs/DEFINITION.md)', 'there is no docs/DEFINITION.md')
-
-    def test_a_dead_heading(self):
-        self.spoil('README.md', '#claims', '#clams', 'there is no heading docs/PROMISES.md#clams')
-
-    def test_an_outcome_that_is_not_so(self):
-        self.spoil('README.md', 'value 7', 'value 8', 'scenarios/one.out is not what stands here')
-
-    def test_an_outcome_without_its_file(self):
-        self.spoil('README.md', 'scenarios/one.json', 'scenarios/two.json', 'scenarios/two.out is not what stands here')
+    def test_a_source_that_changed_is_told_of(self):
+        """A clause lost its name, and a definition cites another one."""
+        clause = re.search(r'\n\| [^|]*\| `(\w+::\w+)` \((\w+)\) \| `(\w+)` \|', self.texts['docs/PROMISES.md'])
+        sources = Sources(TOP)
+        sources.functions(clause[2])[clause[1]].discard(clause[3])
+        self.assertIn(f'{clause[3]} is no clause of {clause[1]}', ' '.join(self.told_of(self.texts, sources)))
+        specs = copy.copy(self.specs)
+        serves = next(key for key in specs.texts if key[2] == 'Serves')
+        cited = next(key for key in specs.texts if key[2] == 'IsCallOf' or key[1] == 'Scan')
+        specs.texts = {**specs.texts, serves: [*specs.texts[serves], cited[2]]}
+        specs.imports = {**specs.imports, serves[:2]: {**specs.imports[serves[:2]], cited[2]: cited}}
+        told = f'{cited[2]} is reached from Serves, and not listed'
+        self.assertIn(told, ' '.join(self.told_of(self.texts, specs=specs)))
 
 
-class Contracts(Repository):
-    def run_script(self, *words):
-        """The status of tools/contracts.py, and what it prints."""
-        with contextlib.redirect_stdout(io.StringIO()) as said, contextlib.redirect_stderr(said):
-            return contracts.main(list(words), self.top), said.getvalue()
+class Listings(unittest.TestCase):
 
-    def test_all_libraries(self):
-        self.assertEqual(self.run_script(), (0, CONTRACTS))
-
-    def test_one_library(self):
-        self.assertEqual(self.run_script('vll_claims'), (0, CONTRACTS[CONTRACTS.index('## vll_claims'):]))
-
-    def test_a_library_that_is_not_there(self):
-        self.assertEqual(self.run_script('vll_clams')[0], 2)
-
-
-class Definitions(Repository):
-    def run_script(self, *words):
-        """The status of tools/definitions.py, and what it prints."""
-        with contextlib.redirect_stdout(io.StringIO()) as said, contextlib.redirect_stderr(said):
-            return definitions.main(list(words), self.top), said.getvalue()
-
-    def test_all_crates(self):
-        _, base, claims = re.split(r'(?m)^(?=## )', TABLES)
-        self.assertEqual(self.run_script(), (0, f'{claims}\n{base.rstrip()}\n'))
-
-    def test_one_crate(self):
-        self.assertEqual(self.run_script('vll_claims'), (0, TABLES[TABLES.index('## vll_claims'):]))
-
-    def test_a_crate_that_is_not_there(self):
-        self.assertEqual(self.run_script('vll_clams')[0], 2)
+    def test_what_is_printed_of_a_small_repository(self):
+        with tempfile.TemporaryDirectory() as room:
+            for name, text in FILES.items():
+                path = Path(room, name)
+                path.parent.mkdir(parents=True, exist_ok=True)
+                path.write_text(text)
+            for script, whole in (contracts, CONTRACTS), (definitions, DEFINITIONS):
+                one = re.search(r'(?ms)^## vll_claims.*?(?=^## |\Z)', whole)[0]
+                for words, status, printed in ([], 0, whole), (['vll_claims'], 0, one), (['vll_clams'], 2, None):
+                    with contextlib.redirect_stdout(io.StringIO()) as said, contextlib.redirect_stderr(io.StringIO()):
+                        self.assertEqual(script.main(words, Path(room)), status)
+                    if printed is not None:
+                        self.assertEqual(said.getvalue().rstrip('\n'), printed.rstrip('\n'))
 
 
 if __name__ == '__main__':
-    sys.exit(not unittest.main(exit=False, verbosity=0).result.wasSuccessful())
+    unittest.main()

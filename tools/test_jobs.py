@@ -7,54 +7,34 @@ from pathlib import Path
 import jobs
 
 GB = 1_000_000_000
+# The processors, the bytes free, the files of the control group, and how many checks run at a time.
+ROWS = [
+    (4, 100 * GB, {}, 4),
+    (4, 14 * GB, {}, 3),
+    (1, 100 * GB, {}, None),
+    (4, 8 * GB, {}, None),
+    (8, 100 * GB, {'cpu.max': '300000 100000\n'}, 3),
+    (8, 100 * GB, {'cpu.max': '50000 100000\n'}, None),
+    (8, 100 * GB, {'cpu.max': 'max 100000\n', 'memory.max': 'max\n', 'memory.current': '5\n'}, 8),
+    (8, 100 * GB, {'memory.max': f'{20 * GB}\n', 'memory.current': f'{7 * GB}\n'}, 3),
+    (8, 100 * GB, {'cpu/cpu.cfs_quota_us': '200000\n', 'cpu/cpu.cfs_period_us': '100000\n'}, 2),
+    (8, 100 * GB, {'cpu/cpu.cfs_quota_us': '-1\n', 'cpu/cpu.cfs_period_us': '100000\n'}, 8),
+    (5, None, {}, 5),
+]
 
 
 class Jobs(unittest.TestCase):
-    def setUp(self):
-        room = tempfile.TemporaryDirectory()
-        self.addCleanup(room.cleanup)
-        self.room = Path(room.name)
 
-    def of(self, processors, free, **files):
-        """The jobs for so many processors, so many bytes free, and these files of the control group."""
-        meminfo = self.room / 'meminfo'
-        meminfo.write_text(f'MemTotal: 99999999999 kB\nMemAvailable:   {free // 1024} kB\n')
-        group = self.room / 'group'
-        group.mkdir(exist_ok=True)
-        for name, text in files.items():
-            (group / name.replace('_', '.')).write_text(text)
-        return jobs.jobs(processors, meminfo, group)
-
-    def test_processors_bound_them(self):
-        self.assertEqual(self.of(4, 100 * GB), 4)
-
-    def test_memory_bounds_them(self):
-        self.assertEqual(self.of(4, 14 * GB), 3)
-
-    def test_none_below_two(self):
-        self.assertIsNone(self.of(1, 100 * GB))
-        self.assertIsNone(self.of(4, 8 * GB))
-
-    def test_quota_of_the_control_group_bounds_them(self):
-        self.assertEqual(self.of(8, 100 * GB, cpu_max='300000 100000\n'), 3)
-        self.assertIsNone(self.of(8, 100 * GB, cpu_max='50000 100000\n'))
-
-    def test_no_quota_and_no_limit_bound_nothing(self):
-        self.assertEqual(self.of(8, 100 * GB, cpu_max='max 100000\n', memory_max='max\n', memory_current='5\n'), 8)
-
-    def test_memory_of_the_control_group_bounds_them(self):
-        self.assertEqual(self.of(8, 100 * GB, memory_max=f'{20 * GB}\n', memory_current=f'{7 * GB}\n'), 3)
-
-    def test_older_control_group_bounds_them_if_it_has_a_quota(self):
-        cpu = self.room / 'group/cpu'
-        cpu.mkdir(parents=True)
-        (cpu / 'cpu.cfs_period_us').write_text('100000\n')
-        for quota, found in (200000, 2), (-1, 8):
-            (cpu / 'cpu.cfs_quota_us').write_text(f'{quota}\n')
-            self.assertEqual(self.of(8, 100 * GB), found)
-
-    def test_without_the_files_the_processors_alone_bound_them(self):
-        self.assertEqual(jobs.jobs(5, self.room / 'none', self.room / 'none'), 5)
+    def test_rows(self):
+        for row in ROWS:
+            processors, free, files, wanted = row
+            with self.subTest(row), tempfile.TemporaryDirectory() as room:
+                if free:
+                    Path(room, 'meminfo').write_text(f'MemTotal: 99999999999 kB\nMemAvailable:   {free // 1024} kB\n')
+                for name, text in files.items():
+                    Path(room, name).parent.mkdir(exist_ok=True)
+                    Path(room, name).write_text(text)
+                self.assertEqual(jobs.jobs(processors, Path(room, 'meminfo'), Path(room)), wanted)
 
 
 if __name__ == '__main__':

@@ -6,35 +6,48 @@
 import json
 import os
 import random
+import re
 import subprocess
 import sys
 import tempfile
 import unittest
 from collections import Counter
+from functools import lru_cache
 from pathlib import Path
 from unittest import mock
 
 import judge_outcome
 import judge_replay
-from cases import bytes_of, is_script, read_cases, status_of
+from cases import TOP, bytes_of, is_script, read_cases, status_of
 from generate import SIZES, replay_scenario, run_scenario, scenario_of, text_of
 from judging import DEEPEST, Unlawful
-from model import OPERATORS, Aborted, Body, Found, claims_of, make, make_on, records_of, source_of
+from model import OPERATORS, Aborted, Body, Found, claims_of, depth_of, make, make_on, nodes_of, records_of, source_of
 from occurrences import counts_of
-from random_procedures import nodes_of
+from refusals import MOST_BYTES, Refused
+from refusals import scenario_of as scenario_of_bytes
 from replay_model import FOR_WRITING, Machine, replay_text
 from wrong_machines import WRONG, WRONG_CALLS, WRONG_OPERATORS
 
 TOOLS = Path(__file__).resolve().parent
 SEEDS = range(300)
+sys.setrecursionlimit(DEEPEST)
 
 
-def worked_replays():
-    """The replays of scenarios/ and examples/ whose text was worked out by hand: the name, the scenario and the text."""
+def worked(command):
+    """The cases of this command whose text was worked out by hand: the name, the scenario and the text."""
     for case in read_cases()[0]:
-        is_kept = not is_script(case.text) and not is_script(case.printed)
-        if case.words == [b'replay'] and is_kept and status_of(case.wanted()) == 0:
+        is_kept = case.printed and not is_script(case.text) and not is_script(case.printed)
+        if case.words[:1] == [command] and is_kept and status_of(case.wanted()) == 0:
             yield case.name, json.loads(bytes_of(case.text)), case.wanted().decode()
+
+
+def told_of(data):
+    """The line by which a scenario is refused; empty if it is taken."""
+    try:
+        scenario_of_bytes(data)
+    except Refused as why:
+        return f'vll: scenario: {why}\n'
+    return ''
 
 
 class AnyRun:
@@ -165,10 +178,36 @@ class Language(unittest.TestCase):
         self.assertEqual([machine.place(record) for record in range(4)], [0, 0x779B9, 0xEF372, 0x66D2C])
 
 
+class Refusals(unittest.TestCase):
+
+    def test_each_case_is_refused_by_its_line_or_taken(self):
+        found, refused = {}, 0
+        for case in read_cases()[0]:
+            line = case.line().decode()
+            is_refused = line.startswith('vll: scenario: ')
+            if line != 'vll: command line\n' and (is_refused or not is_script(case.text)):
+                refused += is_refused
+                if case.text not in found:
+                    found[case.text] = told_of(bytes_of(case.text, MOST_BYTES + 1))
+                with self.subTest(case.name):
+                    self.assertEqual(found[case.text], line if is_refused else '')
+        self.assertGreater(refused, 450)
+
+    def test_random_scenarios_are_taken(self):
+        for kind in SIZES:
+            for seed, (scenario, _) in enumerate(made(kind)):
+                self.assertEqual(told_of(text_of(scenario, seed).encode()), '', (kind, seed))
+
+    def test_command_refuses(self):
+        for file, line in (__file__, 'json'), (TOOLS, 'read'), (TOP / 'docs/scenario.schema.json', 'shape top 0'):
+            ran = subprocess.run([sys.executable, TOOLS / 'replay_model.py', file], stdout=subprocess.PIPE, check=False)
+            self.assertEqual((ran.returncode, ran.stdout.decode()), (2, f'vll: scenario: {line}\n'))
+
+
 class Replays(unittest.TestCase):
 
     def test_worked_replays(self):
-        replays = list(worked_replays())
+        replays = list(worked(b'replay'))
         self.assertGreater(len(replays), 50)
         for name, scenario, text in replays:
             with self.subTest(name):
@@ -176,7 +215,7 @@ class Replays(unittest.TestCase):
 
     def test_doctored_replays_are_wrong(self):
         rng = random.Random(1)
-        replays = [(scenario, text) for name, scenario, text in worked_replays()
+        replays = [(scenario, text) for name, scenario, text in worked(b'replay')
                    if name in ('blocked_queue_step_by_step', 'every_reply_of_a_replay', 'open_turn_at_the_end')]
         self.assertEqual(len(replays), 3)
         for seed in range(10):
@@ -196,6 +235,39 @@ BUMP = {'name': 'bump', 'args': 1, 'keys': [['write', 'arg', 0]],
         'body': [['set', 0, ['add', ['key', 0], 1]], ['reply', ['key', 0]]]}
 # Replies what the record has held.
 SET = {'name': 'set', 'args': 2, 'keys': [['write', 'arg', 0]], 'body': [['reply', ['key', 0]], ['set', 0, ['arg', 1]]]}
+
+# An outcome of scenarios/run/clients/stock_runs_out.json, in which the clients take turns.
+STOCK = TOP / 'scenarios/run/clients/stock_runs_out.json'
+BY_TURNS = '''\
+call 0 client 0 committed 1
+call 1 client 1 committed 0
+call 2 client 0 aborted code 1
+call 3 client 1 committed 10
+call 4 client 0 committed 9
+call 5 client 1 committed 7
+call 6 client 1 committed 7 7
+record 0 value 7 pair 0
+record 1 value 7 pair 0
+'''
+
+# What stands in it, and what makes it unlawful in that place: the replies of a client swapped, its calls given to
+# another, calls that are waiting, left out or doubled under tickets that fit, other replies, tickets, clients, spaces
+# and records.
+DOCTORED = [
+    [('(call 3 .*) 10', r'\1 7'), ('(call 5 .*) 7', r'\1 10')],
+    [('(call 2 client) 0', r'\1 1'), ('(call 3 client) 1', r'\1 0')],
+    [('committed 9', 'waiting')],
+    [('call 2 .*\n', ''), *((f'call {ticket}', f'call {ticket - 1}') for ticket in range(3, 7))],
+    [('call 6(.*)', r'call 6\1\ncall 7\1')],
+    [(r'(call 6 .*\n)((?:record.*\n)*)', r'\2\1')],
+    *([pair] for pair in [
+        (' 7 7\n', ' 7\n'), (' 7 7\n', ' 7 7 7\n'), ('code 1', 'code 2'), ('code 1', 'overflow'),
+        ('aborted code 1', 'committed 0'),
+        ('client 1 committed 0', 'client 1 aborted code 1'), ('call 4', 'call 3'), ('call 4', 'call 04'),
+        ('committed 9', 'committed 09'), ('call 6 client 1', 'call 6 client 2'), ('\n', ' \n'), ('\n', '\n\n'),
+        ('record 1 value 7', 'record 1 value 8'), ('pair 0', 'pair 4294967296'), (r'\Z', 'record 2 value 7 pair 0\n'),
+        ('(record.*\n)+', '')]),
+]
 
 # Runs that find what no source has held, or what it holds no longer.
 WRONG_FINDS = {
@@ -219,6 +291,34 @@ def is_unlawful(scenario, text):
 
 
 class Outcomes(unittest.TestCase):
+
+    def test_worked_outcomes_are_lawful(self):
+        """What scenarios of one client print, and one outcome of some that have more."""
+        outcomes = list(worked(b'run'))
+        self.assertGreater(len(outcomes), 120)
+        for name, scenario, text in outcomes:
+            with self.subTest(name):
+                judge_outcome.judge(scenario, text)
+
+    def test_doctored_outcome_is_wrong(self):
+        scenario = json.loads(STOCK.read_text())
+        judge_outcome.judge(scenario, BY_TURNS)
+        for edits in DOCTORED:
+            text = BY_TURNS
+            for pattern, other in edits:
+                text = re.sub(pattern, other, text, count=1)
+            with self.subTest(edits):
+                self.assertNotEqual(text, BY_TURNS)
+                self.assertTrue(is_unlawful(scenario, text))
+
+    def test_command_tells_what_is_wrong(self):
+        with tempfile.TemporaryDirectory() as room:
+            right, wrong = Path(room, 'right'), Path(room, 'wrong')
+            right.write_text(BY_TURNS)
+            wrong.write_text(BY_TURNS[:-1])
+            command = [sys.executable, TOOLS / 'judge_outcome.py', STOCK, right, STOCK, wrong]
+            ran = subprocess.run(command, stdout=subprocess.PIPE, check=False)
+            self.assertEqual((ran.returncode, ran.stdout.decode()), (1, f'{wrong}: the last line has no end\n'))
 
     def test_doctored_outcomes_are_wrong(self):
         rng = random.Random(2)
@@ -294,35 +394,24 @@ class Outcomes(unittest.TestCase):
 
     def test_wrong_runs_are_found_out(self):
         """By runs of calls with an indirect key that do these one thing wrong."""
-        made = [run_scenario(seed, 12)[0] for seed in SEEDS]
+        scenarios = [run_scenario(seed, 12)[0] for seed in SEEDS]
         changes = {what: mock.patch.object(*change) for what, change in WRONG_CALLS.items()}
-        changes |= {what: mock.patch.object(AnyRun, 'value', value) for what, value in WRONG_FINDS.items()}
+        changes.update((what, mock.patch.object(AnyRun, 'value', value)) for what, value in WRONG_FINDS.items())
         for what, change in changes.items():
             rng = random.Random(3)
             with change:
-                texts = [lawful_outcome(scenario, rng) for scenario in made]
+                texts = [lawful_outcome(scenario, rng) for scenario in scenarios]
             with self.subTest(what):
-                self.assertTrue(any(is_unlawful(scenario, text) for scenario, text in zip(made, texts)))
+                self.assertTrue(any(is_unlawful(scenario, text) for scenario, text in zip(scenarios, texts)))
 
 
-def depth_of(tree):
-    """How deep a statement, an expression or a list of statements is."""
-    if tree == []:
-        return 0
-    if isinstance(tree, int):
-        return 1
-    if isinstance(tree[0], list):
-        return max(map(depth_of, tree))
-    if tree[0] in ('arg', 'key', 'local', 'abort'):
-        return 1
-    return 1 + max(map(depth_of, tree[2:] if tree[0] in ('let', 'set', 'repeat') else tree[1:]))
+@lru_cache(maxsize=None)
+def made(kind):
+    """The scenarios of all seeds, with the options of their runs."""
+    return [scenario_of(kind, seed, SIZES[kind]) for seed in SEEDS]
 
 
 class Generator(unittest.TestCase):
-
-    @classmethod
-    def setUpClass(cls):
-        cls.made = {kind: [scenario_of(kind, seed, size) for seed in SEEDS] for kind, size in SIZES.items()}
 
     def test_seeds_give_the_same_scenario(self):
         for seed in range(5):
@@ -336,18 +425,18 @@ class Generator(unittest.TestCase):
         self.assertGreater(max(len(replay_scenario(seed, 2000).get('schedule', [])) for seed in range(3)), 500)
 
     def test_bodies_reach_their_measures(self):
-        bodies = [procedure['body'] for scenario, _ in self.made['replay'] for procedure in scenario['procs']]
+        bodies = [procedure['body'] for scenario, _ in made('replay') for procedure in scenario['procs']]
         self.assertEqual(max(map(nodes_of, bodies)), 1024)
         self.assertEqual(max(map(depth_of, bodies)), 32)
 
     def test_each_thing_occurs(self):
-        for kind, made in self.made.items():
-            self.assertEqual([name for name, count in counts_of(kind, made).items() if count == 0], [], kind)
+        for kind in SIZES:
+            self.assertEqual([name for name, count in counts_of(kind, made(kind)).items() if count == 0], [], kind)
 
     def test_wrong_machines_are_found_out(self):
-        replays = [(scenario, replay_text(scenario)) for scenario, _ in self.made['replay']]
+        replays = [(scenario, replay_text(scenario)) for scenario, _ in made('replay')]
         changes = {what: mock.patch.object(*change) for what, change in WRONG.items()}
-        changes |= {word: mock.patch.dict(OPERATORS, {word: wrong}) for word, wrong in WRONG_OPERATORS.items()}
+        changes.update((word, mock.patch.dict(OPERATORS, {word: wrong})) for word, wrong in WRONG_OPERATORS.items())
         for what, change in changes.items():
             with self.subTest(what), change:
                 self.assertTrue(any(replay_text(scenario) != text for scenario, text in replays))
@@ -364,7 +453,7 @@ class RandomTests(unittest.TestCase):
             program.chmod(0o755)
             command = [sys.executable, TOOLS / 'random_tests', kind, '7', '3', '--size', '30', '--program', program]
             command += options
-            changed = os.environ | {'TMPDIR': room}
+            changed = {**os.environ, 'TMPDIR': room}
             ran = subprocess.run(command, env=changed, capture_output=True, text=True, check=False)
             self.assertEqual(ran.stderr, '')
             return ran.returncode, ran.stdout.splitlines()
@@ -394,5 +483,4 @@ class RandomTests(unittest.TestCase):
 
 
 if __name__ == '__main__':
-    sys.setrecursionlimit(DEEPEST)
     unittest.main()

@@ -4,8 +4,6 @@ what the program prints and is never chosen silently.
 
     python3 tools/test_vll.py             with a stand-in for rt; some seconds
     python3 tools/test_vll.py --with-rt   with rt itself on some scenarios; some minutes
-
-The last line is `vll: N passed, M failed`, and the status is 1 if one failed.
 """
 import os
 import shutil
@@ -15,9 +13,18 @@ import tempfile
 import unittest
 from pathlib import Path
 
+from cases import read_cases
+
 TOP = Path(__file__).resolve().parent.parent
 TRANSFER = TOP / 'scenarios/transfer.json'
 OUTCOME = b'call 0 client 0 committed 70\nrecord 0 value 70 pair 0\n'
+
+# Beside those of scenarios/command_line/, words that the program refuses, and words that it takes.
+REFUSED = [
+    ['rnu'], ['run', '--capacity=3'], ['scenario.json'], ['help', '-h'], ['help', 'help', 'run'], ['--help=1'],
+    ['run', '-V'], ['run', '--workers', '65', '--help'], ['run', '--cap', '--help'], ['--', 'run'], ['run', '--', '-h'],
+    ['run', '--workers==3'], ['run', '--workers', '--', '3'], ['--help', b'\xff']]
+ACCEPTED = [['run', '--'], ['run', '--workers', '+3'], ['run', '--bits=0001048576', '--'], ['replay', '--']]
 
 # In place of rt: it notes how it was called, and prints as `rt try` and `rt run` do.
 RT = '''#!/usr/bin/env bash
@@ -71,7 +78,7 @@ class WithStandIn(unittest.TestCase):
         (self.room / 'made').write_text('#!/usr/bin/env bash\nprintf "%s\\n" "$*"\n')
         (self.room / 'made').chmod(0o755)
         ran = self.vll(*words)
-        self.assertEqual(ran.stdout.decode().rstrip('\n'), ' '.join(words))
+        self.assertEqual(ran.stdout.decode().rstrip('\n'), ' '.join(map(os.fsdecode, words)))
         self.assertTrue(program.exists())
         return (self.room / 'words').exists()
 
@@ -106,7 +113,7 @@ class WithStandIn(unittest.TestCase):
         self.assertEqual(self.vll('--unproved', 'run').stdout, usage)
 
     def test_each_run_says_that_it_is_unproved(self):
-        for words in ('run',), ('replay',), ('--help',), ():
+        for words in ('run',), ('replay',), ('--help',):
             said = self.vll('--unproved', *words).stderr
             self.assertIn(b'UNPROVED', said)
             self.assertNotIn(b'checked: something', said)
@@ -129,7 +136,7 @@ class WithStandIn(unittest.TestCase):
         self.assertEqual(self.vll('--unproved', 'run').returncode, 3)
 
     def test_input_is_left_where_the_program_reads_none(self):
-        for words in ('--help',), ('run', '--help'), ('replay', '-h'), ('other',), ():
+        for words in ('--help',), ('run', '--help'), ('replay', '-h'), ('--version',):
             self.vll('--unproved', *words, given=b'left as it is')
             self.assertEqual((self.room / 'input').read_bytes(), b'')
 
@@ -148,6 +155,14 @@ class WithStandIn(unittest.TestCase):
         self.assertEqual((ran.stdout, ran.stderr), (b'proved', b''))
         self.assertFalse((self.room / 'words').exists())
 
+    def test_a_link_from_another_folder_is_followed(self):
+        self.build('proved')
+        with tempfile.TemporaryDirectory() as room:
+            link = Path(room, 'link')
+            link.symlink_to(self.room / 'vll')
+            ran = subprocess.run([link, 'run'], cwd='/', stdin=subprocess.DEVNULL, stdout=subprocess.PIPE, check=False)
+        self.assertEqual(ran.stdout, b'proved')
+
     def test_a_missing_program_is_proved_and_built(self):
         self.vll('run')
         self.assertEqual(self.words(), ['run', '--', '--help'])
@@ -161,7 +176,8 @@ class WithStandIn(unittest.TestCase):
             self.assertEqual(self.words(), ['try', '--', 'run', '--workers', '3'])
 
     def test_help_is_there_before_the_program(self):
-        for words in ('--help',), ('-h',), ('help',), ('help', 'run'), ('run', '--help'), ('replay', '-h'):
+        for words in ('--help',), ('-h',), ('help',), ('help', 'run'), ('run', '--help'), ('replay', '-h'), \
+                ('run', '--help', '--workers', '65'):
             ran = self.vll(*words)
             self.assertEqual((ran.returncode, ran.stderr), (0, b''))
             for part in b'./vll --unproved', b'run [--workers N] [--cap N] [--bits N]', b'replay':
@@ -169,13 +185,31 @@ class WithStandIn(unittest.TestCase):
             self.assertNotIn(b'set -euo', ran.stdout)
         self.assertFalse((self.room / 'words').exists())
 
-    def test_words_of_no_use_are_refused_before_the_program(self):
-        for words in (), ('rnu',), ('run', '--worker', '3'), ('run', '--capacity=3'), ('replay', '--workers', '3'), \
-                ('replay', 'x'), ('scenario.json',):
-            ran = self.vll(*words)
-            self.assertEqual((ran.returncode, ran.stdout), (2, b'vll: command line\n'))
-            self.assertIn(b'--help', ran.stderr)
+    def test_words_that_the_program_refuses_are_refused_before_it_is_there(self):
+        """Those of scenarios/command_line/ that are refused, and some more, also with --unproved."""
+        rows = [case for case in read_cases()[0] if case.place.startswith('scenarios/command_line/')]
+        lines = [case.words for case in rows if case.wanted() == b'vll: command line\n']
+        self.assertGreater(len(lines), 50)
+        for words in [*lines, *REFUSED, *([b'--unproved', *words] for words in lines[:3])]:
+            with self.subTest(words):
+                ran = self.vll(*words)
+                self.assertEqual((ran.returncode, ran.stdout), (2, b'vll: command line\n'))
+                self.assertIn(b'--help', ran.stderr)
         self.assertFalse((self.room / 'words').exists())
+        for words in [case.words for case in rows if case.words not in lines] + ACCEPTED:
+            with self.subTest(words):
+                self.assertTrue(self.is_built_for(*words))
+                shutil.rmtree(self.room / 'crates/vll/out')
+
+    def test_it_tells_how_far_the_proofs_are(self):
+        (self.room / 'said').write_text('')
+        self.answer(b'', 0, 'so far: 0 of 5 functions checked; the verdict comes last\nfn vll_deep::a::b: proved\n'
+                            'crate vll_deep: modules loaded=1 checked=5\n'
+                            'so far: 3 of 9 functions checked; the verdict comes last\n')
+        said = self.vll('run').stderr.decode()
+        for part in 'this proves 3 crates', 'proving vll_deep\n', \
+                'vll_deep is proved: 1 of 3 crates, after 0 minutes', '3 of 9 functions checked; 1 of 3 crates are proved':
+            self.assertIn(part, said)
 
     def test_words_of_use_have_the_program_built(self):
         for words in ('run',), ('replay',), ('run', '--workers', '3', '--cap=4', '--bits', '5'):
@@ -205,6 +239,7 @@ class WithStandIn(unittest.TestCase):
             self.assertFalse(self.is_built_for('run'), changed)
 
 
+@unittest.skipUnless('--with-rt' in sys.argv, 'not asked for')
 class WithRt(unittest.TestCase):
     """The repository's own ./vll, and rt: each run compiles all sources."""
 
@@ -223,17 +258,5 @@ class WithRt(unittest.TestCase):
         self.check(['run', '--workers', '0'], b'', b'vll: command line\n', 2)
 
 
-def main():
-    if sys.argv[1:] not in ([], ['--with-rt']):
-        print(__doc__.strip(), file=sys.stderr)
-        return 2
-    cases = WithRt if sys.argv[1:] else WithStandIn
-    suite = unittest.defaultTestLoader.loadTestsFromTestCase(cases)
-    result = unittest.TextTestRunner(verbosity=0).run(suite)
-    failed = len(result.failures) + len(result.errors)
-    print(f'vll: {result.testsRun - failed} passed, {failed} failed')
-    return 1 if failed else 0
-
-
 if __name__ == '__main__':
-    sys.exit(main())
+    unittest.main(argv=[sys.argv[0], 'WithRt' if '--with-rt' in sys.argv else 'WithStandIn'])

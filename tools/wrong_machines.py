@@ -1,4 +1,5 @@
 """Machines that are wrong, each in one point, which random replays have to find out, and random runs some of them."""
+from copy import copy
 from types import SimpleNamespace
 
 from model import MOST, OPERATORS, Aborted, Body, Found
@@ -86,37 +87,17 @@ def run_with_other_turns(turns_of):
     return run
 
 
-def run_with_the_first_locals(self, statements):
-    """Each turn begins with the locals of before its repeat."""
-    for word, *parts in statements:
-        kept = list(self.locals)
-        for _ in range(parts[0] if word == 'repeat' else 0):
-            self.locals = list(kept)
-            self.run(parts[1])
-        if word != 'repeat':
-            RUN(self, [[word, *parts]])
-
-
-def run_with_the_first_values(self, statements):
-    """Each turn begins with the records' values of before its repeat."""
-    for word, *parts in statements:
-        kept = dict(self.held)
-        for _ in range(parts[0] if word == 'repeat' else 0):
-            self.held = dict(kept)
-            self.run(parts[1])
-        if word != 'repeat':
-            RUN(self, [[word, *parts]])
-
-
-def run_that_keeps_the_last_replies(self, statements):
-    """A repeat makes the replies of its last turn alone."""
-    for word, *parts in statements:
-        kept = list(self.replies)
-        for _ in range(parts[0] if word == 'repeat' else 0):
-            self.replies = list(kept)
-            self.run(parts[1])
-        if word != 'repeat':
-            RUN(self, [[word, *parts]])
+def run_with_the_first(name):
+    """Each turn of a repeat begins with what the body had of this name before the repeat."""
+    def run(self, statements):
+        for word, *parts in statements:
+            kept = copy(getattr(self, name))
+            for _ in range(parts[0] if word == 'repeat' else 0):
+                setattr(self, name, copy(kept))
+                self.run(parts[1])
+            if word != 'repeat':
+                RUN(self, [[word, *parts]])
+    return run
 
 
 def run_in_which_an_abort_ends_a_repeat(self, statements):
@@ -149,7 +130,7 @@ def find_in_the_opening_records(self, client):
 def find_that_keeps_the_first(self, client):
     kept = dict(self.found)
     answer = TAKE_FIND(self, client)
-    self.found |= kept
+    self.found.update(kept)
     return answer
 
 
@@ -214,6 +195,7 @@ WRONG_CALLS = {
 
 # Machines that are wrong: what each does, and the function that stands in the place of a right one.
 WRONG = {
+    **WRONG_CALLS,
     'front passes running calls': (Machine, 'front', first_waiting),
     'the scan looks at running calls alone': (Machine, 'scan', scan_of_running_calls),
     'the scan does not count released claims': (Machine, 'meets', meets_open_claims),
@@ -229,9 +211,9 @@ WRONG = {
     'a repeat has a turn less': (Body, 'run', run_with_other_turns(lambda turns: max(turns - 1, 0))),
     'a repeat has a turn at least': (Body, 'run', run_with_other_turns(lambda turns: max(turns, 1))),
     'a repeat has one turn': (Body, 'run', run_with_other_turns(lambda turns: min(turns, 1))),
-    'turns begin with the first locals': (Body, 'run', run_with_the_first_locals),
-    'turns begin with the first values': (Body, 'run', run_with_the_first_values),
-    'a repeat makes the replies of its last turn': (Body, 'run', run_that_keeps_the_last_replies),
+    'turns begin with the first locals': (Body, 'run', run_with_the_first('locals')),
+    'turns begin with the first values': (Body, 'run', run_with_the_first('held')),
+    'a repeat makes the replies of its last turn': (Body, 'run', run_with_the_first('replies')),
     'an abort ends its repeat alone': (Body, 'run', run_in_which_an_abort_ends_a_repeat),
     'aborted calls store': (Call, 'has_aborted', lambda self: False),
     'busy comes before spent': (Machine, 'refusal', told_before(
@@ -259,4 +241,4 @@ WRONG = {
         'out of step', 'busy', lambda self, event: not self.is_ready(event[1]))),
     'enter tells that nothing was found before spent': (Machine, 'refusal', told_before(
         'out of step', 'spent', lambda self, event: not self.is_ready(event[1]))),
-} | WRONG_CALLS
+}
