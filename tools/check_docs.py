@@ -119,7 +119,7 @@ class Checks:
         self.headline(page, listed)
 
     def declarations(self, page):
-        """What the first column of a table names is declared where the row or the section says, and any name somewhere."""
+        """What the first column of a table names is declared where the row or the section says, any name somewhere."""
         for number, second, above, cells in page.rows():
             crate = crate_in(above) or crate_in(second)
             where = [f'{crate}/{file}' if crate else file for file in NAME.findall(cells.get('File', ''))]
@@ -135,7 +135,7 @@ class Checks:
         return any(name in self.sources.names_of(file) for file in files)
 
     def headline(self, page, listed):
-        """Each list under "What the headline needs" is what the names in its heading reach, but for the lists above it."""
+        """Each list under "What the headline needs" is what the names in its heading reach, but for those above it."""
         known = set()
         for number, line in enumerate(page.lines, 1):
             found = HEADING.fullmatch(line)

@@ -16,8 +16,8 @@ from cases import TOP, bytes_of, read_cases
 
 MOST_BYTES = 1 << 20
 
-# Checks 1, 2, 8, 14 and 15 are a ninth argument, a key too many, a local over 7, a second indirect key and a repeat of more
-# than 64 turns.
+# Checks 1, 2, 8, 14 and 15 are a ninth argument, a key too many, a local over 7, a second indirect key and a repeat of
+# more than 64 turns.
 MUST_REFUSE = re.compile(r'vll: scenario: (shape|size|check \d+ (1|2|8|14|15)\n)')
 
 # Scenarios that the program refuses by such a line, and the schema cannot: the reason, and their names.

@@ -1,5 +1,5 @@
 #!/usr/bin/env python3
-"""Prints the public functions of each library, with the first sentence of their comments and the names of their clauses.
+"""Prints the public functions of each library, with the first sentence of their comments and the names of clauses.
 
     python3 tools/contracts.py            those of all libraries
     python3 tools/contracts.py CRATE ..   those of these libraries

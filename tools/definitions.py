@@ -61,7 +61,8 @@ def marked(names):
 def main(words, top):
     unknown = [word for word in words if not (top / 'crates' / word / 'specs').is_dir()]
     if unknown:
-        print(f'usage: python3 tools/definitions.py [CRATE ..]; no crate with definitions: {" ".join(unknown)}', file=sys.stderr)
+        usage = 'usage: python3 tools/definitions.py [CRATE ..]'
+        print(f'{usage}; no crate with definitions: {" ".join(unknown)}', file=sys.stderr)
         return 2
     print(listing_of(top, words), end='')
     return 0

@@ -23,7 +23,7 @@ TICKS = os.sysconf('SC_CLK_TCK')
 
 
 def work_of(words):
-    """Whose work the prover does that was called with these words: the crate, and one of KINDS. None if it is no prover."""
+    """Whose work the prover does that was called with these words: the crate, and one of KINDS. None for others."""
     if len(words) < 2 or not words[0].endswith('/rattle') or '--crate-name' not in words[:-1]:
         return None
     crate = words[words.index('--crate-name') + 1]

@@ -49,7 +49,7 @@ def add_repeat(rng, body):
 
 
 def add_count(rng, body):
-    """Puts a repeat behind the body that counts in a local, and a reply of the count, if these are within its measures."""
+    """Puts a repeat behind the body that counts in a local, and a reply of the count, if its measures allow it."""
     local = rng.randrange(LOCALS)
     counted = ['add', ['local', local], rng.choice([1, 1, 2, 7])]
     added = [['let', local, rng.randrange(3)],

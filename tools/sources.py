@@ -1,10 +1,11 @@
-"""What the sources declare: the definitions of specs/ with their comments, and the types, functions and clauses of src/."""
+"""What the sources declare: the definitions of specs/ with their comments; the types, functions and clauses of src/."""
 import re
 from functools import lru_cache
 from typing import List, NamedTuple
 
 # A declaration of a definition, behind the words that may stand before its name.
-DECLARATION = re.compile(r'\s*(?:(?:abbrev|unfoldable|opaque|pub|record|data) )+(?!(?:mod|mutual)\b)([A-Za-z_]\w*|◌\S+◌)')
+DECLARATION = re.compile(
+    r'\s*(?:(?:abbrev|unfoldable|opaque|pub|record|data) )+(?!(?:mod|mutual)\b)([A-Za-z_]\w*|◌\S+◌)')
 USE = re.compile(r'use Rattle\.(\w+)\.specs\.([\w.]+)\.\{(.*)\}')
 ITEM = re.compile(r'\s*(?:pub(?:\(\w+\))? )?(?:struct|enum|trait|const|type|fn) (\w+)')
 MEMBER = re.compile(r'    (?:(?:pub(?:\(\w+\))? )?([a-z_]\w*):|([A-Z]\w*)(?:\(.*\)| \{.*)?,?$)')
@@ -145,7 +146,7 @@ class Specs:
     def __init__(self, top):
         self.imports = {}
         self.texts = {}
-        # The first comment of a file, and the comment over a definition or over its group. It is empty if there is none.
+        # The first comment of a file, and that over a definition or over its group. It is empty if there is none.
         self.heads = {}
         self.comments = {}
         for path in sorted(top.glob('crates/*/specs/**/*.antt')):

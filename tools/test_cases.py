@@ -80,12 +80,13 @@ exit 0
 WRONG = {
     'status 0': ('exit 2 ;;\n  \'vll: replay', 'exit 0 ;;\n  \'vll: replay', ['one_line']),
     'status of a replay': ('exit 1 ;;', 'exit 2 ;;', ['failed']),
-    'status of what is run': ('exit 0\n', 'exit 1\n', ['01_both', 'again', 'clients', 'first', 'judged', 'made', 'raw', 'steps',
-                                                       'two_lines']),
-    'no line end': ("printf '%s\\n'", "printf '%s'", ['01_both', 'again', 'clients', 'failed', 'first', 'judged', 'made',
-                                                      'one_line', 'raw', 'steps', 'two_lines']),
-    'a word on standard error': ('case $text in\n  \'vll: scenario', 'case $text in\n  *0\' opened\') echo x >&2 ;; \'vll: scenario',
-                                 ['steps']),
+    'status of what is run': (
+        'exit 0\n', 'exit 1\n', ['01_both', 'again', 'clients', 'first', 'judged', 'made', 'raw', 'steps', 'two_lines']),
+    'no line end': (
+        "printf '%s\\n'", "printf '%s'",
+        ['01_both', 'again', 'clients', 'failed', 'first', 'judged', 'made', 'one_line', 'raw', 'steps', 'two_lines']),
+    'a word on standard error': (
+        "case $text in\n  'vll: scenario", "case $text in\n  *0' opened') echo x >&2 ;; 'vll: scenario", ['steps']),
     'reads before it refuses': ("''", "'') read line; echo 'vll: command line'; exit 2 ;;\n  ''", ['no_words']),
     'another status of a refused command line': ("echo 'vll: command line'; exit 2", "echo 'vll: command line'; exit 1",
                                                  ['no_words', 'words']),
@@ -133,8 +134,9 @@ class Reading(Room):
 
     def test_status_follows_from_what_is_printed(self):
         for printed, status in [
-                (b'', 0), (b'call 0 client 0 committed\n', 0), (b'vll: command line\n', 2), (b'vll: scenario: size\n', 2),
-                (b'vll: run: spent\n', 1), (b'vll: replay: write\n', 1), (b'record 0 value 1 pair 0\nvll: run: write\n', 1),
+                (b'', 0), (b'call 0 client 0 committed\n', 0),
+                (b'vll: command line\n', 2), (b'vll: scenario: size\n', 2), (b'vll: run: spent\n', 1),
+                (b'vll: replay: write\n', 1), (b'record 0 value 1 pair 0\nvll: run: write\n', 1),
                 (b'0 refused vll: scenario: size\n', 0)]:
             self.assertEqual(status_of(printed), status, printed)
 

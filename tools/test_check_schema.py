@@ -90,7 +90,8 @@ class Schemas(unittest.TestCase):
                 self.assertTrue(self.disagrees(schema))
 
     def test_exception_that_is_no_scenario_is_told(self):
-        told = [line for line in disagreements(schema_of_scenarios(), self.asked[:1]) if 'named as an exception' in line]
+        lines = disagreements(schema_of_scenarios(), self.asked[:1])
+        told = [line for line in lines if 'named as an exception' in line]
         self.assertIn('call_of_nine_arguments is named as an exception, and is no scenario', told)
 
 

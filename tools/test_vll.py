@@ -208,7 +208,8 @@ class WithStandIn(unittest.TestCase):
                             'so far: 3 of 9 functions checked; the verdict comes last\n')
         said = self.vll('run').stderr.decode()
         for part in 'this proves 3 crates', 'proving vll_deep\n', \
-                'vll_deep is proved: 1 of 3 crates, after 0 minutes', '3 of 9 functions checked; 1 of 3 crates are proved':
+                'vll_deep is proved: 1 of 3 crates, after 0 minutes', \
+                '3 of 9 functions checked; 1 of 3 crates are proved':
             self.assertIn(part, said)
 
     def test_words_of_use_have_the_program_built(self):
