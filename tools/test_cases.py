@@ -81,7 +81,8 @@ WRONG = {
     'status 0': ('exit 2 ;;\n  \'vll: replay', 'exit 0 ;;\n  \'vll: replay', ['one_line']),
     'status of a replay': ('exit 1 ;;', 'exit 2 ;;', ['failed']),
     'status of what is run': (
-        'exit 0\n', 'exit 1\n', ['01_both', 'again', 'clients', 'first', 'judged', 'made', 'raw', 'steps', 'two_lines']),
+        'exit 0\n', 'exit 1\n',
+        ['01_both', 'again', 'clients', 'first', 'judged', 'made', 'raw', 'steps', 'two_lines']),
     'no line end': (
         "printf '%s\\n'", "printf '%s'",
         ['01_both', 'again', 'clients', 'failed', 'first', 'judged', 'made', 'one_line', 'raw', 'steps', 'two_lines']),
