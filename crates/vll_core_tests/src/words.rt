@@ -1,40 +1,7 @@
 // Answers, and what stands in a core, in words.
 use std::alloc::{AllocError, Global};
 use vll_core::{Core, Line, Refusal, Seen, Ticket};
-use vll_proc::{Outputs, Reason, Reply};
 use vll_sca::{Placing, Status};
-
-fn push_reason(text: &mut String, why: Reason) -> Result<(), AllocError> {
-    match why {
-        Reason::Code(code) => write!(text, "code {code}"),
-        Reason::Overflow => text.push_str("overflow"),
-        Reason::Underflow => text.push_str("underflow"),
-        Reason::ZeroDivisor => text.push_str("zero divisor"),
-        Reason::Moved => text.push_str("moved"),
-    }
-}
-
-fn push_outputs(text: &mut String, outputs: &Outputs) -> Result<(), AllocError> {
-    for i in 0..outputs.len() {
-        if let Some(output) = outputs.get(i) {
-            write!(text, " {output}")?;
-        }
-    }
-    Ok(())
-}
-
-fn push_reply(text: &mut String, reply: &Reply) -> Result<(), AllocError> {
-    match reply {
-        Reply::Committed(outputs) => {
-            text.push_str("committed")?;
-            push_outputs(text, outputs)
-        }
-        Reply::Aborted(why) => {
-            text.push_str("aborted ")?;
-            push_reason(text, *why)
-        }
-    }
-}
 
 fn push_request(text: &mut String, old: u64, granted: bool) -> Result<(), AllocError> {
     let answer = if granted { "granted" } else { "denied" };
@@ -57,10 +24,7 @@ fn push_seen(text: &mut String, seen: &Seen) -> Result<(), AllocError> {
         Seen::Loaded(value) => write!(text, "loaded {value}"),
         Seen::Stored => text.push_str("stored"),
         Seen::Released(old) => write!(text, "released {old}"),
-        Seen::Replied(reply) => {
-            text.push_str("replied ")?;
-            push_reply(text, reply)
-        }
+        Seen::Replied(reply) => write!(text, "replied {reply}"),
     }
 }
 
@@ -92,7 +56,7 @@ fn push_state(text: &mut String, state: Option<Status>, line: &Line) -> Result<(
     match (state, &line.reply) {
         (Some(Status::Running), None) => text.push_str("running"),
         (Some(Status::Waiting), None) => text.push_str("waiting"),
-        (Some(Status::Gone), Some(reply)) => push_reply(text, reply),
+        (Some(Status::Gone), Some(reply)) => write!(text, "{reply}"),
         _ => text.push_str("neither running nor waiting nor gone"),
     }
 }

@@ -12,7 +12,7 @@ use std::marker::Brand;
 use std::sync::Wait;
 use vll_core::Config;
 use vll_engine::{BeginRefusal, Begun, Engine, Name, Opening, Pass, Session, Spent};
-use vll_proc::{Reason, Reply, invariants_carry_over};
+use vll_proc::{Reply, invariants_carry_over};
 use vll_sca::Placing;
 
 /// Opens the engine over two accounts, for two clients, and serves them. All memory is taken here.
@@ -43,7 +43,7 @@ fn serve<N: Name, R: Wait + Print>(rt: &R, opening: Opening<Placing>) -> Result<
     };
     for amount in [30, 500] {
         let reply = call(rt, &engine, &mut first, "transfer", &[0, 1, amount])?;
-        show(rt, "the transfer leaves", &reply)?;
+        println!(rt; "the transfer {reply}")?;
     }
     meet(rt, &engine, &mut first, &mut other)?;
     let accounts = close(engine, sessions)?;
@@ -132,13 +132,14 @@ fn meet<N: Name, R: Wait + Print>(
     };
     // a pass has to be spent before the function may return
     let reply = run(rt, engine, pass);
-    show(rt, "the transfer leaves", &reply)?;
+    println!(rt; "the transfer {reply}")?;
     let ticket = waiting?;
     run_front(rt, engine);
     match engine.reply(rt, other, ticket) {
-        Some(reply) => show(rt, "the other client is told", &reply),
-        None => Err(Fault::OutOfTurn),
+        Some(reply) => println!(rt; "the sum {reply}")?,
+        None => return Err(Fault::OutOfTurn),
     }
+    Ok(())
 }
 
 // Runs the first call that has not finished, if it waits.
@@ -146,19 +147,4 @@ fn run_front<N: Name>(rt: &impl Wait, engine: &Engine<N, Placing>) {
     if let Some(pass) = engine.next_front(rt) {
         run(rt, engine, pass);
     }
-}
-
-// Prints a reply behind some words.
-fn show(rt: &impl Print, words: &str, reply: &Reply) -> Result<(), Fault> {
-    match reply {
-        Reply::Committed(outputs) => match outputs.get(0) {
-            Some(output) => println!(rt; "{words} {output}")?,
-            None => println!(rt; "{words} nothing")?,
-        },
-        Reply::Aborted(Reason::Code(code)) => println!(rt;
-            "the call was aborted with code {code}"
-        )?,
-        Reply::Aborted(_) => println!(rt; "the call was aborted")?,
-    }
-    Ok(())
 }

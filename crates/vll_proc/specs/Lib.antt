@@ -1,5 +1,6 @@
 pub mod Meaning
 pub mod Serial
+pub mod Text
 pub mod Epochs
 pub mod WellFormed
 pub mod Made

@@ -20,7 +20,7 @@ pub enum Reason {
 }
 
 /// What a call answers: its outputs, or why it was aborted. An aborted call changes no record.
-#[derive(Clone, Copy)]
+#[derive(Clone, Copy, Debug)]
 pub enum Reply {
     Committed(Outputs),
     Aborted(Reason),

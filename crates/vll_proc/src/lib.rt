@@ -2,6 +2,7 @@
 #![tactic(auto)]
 
 mod call;
+mod display;
 mod frame;
 mod laws;
 mod limits;

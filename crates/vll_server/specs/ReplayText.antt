@@ -13,7 +13,8 @@ use Rattle.vll_core.specs.declared.refusal.Refusal.{Refusal}
 use Rattle.vll_core.specs.declared.refusal.Refusal.TheVariants.{TurnOpen, NoTurn, NoCall, Spent, Busy, NotRunning, OutOfStep, Idle}
 use Rattle.vll_core.specs.State.{Base, Opening, Entered, State, reply_at, value, counter}
 use Rattle.vll_core.specs.Machine.{opened, answers, run}
-use Rattle.vll_server.specs.Text.{Text, reply_text, outcome_text}
+use Rattle.vll_proc.specs.Text.{reply_text}
+use Rattle.vll_server.specs.Text.{Text, outcome_text}
 
 -- whether a request was granted
 abbrev pub grant_text : Bool → Text

@@ -2,35 +2,16 @@
 use Rattle.std.specs.Prelude.{ℕ, List, [], ◌∷◌, ◌++◌, map, replicate, length, Option, Some, None, codes}
 use Rattle.std.specs.List.{flat_map, enumerate_from, zip}
 use Rattle.std.specs.Fmt.{decimal}
-use Rattle.vll_proc.specs.declared.call.Reason.{Reason}
-use Rattle.vll_proc.specs.declared.call.Reason.TheVariants.{Code, Overflow, Underflow, ZeroDivisor, Moved}
 use Rattle.vll_proc.specs.declared.call.Reply.{Reply}
-use Rattle.vll_proc.specs.declared.call.Reply.TheVariants.{Committed, Aborted}
 use Rattle.vll_proc.specs.declared.syntax.Proc.{Proc}
 use Rattle.vll_proc.specs.Serial.{Made, answer, end}
+use Rattle.vll_proc.specs.Text.{reply_text}
 use Rattle.vll_core.specs.declared.line.Line.{Line}
 use Rattle.vll_engine.specs.declared.closed.Closed.{Closed}
 
 -- a text as the list of its bytes
 abbrev pub Text : Type 0
 Text = List ℕ
-
--- the words of a reason
-abbrev pub reason_text : Reason → Text
-reason_text Overflow = codes "overflow"
-reason_text Underflow = codes "underflow"
-reason_text ZeroDivisor = codes "zero divisor"
-reason_text (Code n) = codes "code " ++ decimal n
-reason_text Moved = codes "moved"
-
--- an output, behind a space
-abbrev pub output_text : ℕ → Text
-output_text n = 32 ∷ decimal n
-
--- the words of a reply
-abbrev pub reply_text : Reply → Text
-reply_text (Committed outputs) = codes "committed" ++ flat_map output_text outputs
-reply_text (Aborted why) = codes "aborted " ++ reason_text why
 
 -- a reply, or nothing where there is none
 abbrev pub answer_text : Option Reply → Text

@@ -1,54 +1,14 @@
 ghost use Rattle.std.specs.Prelude.{◌≡◌, ◌++◌, ◌∷◌, [], IfOk, OnOk, map, string_bytes};
 ghost use Rattle.std.specs.List.{enumerate_from, flat_map, zip};
-ghost use Rattle.vll_server.specs.Text.{call_line, closed_text, line_words, output_text, reason_text, record_line, reply_text};
+ghost use Rattle.vll_server.specs.Text.{call_line, closed_text, line_words, record_line};
 
 pub(crate) mod outcome;
 
 use std::alloc::{AllocError, Global};
 use vll_core::Line;
 use vll_engine::Closed;
-use vll_proc::{Outputs, Reason, Reply};
 
 // Each of these appends one part of the outcome. After an error a beginning of that part may be there.
-
-fn push_reason(text: &mut String, why: Reason) -> Result<(), AllocError>
-    ensures { OnOk result (string_bytes text.new ≡ string_bytes text.old ++ reason_text why) }
-{
-    match why {
-        Reason::Code(code) => write!(text, "code {code}"),
-        Reason::Overflow => text.push_str("overflow"),
-        Reason::Underflow => text.push_str("underflow"),
-        Reason::ZeroDivisor => text.push_str("zero divisor"),
-        Reason::Moved => text.push_str("moved"),
-    }
-}
-
-fn push_outputs(text: &mut String, outputs: &Outputs) -> Result<(), AllocError>
-    ensures { OnOk result
-        (string_bytes text.new ≡ string_bytes text.old ++ flat_map output_text outputs.now) }
-{
-    for i in 0..outputs.len() {
-        if let Some(output) = outputs.get(i) {
-            write!(text, " {output}")?;
-        }
-    }
-    Ok(())
-}
-
-pub(crate) fn push_reply(text: &mut String, reply: &Reply) -> Result<(), AllocError>
-    ensures { OnOk result (string_bytes text.new ≡ string_bytes text.old ++ reply_text reply.now) }
-{
-    match reply {
-        Reply::Committed(outputs) => {
-            text.push_str("committed")?;
-            push_outputs(text, outputs)
-        }
-        Reply::Aborted(why) => {
-            text.push_str("aborted ")?;
-            push_reason(text, *why)
-        }
-    }
-}
 
 fn push_call_line(text: &mut String, ticket: usize, line: &Line) -> Result<(), AllocError>
     ensures { OnOk result (string_bytes text.new
@@ -57,7 +17,7 @@ fn push_call_line(text: &mut String, ticket: usize, line: &Line) -> Result<(), A
     let client = line.client;
     write!(text, "call {ticket} client {client} ")?;
     if let Some(reply) = &line.reply {
-        push_reply(text, reply)?;
+        write!(text, "{reply}")?;
     }
     text.push_str("\n")
 }

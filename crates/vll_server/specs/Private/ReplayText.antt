@@ -3,7 +3,8 @@ use Rattle.std.specs.Prelude.{Option, Some, None, codes}
 use Rattle.vll_proc.specs.declared.call.Reply.{Reply}
 use Rattle.vll_sca.specs.declared.status.Status.{Status}
 use Rattle.vll_sca.specs.declared.status.Status.TheVariants.{Waiting}
-use Rattle.vll_server.specs.Text.{Text, reply_text}
+use Rattle.vll_proc.specs.Text.{reply_text}
+use Rattle.vll_server.specs.Text.{Text}
 
 -- the reply that stands in the line, and else the status
 abbrev pub standing_text : Option Reply → Option Status → Text

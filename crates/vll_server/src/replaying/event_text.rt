@@ -2,7 +2,6 @@ ghost use Rattle.std.specs.Prelude.{◌≡◌, ◌++◌, ◌∷◌, OnOk, codes,
 ghost use Rattle.std.specs.Fmt.{decimal};
 ghost use Rattle.vll_server.specs.ReplayText.{event_line, event_text, grant_text, refusal_text, seen_text};
 
-use crate::text::push_reply;
 use std::alloc::AllocError;
 use vll_core::{Refusal, Seen, Ticket};
 
@@ -35,10 +34,7 @@ fn push_seen(text: &mut String, seen: &Seen) -> Result<(), AllocError>
         Seen::Loaded(value) => write!(text, "loaded {value}"),
         Seen::Stored => text.push_str("stored"),
         Seen::Released(old) => write!(text, "released {old}"),
-        Seen::Replied(reply) => {
-            text.push_str("replied ")?;
-            push_reply(text, reply)
-        }
+        Seen::Replied(reply) => write!(text, "replied {reply}"),
     }
 }
 

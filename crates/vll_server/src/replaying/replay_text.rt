@@ -10,7 +10,7 @@ ghost use Rattle.vll_server.specs.Private.ReplayText.{standing_text};
 ghost use Rattle.vll_server.specs.Text.{call_line, record_line};
 
 use crate::replaying::event_text::push_event_line;
-use crate::text::{push_record_line, push_reply};
+use crate::text::push_record_line;
 use std::alloc::AllocError;
 use vll_core::{Core, Event, Line, Ticket};
 use vll_sca::{Placing, Status};
@@ -66,7 +66,7 @@ fn push_call(
     let client = line.client;
     write!(text, "call {ticket} client {client} ")?;
     match (&line.reply, status) {
-        (Some(reply), _) => push_reply(text, reply)?,
+        (Some(reply), _) => write!(text, "{reply}")?,
         (None, Some(Status::Waiting)) => text.push_str("waiting")?,
         (None, _) => text.push_str("running")?,
     }
