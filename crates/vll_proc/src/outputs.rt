@@ -1,7 +1,10 @@
-ghost use Rattle.std.specs.Prelude.{◌≡◌, ◌<◌, ◌≤◌, ◌++◌, ◌∷◌, [], length, slice_get, IsTrue, ◌↔◌, ◌==◌};
+ghost use Rattle.std.specs.Prelude.{◌≡◌, ℕ, ◌<◌, ◌≤◌, ◌++◌, ◌∷◌, [], length, slice_get, IsTrue, ◌↔◌, ◌==◌};
+ghost use Rattle.std.specs.Slice.Iter.{iter_rest};
+ghost use Rattle.std.specs.Iterator.Adapters.{IterYieldsInOrder};
 
 use crate::limits::MOST_OUTPUTS;
 use std::marker::Model;
+use std::slice;
 
 /// What a call replies: up to `MOST_OUTPUTS` numbers, in the order of the reply statements. Contracts see them as their list.
 #[derive(Clone, Copy)]
@@ -61,6 +64,14 @@ impl Outputs {
         ensures { result.now ≡ self.now }
     {
         &self.places[..self.len as usize]
+    }
+
+    /// Goes over the outputs, in the order of the reply statements.
+    pub fn iter(&self) -> slice::Iter<'_, u64>
+        ensures rest { iter_rest result ≡ self.now }
+        ensures runs { IterYieldsInOrder ℕ }
+    {
+        self.as_slice().iter()
     }
 
     // Puts an output behind all others.

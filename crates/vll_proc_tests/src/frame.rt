@@ -90,6 +90,9 @@ fn committed_call_has_its_outputs(rt: HostRuntime) -> Result<(), Fail> {
     assert_eq!(rt; outputs.len(), 1);
     assert_eq!(rt; outputs.get(0), Some(u64::MAX));
     assert_eq!(rt; outputs.get(1), None);
+    let mut each = outputs.iter();
+    assert_eq!(rt; each.next().copied(), Some(u64::MAX));
+    assert_eq!(rt; each.next(), None);
     assert_eq!(rt; frame.get(0), u64::MAX);
     Ok(())
 }
