@@ -1,0 +1,135 @@
+// What is done to a queue in tests, and what has to come of it.
+use self::Act::{Busy, Counts, Line, Lines, Spent, Standing, Steps};
+use self::Step::{Blocked, Finish, Free, Front, Scan};
+use std::process::Abort;
+use vll_core::{Config, OpenFault, Queue, Ticket};
+use vll_proc::{Call, MOST_ARGS, Reason, Reply};
+use vll_record::{Claim, Claims, MOST_CLAIMS, Mode, RecordId};
+use vll_sca::{Placing, Status};
+
+pub(super) fn config(cap: u32, limit: u32, bits: u32) -> Config {
+    Config { cap, limit, bits }
+}
+
+// A call that writes one record.
+fn writes(number: u32, record: u32) -> Call {
+    let mut claims = Claims::new();
+    claims.add(Claim {
+        id: RecordId(record),
+        mode: Mode::Write,
+    });
+    Call {
+        number,
+        arg_count: 0,
+        args: [0; MOST_ARGS],
+        found: None,
+        claims,
+        cells: [0; MOST_CLAIMS],
+    }
+}
+
+fn code(reply: Option<Reply>) -> Option<u16> {
+    match reply {
+        Some(Reply::Aborted(Reason::Code(code))) => Some(code),
+        _ => None,
+    }
+}
+
+// Enters a call if the queue is neither spent nor busy.
+fn enter(queue: &mut Queue<Placing>, client: u32, call: Call, free: bool) -> Option<Ticket> {
+    if queue.is_spent() || queue.is_busy() {
+        return None;
+    }
+    Some(queue.admit(client, &call, free))
+}
+
+// Removes a call if it runs.
+fn finish(queue: &mut Queue<Placing>, ticket: Ticket, code: u16) -> bool {
+    match queue.status(ticket) {
+        Some(Status::Running) => {
+            queue.remove(ticket, &Reply::Aborted(Reason::Code(code)));
+            true
+        }
+        _ => false,
+    }
+}
+
+// What is done to a queue. A step returns a ticket or none.
+#[derive(Clone, Copy, Debug)]
+pub(super) enum Step {
+    // A call of a client enters, which has this number and writes one record.
+    Free(u32, u32, u32),
+    Blocked(u32, u32, u32),
+    // A running call ends, and its reply is an abort of this code.
+    Finish(u32, u16),
+    Front,
+    Scan,
+}
+
+// What is done to a queue, and what has to come of it.
+#[derive(Clone, Copy)]
+pub(super) enum Act<'a> {
+    // Each of these steps in turn returns this ticket.
+    Steps(&'a [(Step, Option<u32>)]),
+    // As many calls run, and as many wait.
+    Counts(u32, u32),
+    Spent(bool),
+    Busy(bool),
+    // Where a ticket's call stands.
+    Standing(u32, Option<Status>),
+    // The client of a ticket's line, the number of its call, and the code of its reply.
+    Line(u32, Option<(u32, u32, Option<u16>)>),
+    // The journal has as many lines.
+    Lines(usize),
+}
+
+fn answer(queue: &mut Queue<Placing>, step: Step) -> Option<u32> {
+    let ticket = match step {
+        Free(client, number, record) => enter(queue, client, writes(number, record), true),
+        Blocked(client, number, record) => enter(queue, client, writes(number, record), false),
+        Finish(ticket, code) => finish(queue, Ticket(ticket), code).then_some(Ticket(ticket)),
+        Front => queue.front(),
+        Scan => queue.scan(),
+    };
+    Some(ticket?.0)
+}
+
+pub(super) fn play(rt: &impl Abort, queue: &mut Queue<Placing>, steps: &[(Step, Option<u32>)]) {
+    for (step, ticket) in steps {
+        assert_eq!(rt; answer(queue, *step), *ticket, "{step:?}");
+    }
+}
+
+fn line(queue: &Queue<Placing>, ticket: u32) -> Option<(u32, u32, Option<u16>)> {
+    let line = queue.line(Ticket(ticket))?;
+    Some((line.client, line.call.number, code(line.reply)))
+}
+
+fn counts(queue: &Queue<Placing>) -> (u32, u32) {
+    (queue.running(), queue.waiting())
+}
+
+pub(super) fn perform(rt: &impl Abort, queue: &mut Queue<Placing>, act: Act) {
+    match act {
+        Steps(steps) => play(rt, queue, steps),
+        Counts(running, waiting) => assert_eq!(rt; counts(queue), (running, waiting)),
+        Spent(spent) => assert_eq!(rt; queue.is_spent(), spent),
+        Busy(busy) => assert_eq!(rt; queue.is_busy(), busy),
+        Standing(ticket, status) => assert_eq!(rt; queue.status(Ticket(ticket)), status),
+        Line(ticket, kept) => assert_eq!(rt; line(queue, ticket), kept),
+        Lines(count) => assert_eq!(rt; queue.journal().len(), count),
+    }
+}
+
+// Goes through these acts in turn, with a queue that has nothing entered. Returns how many lines the journal has.
+pub(super) fn run(
+    rt: &(impl AllocGlobal + Abort),
+    config: Config,
+    acts: &[Act],
+) -> Result<usize, OpenFault> {
+    let mut queue = Queue::open(rt.alloc(), config, Placing::Modulo)?;
+    for act in acts {
+        perform(rt, &mut queue, *act);
+    }
+    Ok(queue.into_journal().len())
+}
