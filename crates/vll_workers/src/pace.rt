@@ -23,6 +23,12 @@ const MOST_CALLS: u32 = MOST_BATCH as u32;
 // So many rounds in a row a worker keeps its tokens in hand before they go back to the pool.
 const ROUNDS_IN_HAND: u32 = 16;
 
+// Behind a call that was held back under a hold each call is looked at once more in so many rounds.
+const HEAT_OF_ONE: u32 = 8;
+
+// Such calls add up to so many rounds.
+const MOST_HEAT: u32 = 64;
+
 // So many rounds in a row may find no token before a worker leaves.
 const MOST_IDLE: u32 = 16;
 
@@ -40,6 +46,8 @@ pub(crate) struct Pace {
     keeps: bool,
     // So many more rounds the tokens stay in hand.
     rounds: u32,
+    // In so many more rounds that begin calls, each is looked at once more under the hold.
+    heat: u32,
 }
 
 impl Pace {
@@ -55,7 +63,18 @@ impl Pace {
             had_front: false,
             keeps: false,
             rounds: ROUNDS_IN_HAND,
+            heat: 0,
         }
+    }
+
+    // Whether calls were held back under holds of late, so that each is to be looked at once more before it begins.
+    pub(crate) fn is_hot(&self) -> bool {
+        self.heat > 0
+    }
+
+    // A call was held back under a hold.
+    pub(crate) fn heat_up(&mut self) {
+        self.heat = MOST_HEAT.min(self.heat.saturating_add(HEAT_OF_ONE));
     }
 
     // Whether tokens are ever taken before a hold, and not under it alone.
@@ -85,6 +104,9 @@ impl Pace {
 
     // So many calls began that may run, and whether another one was held back.
     pub(crate) fn began(&mut self, free: u32, was_held: bool) {
+        if free > 0 {
+            self.heat = self.heat.saturating_sub(1);
+        }
         if was_held {
             self.now = self.now.min(free.max(1));
         } else if free >= self.now {

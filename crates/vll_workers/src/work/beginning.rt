@@ -93,15 +93,15 @@ impl<N: Name, H: Place + Send + Drop, T: Roster, W: Wait, G: Gate> Work<'_, N, H
     {
         let mut was_held = false;
         for _ in 0..tokens.len() {
-            was_held |= !self.begin_next(worker, hold, tokens, tried, passes);
+            was_held |= !self.begin_next(worker, hold, tokens, tried, passes, pace);
         }
         pace.began(passes.len() as u32, was_held);
     }
 
     // Begins the next calls of the last token, and tells whether all that began are free. The token is set aside, or stays
-    // with the worker if no call is left or the engine takes no more. As long as nothing began its words are looked at once
-    // more, and its call is put off if that does not look free now. A call with an indirect key begins as the first of a
-    // batch, and is left for another one if it is not.
+    // with the worker if no call is left or the engine takes no more. If calls were held back of late its words are looked
+    // at once more, and its call is put off if that does not look free now. A call with an indirect key begins as the first
+    // of a batch, and is left for another one if it is not.
     fn begin_next(
         self,
         worker: &mut Worker<T>,
@@ -109,6 +109,7 @@ impl<N: Name, H: Place + Send + Drop, T: Roster, W: Wait, G: Gate> Work<'_, N, H
         tokens: &mut Stack<Token>,
         tried: &mut Stack<Token>,
         passes: &mut Passes,
+        pace: &mut Pace,
     ) -> bool
         requires fit { AreFit N.engine T.tokens }
         requires limit { T.limit ≡ N.engine.config.limit }
@@ -127,16 +128,17 @@ impl<N: Name, H: Place + Send + Drop, T: Roster, W: Wait, G: Gate> Work<'_, N, H
             worker.keep(self.pool, token);
             return true;
         }
-        if self.is_left(&mut token, passes) {
+        if self.is_left(&mut token, passes, pace) {
             tried.push(token);
             return false;
         }
-        match self.begin_calls(hold, &mut token, passes) {
+        match self.begin_calls(hold, &mut token, passes, pace.is_hot()) {
             Course::Free => {
                 tried.push(token);
                 true
             }
             Course::Held => {
+                pace.heat_up();
                 tried.push(token);
                 false
             }
@@ -148,26 +150,35 @@ impl<N: Name, H: Place + Send + Drop, T: Roster, W: Wait, G: Gate> Work<'_, N, H
     }
 
     // Whether the token's next call is left for another batch.
-    fn is_left(self, token: &mut Token, passes: &Passes) -> bool
+    fn is_left(self, token: &mut Token, passes: &Passes, pace: &mut Pace) -> bool
         requires { IsFit N.engine token.old }
         ensures { token.new ≡ token.old }
     {
         if token.ready() == 0 {
             return true;
         }
-        if passes.is_empty() {
-            return self.look_at(token, token.ready()) == 0;
+        if pace.is_hot() && self.looks_free(token, 1) == 0 && token.put_off() {
+            pace.heat_up();
+            return true;
         }
-        self.is_indirect(token, 0)
+        !passes.is_empty() && self.is_indirect(token, 0)
     }
 
-    // Begins as many of the token's next calls as looked free, one at least, up to the first that is not free now or until
-    // the batch is full.
+    // Whether the token's next call is to be looked at once more, as each behind the first one is, and does not look free.
+    fn looks_held(self, token: &Token, first: u32, is_hot: bool) -> bool
+        requires { IsFit N.engine token.now }
+    {
+        is_hot && token.next() != first && self.looks_free(token, 1) == 0
+    }
+
+    // Begins as many of the token's next calls as looked free, one at least, up to the first that is not free now, or does
+    // not look so if calls were held back of late, or until the batch is full.
     fn begin_calls(
         self,
         hold: &mut Hold<'_, N, H>,
         token: &mut Token,
         passes: &mut Passes,
+        is_hot: bool,
     ) -> Course
         requires fit { AreFit N.engine T.tokens }
         requires limit { T.limit ≡ N.engine.config.limit }
@@ -178,7 +189,11 @@ impl<N: Name, H: Place + Send + Drop, T: Roster, W: Wait, G: Gate> Work<'_, N, H
         ensures passes { All (IsFresh N.engine) passes.new }
         ensures spent { result ≡ Course.Spent → IsSettled T.limit token.new }
     {
+        let first = token.next();
         for _ in 0..token.ready() {
+            if self.looks_held(token, first, is_hot) {
+                return Course::Held;
+            }
             if passes.len() == MOST_BATCH {
                 return Course::Free;
             }

@@ -85,7 +85,7 @@ impl<N: Name, H: Place + Send + Drop, T: Roster, W: Wait, G: Gate> Work<'_, N, H
     // Looks at the words that the token's next calls claim, at most so many, so that they are near when these begin, and
     // notes how many are ready to begin: those that look free, one behind the other. If none does the next one is put off,
     // unless it was put off too often: then it is ready all the same.
-    pub(super) fn look_at(self, token: &mut Token, most: u32) -> u32
+    fn look_at(self, token: &mut Token, most: u32) -> u32
         requires { IsFit N.engine token.old }
         ensures { token.new ≡ token.old }
     {
@@ -99,7 +99,7 @@ impl<N: Name, H: Place + Send + Drop, T: Roster, W: Wait, G: Gate> Work<'_, N, H
 
     // How many of the token's next calls, at most so many, look free, one behind the other. One with an indirect key is
     // not looked at behind another one, since it is the first of a batch.
-    fn looks_free(self, token: &Token, most: u32) -> u32
+    pub(super) fn looks_free(self, token: &Token, most: u32) -> u32
         requires { IsFit N.engine token.now }
     {
         for ahead in 0..most {

@@ -4,6 +4,9 @@ use Rattle.vll_workers.proofs.Gained.{client_begun, fresh_begun, of_begun, spent
 use Rattle.vll_workers.proofs.Owned.{own_fits}
 use Rattle.vll_workers.proofs.work.Work.begin_calls.Goals as goal
 
+pub looks_held-requires-after_bounds : goal.looks_held-requires-after_bounds
+looks_held-requires-after_bounds g c κs within = own_fits g.N.Name.engine g.T.Roster.tokens c.loop.token c.requires.fit c.loop.invariant.0
+
 pub begin-requires-clause-fit : goal.begin-requires-clause-fit
 begin-requires-clause-fit g c κs within = own_fits g.N.Name.engine g.T.Roster.tokens c.loop.token c.requires.fit c.loop.invariant.0
 
