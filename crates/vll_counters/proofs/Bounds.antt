@@ -23,13 +23,14 @@ use Rattle.vll_core.proofs.Finished.{finished_reached}
 use Rattle.vll_counters.specs.declared.views.QueueView.{QueueView}
 use Rattle.vll_counters.specs.declared.views.View.{View}
 use Rattle.vll_counters.specs.declared.views.View.TheVariants.{Queue, Session}
-use Rattle.vll_counters.specs.Views.{calls_in, pass_in, session_in}
+use Rattle.vll_counters.specs.Views.{calls_in, pass_in, session_in, news_in}
 use Rattle.vll_counters.specs.Rule.{widest, pass_of, Rule}
 use Rattle.vll_counters.specs.Steps.{first_queue, first_view, new_session}
 use Rattle.vll_counters.specs.Told.{IsAtEnd}
 use Rattle.vll_counters.proofs.Places.{no_some, at_below, seat_with}
 use Rattle.vll_counters.proofs.Passes.{passes_reviewed, passes_pushed}
 use Rattle.vll_counters.proofs.Sessions.{sessions_reviewed, sessions_made, seen_all}
+use Rattle.vll_counters.proofs.News.{news_reviewed, news_beside}
 use Rattle.vll_counters.proofs.States.{status_of}
 use Rattle.vll_counters.proofs.Holding.{held, kept}
 use Rattle.vll_counters.proofs.Turns.{as_many, turn_closed, calls_shown, replied}
@@ -54,6 +55,7 @@ starts base words first = record {
     all = λ t p is. no_some p is;
   };
   sessions = λ seat v g at has. only_first seat v at (λ is. no_some g (ap session_in is ∙ has));
+  news = λ seat v calls at has. only_first seat v at (λ is. no_some calls (ap news_in is ∙ has));
 }
 
 -- one more client's session is made, before any call
@@ -76,6 +78,7 @@ makes_session base q empty t k at =
       sessions = sessions_made (calls_in q.lines) q.statuses q.clients h.session_seat views (Session y) y refl refl
           (seen_all (calls_in q.lines) q.statuses y (sym (ap calls_in empty)) (λ k t e. absurd (cc e)))
           (sessions_reviewed (calls_in q.lines) q.statuses q.clients h.session_seat t.views 0 (Queue q) left at refl h.sessions);
+      news = news_beside (calls_in q.lines) views (Session y) refl (news_reviewed (calls_in q.lines) t.views 0 left refl h.news);
     })
     (at_longer views (Session y ∷ []) 0 left (set_here t.views 0 left (at_below t.views 0 (Queue q) at)))
 

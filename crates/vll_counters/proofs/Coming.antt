@@ -33,6 +33,7 @@ use Rattle.vll_counters.specs.Told.{KnowsPass, has_stored_pass, EndTells, MayLea
 use Rattle.vll_counters.proofs.Places.{at_below, get_longer, get_set_else, seat_with}
 use Rattle.vll_counters.proofs.Passes.{passes_reviewed, passes_come, passes_ended, passes_pushed}
 use Rattle.vll_counters.proofs.Sessions.{sessions_reviewed, sessions_kept, sessions_come, sessions_left, seen_all}
+use Rattle.vll_counters.proofs.News.{begins_same, news_kept, news_reviewed, news_beside}
 use Rattle.vll_counters.proofs.Moves.{finish_made}
 use Rattle.vll_counters.proofs.States.{calls_entered, entered_kept, pass_is, passes_named, line_by, line_at, lines_changed, statuses_set, status_at, pass_else, pass_gone}
 use Rattle.vll_counters.proofs.Holding.{Holds, held, kept, same_words}
@@ -87,6 +88,7 @@ leaves_holds base q g given ws views at closed has out h =
           (passes_reviewed (pass_of base h.state) (pass_of base h.state) h.pass_seat views 0 (Queue q) left at refl h.passes);
       sessions = sessions_left (calls_in q.lines) q.statuses q.clients h.session_seat views 0 (Queue q) left (Session y) g y at has refl refl (leaving_client given q g)
           (seen_all (calls_in q.lines) q.statuses y (leaving_seen given q g) (leaving_gone given q g mine.has_seen.given out)) h.sessions;
+      news = news_beside (calls_in q.lines) (set views 0 left) (Session y) refl (news_reviewed (calls_in q.lines) views 0 left refl h.news);
     }
 
 module _ {S : Type 0} (base : Base) where
@@ -131,6 +133,7 @@ module _ {S : Type 0} (base : Base) where
         passes = passes_come (pass_of base h.state) (pass_of base h.state) h.pass_seat t.views 0 other (Queue q) w (Pass p) Spent p at empty refl apart was refl refl (passes_named base h.state) h.passes;
         sessions = sessions_reviewed (calls_in q.lines) q.statuses q.clients h.session_seat (set t.views 0 w) other (Pass p) Spent there refl
             (sessions_reviewed (calls_in q.lines) q.statuses q.clients h.session_seat t.views 0 (Queue q) w at refl h.sessions);
+        news = news_reviewed (calls_in q.lines) (set t.views 0 w) other Spent refl (news_reviewed (calls_in q.lines) t.views 0 w refl h.news);
       })
       (set_else (set t.views 0 w) other 0 Spent (λ e. apart (sym e)) ∙ set_here t.views 0 w (at_below t.views 0 (Queue q) at))
 
@@ -151,6 +154,7 @@ module _ {S : Type 0} (base : Base) where
         passes = passes_reviewed (pass_of base h.state) (pass_of base h.state) h.pass_seat (set t.views 0 w) other (Session g) Spent there refl
             (passes_reviewed (pass_of base h.state) (pass_of base h.state) h.pass_seat t.views 0 (Queue q) w at refl h.passes);
         sessions = sessions_come (calls_in q.lines) q.statuses q.clients h.session_seat t.views 0 other (Queue q) w (Session g) Spent g at alone refl apart was refl refl h.sessions;
+        news = news_reviewed (calls_in q.lines) (set t.views 0 w) other Spent refl (news_reviewed (calls_in q.lines) t.views 0 w refl h.news);
       })
       (set_else (set t.views 0 w) other 0 Spent (λ e. apart (sym e)) ∙ set_here t.views 0 w (at_below t.views 0 (Queue q) at))
 
@@ -209,6 +213,7 @@ module _ {S : Type 0} (base : Base) where
               sessions = subst (λ (cs : List Made). AreSessions cs (slice_set q.statuses n Gone) q.clients h.session_seat (set t.views 0 w)) (sym calls_same)
                   (sessions_kept (calls_in q.lines) q.statuses q.clients h.session_seat (set t.views 0 w) (slice_set q.statuses n Gone) stays
                   (sessions_reviewed (calls_in q.lines) q.statuses q.clients h.session_seat t.views 0 (Queue q) w at refl h.sessions));
+              news = news_kept (calls_in q.lines) (set t.views 0 w) (calls_in new.lines) (begins_same (calls_in q.lines) (calls_in new.lines) (sym calls_same)) (news_reviewed (calls_in q.lines) t.views 0 w refl h.news);
             })
             (set_here t.views 0 w (at_below t.views 0 (Queue q) at))),
         (

@@ -20,10 +20,11 @@ use Rattle.vll_counters.specs.declared.views.QueueView.{QueueView}
 use Rattle.vll_counters.specs.declared.views.View.{View}
 use Rattle.vll_counters.specs.declared.views.View.TheVariants.{Queue}
 use Rattle.vll_counters.specs.Views.{calls_in}
-use Rattle.vll_counters.specs.Rule.{widest, Shows, IsHosted, AreSessions, pass_of}
+use Rattle.vll_counters.specs.Rule.{widest, Shows, IsHosted, AreSessions, AreNews, pass_of}
 use Rattle.vll_counters.specs.Steps.{new_line, new_status, told, admitted}
 use Rattle.vll_counters.proofs.Passes.{passes_same, passes_reviewed}
 use Rattle.vll_counters.proofs.Sessions.{sessions_entered}
+use Rattle.vll_counters.proofs.News.{news_kept, news_reviewed}
 use Rattle.vll_counters.proofs.Moves.{entry_of_turn, after_admit, admit_made}
 use Rattle.vll_counters.proofs.States.{lines_more, statuses_more, pass_more, pass_waits, pass_past}
 use Rattle.vll_counters.proofs.Holding.{Holds}
@@ -82,6 +83,12 @@ entered_sessions q turn f views at turn_open hosted s =
     (sessions_entered (calls_in q.lines) q.statuses q.clients f views 0 (Queue q) (Queue (admitted turn q)) g (told calls g) (turn.client, turn.call) (new_status turn) at host.1 host.2
     (ap (option_map (told calls)) host.1) refl (calls_more q turn) refl s)
 
+-- news is of a beginning of these calls too
+pub entered_news : (q : QueueView) (turn : TurnView) (views : List View) → AreNews (calls_in q.lines) views → AreNews (calls_in (admitted turn q).lines) (set views 0 (Queue (admitted turn q)))
+entered_news q turn views s =
+    let new = Queue (admitted turn q) in
+    news_kept (calls_in q.lines) (set views 0 new) (calls_in (admitted turn q).lines) ((turn.client, turn.call) ∷ [], calls_more q turn) (news_reviewed (calls_in q.lines) views 0 new refl s)
+
 -- a call that is blocked enters, and no pass changes
 pub enters_blocked : (base : Base) (q : QueueView) (turn : TurnView) (ws : List ℕ) (views : List View) → get_elem? views 0 ≡ some (Queue q) → q.turn ≡ Some turn → length turn.call.claims ≤ turn.requested → turn.granted ≡ false
     → Holds base q ws views → Holds base (admitted turn q) ws (set views 0 (Queue (admitted turn q)))
@@ -105,4 +112,5 @@ enters_blocked base q turn ws views at turn_open asked denied h =
       passes = passes_same (pass_of base s) (pass_of base next) h.pass_seat (set views 0 (Queue (admitted turn q))) same
           (passes_reviewed (pass_of base s) (pass_of base s) h.pass_seat views 0 (Queue q) (Queue (admitted turn q)) at refl h.passes);
       sessions = entered_sessions q turn h.session_seat views at turn_open h.hosted h.sessions;
+      news = entered_news q turn views h.news;
     }

@@ -34,6 +34,7 @@ use Rattle.vll_counters.specs.Steps.{told}
 use Rattle.vll_counters.specs.Told.{is_claimed_by, WasThere, FindTells}
 use Rattle.vll_counters.proofs.Passes.{passes_reviewed}
 use Rattle.vll_counters.proofs.Sessions.{sessions_told, seen_all}
+use Rattle.vll_counters.proofs.News.{news_reviewed}
 use Rattle.vll_counters.proofs.States.{status_of}
 use Rattle.vll_counters.proofs.Holding.{not_session, same_words}
 use Rattle.vll_counters.proofs.Turns.{entry_of_status, calls_shown}
@@ -130,6 +131,7 @@ module _ (base : Base) where
           hosted = k.hosted;
           passes = passes_reviewed (pass_of base s) (pass_of base s) k.pass_seat t.views by (Session g) (Session y) at refl k.passes;
           sessions = sessions_told (calls_in q.lines) q.statuses q.clients k.session_seat t.views by (Session g) (Session y) g y at refl refl refl (seen_all (calls_in q.lines) q.statuses y refl seen.given) k.sessions;
+          news = news_reviewed (calls_in q.lines) t.views by (Session y) refl k.news;
         },
         (
           y,

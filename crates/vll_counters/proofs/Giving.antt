@@ -28,12 +28,13 @@ use Rattle.vll_counters.specs.Told.{MayStart, MayRun}
 use Rattle.vll_counters.proofs.Places.{at_below, get_last, get_set_else, seat_with}
 use Rattle.vll_counters.proofs.Passes.{passes_reviewed, passes_given}
 use Rattle.vll_counters.proofs.Sessions.{sessions_reviewed, sessions_pushed, sessions_kept}
+use Rattle.vll_counters.proofs.News.{news_reviewed, news_beside}
 use Rattle.vll_counters.proofs.Moves.{entry_of_turn, after_admit, wake_made}
 use Rattle.vll_counters.proofs.States.{status_of, line_by, line_at, lines_kept, statuses_set, pass_else, pass_here, pass_none, pass_more, pass_last, pass_past}
 use Rattle.vll_counters.proofs.Fresh.{IsFresh, fresh_reached}
 use Rattle.vll_counters.proofs.Holding.{held, kept}
 use Rattle.vll_counters.proofs.Turns.{as_many, entry_of_status, line_is, calls_shown}
-use Rattle.vll_counters.proofs.Entry.{enters, entered_sessions}
+use Rattle.vll_counters.proofs.Entry.{enters, entered_sessions, entered_news}
 
 -- a ticket that may start is clear
 starts_clear : (base : Base) (q : QueueView) (s : State) (t : ℕ) (w : MayStart q.lines q.statuses t) (e : Entered) → Shows base q s → slice_get s.entries t ≡ Some e → e.status ≡ Waiting → is_clear s t e.call.claims ≡ true
@@ -107,6 +108,7 @@ module _ {S : Type 0} (base : Base) where
         sessions = sessions_pushed (calls_in q.lines) (slice_set q.statuses n Running) q.clients h.session_seat views (Pass p) refl
             (sessions_kept (calls_in q.lines) q.statuses q.clients h.session_seat views (slice_set q.statuses n Running) stays
             (sessions_reviewed (calls_in q.lines) q.statuses q.clients h.session_seat t.views 0 (Queue q) left at refl h.sessions));
+        news = news_beside (calls_in q.lines) views (Pass p) refl (news_reviewed (calls_in q.lines) t.views 0 left refl h.news);
       })
       (at_longer views (Pass p ∷ []) 0 left (set_here t.views 0 left (at_below t.views 0 (Queue q) at)))
     where
@@ -143,6 +145,7 @@ module _ {S : Type 0} (base : Base) where
             (λ m apart. pass_more base s None new m (λ e. apart (e ∙ sym many))) (passes_reviewed (pass_of base s) (pass_of base s) h.pass_seat t.views 0 (Queue q) left at refl h.passes);
         sessions = sessions_pushed (calls_in (admitted turn q).lines) (admitted turn q).statuses q.clients h.session_seat views (Pass p) refl
             (entered_sessions q turn h.session_seat t.views at turn_open h.hosted h.sessions);
+        news = news_beside (calls_in (admitted turn q).lines) views (Pass p) refl (entered_news q turn t.views h.news);
       })
       (at_longer views (Pass p ∷ []) 0 left (set_here t.views 0 left (at_below t.views 0 (Queue q) at)))
 

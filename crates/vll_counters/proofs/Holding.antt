@@ -12,7 +12,7 @@ use Rattle.vll_counters.specs.declared.views.QueueView.{QueueView}
 use Rattle.vll_counters.specs.declared.views.View.{View}
 use Rattle.vll_counters.specs.declared.views.View.TheVariants.{Queue, Pass, Session}
 use Rattle.vll_counters.specs.Views.{calls_in}
-use Rattle.vll_counters.specs.Rule.{Shows, IsHosted, ArePasses, AreSessions, pass_of, Rule}
+use Rattle.vll_counters.specs.Rule.{Shows, IsHosted, ArePasses, AreSessions, AreNews, pass_of, Rule}
 
 -- what the rule says where the queue's seat has this view
 pub record Holds (base : Base) (q : QueueView) (ws : List ℕ) (views : List View) : Type 0 where
@@ -24,6 +24,7 @@ pub record Holds (base : Base) (q : QueueView) (ws : List ℕ) (views : List Vie
   pub hosted : IsHosted q.turn q.session
   pub passes : ArePasses (pass_of base state) pass_seat views
   pub sessions : AreSessions (calls_in q.lines) q.statuses q.clients session_seat views
+  pub news : AreNews (calls_in q.lines) views
 
 pub same_queue : (p q : QueueView) → some (Queue p) ≡ some (Queue q) → p ≡ q
 same_queue p q e = let h : Queue p ≡ Queue q = some-injective _ _ e in cc h
@@ -37,7 +38,7 @@ not_session q g e = let h : Queue q ≡ Session g = some-injective _ _ e in absu
 module _ {S : Type 0} where
   pub held : (base : Base) (t : table.State S View) (q : QueueView) → Rule base t → get_elem? t.views 0 ≡ some (Queue q) → Holds base q t.words t.views
   held base t q k at = subst (λ (x : QueueView). Holds base x t.words t.views) (same_queue k.queue q (sym k.at_queue ∙ at))
-      (record { state = k.state; pass_seat = k.pass_seat; session_seat = k.session_seat; shows = k.shows; words = k.words; hosted = k.hosted; passes = k.passes; sessions = k.sessions })
+      (record { state = k.state; pass_seat = k.pass_seat; session_seat = k.session_seat; shows = k.shows; words = k.words; hosted = k.hosted; passes = k.passes; sessions = k.sessions; news = k.news })
 
   pub kept : (base : Base) (t : table.State S View) (q : QueueView) → Holds base q t.words t.views → get_elem? t.views 0 ≡ some (Queue q) → Rule base t
   kept base t q h at = record {
@@ -51,6 +52,7 @@ module _ {S : Type 0} where
     hosted = h.hosted;
     passes = h.passes;
     sessions = h.sessions;
+    news = h.news;
   }
 
 -- a word that is written back

@@ -1,6 +1,7 @@
 pub mod Places
 pub mod Passes
 pub mod Sessions
+pub mod News
 pub mod Moves
 pub mod States
 pub mod Fresh
@@ -8,6 +9,7 @@ pub mod Holding
 pub mod Turns
 pub mod PassSteps
 pub mod Finding
+pub mod Hearing
 pub mod QueueSteps
 pub mod Entry
 pub mod Giving

@@ -37,6 +37,7 @@ use Rattle.vll_counters.specs.Told.{PassMoment, has_stored_pass, LoadTells, Stor
 use Rattle.vll_counters.proofs.Moves.{load_made, store_made, release_made}
 use Rattle.vll_counters.proofs.Passes.{passes_moved}
 use Rattle.vll_counters.proofs.Sessions.{sessions_reviewed}
+use Rattle.vll_counters.proofs.News.{news_reviewed}
 use Rattle.vll_counters.proofs.States.{IsPassOf, pass_is, passes_named, entered_kept, statuses_kept, lines_kept, pass_else, pass_here}
 use Rattle.vll_counters.proofs.Holding.{not_pass, same_words}
 
@@ -106,6 +107,7 @@ module _ (base : Base) where
         passes = passes_moved (pass_of base s) (pass_of base next) k.pass_seat t.views by (Pass p) (Pass q) p q at refl refl (ap (λ (x : PassView). x.ticket) is)
             (pass_here base s n e f o.at same runs ∙ ap Some (sym is)) (pass_else base s n e f o.at same) (passes_named base s) k.passes;
         sessions = sessions_reviewed _ _ _ k.session_seat t.views by (Pass p) (Pass q) at refl k.sessions;
+        news = news_reviewed _ t.views by (Pass q) refl k.news;
       }
 
   pub loads : (slots by : ℕ) (p : PassView) (c : Claim) → slice_get p.call.claims p.loads ≡ Some c → c.id < length base.records

@@ -28,6 +28,7 @@ use Rattle.vll_counters.specs.Told.{KnowsSession, RequestTells, OpenTells}
 use Rattle.vll_counters.proofs.Places.{at_below}
 use Rattle.vll_counters.proofs.Passes.{passes_reviewed}
 use Rattle.vll_counters.proofs.Sessions.{sessions_reviewed}
+use Rattle.vll_counters.proofs.News.{news_reviewed}
 use Rattle.vll_counters.proofs.Moves.{opened_turn, hand_made}
 use Rattle.vll_counters.proofs.Holding.{Holds, held, kept, same_words}
 use Rattle.vll_counters.proofs.Turns.{seen_turn, turn_is, turn_closed, hosted_asked, granted_by, as_many, replied}
@@ -75,6 +76,7 @@ module _ (base : Base) where
               hosted = hosted_asked q.turn q.session c x h.hosted;
               passes = passes_reviewed (pass_of base s) (pass_of base s) h.pass_seat t.views 0 (Queue q) (Queue new) at refl h.passes;
               sessions = sessions_reviewed (calls_in q.lines) q.statuses q.clients h.session_seat t.views 0 (Queue q) (Queue new) at refl h.sessions;
+              news = news_reviewed (calls_in q.lines) t.views 0 (Queue new) refl h.news;
             })
             here,
         (refl, record { now = record { moment = t; rule = k; at = at }; counts = k.words.pairs c.id room }),
@@ -112,6 +114,7 @@ module _ (base : Base) where
         hosted = tt;
         passes = passes_reviewed (pass_of base h.state) (pass_of base h.state) h.pass_seat t.views 0 (Queue q) (Queue (with_turn None)) at refl h.passes;
         sessions = sessions_reviewed (calls_in q.lines) q.statuses q.clients h.session_seat t.views 0 (Queue q) (Queue (with_turn None)) at refl h.sessions;
+        news = news_reviewed (calls_in q.lines) t.views 0 (Queue (with_turn None)) refl h.news;
       }
 
       enters : (c : Call) (g : SessionView) → q.session ≡ Some g → IsProper base c → length q.lines < 65536 → Holds base q t.words t.views
@@ -132,6 +135,7 @@ module _ (base : Base) where
             hosted = (g, has, refl);
             passes = passes_reviewed (pass_of base s) (pass_of base s) h.pass_seat t.views 0 (Queue q) (Queue (with_turn (Some (seen_turn (opened_turn g.client c))))) at refl h.passes;
             sessions = sessions_reviewed (calls_in q.lines) q.statuses q.clients h.session_seat t.views 0 (Queue q) (Queue (with_turn (Some (seen_turn (opened_turn g.client c))))) at refl h.sessions;
+            news = news_reviewed (calls_in q.lines) t.views 0 (Queue (with_turn (Some (seen_turn (opened_turn g.client c))))) refl h.news;
           }
 
       by_call : (x : Option Call) (y : Option SessionView) → q.session ≡ y → Holds base q t.words t.views → MayOpen base q.lines x → Holds base (with_turn (turn_of x y)) written (slice_set t.views 0 (Queue (with_turn (turn_of x y))))

@@ -2,6 +2,7 @@ pub mod Views
 pub mod Rule
 pub mod Steps
 pub mod Told
+pub mod News
 pub mod Shown
 pub mod Laid
 pub mod Kept

@@ -19,7 +19,7 @@ use Rattle.vll_counters.specs.declared.views.SessionView.{SessionView}
 use Rattle.vll_counters.specs.declared.views.QueueView.{QueueView}
 use Rattle.vll_counters.specs.declared.views.View.{View}
 use Rattle.vll_counters.specs.declared.views.View.TheVariants.{Queue}
-use Rattle.vll_counters.specs.Views.{calls_in, calls_by, Begins, pass_in, session_in}
+use Rattle.vll_counters.specs.Views.{calls_in, calls_by, Begins, pass_in, session_in, news_in}
 
 -- the opening that allows most: as many calls as a machine can have, which may all wait. No step uses its hash
 abbrev pub widest : Base → Opening
@@ -83,8 +83,13 @@ abbrev pub AreSessions : List Made → List Status → ℕ → (ℕ → ℕ) →
 AreSessions calls statuses clients seat_of views =
     (seat : ℕ) (v : View) (g : SessionView) → get_elem? views seat ≡ opt.some v → session_in v ≡ Some g → IsSession calls statuses clients seat_of seat g
 
+-- each news that a seat has is of a beginning of these calls
+abbrev pub AreNews : List Made → List View → Type 0
+AreNews calls views = (seat : ℕ) (v : View) (some : List Made) → get_elem? views seat ≡ opt.some v → news_in v ≡ Some some → Begins some calls
+
 -- THE RULE. There is a state of the plain machine, reached by lawful moves, in which each value word is the record's value and each
--- pair word its counter; the queue's seat knows it; each running ticket has one pass and no other ticket has any, and each client at most one session
+-- pair word its counter; the queue's seat knows it; each running ticket has one pass and no other ticket has any, and each client at most one session; and all news is of a
+-- beginning of the entered calls
 module _ {S : Type 0} where
   pub record Rule (base : Base) (t : table.State S View) : Type 0 where
     pub state : State
@@ -97,6 +102,7 @@ module _ {S : Type 0} where
     pub hosted : IsHosted queue.turn queue.session
     pub passes : ArePasses (pass_of base state) pass_seat t.views
     pub sessions : AreSessions (calls_in queue.lines) queue.statuses queue.clients session_seat t.views
+    pub news : AreNews (calls_in queue.lines) t.views
 
 -- the words and the views at some moment
 abbrev pub Moment : Type 0

@@ -6,7 +6,7 @@ use Rattle.vll_core.specs.declared.line.Line.{Line}
 use Rattle.vll_counters.specs.declared.views.PassView.{PassView}
 use Rattle.vll_counters.specs.declared.views.SessionView.{SessionView}
 use Rattle.vll_counters.specs.declared.views.View.{View}
-use Rattle.vll_counters.specs.declared.views.View.TheVariants.{Queue, Pass, Session}
+use Rattle.vll_counters.specs.declared.views.View.TheVariants.{Queue, Pass, Session, News, Hearing}
 
 -- the calls of a journal, each with its client
 abbrev pub calls_in : List Line → List Made
@@ -30,4 +30,11 @@ pass_in v = None
 abbrev pub session_in : View → Option SessionView
 session_in (Queue q) = q.session
 session_in (Session g) = Some g
+session_in (Hearing g calls) = Some g
 session_in v = None
+
+-- the calls of the news that a seat has: its own, or at a session's seat those of the news that has come to it
+abbrev pub news_in : View → Option (List Made)
+news_in (News calls) = Some calls
+news_in (Hearing g calls) = Some calls
+news_in v = None

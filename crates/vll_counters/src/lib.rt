@@ -4,6 +4,7 @@
 
 mod key;
 mod laws;
+mod news_seat;
 mod no_memory;
 mod pass_seat;
 mod queue_seat;
@@ -17,6 +18,7 @@ pub use laws::{
     clients_have_one_session, pair_words_count_open_claims, tickets_are_clear,
     tickets_have_one_pass,
 };
+pub use news_seat::NewsSeat;
 pub use no_memory::NoMemory;
 pub use pass_seat::PassSeat;
 pub use queue_seat::QueueSeat;

@@ -107,6 +107,38 @@ impl<T: Told> Play<(), View> for Finds<T> {
     ghost then = { FindTells T.base T.number };
 }
 
+/// A session tells what it has seen.
+pub struct Tells;
+
+impl Split<View> for Tells {
+    ghost use Rattle.vll_counters.specs.News.{as_it_is, news_told};
+
+    ghost left = { as_it_is };
+
+    ghost right = { news_told };
+}
+
+/// News comes to a session.
+pub struct NewsComes;
+
+impl Join<View> for NewsComes {
+    ghost use Rattle.vll_counters.specs.News.{with_news};
+    ghost use Rattle.vll_counters.specs.Steps.{spent};
+
+    ghost both = { with_news };
+
+    ghost spent = { spent };
+}
+
+/// A session hears the news that has come to it.
+pub struct Hears;
+
+impl Play<(), View> for Hears {
+    ghost use Rattle.vll_counters.specs.News.{HearTells};
+
+    ghost then = { HearTells };
+}
+
 /// A running call loads the record of its next claim.
 pub struct Loads<T>(PhantomData<T>);
 

@@ -44,10 +44,13 @@ pub struct QueueView {
     pub clients: u32,
 }
 
-/// What a seat knows. A seat that has joined another knows nothing any more.
+/// What a seat knows. News has a list of entered calls; a session to which news has come has that list beside its own
+/// view until it has heard it. A seat that has joined another knows nothing any more.
 pub enum View {
     Queue(QueueView),
     Pass(PassView),
     Session(SessionView),
+    News(LinkedList<(u32, Call)>),
+    Hearing(SessionView, LinkedList<(u32, Call)>),
     Spent,
 }

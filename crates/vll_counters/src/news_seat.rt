@@ -1,0 +1,55 @@
+// News, which one session tells and another one hears, under no lock.
+ghost use Rattle.std.specs.Prelude.{◌≡◌};
+ghost use Rattle.vll_counters.specs.News.{HasHeard};
+
+use crate::session_seat::SessionSeat;
+use crate::steps::{Hears, NewsComes, Tells};
+use crate::views::View;
+use crate::words::Words;
+use atomic_table::Seat;
+use std::marker::Model;
+
+/// The seat of news: it stands for entered calls, and can go to another thread. Contracts see these calls.
+#[derive(Drop)]
+pub struct NewsSeat {
+    pub(crate) seat: Seat<(), View>,
+}
+
+impl Model for NewsSeat {
+    ghost use Rattle.std.specs.Prelude.{◌≡◌, []};
+    ghost use Rattle.vll_counters.specs.News.{NewsShown, calls_of_view};
+    ghost use Rattle.vll_counters.specs.declared.views.View.TheVariants.{News};
+
+    ghost Value = { NewsShown };
+
+    ghost view = { λ s. record { table = s.seat.table_id; calls = calls_of_view s.seat.me.0 } };
+
+    ghost invariant = { λ s. s.seat.me ≡ (News (calls_of_view s.seat.me.0), []) };
+}
+
+impl Words {
+    /// A session tells what it has seen. It needs no lock, and the session stays as it is.
+    pub fn tell(&self, session: &mut SessionSeat) -> NewsSeat
+        requires same { session.old.table ≡ self.now.table }
+        ensures session { session.new ≡ session.old }
+        ensures news { result ≡ record { table = self.now.table; calls = session.old.session.seen } }
+    {
+        NewsSeat {
+            seat: self.table.shared.split_seat::<Tells>(&mut session.seat),
+        }
+    }
+
+    /// A session hears news, by a load of the turn word, which needs no lock. Behind what it had seen it has then seen
+    /// the calls that the news has, and no more of its client's than before.
+    pub fn hear(&self, session: &mut SessionSeat, news: NewsSeat)
+        requires same { (session.old.table ≡ self.now.table) × (news.table ≡ self.now.table) }
+        ensures table { session.new.table ≡ session.old.table }
+        ensures heard { HasHeard session.old.session session.new.session news.calls }
+    {
+        let NewsSeat { seat } = news;
+        self.table
+            .shared
+            .join_seat::<NewsComes>(&mut session.seat, seat);
+        self.table.shared.load::<Hears>(&mut session.seat, 0);
+    }
+}
