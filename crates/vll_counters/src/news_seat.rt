@@ -39,8 +39,8 @@ impl Words {
         }
     }
 
-    /// A session hears news, by a load of the turn word, which needs no lock. Behind what it had seen it has then seen
-    /// the calls that the news has, and no more of its client's than before.
+    /// A session hears news, by a load of the turn word, which needs no lock. It has then seen all that it had seen and
+    /// all calls that the news has, and no more of its client's than before.
     pub fn hear(&self, session: &mut SessionSeat, news: NewsSeat)
         requires same { (session.old.table ≡ self.now.table) × (news.table ≡ self.now.table) }
         ensures table { session.new.table ≡ session.old.table }

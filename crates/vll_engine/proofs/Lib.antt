@@ -3,6 +3,7 @@ pub mod Ending
 pub mod Entering
 pub mod Keeps
 pub mod Learning
+pub mod Hearing
 pub mod Looking
 pub mod Onto
 pub mod Opens

@@ -4,6 +4,7 @@ pub mod Pass
 pub mod Begin
 pub mod Onto
 pub mod Calling
+pub mod News
 pub mod Closed
 pub mod Found
 pub mod Private

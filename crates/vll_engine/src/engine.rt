@@ -34,7 +34,7 @@ use vll_sca::Place;
 #[derive(Drop)]
 pub struct Engine<N: Name, H: Place + Send + Drop> {
     library: Library,
-    words: Words,
+    pub(crate) words: Words,
     // It is cold, and keeps what every thread reads apart from what each hold changes.
     room: Room,
     locked: Mutex<Locked<N, H>>,

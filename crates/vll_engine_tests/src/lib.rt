@@ -22,4 +22,6 @@ mod queueing;
 #[cfg(test)]
 mod schedules;
 #[cfg(test)]
+mod telling;
+#[cfg(test)]
 mod waiting;
