@@ -1,10 +1,6 @@
-// News, from one thread to another one.
-ghost use Rattle.std.specs.Prelude.{◌≡◌, ◌<◌};
-ghost use Rattle.vll_counters.specs.declared.views.SessionView.{SessionView};
-ghost use Rattle.vll_engine.specs.Calling.{IsCalled};
+// News, from one client to another one, by a channel.
+ghost use Rattle.std.specs.Prelude.{◌≡◌, ◌<◌, length};
 ghost use Rattle.vll_engine.specs.Shown.{name_of};
-ghost use Rattle.vll_proc.specs.declared.call.Call.{Call};
-ghost use Rattle.vll_proc.specs.declared.call.Reply.{Reply};
 ghost use Rattle.vll_sca.specs.Placing.{placing};
 
 use crate::opening::opening;
@@ -15,18 +11,17 @@ use std::marker::Brand;
 use std::process::Abort;
 use std::sync::Wait;
 use std::test::*;
-use std::thread::{Threads, join};
 use vll_core::Ticket;
-use vll_engine::{Engine, Name, News, Opening, Session, Spent, news_orders_calls};
+use vll_engine::{Engine, Name, News, Opening, Session, Spent};
 use vll_sca::Placing;
 
-// A call was made from entry to reply: its ticket, its output, and news of it.
+// A call was made from entry to reply: its ticket, its output, and news that has it.
 #[derive(Drop)]
 struct Receipt<N: Name> {
     ticket: Ticket,
     output: u64,
     news: News<N>,
-    ghost made: { (old new : SessionView) × (call : Call) × (reply : Reply) × IsCalled N.engine old new call ticket reply × (news.calls ≡ new.seen) },
+    ghost has_it: { ticket < length news.calls },
 }
 
 // A session's client makes a bump of record 0, and tells what it has seen.
@@ -60,7 +55,6 @@ fn hears_and_makes<N: Name, R: Wait + Abort>(
     ensures session { session.new.table ≡ N.engine.table }
     ensures behind { receipt.ticket < result.0 }
 {
-    news_orders_calls();
     engine.hear(session, receipt.news);
     let call = bump_of(rt, engine.library(), 0);
     match engine.call(rt, session, &call) {
@@ -69,7 +63,7 @@ fn hears_and_makes<N: Name, R: Wait + Abort>(
     }
 }
 
-// The first client makes its bump, and sends the news to the other thread.
+// The first client makes its bump, and sends the news to the other one.
 fn tells<N: Name, R: Wait + Abort>(
     rt: &R,
     engine: &Engine<N, Placing>,
@@ -107,7 +101,7 @@ fn hears<N: Name, R: Wait + Abort>(
     session
 }
 
-fn one_tells_and_one_hears<N: Name + Send + Sync, R: Wait + Threads + Abort + Sync>(
+fn one_tells_and_one_hears<N: Name, R: Wait + Abort>(
     rt: &R,
     alloc: Global,
     opening: Opening<Placing>,
@@ -118,18 +112,8 @@ fn one_tells_and_one_hears<N: Name + Send + Sync, R: Wait + Threads + Abort + Sy
     let (engine, mut sessions) = started::<N>(opening);
     let other = last_of::<N>(rt, &mut sessions);
     let one = last_of::<N>(rt, &mut sessions);
-    let engine_now = &engine;
-    let (other, one) = join(
-        rt,
-        move || -> Session
-            requires { other.table ≡ N.engine.table }
-            ensures { result.table ≡ N.engine.table }
-        { hears(rt, engine_now, other, from) },
-        move || -> Session
-            requires { one.table ≡ N.engine.table }
-            ensures { result.table ≡ N.engine.table }
-        { tells(rt, engine_now, one, to) },
-    );
+    let one = tells(rt, &engine, one, to);
+    let other = hears(rt, &engine, other, from);
     put_back::<N>(rt, &mut sessions, one);
     put_back::<N>(rt, &mut sessions, other);
     closes(rt, engine, sessions, &[2], &[0, 1]);

@@ -1,4 +1,4 @@
-// A bank over the engine: first one client's calls, and then two clients' at the same time.
+// A bank over the engine: first one client's calls, then two clients' at the same time, and last one that tells the other.
 ghost use Rattle.std.specs.Prelude.{◌≡◌, All, IfOk, IfSome, sum};
 ghost use Rattle.vll_example.specs.Bank.{procedures};
 ghost use Rattle.vll_engine.specs.Pass.{IsFresh};
@@ -7,11 +7,12 @@ ghost use Rattle.vll_sca.specs.Placing.{placing};
 
 use crate::fault::Fault;
 use crate::procedures::library;
+use crate::relay::relay;
 use std::alloc::Global;
 use std::marker::Brand;
 use std::sync::Wait;
 use vll_core::Config;
-use vll_engine::{BeginRefusal, Begun, Engine, Name, Opening, Pass, Session, Spent};
+use vll_engine::{Begun, Engine, Name, Opening, Pass, Session};
 use vll_proc::{Reply, invariants_carry_over};
 use vll_sca::Placing;
 
@@ -46,6 +47,8 @@ fn serve<N: Name, R: Wait + Print>(rt: &R, opening: Opening<Placing>) -> Result<
         println!(rt; "the transfer {reply}")?;
     }
     meet(rt, &engine, &mut first, &mut other)?;
+    let (told, behind) = relay(rt, &engine, &mut first, &mut other)?;
+    println!(rt; "call {} comes behind call {}", behind.0, told.0)?;
     let accounts = close(engine, sessions)?;
     for (account, value) in accounts.as_slice().iter().enumerate() {
         println!(rt; "account {account} holds {value}")?;
@@ -88,10 +91,8 @@ fn call<N: Name>(
     ensures { session.new.table ≡ N.engine.table }
 {
     let call = engine.library().call(name, args)?;
-    match engine.call(rt, session, &call) {
-        Ok((_, reply)) => Ok(reply),
-        Err(Spent) => Err(Fault::Refused(BeginRefusal::Spent)),
-    }
+    let (_, reply) = engine.call(rt, session, &call)?;
+    Ok(reply)
 }
 
 // Brings a call to its end.
@@ -114,6 +115,8 @@ fn meet<N: Name, R: Wait + Print>(
 ) -> Result<(), Fault>
     requires first { first.old.table ≡ N.engine.table }
     requires other { other.old.table ≡ N.engine.table }
+    ensures first { first.new.table ≡ N.engine.table }
+    ensures other { other.new.table ≡ N.engine.table }
 {
     let transfer = engine.library().call("transfer", &[0, 1, 20])?;
     let sum = engine.library().call("sum", &[0, 1])?;

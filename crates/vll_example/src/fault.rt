@@ -2,7 +2,7 @@ use std::alloc::{AllocError, AllocFailed};
 use std::io;
 use vll_check::{CallFault, CheckFault, NameTwice};
 use vll_core::OpenFault;
-use vll_engine::BeginRefusal;
+use vll_engine::{BeginRefusal, Spent};
 
 /// Why the program stopped.
 #[derive(Clone, Copy, Debug, PartialEq, Eq)]
@@ -57,6 +57,12 @@ impl From<NameTwice> for Fault {
 impl From<CallFault> for Fault {
     fn from(fault: CallFault) -> Fault {
         Fault::Call(fault)
+    }
+}
+
+impl From<Spent> for Fault {
+    fn from(_: Spent) -> Fault {
+        Fault::Refused(BeginRefusal::Spent)
     }
 }
 

@@ -4,6 +4,7 @@
 mod bank;
 mod fault;
 mod procedures;
+mod relay;
 
 use crate::fault::Fault;
 
