@@ -1,6 +1,7 @@
 -- What is known of a procedure that passes the tests, and of the records that its keys name.
 use Rattle.std.proofs.Common.{◌≡◌, ℕ, zero, suc, ◌<◌, ◌%◌, ◌^◌, ◌&&◌, Bool, true, false, List, [], ◌∷◌, length, get_or, IfSome, arith, refl, slice_index, Option, Some, None, subst}
 use Rattle.std.specs.List.{list_all}
+use Rattle.std.specs.Option.{option_or}
 use Rattle.std.proofs.lemmas.Bool.{ltb-true, false≢true}
 use Rattle.std.proofs.lemmas.Option.{same_Some, get_or_from_slice_get, none-some}
 use Rattle.vll_record.specs.declared.claim.Mode.{Mode}
@@ -19,22 +20,29 @@ passed : (b : Bool) (fault : CheckFault) (behind : Option CheckFault) → fault_
 passed true fault behind e = (refl, e)
 passed false fault behind e = cc
 
+neither : (a b : Option CheckFault) → option_or a b ≡ None → (a ≡ None) × (b ≡ None)
+neither None b e = (refl, e)
+neither (Some fault) b e = cc
+
 -- a procedure without a fault is well-formed, and its fixed records are there
 pub passed_all : (records : ℕ) (p : Proc) → check_fault records p ≡ None → formed.IsWellFormed p × (formed.has_records records p ≡ true)
 passed_all records p e =
-    let one = passed _ _ _ e in
+    let declared = neither _ _ e in
+    let names = neither _ _ declared.1 in
+    let sizes = neither _ _ names.1 in
+    let one = passed _ _ _ declared.0 in
     let two = passed _ _ _ one.1 in
     let three = passed _ _ _ two.1 in
     let four = passed _ _ _ three.1 in
-    let five = passed _ _ _ four.1 in
+    let five = passed _ _ _ names.0 in
     let six = passed _ _ _ five.1 in
     let seven = passed _ _ _ six.1 in
     let eight = passed _ _ _ seven.1 in
     let nine = passed _ _ _ eight.1 in
-    let ten = passed _ _ _ nine.1 in
+    let ten = passed _ _ _ sizes.0 in
     let eleven = passed _ _ _ ten.1 in
     let twelve = passed _ _ _ eleven.1 in
-    let thirteen = passed _ _ _ twelve.1 in
+    let thirteen = passed _ _ _ sizes.1 in
     let fourteen = passed _ _ _ thirteen.1 in
     let fifteen = passed _ _ _ fourteen.1 in
     let sixteen = passed _ _ _ fifteen.1 in (

@@ -1,7 +1,7 @@
 //! The tests of a procedure, in the order of their numbers.
-ghost use Rattle.std.specs.Prelude.{◌≡◌, ◌≤◌, ◌+◌, IfOk, length, option_map, sum_by};
+ghost use Rattle.std.specs.Prelude.{◌≡◌, ◌≤◌, ◌+◌, IfOk, None, length, option_map, sum_by};
 ghost use Rattle.vll_proc.specs.WellFormed as formed;
-ghost use Rattle.vll_check.specs.Faults.{check_fault, fault_in};
+ghost use Rattle.vll_check.specs.Faults.{check_fault, declared_fault, fault_in, form_fault, name_fault, size_fault};
 
 use crate::checked::Checked;
 use crate::fault::CheckFault;
@@ -43,6 +43,23 @@ pub fn check(procedure: Proc, records: u32) -> Result<Checked, CheckFault>
 fn fault_of(procedure: &Proc, records: u32) -> Option<CheckFault>
     ensures { result ≡ check_fault records procedure.now }
 {
+    if let Some(fault) = fault_of_declared(procedure, records) {
+        return Some(fault);
+    }
+    if let Some(fault) = fault_of_names(procedure) {
+        return Some(fault);
+    }
+    if let Some(fault) = fault_of_size(procedure) {
+        return Some(fault);
+    }
+    fault_of_forms(procedure)
+}
+
+// The first test of what the procedure declares that it fails.
+fn fault_of_declared(procedure: &Proc, records: u32) -> Option<CheckFault>
+    ensures fault { result ≡ declared_fault records procedure.now }
+    ensures few { result ≡ None → length procedure.now.keys ≤ MOST_CLAIMS }
+{
     if procedure.args as usize > MOST_ARGS {
         return Some(CheckFault::TooManyArgs);
     }
@@ -55,6 +72,13 @@ fn fault_of(procedure: &Proc, records: u32) -> Option<CheckFault>
     if !has_records(procedure, records) {
         return Some(CheckFault::FixedRecord);
     }
+    None
+}
+
+// The first test of what its body names that it fails.
+fn fault_of_names(procedure: &Proc) -> Option<CheckFault>
+    ensures { result ≡ name_fault procedure.now }
+{
     if !has_known_keys(procedure) {
         return Some(CheckFault::UnknownKey);
     }
@@ -70,6 +94,13 @@ fn fault_of(procedure: &Proc, records: u32) -> Option<CheckFault>
     if !reads_set_locals(procedure) {
         return Some(CheckFault::UnsetLocal);
     }
+    None
+}
+
+// The first test of how long and how deep its body is that it fails.
+fn fault_of_size(procedure: &Proc) -> Option<CheckFault>
+    ensures { result ≡ size_fault procedure.now }
+{
     if !has_few_replies(procedure) {
         return Some(CheckFault::TooManyReplies);
     }
@@ -79,6 +110,14 @@ fn fault_of(procedure: &Proc, records: u32) -> Option<CheckFault>
     if !is_short(procedure) {
         return Some(CheckFault::TooLong);
     }
+    None
+}
+
+// The first test of its indirect keys, and of what its body repeats, that it fails.
+fn fault_of_forms(procedure: &Proc) -> Option<CheckFault>
+    requires { length procedure.now.keys ≤ MOST_CLAIMS }
+    ensures { result ≡ form_fault procedure.now }
+{
     if !has_earlier_sources(procedure) {
         return Some(CheckFault::ThroughKey);
     }
@@ -211,9 +250,9 @@ fn have_sources(all: &[KeyDecl], place: usize, keys: &[KeyDecl]) -> bool
 fn has_source(all: &[KeyDecl], place: usize, key: &KeyDecl) -> bool
     ensures { result ≡ formed.has_source all.now place key.now }
 {
-    match key.at {
-        KeyAt::Fixed(_) | KeyAt::Arg(_) => true,
-        KeyAt::Through(i) => (i as usize) < place && is_direct(all.get(i as usize)),
+    match key.at.source() {
+        Some(i) => (i as usize) < place && is_direct(all.get(i as usize)),
+        None => true,
     }
 }
 
@@ -221,10 +260,7 @@ fn is_direct(key: Option<&KeyDecl>) -> bool
     ensures { result ≡ formed.is_direct (option_map (λ k. k.now) key.entry) }
 {
     match key {
-        Some(key) => match key.at {
-            KeyAt::Fixed(_) | KeyAt::Arg(_) => true,
-            KeyAt::Through(_) => false,
-        },
+        Some(key) => key.at.source().is_none(),
         None => false,
     }
 }
@@ -244,9 +280,9 @@ fn indirect_keys(keys: &[KeyDecl]) -> usize
 {
     match keys {
         [] => 0,
-        [key, others @ ..] => match key.at {
-            KeyAt::Fixed(_) | KeyAt::Arg(_) => indirect_keys(others),
-            KeyAt::Through(_) => 1 + indirect_keys(others),
+        [key, others @ ..] => match key.at.source() {
+            Some(_) => 1 + indirect_keys(others),
+            None => indirect_keys(others),
         },
     }
 }

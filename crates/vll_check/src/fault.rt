@@ -6,7 +6,8 @@ pub enum CheckFault {
     /// More than `MOST_ARGS` arguments.
     #[error("1")]
     TooManyArgs,
-    /// More key positions than the edition has: over `FIRST_MOST_KEYS` in edition One, over `MOST_CLAIMS` in edition Two.
+    /// More key positions than the edition has: over `FIRST_MOST_KEYS` in edition One, over `MOST_CLAIMS` in edition
+    /// Two.
     #[error("2")]
     TooManyKeys,
     /// A key is placed by an argument that is not declared.

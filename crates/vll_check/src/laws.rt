@@ -16,9 +16,9 @@ pub fn checked_procedures_are_well_formed()
         → IsWellFormed p × (has_records records p ≡ true) }
 {}
 
-/// A call that a library makes claims only records that are there. If it has no source, it has no indirect key, and finding
-/// leaves it as it is. What is found changes neither its procedure nor its arguments; so calls that may enter, and that have
-/// the procedures and arguments of these, are these with what they have found.
+/// A call that a library makes claims only records that are there. If it has no source, it has no indirect key, and
+/// finding leaves it as it is. What is found changes neither its procedure nor its arguments; so calls that may enter,
+/// and that have the procedures and arguments of these, are these with what they have found.
 pub fn fitting_calls_are_of_the_records()
     ensures within { (c : Catalog) (call : Call) → IsCatalog c → Fits c call → All (λ (d : Claim). d.id < c.records) call.claims }
     ensures alone { (c : Catalog) (call : Call) (v : ℕ) → IsCatalog c → Fits c call → source c call ≡ None → with_found c call v ≡ call }

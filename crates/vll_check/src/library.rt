@@ -39,8 +39,8 @@ impl Model for Library {
 
 impl Library {
     /// The library of these procedures, fewer than 2^32 and each checked for this number of records. Their numbers are
-    /// their places in the list, from 0. It refuses exactly a list in which two have one name, and drops it. It takes no
-    /// memory.
+    /// their places in the list, from 0. It refuses exactly a list in which two have one name, and drops it. It takes
+    /// no memory.
     pub fn new(records: u32, mut procs: Vec<Checked>) -> Result<Library, NameTwice>
         requires for_records { All (λ c. c.records ≡ records) procs.items }
         requires few { length procs.items < 2 ^ 32 }
@@ -127,9 +127,9 @@ impl Library {
         source_for(self.records(), checked.proc(), place, call)
     }
 
-    /// A call that fits, with a value that was found: its indirect key names the record whose number is the value's remainder by the
-    /// number of records, and the claims are those of all its keys. Without an indirect key the call as it was. It takes no
-    /// memory.
+    /// A call that fits, with a value that was found: its indirect key names the record whose number is the value's
+    /// remainder by the number of records, and the claims are those of all its keys. Without an indirect key the call
+    /// as it was. It takes no memory.
     pub fn with_found(&self, call: &Call, value: u64) -> Call
         requires { Fits self.now call.now }
         ensures call { result ≡ with_found self.now call.now value }

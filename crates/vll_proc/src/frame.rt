@@ -95,7 +95,8 @@ impl Frame {
         }
     }
 
-    // Runs the body. It sets none but the first `KEPT` cells, which are kept aside to go back to if the call is aborted.
+    // Runs the body. It sets none but the first `KEPT` cells, which are kept aside to go back to if the call is
+    // aborted.
     #[inline(always)]
     fn run_keeping<const KEPT: usize>(&mut self, procedure: &Proc, call: &Call) -> Reply
         requires formed { IsWellFormed procedure.now }

@@ -1,5 +1,5 @@
-//! What holds of each call of a well-formed procedure, and of calls that run one at a time, stated once for those who apply
-//! calls.
+//! What holds of each call of a well-formed procedure, and of calls that run one at a time, stated once for those who
+//! apply calls.
 
 ghost use Rattle.std.specs.Prelude.{◌≡◌, ◌≢◌, ℕ, ◌+◌, ◌<◌, List, ◌++◌, length, map, All, Some, slice_get, slice_index};
 ghost use Rattle.vll_record.specs.Claim.{mode_on};
@@ -46,8 +46,8 @@ pub fn meets_nothing_undeclared()
         → EndsAlike (in_turn (map effect p.body) s) (in_turn (map effect p.body) t) }
 {}
 
-/// A serial run of one list of calls, and then of another from where the first ended, answers and ends as the run of both
-/// in a row.
+/// A serial run of one list of calls, and then of another from where the first ended, answers and ends as the run of
+/// both in a row.
 pub fn serial_runs_join()
     ensures first { (procs : List Proc) (calls more : List Made) (records : List ℕ) (i : ℕ) → i < length calls
         → answer procs calls records i ≡ answer procs (calls ++ more) records i }
@@ -57,8 +57,8 @@ pub fn serial_runs_join()
         → end procs more (end procs calls records) ≡ end procs (calls ++ more) records }
 {}
 
-/// The replies of all epochs, one epoch's behind the other's, are those of one serial run of all their calls, however many
-/// epochs there are, and so are the records at the end. In such a list of replies each call has its answer.
+/// The replies of all epochs, one epoch's behind the other's, are those of one serial run of all their calls, however
+/// many epochs there are, and so are the records at the end. In such a list of replies each call has its answer.
 pub fn epochs_are_one_serial_run()
     ensures replies { (procs : List Proc) (epochs : List (List Made)) (records : List ℕ)
         → replies_by_epochs procs epochs records ≡ replies procs (in_a_row epochs) records }
@@ -68,8 +68,8 @@ pub fn epochs_are_one_serial_run()
         → slice_get (replies procs calls records) i ≡ answer procs calls records i }
 {}
 
-/// An invariant carries over: if the opening records have a property and each call of a list keeps it, the records before
-/// every call and at the end have it.
+/// An invariant carries over: if the opening records have a property and each call of a list keeps it, the records
+/// before every call and at the end have it.
 pub fn invariants_carry_over<P: Property>()
     ensures before { (procs : List Proc) (calls : List Made) (records : List ℕ) → P.holds records
         → All (Keeps procs P.holds) calls → (i : ℕ) → P.holds (before procs calls records i) }

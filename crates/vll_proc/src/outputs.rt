@@ -6,7 +6,8 @@ use crate::limits::MOST_OUTPUTS;
 use std::marker::Model;
 use std::slice;
 
-/// What a call replies: up to `MOST_OUTPUTS` numbers, in the order of the reply statements. Contracts see them as their list.
+/// What a call replies: up to `MOST_OUTPUTS` numbers, in the order of the reply statements. Contracts see them as their
+/// list.
 #[derive(Clone, Copy)]
 pub struct Outputs {
     places: [u64; MOST_OUTPUTS],

@@ -1,5 +1,5 @@
 ghost use Rattle.std.specs.Prelude.{◌≡◌, string_bytes};
-ghost use Rattle.vll_proc.specs.Meaning.{source_of};
+ghost use Rattle.vll_proc.specs.Meaning.{source_at, source_of};
 
 use sqlite_items::{Boxed, Items};
 use std::marker::Model;
@@ -67,6 +67,19 @@ pub enum KeyAt {
     Through(u8),
 }
 
+impl KeyAt {
+    /// The key position by whose record's value this one's record is found, by its place from 0. `None` if this one names
+    /// its record by itself.
+    pub fn source(&self) -> Option<u8>
+        ensures { result ≡ source_at self.now }
+    {
+        match *self {
+            KeyAt::Fixed(_) | KeyAt::Arg(_) => None,
+            KeyAt::Through(i) => Some(i),
+        }
+    }
+}
+
 /// A key position: the record it names, and how a call claims that record.
 #[derive(Clone, Copy, PartialEq, Eq, Debug)]
 pub struct KeyDecl {
@@ -109,9 +122,9 @@ fn source_of(keys: &[KeyDecl]) -> Option<u8>
 {
     match keys {
         [] => None,
-        [key, others @ ..] => match key.at {
-            KeyAt::Through(i) => Some(i),
-            KeyAt::Fixed(_) | KeyAt::Arg(_) => source_of(others),
+        [key, others @ ..] => match key.at.source() {
+            Some(place) => Some(place),
+            None => source_of(others),
         },
     }
 }
