@@ -1,6 +1,6 @@
 -- The queue's entries lie as lines beside statuses.
 use Rattle.std.proofs.Common.{Bor, if◌then◌else◌, nat_lt, ◌≡◌, ℕ, zero, suc, ◌+◌, ◌<◌, ◌≤◌, Bool, true, false, List, [], ◌∷◌, ◌++◌, length, map, refl, sym, ap, ◌∙◌, arith, slice_get, slice_set, get_or, cond, Option, Some, None}
-use Rattle.std.specs.List.{position_or_len, count_by}
+use Rattle.std.specs.List.{position, position_or_len, count_by}
 use Rattle.std.proofs.lemmas.List.Sums.{sum_by-cons, sum_by-set, sum_by_push}
 use Rattle.std.proofs.lemmas.Bool.Decides.{nat_tests}
 use Rattle.std.proofs.lemmas.Option.{slice_get_past, slice_get_read, slice_get_within, get_or_from_slice_get}
@@ -13,7 +13,8 @@ use Rattle.vll_sca.specs.declared.status.Status.{Status}
 use Rattle.vll_sca.specs.declared.status.Status.TheVariants.{Running, Waiting, Gone}
 use Rattle.vll_sca.specs.Status.{is_waiting, is_running, is_gone}
 use Rattle.vll_core.specs.Queue.{QueueEntry, Queued, IsQueued, is_left, changed_at, lines, statuses, waiting_ticket, front_among}
-use Rattle.vll_core.specs.Private.QueueKept.{paired, kept, IsKept}
+use Rattle.vll_core.specs.Private.Paired.{paired}
+use Rattle.vll_core.specs.Private.QueueKept.{kept, IsKept}
 use Rattle.vll_core.specs.declared.queue.Queue.TheInside.{Inside}
 
 pub lines_paired : (ls : List Line) (ss : List Status) → length ls ≡ length ss → map (λ (e : QueueEntry). e.line) (paired ls ss) ≡ ls
@@ -203,10 +204,15 @@ front_at ss t first =
     by_test p true is = refl
     by_test p false is = sym (ap (λ (o : Option Status). waiting_ticket p o) (slice_get_past ss p (grind (arith, nat_tests))))
 
--- the front by the status that stands at the lowest ticket that is left
-pub front_shown : {H : Type 0} (q : Queued H) (t : ℕ) (r : Option Status) (o : Option ℕ) → t ≡ position_or_len is_left (statuses q) → r ≡ slice_get (statuses q) t
-    → waiting_ticket t r ≡ o → front_among (statuses q) ≡ o
-front_shown q t r o first at told = front_at (statuses q) t first ∙ (ap (λ (s : Option Status). waiting_ticket t s) (sym at) ∙ told)
+-- the front by the lowest ticket that is left, and by its status
+pub front_none : (ss : List Status) (lowest : Option ℕ) → lowest ≡ position is_left ss → lowest ≡ None → front_among ss ≡ None
+front_none ss lowest is none = ap (λ (o : Option ℕ). elim o [ None ↦ None | Some t ↦ waiting_ticket t (slice_get ss t) ]) (sym is ∙ none)
+
+pub front_some : (ss : List Status) (lowest : Option ℕ) (t : ℕ) (r : Option Status) (o : Option ℕ) → lowest ≡ position is_left ss → lowest ≡ Some t → r ≡ slice_get ss t → waiting_ticket t r ≡ o
+    → front_among ss ≡ o
+front_some ss lowest t r o is some at told =
+    ap (λ (l : Option ℕ). elim l [ None ↦ None | Some u ↦ waiting_ticket u (slice_get ss u) ]) (sym is ∙ some)
+    ∙ (ap (λ (s : Option Status). waiting_ticket t s) (sym at) ∙ told)
 
 -- whether a ticket waits is told by its status
 pub waits : (t : ℕ) (r : Option Status) (s : Status) (b : Bool) → r ≡ Some s → b ≡ is_waiting s → waiting_ticket t r ≡ (if b then Some t else None)

@@ -22,10 +22,9 @@ pub mod Finished
 pub mod Draining
 pub mod Drained
 pub mod Windows
-pub mod Searching
 pub mod Entries
-pub mod WindowChanges
 pub mod Analysed
+pub mod WindowEntries
 pub mod QueueScan
 pub mod Lowest
 pub mod QueueFruitless

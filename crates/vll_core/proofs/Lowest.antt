@@ -1,61 +1,50 @@
 -- The lowest ticket that is not gone, by the window of the queue.
-use Rattle.std.proofs.Common.{◌≡◌, ℕ, ◌+◌, ◌<◌, Bool, true, false, not, nat_lt, List, [], ◌∷◌, length, slice_get, Option, Some, None, cond, refl, sym, ap, ◌∙◌, arith}
-use Rattle.std.specs.List.{position, position_or_len, enumerate_from}
+use Rattle.std.proofs.Common.{◌≡◌, ℕ, ◌+◌, ◌<◌, ◌≤◌, Bool, true, false, not, nat_lt, List, [], ◌∷◌, length, map, get_or, slice_get, Option, Some, None, cond, refl, sym, ap, ◌∙◌, arith}
+use Rattle.std.specs.List.{position, position_or_len, range_with_len}
 use Rattle.std.proofs.lemmas.Bool.Decides.{nat_tests}
-use Rattle.std.proofs.lemmas.List.{length-map}
-use Rattle.vll_sca.specs.declared.entry.Entry.{Entry}
+use Rattle.std.proofs.lemmas.List.FromFn.{fill_by_all, length-range_with_len, get_or-range_with_len}
+use Rattle.std.proofs.lemmas.Option.{slice_get-get_or, slice_get_past}
 use Rattle.vll_sca.specs.declared.status.Status.{Status}
+use Rattle.vll_sca.specs.declared.status.Status.TheVariants.{Gone}
 use Rattle.vll_core.specs.Queue.{Queued, statuses, is_left}
-use Rattle.vll_core.specs.Private.Window.{statuses_of, tickets_of, left_of}
-use Rattle.vll_core.specs.Private.QueueKept.{seen, kept, IsKept}
+use Rattle.vll_core.specs.Private.Window.{is_left_at, first_left}
+use Rattle.vll_core.specs.Private.QueueKept.{kept, IsKept}
 use Rattle.vll_core.specs.declared.queue.Queue.TheInside.{Inside}
 use Rattle.vll_core.proofs.Entries.{shown_statuses}
-use Rattle.vll_core.proofs.Analysed.{seen_statuses, lowest_left, none_left}
+use Rattle.vll_core.proofs.Windows.{first_is_head}
 
--- the first place that passes a test, where there is one and where there is none
-position_some : (ss : List Status) (n : ℕ) → n ≡ position_or_len is_left ss → n < length ss → position is_left ss ≡ Some n
-position_some ss n first within = by_test (nat_lt (position_or_len is_left ss) (length ss)) refl
+-- a number of all those below n
+number_at : (n k : ℕ) → slice_get (range_with_len 0 n) k ≡ cond (nat_lt k n) (Some k) None
+number_at n k = by_test (nat_lt k n) refl
   where
-    by_test : (b : Bool) → nat_lt (position_or_len is_left ss) (length ss) ≡ b → ◌≡◌ {A = Option ℕ} (cond b (Some (position_or_len is_left ss)) None) (Some n)
-    by_test true is = ap Some (sym first)
-    by_test false is = absurd (grind (arith, nat_tests, is, first, within))
+    by_test : (b : Bool) → nat_lt k n ≡ b → slice_get (range_with_len 0 n) k ≡ cond b (Some k) None
+    by_test true is =
+        let within : k < n = grind (arith, nat_tests, is) in
+        slice_get-get_or (range_with_len 0 n) k 0 (let long = length-range_with_len 0 n in omega (arith, within, long)) ∙ ap Some (get_or-range_with_len 0 n k 0 within ∙ (let same : 0 + k ≡ k = omega arith in same))
+    by_test false is = slice_get_past (range_with_len 0 n) k (let long = length-range_with_len 0 n in let past : n ≤ k = grind (arith, nat_tests, is) in omega (arith, past, long))
 
-position_none : (ss : List Status) → position_or_len is_left ss ≡ length ss → position is_left ss ≡ None
-position_none ss last = by_test (nat_lt (position_or_len is_left ss) (length ss)) refl
-  where
-    by_test : (b : Bool) → nat_lt (position_or_len is_left ss) (length ss) ≡ b → ◌≡◌ {A = Option ℕ} (cond b (Some (position_or_len is_left ss)) None) None
-    by_test true is = absurd (grind (arith, nat_tests, is, last))
-    by_test false is = refl
+position_map : (f : ℕ → Status) (ts : List ℕ) → position_or_len (λ (t : ℕ). is_left (f t)) ts ≡ position_or_len is_left (map f ts)
+position_map f [] = refl
+position_map f (t ∷ ts) = ap (λ (n : ℕ). cond (not (is_left (f t))) (1 + n) 0) (position_map f ts)
 
--- where an entry is left, the first one lies within the list
-within_left : (k : ℕ) (es : List Entry) (t : ℕ) → slice_get (tickets_of (left_of (enumerate_from k es))) 0 ≡ Some t → position_or_len is_left (statuses_of es) < length es
-within_left k [] t at = absurd (cc at)
-within_left k (e ∷ es) t at = by_test (within_left (k + 1) es t) (is_left e.status) refl at
-  where
-    by_test : (slice_get (tickets_of (left_of (enumerate_from (k + 1) es))) 0 ≡ Some t → position_or_len is_left (statuses_of es) < length es)
-        → (b : Bool) → is_left e.status ≡ b → slice_get (tickets_of (cond b ((k, e) ∷ left_of (enumerate_from (k + 1) es)) (left_of (enumerate_from (k + 1) es)))) 0 ≡ Some t
-        → cond (not (is_left e.status)) (1 + position_or_len is_left (statuses_of es)) 0 < length (e ∷ es)
-    by_test later true is here = let first = ap (λ (b : Bool). cond (not b) (1 + position_or_len is_left (statuses_of es)) 0) is in omega (arith, first)
-    by_test later false is here =
-        let same = ap (λ (b : Bool). cond (not b) (1 + position_or_len is_left (statuses_of es)) 0) is in
-        let rest = later here in
-        omega (arith, same, rest)
+-- the first of all tickets whose call is left
+first_of_all : (ss : List Status) → first_left ss (range_with_len 0 (length ss)) ≡ position_or_len is_left ss
+first_of_all ss =
+    position_map (λ (t : ℕ). get_or ss t Gone) (range_with_len 0 (length ss))
+    ∙ ap (position_or_len is_left) (sym (fill_by_all (λ (t : ℕ). get_or ss t Gone) ss (length ss) Gone refl (λ k within. refl)))
 
 -- the window's first ticket is the lowest that is left in the queue
 pub shown_lowest : {H : Type 0} {place : H → ℕ → ℕ} (a : Inside H) (q : Queued H) (o : Option ℕ) → IsKept place a → kept a ≡ q
-    → o ≡ slice_get (tickets_of a.window.left) 0 → o ≡ position is_left (statuses q)
-shown_lowest {H} {place} a q o h is front = by_front o (sym (front ∙ ap (λ xs. slice_get (tickets_of xs) 0) h.left)) ∙ ap (λ (ss : List Status). position is_left ss) same
-  where
-    es : List Entry
-    es = seen a.journal.items a.statuses.items
-
-    same : statuses_of es ≡ statuses q
-    same = seen_statuses a.journal.items a.statuses.items h.as_many ∙ sym (shown_statuses a q h is)
-
-    by_front : (x : Option ℕ) → slice_get (tickets_of (left_of (enumerate_from 0 es))) 0 ≡ x → x ≡ position is_left (statuses_of es)
-    by_front None at = sym (position_none (statuses_of es) (none_left 0 es at ∙ sym (length-map es (λ (e : Entry). e.status))))
-    by_front (Some t) at =
-        let low = lowest_left 0 es t at in
-        let within = within_left 0 es t at in
-        let long : length (statuses_of es) ≡ length es = length-map es (λ (e : Entry). e.status) in
-        sym (position_some (statuses_of es) t (omega (arith, low)) (omega (arith, low, within, long)))
+    → o ≡ slice_get a.window.tickets.items a.window.first → o ≡ position is_left (statuses q)
+shown_lowest a q o h is front =
+    let ss : List Status = a.statuses.items in
+    let ts : List ℕ = a.window.tickets.items in
+    let all : List ℕ = range_with_len 0 (length ss) in
+    front
+    ∙ (ap (slice_get ts) h.window.first
+    ∙ (first_is_head (is_left_at ss) ts
+    ∙ (ap (λ (us : List ℕ). slice_get us 0) h.window.tickets.left
+    ∙ (sym (first_is_head (is_left_at ss) all)
+    ∙ (ap (slice_get all) (first_of_all ss)
+    ∙ (number_at (length ss) (position_or_len is_left ss)
+    ∙ ap (λ (rs : List Status). position is_left rs) (sym (shown_statuses a q h is))))))))

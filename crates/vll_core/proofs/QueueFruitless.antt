@@ -9,7 +9,7 @@ use Rattle.vll_sca.specs.Status.{is_waiting}
 use Rattle.vll_sca.specs.Scan.{scan, scan_numbered}
 use Rattle.vll_sca.proofs.Fruitless.{running, none_after_push, none_after_start}
 use Rattle.vll_core.specs.declared.line.Line.{Line}
-use Rattle.vll_core.specs.Private.QueueKept.{seen}
+use Rattle.vll_core.specs.Private.Paired.{seen}
 use Rattle.vll_core.proofs.Analysed.{SeenAt, seen_at, seen_set, seen_push, numbered_at, numbered_set, numbered_push}
 use Rattle.vll_core.proofs.QueueScan.{scan_by_place}
 

@@ -1,9 +1,9 @@
--- A scan of the window finds what the contention analysis of the whole queue finds, and the window's front is the queue's.
-use Rattle.std.proofs.Common.{◌≡◌, ℕ, ◌+◌, ◌<◌, true, List, [], ◌∷◌, length, map, refl, sym, ap, ◌∙◌, arith, slice_get, get_or, Option, Some, None, suc, zero, zero-add, Bool, subst}
-use Rattle.std.specs.List.{position_or_len, enumerate_from}
+-- A scan of the window finds what the contention analysis of the whole queue finds.
+use Rattle.std.proofs.Common.{◌≡◌, ℕ, ◌+◌, ◌<◌, true, List, [], ◌∷◌, length, map, refl, sym, ap, ap₂, ◌∙◌, arith, slice_get, get_or, Option, Some, None, suc, zero, zero-add, Bool, subst}
+use Rattle.std.specs.List.{enumerate_from, range_with_len}
 use Rattle.std.specs.Option.{option_map}
 use Rattle.std.proofs.lemmas.Bool.{true≢false}
-use Rattle.std.proofs.lemmas.Option.{slice_get-map, slice_get-get_or, slice_get_past}
+use Rattle.std.proofs.lemmas.Option.{slice_get-map, slice_get-get_or}
 use Rattle.vll_sca.specs.declared.entry.Entry.{Entry}
 use Rattle.vll_sca.specs.declared.status.Status.{Status}
 use Rattle.vll_sca.specs.declared.status.Status.TheVariants.{Running, Waiting, Gone}
@@ -11,12 +11,15 @@ use Rattle.vll_sca.specs.Status.{is_waiting}
 use Rattle.vll_sca.specs.Scan.{scan, scan_numbered}
 use Rattle.vll_sca.proofs.Scanning.{scanned_within, scanned_waits}
 use Rattle.vll_sca.proofs.Leaving.{gone_entries_do_not_matter}
-use Rattle.vll_core.specs.Queue.{Queued, statuses, is_left, found_by, front_among, waiting_ticket}
-use Rattle.vll_core.specs.Private.Window.{statuses_of, tickets_of}
-use Rattle.vll_core.specs.Private.QueueKept.{seen, kept, IsKept}
+use Rattle.vll_core.specs.Queue.{Queued, statuses, found_by}
+use Rattle.vll_core.specs.declared.line.Line.{Line}
+use Rattle.vll_core.specs.Private.Paired.{seen}
+use Rattle.vll_core.specs.Private.Window.{left_among, numbered}
+use Rattle.vll_core.specs.Private.QueueKept.{kept, IsKept}
 use Rattle.vll_core.specs.declared.queue.Queue.TheInside.{Inside}
-use Rattle.vll_core.proofs.Entries.{shown_statuses, front_at}
-use Rattle.vll_core.proofs.Analysed.{seen_statuses, lowest_left, none_left}
+use Rattle.vll_core.proofs.Entries.{shown_statuses}
+use Rattle.vll_core.proofs.Analysed.{seen_statuses}
+use Rattle.vll_core.proofs.WindowEntries.{numbered_left, numbered_all}
 
 -- entries beside their places
 
@@ -42,13 +45,24 @@ scan_by_place place bits es =
     by_found (Some i) is = place_numbered 0 es i (scanned_within place bits es i is) ∙ ap Some (zero-add i)
 
 -- what the contention analysis finds is what a scan of the window finds
-pub found_shown : {H : Type 0} (place : H → ℕ → ℕ) (a : Inside H) (q : Queued H) (o : Option ℕ) → IsKept place a → kept a ≡ q
-    → o ≡ scan_numbered (place a.hash) a.bits a.window.left → found_by place q ≡ o
-found_shown place a q o h is found =
-    let es : List Entry = seen a.journal.items a.statuses.items in
+pub found_shown : {H : Type 0} (place : H → ℕ → ℕ) (a : Inside H) (q : Queued H) (ls : List Line) (ss : List Status) (o : Option ℕ) → IsKept place a → kept a ≡ q → ls ≡ a.journal.items → ss ≡ a.statuses.items
+    → o ≡ scan_numbered (place a.hash) a.bits (numbered ls ss a.window.tickets.items) → found_by place q ≡ o
+found_shown place a q ls ss o h is same_lines same_statuses found =
     ap (found_by place) (sym is)
-    ∙ (sym (scan_by_place (place a.hash) a.bits es)
-    ∙ (sym (gone_entries_do_not_matter (place a.hash) a.bits (enumerate_from 0 es)) ∙ (ap (scan_numbered (place a.hash) a.bits) (sym h.left) ∙ sym found)))
+    ∙ (of_all a.journal.items a.statuses.items a.window.tickets.items h.as_many h.window.tickets.left
+    ∙ (ap₂ (λ (ms : List Line) (rs : List Status). scanned (numbered ms rs a.window.tickets.items)) (sym same_lines) (sym same_statuses) ∙ sym found))
+  where
+    scanned : List (ℕ × Entry) → Option ℕ
+    scanned = scan_numbered (place a.hash) a.bits
+
+    of_all : (ms : List Line) (rs : List Status) (ts : List ℕ) → length ms ≡ length rs → left_among rs ts ≡ left_among rs (range_with_len 0 (length rs)) → scan (place a.hash) a.bits (seen ms rs) ≡ scanned (numbered ms rs ts)
+    of_all ms rs ts many left =
+        let all : List ℕ = range_with_len 0 (length rs) in
+        sym (scan_by_place (place a.hash) a.bits (seen ms rs))
+        ∙ (ap scanned (numbered_all ms rs many)
+        ∙ (sym (gone_entries_do_not_matter (place a.hash) a.bits (numbered ms rs all))
+        ∙ (ap scanned (numbered_left ms rs all many ∙ (ap (numbered ms rs) (sym left) ∙ sym (numbered_left ms rs ts many)))
+        ∙ gone_entries_do_not_matter (place a.hash) a.bits (numbered ms rs ts))))
 
 waits_alone : (s : Status) → is_waiting s ≡ true → s ≡ Waiting
 waits_alone Running is = absurd (true≢false (sym is))
@@ -90,29 +104,8 @@ kept_scanned {H} {place} a q bits fruitless h is same none =
       room_for_lines = h.room_for_lines;
       room_in_window = h.room_in_window;
       answered = h.answered;
-      next = h.next;
-      left = h.left;
+      window = h.window;
       waiting = h.waiting;
       running = h.running;
       fruitless = λ _. ap (found_by place) is ∙ none;
     })
-
-statuses_seen : {H : Type 0} {place : H → ℕ → ℕ} (a : Inside H) (q : Queued H) → IsKept place a → kept a ≡ q → statuses_of (seen a.journal.items a.statuses.items) ≡ statuses q
-statuses_seen a q h is = seen_statuses a.journal.items a.statuses.items h.as_many ∙ sym (shown_statuses a q h is)
-
--- the window's front is the lowest ticket that is left
-pub shown_front : {H : Type 0} {place : H → ℕ → ℕ} (a : Inside H) (q : Queued H) (o : Option ℕ) (t : ℕ) → IsKept place a → kept a ≡ q
-    → o ≡ slice_get (tickets_of a.window.left) 0 → o ≡ Some t → t ≡ position_or_len is_left (statuses q)
-shown_front a q o t h is front some =
-    lowest_left 0 (seen a.journal.items a.statuses.items) t (sym (front ∙ ap (λ xs. slice_get (tickets_of xs) 0) h.left) ∙ some)
-    ∙ (zero-add _ ∙ ap (λ (ss : List Status). position_or_len is_left ss) (statuses_seen a q h is))
-
-pub shown_no_front : {H : Type 0} {place : H → ℕ → ℕ} (a : Inside H) (q : Queued H) (o : Option ℕ) → IsKept place a → kept a ≡ q
-    → o ≡ slice_get (tickets_of a.window.left) 0 → o ≡ None → front_among (statuses q) ≡ None
-shown_no_front a q o h is front none =
-    ap front_among (sym (statuses_seen a q h is))
-    ∙ (front_at (statuses_of es) (length es) (sym (none_left 0 es (sym (front ∙ ap (λ xs. slice_get (tickets_of xs) 0) h.left) ∙ none)))
-    ∙ ap (waiting_ticket (length es)) (slice_get-map (λ (e : Entry). e.status) es (length es) ∙ ap (option_map (λ (e : Entry). e.status)) (slice_get_past es (length es) (omega arith))))
-  where
-    es : List Entry
-    es = seen a.journal.items a.statuses.items

@@ -1,240 +1,257 @@
--- Entries beside tickets that rise: what is left of them where one is put, pushed or dropped.
-use Rattle.std.proofs.Common.{◌≡◌, ℕ, zero, suc, ◌+◌, ◌<◌, ◌≤◌, Bool, true, false, not, ◌||◌, ◌==◌, cond, if◌then◌else◌, List, [], ◌∷◌, ◌++◌, length, take, refl, sym, ap, ap₂, ◌∙◌, subst, arith, slice_get, slice_set, get_or, Some, All, eq-eqb}
-use Rattle.std.specs.List.{position_or_len, zip, AllPairs}
-use Rattle.std.proofs.lemmas.Bool.{true≢false, or_left, or_right, eqb-true, false_from_ne_true}
-use Rattle.std.proofs.lemmas.List.{get_or-map, length-map}
+-- The tickets of the window stay those that are left, where a call enters, begins to run and is gone.
+use Rattle.std.proofs.Common.{◌≡◌, ℕ, zero, suc, ◌+◌, ◌<◌, ◌≤◌, Bool, true, false, not, ◌&&◌, ◌==◌, cond, List, [], ◌∷◌, ◌++◌, length, take, All, refl, sym, ap, ap₂, ◌∙◌, subst, arith, slice_get, slice_set, get_or, Some, zero-add, length-set, length-append, get_or-set_same, get_or-set_other, eq-eqb, ne_eqb, inl, inr}
+use Rattle.std.specs.List.{filter, position_or_len, range_with_len}
+use Rattle.std.proofs.lemmas.Bool.{cases_eq}
+use Rattle.std.proofs.lemmas.Bool.Decides.{nat_tests}
+use Rattle.std.proofs.lemmas.List.{get_or-drop, get_or_append_left, get_or_default}
+use Rattle.std.proofs.lemmas.List.Elements.{All-filter, All-push, filter-append, filter_agree, filter_passes}
+use Rattle.std.proofs.lemmas.List.Filters.{FiltersInPlace}
+use Rattle.std.proofs.lemmas.List.Folds.{position_or_len_push}
+use Rattle.std.proofs.lemmas.List.FromFn.{length-range_with_len, get_or-range_with_len}
 use Rattle.std.proofs.lemmas.List.Sums.{fails_before_first, passes_at_first, prefix_len-le-length}
-use Rattle.std.proofs.lemmas.List.Elements.{filter-append, All-filter}
-use Rattle.std.proofs.lemmas.Option.{get_or_from_slice_get, none-some, same_Some, slice_get_within}
-use Rattle.vll_sca.specs.declared.entry.Entry.{Entry}
+use Rattle.std.proofs.lemmas.Option.{slice_get_within, get_or_from_slice_get}
+use Rattle.std.proofs.Math.Bool.{and-true}
+use Rattle.std.proofs.Math.Seq.{get_or-append_seam}
 use Rattle.vll_sca.specs.declared.status.Status.{Status}
-use Rattle.vll_sca.specs.declared.status.Status.TheVariants.{Gone}
+use Rattle.vll_sca.specs.declared.status.Status.TheVariants.{Running, Waiting, Gone}
 use Rattle.vll_sca.specs.Status.{is_gone}
 use Rattle.vll_core.specs.Queue.{is_left}
-use Rattle.vll_core.specs.Private.Window.{statuses_of, tickets_of, left_of, put_status, contains, has_ticket}
+use Rattle.vll_core.specs.Private.Window.{is_left_at, left_among, first_left, HasLeft}
 
--- tickets rise
-abbrev pub Rising : List (ℕ × Entry) → Type 0
-Rising xs = AllPairs (λ (x y : ℕ × Entry). x.0 < y.0) xs
+-- ---- what passes a test, and the first that does
 
-abbrev pub AllAbove : ℕ → List (ℕ × Entry) → Type 0
-AllAbove t xs = All (λ (x : ℕ × Entry). t < x.0) xs
-
-pub rising_tail : (x : ℕ × Entry) (xs : List (ℕ × Entry)) → Rising (x ∷ xs) → Rising xs
-rising_tail x xs h i j d below within = h (suc i) (suc j) d (omega (arith, below)) (omega (arith, within))
-
-pub rising_head : (x : ℕ × Entry) (xs : List (ℕ × Entry)) → Rising (x ∷ xs) → AllAbove x.0 xs
-rising_head x xs h k d within = h zero (suc k) d (omega arith) (omega (arith, within))
-
-above_at : (t : ℕ) (xs : List (ℕ × Entry)) (i : ℕ) (x : ℕ × Entry) → AllAbove t xs → slice_get xs i ≡ Some x → t < x.0
-above_at t xs i x all at = subst (λ (y : ℕ × Entry). t < y.0) (get_or_from_slice_get xs i x x at) (all i x (slice_get_within xs i x at))
-
-differs : (n t : ℕ) → n < t → (n == t) ≡ false
-differs n t below = false_from_ne_true (n == t) (λ same. let e : n ≡ t = eqb-true n t same in absurd (omega (arith, e, below)))
-
-differs_above : (n t : ℕ) → t < n → (n == t) ≡ false
-differs_above n t above = false_from_ne_true (n == t) (λ same. let e : n ≡ t = eqb-true n t same in absurd (omega (arith, e, above)))
-
-above_tail : (t : ℕ) (x : ℕ × Entry) (xs : List (ℕ × Entry)) → AllAbove t (x ∷ xs) → AllAbove t xs
-above_tail t x xs all k d within = all (suc k) d (omega (arith, within))
-
-above_head : (t : ℕ) (x : ℕ × Entry) (xs : List (ℕ × Entry)) → AllAbove t (x ∷ xs) → t < x.0
-above_head t x xs all = all zero x (omega arith)
-
--- where all tickets are higher, a status is put nowhere
-put_nowhere : (t : ℕ) (s : Status) (xs : List (ℕ × Entry)) → AllAbove t xs → put_status t s xs ≡ xs
-put_nowhere t s [] all = refl
-put_nowhere t s (x ∷ xs) all =
-    ap₂ (λ (b : Bool) (ys : List (ℕ × Entry)). (if b then (x.0, record { claims = x.1.claims; status = s }) else x) ∷ ys)
-    (differs_above x.0 t (above_head t x xs all)) (put_nowhere t s xs (above_tail t x xs all))
-
-no_ticket : (t : ℕ) (xs : List (ℕ × Entry)) → AllAbove t xs → has_ticket t xs ≡ false
-no_ticket t [] all = refl
-no_ticket t (x ∷ xs) all = ap₂ (λ (a b : Bool). a || b) (differs_above x.0 t (above_head t x xs all)) (no_ticket t xs (above_tail t x xs all))
-
-pub left_first : (x : ℕ × Entry) (xs : List (ℕ × Entry)) → is_left x.1.status ≡ true → left_of (x ∷ xs) ≡ x ∷ left_of xs
-left_first x xs is = ap (λ (b : Bool). cond b (x ∷ left_of xs) (left_of xs)) is
-
-pub left_rest : (x : ℕ × Entry) (xs : List (ℕ × Entry)) → is_left x.1.status ≡ false → left_of (x ∷ xs) ≡ left_of xs
-left_rest x xs is = ap (λ (b : Bool). cond b (x ∷ left_of xs) (left_of xs)) is
-
--- what is left stays
-pub left_twice : (xs : List (ℕ × Entry)) → left_of (left_of xs) ≡ left_of xs
-left_twice [] = refl
-left_twice (x ∷ xs) = by_test (left_twice xs) (is_left x.1.status) refl
+-- what passes one test and then the other
+filter_twice : (p q : ℕ → Bool) (ts : List ℕ) → filter (λ (t : ℕ). p t && q t) ts ≡ filter q (filter p ts)
+filter_twice p q [] = refl
+filter_twice p q (t ∷ ts) = by_test (p t) (filter_twice p q ts)
   where
-    by_test : left_of (left_of xs) ≡ left_of xs → (b : Bool) → is_left x.1.status ≡ b → left_of (left_of (x ∷ xs)) ≡ left_of (x ∷ xs)
-    by_test rest true is = ap left_of (left_first x xs is) ∙ (left_first x (left_of xs) is ∙ (ap (λ ys. x ∷ ys) rest ∙ sym (left_first x xs is)))
-    by_test rest false is = ap left_of (left_rest x xs is) ∙ (rest ∙ sym (left_rest x xs is))
+    by_test : (b : Bool) → filter (λ (u : ℕ). p u && q u) ts ≡ filter q (filter p ts)
+        → cond (b && q t) (t ∷ filter (λ (u : ℕ). p u && q u) ts) (filter (λ (u : ℕ). p u && q u) ts) ≡ filter q (cond b (t ∷ filter p ts) (filter p ts))
+    by_test true rest = ap (λ (us : List ℕ). cond (q t) (t ∷ us) us) rest
+    by_test false rest = rest
 
-pub left_push : (xs : List (ℕ × Entry)) (t : ℕ) (e : Entry) → is_left e.status ≡ true → left_of (xs ++ (t, e) ∷ []) ≡ left_of xs ++ (t, e) ∷ []
-left_push xs t e is = filter-append (λ (x : ℕ × Entry). is_left x.1.status) xs ((t, e) ∷ []) ∙ ap (λ ys. left_of xs ++ ys) (left_first (t, e) [] is)
+and_self : (b : Bool) → b ≡ (b && b)
+and_self true = refl
+and_self false = refl
 
--- an entry whose ticket is left is left
-pub left_at : (xs : List (ℕ × Entry)) (i t : ℕ) (e : Entry) → Rising xs → slice_get xs i ≡ Some (t, e) → has_ticket t (left_of xs) ≡ true → is_left e.status ≡ true
-left_at [] i t e rising at has = absurd (none-some (t, e) at)
-left_at (x ∷ xs) zero t e rising at has = by_test (is_left x.1.status) refl
+filter_again : (p : ℕ → Bool) (ts : List ℕ) → filter p (filter p ts) ≡ filter p ts
+filter_again p ts = sym (filter_twice p p ts) ∙ sym (filter_agree p (λ (t : ℕ). p t && p t) (λ (t : ℕ). and_self (p t)) ts)
+
+pub length-filter-le : (p : ℕ → Bool) (ts : List ℕ) → length (filter p ts) ≤ length ts
+length-filter-le p [] = omega arith
+length-filter-le p (t ∷ ts) = by_test (p t) (length-filter-le p ts)
   where
-    same : x ≡ (t, e)
-    same = same_Some x (t, e) at
+    by_test : (b : Bool) → length (filter p ts) ≤ length ts → length (cond b (t ∷ filter p ts) (filter p ts)) ≤ suc (length ts)
+    by_test true rest = omega (arith, rest)
+    by_test false rest = omega (arith, rest)
 
-    by_test : (b : Bool) → is_left x.1.status ≡ b → is_left e.status ≡ true
-    by_test true is = ap (λ (y : ℕ × Entry). is_left y.1.status) (sym same) ∙ is
-    by_test false is =
-        let above : AllAbove t xs = subst (λ (y : ℕ × Entry). AllAbove y.0 xs) same (rising_head x xs rising) in
-        let none : has_ticket t (left_of xs) ≡ false = no_ticket t (left_of xs) (All-filter (λ (y : ℕ × Entry). is_left y.1.status) (λ (y : ℕ × Entry). t < y.0) xs above) in
-        absurd (true≢false (sym has ∙ (ap (has_ticket t) (left_rest x xs is) ∙ none)))
-left_at (x ∷ xs) (suc i) t e rising at has = by_test (λ h. left_at xs i t e (rising_tail x xs rising) at h) (is_left x.1.status) refl
+module _ (p q : ℕ → Bool) (n : ℕ) (same : (t : ℕ) → t < n → p t ≡ q t) where
+  -- tests that agree below a number
+  filter_below : (ts : List ℕ) → All (λ (t : ℕ). t < n) ts → filter p ts ≡ filter q ts
+  filter_below [] below = refl
+  filter_below (t ∷ ts) below =
+      ap₂ (λ (b : Bool) (us : List ℕ). cond b (t ∷ us) us) (same t (below 0 t (omega arith))) (filter_below ts (λ k d within. below (suc k) d (omega (arith, within))))
+
+  first_below : (ts : List ℕ) → All (λ (t : ℕ). t < n) ts → position_or_len p ts ≡ position_or_len q ts
+  first_below [] below = refl
+  first_below (t ∷ ts) below =
+      ap₂ (λ (b : Bool) (k : ℕ). cond (not b) (1 + k) 0) (same t (below 0 t (omega arith))) (first_below ts (λ k d within. below (suc k) d (omega (arith, within))))
+
+first_agree : (p q : ℕ → Bool) → ((t : ℕ) → p t ≡ q t) → (ts : List ℕ) → position_or_len p ts ≡ position_or_len q ts
+first_agree p q same [] = refl
+first_agree p q same (t ∷ ts) = ap₂ (λ (b : Bool) (k : ℕ). cond (not b) (1 + k) 0) (same t) (first_agree p q same ts)
+
+-- the first that passes a second test too is no earlier
+first_later : (p q : ℕ → Bool) (ts : List ℕ) → position_or_len p ts ≤ position_or_len (λ (t : ℕ). p t && q t) ts
+first_later p q [] = omega arith
+first_later p q (t ∷ ts) = by_test (p t) (q t) (first_later p q ts)
   where
-    by_test : (has_ticket t (left_of xs) ≡ true → is_left e.status ≡ true) → (b : Bool) → is_left x.1.status ≡ b → is_left e.status ≡ true
-    by_test rest true is =
-        let other : (x.0 == t) ≡ false = differs x.0 t (above_at x.0 xs i (t, e) (rising_head x xs rising) at) in
-        rest (ap (λ (b : Bool). b || has_ticket t (left_of xs)) (sym other) ∙ (ap (has_ticket t) (sym (left_first x xs is)) ∙ has))
-    by_test rest false is = rest (ap (has_ticket t) (sym (left_rest x xs is)) ∙ has)
+    by_test : (b c : Bool) → position_or_len p ts ≤ position_or_len (λ (u : ℕ). p u && q u) ts
+        → cond (not b) (1 + position_or_len p ts) 0 ≤ cond (not (b && c)) (1 + position_or_len (λ (u : ℕ). p u && q u) ts) 0
+    by_test true c rest = omega arith
+    by_test false c rest = omega (arith, rest)
 
--- a status that is put at the place of an entry that is left is put among those left
-pub left_set : (xs : List (ℕ × Entry)) (i t : ℕ) (e : Entry) (s : Status) → Rising xs → slice_get xs i ≡ Some (t, e) → is_left e.status ≡ true
-    → left_of (slice_set xs i (t, record { claims = e.claims; status = s })) ≡ left_of (put_status t s (left_of xs))
-left_set [] i t e s rising at left = absurd (none-some (t, e) at)
-left_set (x ∷ xs) zero t e s rising at left =
-    sym
-    (ap (λ (y : ℕ × Entry). left_of (put_status t s (left_of (y ∷ xs)))) same
-    ∙ (ap (λ ys. left_of (put_status t s ys)) (left_first (t, e) xs left)
-    ∙ (ap (λ (b : Bool). left_of ((if b then new else (t, e)) ∷ put_status t s (left_of xs))) (eq-eqb t t refl)
-    ∙ ap (λ ys. cond (is_left s) (new ∷ ys) ys) (ap left_of (put_nowhere t s (left_of xs) above) ∙ left_twice xs))))
+-- the first that passes stands first among those that do
+pub first_is_head : (p : ℕ → Bool) (ts : List ℕ) → slice_get ts (position_or_len p ts) ≡ slice_get (filter p ts) 0
+first_is_head p [] = refl
+first_is_head p (t ∷ ts) = by_test (p t) (first_is_head p ts)
   where
-    new : ℕ × Entry
-    new = (t, record { claims = e.claims; status = s })
+    by_test : (b : Bool) → slice_get ts (position_or_len p ts) ≡ slice_get (filter p ts) 0
+        → slice_get (t ∷ ts) (cond (not b) (1 + position_or_len p ts) 0) ≡ slice_get (cond b (t ∷ filter p ts) (filter p ts)) 0
+    by_test true rest = refl
+    by_test false rest = ap (slice_get (t ∷ ts)) (let next : 1 + position_or_len p ts ≡ suc (position_or_len p ts) = omega arith in next) ∙ rest
 
-    same : x ≡ (t, e)
-    same = same_Some x (t, e) at
+-- what fails is not the first that passes
+pub first_past : (p : ℕ → Bool) (ts : List ℕ) (k d : ℕ) → k ≤ position_or_len p ts → k < length ts → p (get_or ts k d) ≡ false → k + 1 ≤ position_or_len p ts
+first_past p ts k d before within fails = grind (arith, passes_at_first p ts d)
 
-    above : AllAbove t (left_of xs)
-    above = All-filter (λ (y : ℕ × Entry). is_left y.1.status) (λ (y : ℕ × Entry). t < y.0) xs (subst (λ (y : ℕ × Entry). AllAbove y.0 xs) same (rising_head x xs rising))
-left_set (x ∷ xs) (suc i) t e s rising at left =
-    by_test (left_set xs i t e s (rising_tail x xs rising) at left) (is_left x.1.status) refl
+-- what passes is the first that does, where all before it fail
+pub first_here : (p : ℕ → Bool) (ts : List ℕ) (k d : ℕ) → k ≤ position_or_len p ts → k < length ts → p (get_or ts k d) ≡ true → k ≡ position_or_len p ts
+first_here p ts k d before within passes = grind (arith, fails_before_first p ts k d)
+
+pub first_within : (p : ℕ → Bool) (ts : List ℕ) → position_or_len p ts ≤ length ts
+first_within p ts = prefix_len-le-length (λ (t : ℕ). not (p t)) ts
+
+-- nothing before the first passes
+none_before : (p : ℕ → Bool) (ts : List ℕ) → [] ≡ filter p (take (position_or_len p ts) ts)
+none_before p [] = refl
+none_before p (t ∷ ts) = by_test (p t) refl (none_before p ts)
   where
-    by_test : left_of (slice_set xs i (t, record { claims = e.claims; status = s })) ≡ left_of (put_status t s (left_of xs)) → (b : Bool) → is_left x.1.status ≡ b
-        → left_of (x ∷ slice_set xs i (t, record { claims = e.claims; status = s })) ≡ left_of (put_status t s (left_of (x ∷ xs)))
-    by_test rest true is =
-        let other : (x.0 == t) ≡ false = differs x.0 t (above_at x.0 xs i (t, e) (rising_head x xs rising) at) in
-        left_first x (slice_set xs i (t, record { claims = e.claims; status = s })) is
-        ∙ (ap (λ ys. x ∷ ys) rest
-        ∙ (sym (left_first x (put_status t s (left_of xs)) is)
-        ∙ (ap (λ (b : Bool). left_of ((if b then (x.0, record { claims = x.1.claims; status = s }) else x) ∷ put_status t s (left_of xs))) (sym other)
-        ∙ ap (λ ys. left_of (put_status t s ys)) (sym (left_first x xs is)))))
-    by_test rest false is =
-        left_rest x (slice_set xs i (t, record { claims = e.claims; status = s })) is
-        ∙ (rest ∙ ap (λ ys. left_of (put_status t s ys)) (sym (left_rest x xs is)))
+    by_test : (b : Bool) → p t ≡ b → [] ≡ filter p (take (position_or_len p ts) ts) → [] ≡ filter p (take (cond (not b) (1 + position_or_len p ts) 0) (t ∷ ts))
+    by_test true is rest = refl
+    by_test false is rest =
+        rest
+        ∙ sym
+        (ap (λ (k : ℕ). filter p (take k (t ∷ ts))) (let next : 1 + position_or_len p ts ≡ suc (position_or_len p ts) = omega arith in next)
+        ∙ ap (λ (b : Bool). cond b (t ∷ filter p (take (position_or_len p ts) ts)) (filter p (take (position_or_len p ts) ts))) is)
 
--- lists of tickets and entries as one list
+-- what passes is gathered from the first on
+pub gathers_from_first : (p : ℕ → Bool) (ts : List ℕ) (first : ℕ) → first ≡ position_or_len p ts → FiltersInPlace p ts ts 0 first
+gathers_from_first p ts first is = record {
+  front = none_before p ts ∙ ap (λ (k : ℕ). filter p (take k ts)) (sym is);
+  rest = refl;
+  behind = omega arith;
+  within = let le = first_within p ts in omega (arith, is, le);
+  long = refl;
+}
 
-pub zip_set : (ts : List ℕ) (es : List Entry) (i t : ℕ) (e : Entry) → slice_get ts i ≡ Some t → zip ts (slice_set es i e) ≡ slice_set (zip ts es) i (t, e)
-zip_set [] es i t e at = refl
-zip_set (u ∷ ts) [] i t e at = refl
-zip_set (u ∷ ts) (d ∷ es) zero t e at = ap (λ (v : ℕ). (v, e) ∷ zip ts es) (same_Some u t at)
-zip_set (u ∷ ts) (d ∷ es) (suc i) t e at = ap (λ ys. (u, d) ∷ ys) (zip_set ts es i t e at)
+-- where all pass, the first is at the front
+all_pass : (p : ℕ → Bool) (ts : List ℕ) → All (λ (t : ℕ). p t ≡ true) ts → 0 ≡ position_or_len p ts
+all_pass p [] all = refl
+all_pass p (t ∷ ts) all = sym (ap (λ (b : Bool). cond (not b) (1 + position_or_len p ts) 0) (all 0 t (omega arith)))
 
-pub zip_set_both : (ts : List ℕ) (es : List Entry) (i t : ℕ) (e : Entry) → zip (slice_set ts i t) (slice_set es i e) ≡ slice_set (zip ts es) i (t, e)
-zip_set_both [] es i t e = refl
-zip_set_both (u ∷ ts) [] zero t e = refl
-zip_set_both (u ∷ ts) [] (suc i) t e = refl
-zip_set_both (u ∷ ts) (d ∷ es) zero t e = refl
-zip_set_both (u ∷ ts) (d ∷ es) (suc i) t e = ap (λ ys. (u, d) ∷ ys) (zip_set_both ts es i t e)
+-- ---- all tickets
 
-pub zip_push : (ts : List ℕ) (es : List Entry) (t : ℕ) (e : Entry) → length es ≡ length ts → zip (ts ++ t ∷ []) (es ++ e ∷ []) ≡ zip ts es ++ (t, e) ∷ []
-zip_push [] [] t e same = refl
-zip_push [] (d ∷ es) t e same = absurd (omega (arith, same))
-zip_push (u ∷ ts) [] t e same = absurd (omega (arith, same))
-zip_push (u ∷ ts) (d ∷ es) t e same = ap (λ ys. (u, d) ∷ ys) (zip_push ts es t e (omega (arith, same)))
+tickets_below : (n : ℕ) → All (λ (t : ℕ). t < n) (range_with_len 0 n)
+tickets_below n k d within =
+    let inside : k < n = omega (arith, within, length-range_with_len 0 n) in
+    let here : get_or (range_with_len 0 n) k d ≡ 0 + k = get_or-range_with_len 0 n k d inside in
+    omega (arith, here, inside)
 
-pub zip_take : (n : ℕ) (ts : List ℕ) (es : List Entry) → zip (take n ts) (take n es) ≡ take n (zip ts es)
-zip_take zero ts es = refl
-zip_take (suc n) [] es = refl
-zip_take (suc n) (t ∷ ts) [] = refl
-zip_take (suc n) (t ∷ ts) (e ∷ es) = ap (λ ys. (t, e) ∷ ys) (zip_take n ts es)
+one_ticket_more : (a n : ℕ) → range_with_len a (suc n) ≡ range_with_len a n ++ (a + n) ∷ []
+one_ticket_more a zero = ap (λ (k : ℕ). k ∷ []) (let same : a ≡ a + 0 = omega arith in same)
+one_ticket_more a (suc n) =
+    ap (λ (ts : List ℕ). a ∷ ts) (one_ticket_more (a + 1) n ∙ ap (λ (k : ℕ). range_with_len (a + 1) n ++ k ∷ []) (let same : (a + 1) + n ≡ a + suc n = omega arith in same))
 
-pub zip_at : (ts : List ℕ) (es : List Entry) (i t : ℕ) (e : Entry) → slice_get ts i ≡ Some t → slice_get es i ≡ Some e → slice_get (zip ts es) i ≡ Some (t, e)
-zip_at [] es i t e here there = absurd (none-some t here)
-zip_at (u ∷ ts) [] i t e here there = absurd (none-some e there)
-zip_at (u ∷ ts) (d ∷ es) zero t e here there = ap₂ (λ (v : ℕ) (c : Entry). Some (v, c)) (same_Some u t here) (same_Some d e there)
-zip_at (u ∷ ts) (d ∷ es) (suc i) t e here there = zip_at ts es i t e here there
+-- ---- where a status is read
 
--- a ticket that is left is one of the tickets
-pub left_contained : (ts : List ℕ) (es : List Entry) (t : ℕ) → has_ticket t (left_of (zip ts es)) ≡ true → contains t ts ≡ true
-left_contained [] es t has = absurd (true≢false (sym has))
-left_contained (u ∷ ts) [] t has = absurd (true≢false (sym has))
-left_contained (u ∷ ts) (e ∷ es) t has = by_test (left_contained ts es t) (is_left e.status) refl
+-- whether a call is left
+pub left_read : (ss : List Status) (t : ℕ) (d : Status) (gone : Bool) → t < length ss → gone ≡ is_gone (get_or ss t d) → is_left_at ss t ≡ not gone
+left_read ss t d gone within is = ap is_left (get_or_default ss t Gone d within) ∙ ap not (sym is)
+
+-- what is gathered later stands where it stood
+pub still_there : (p : ℕ → Bool) (ts us : List ℕ) (k i : ℕ) → FiltersInPlace p ts us k i → get_or us i 0 ≡ get_or ts i 0
+still_there p ts us k i h =
+    ap (λ (n : ℕ). get_or us n 0) same ∙ (sym (get_or-drop i us 0 0) ∙ (ap (λ (vs : List ℕ). get_or vs 0 0) h.rest ∙ (get_or-drop i ts 0 0 ∙ ap (λ (n : ℕ). get_or ts n 0) (sym same))))
   where
-    head : (b : Bool) → (u == t) ≡ b → (has_ticket t (left_of (zip ts es)) ≡ true → contains t ts ≡ true) → ((u == t) || has_ticket t (left_of (zip ts es))) ≡ true → contains t (u ∷ ts) ≡ true
-    head true is rest h = or_left (u == t) (contains t ts) is
-    head false is rest h = or_right (u == t) (contains t ts) (rest (ap (λ (b : Bool). b || has_ticket t (left_of (zip ts es))) (sym is) ∙ h))
+    same : i ≡ i + 0
+    same = omega arith
 
-    by_test : (has_ticket t (left_of (zip ts es)) ≡ true → contains t ts ≡ true) → (b : Bool) → is_left e.status ≡ b → contains t (u ∷ ts) ≡ true
-    by_test rest true is = head (u == t) refl rest (ap (has_ticket t) (sym (left_first (u, e) (zip ts es) is)) ∙ has)
-    by_test rest false is = or_right (u == t) (contains t ts) (rest (ap (has_ticket t) (sym (left_rest (u, e) (zip ts es) is)) ∙ has))
+-- ---- where a status changes
 
--- the first that is left has the lowest ticket that is left
-pub front_of : (ts : List ℕ) (es : List Entry) → length es ≡ length ts → slice_get ts (position_or_len is_left (statuses_of es)) ≡ slice_get (tickets_of (left_of (zip ts es))) 0
-front_of [] es same = refl
-front_of (t ∷ ts) [] same = absurd (omega (arith, same))
-front_of (t ∷ ts) (e ∷ es) same = by_test (front_of ts es (omega (arith, same))) (is_left e.status) refl
+and_false : (b : Bool) → false ≡ (b && false)
+and_false true = refl
+and_false false = refl
+
+-- where a call is gone, those that are left are the others
+gone_at : (ss : List Status) (t u : ℕ) → t < length ss → is_left_at (slice_set ss t Gone) u ≡ (is_left_at ss u && not (u == t))
+gone_at ss t u within =
+    elim (cases_eq u t) [
+      | inl same ↦
+          ap is_left (ap (λ (k : ℕ). get_or (slice_set ss t Gone) k Gone) same ∙ get_or-set_same ss t Gone Gone within)
+          ∙ (and_false (is_left_at ss u) ∙ ap (λ (b : Bool). is_left_at ss u && not b) (sym (eq-eqb u t same)))
+      | inr other ↦
+          ap is_left (get_or-set_other ss t u Gone Gone other)
+          ∙ (sym (and-true (is_left_at ss u)) ∙ ap (λ (b : Bool). is_left_at ss u && not b) (sym (ne_eqb u t other)))
+    ]
+
+-- where a call that is left gets another status of one that is left, the same are left
+left_still : (ss : List Status) (t u : ℕ) (old new : Status) → slice_get ss t ≡ Some old → is_left new ≡ is_left old → is_left_at (slice_set ss t new) u ≡ is_left_at ss u
+left_still ss t u old new at same_test =
+    elim (cases_eq u t) [
+      | inl same ↦
+          ap is_left (ap (λ (k : ℕ). get_or (slice_set ss t new) k Gone) same ∙ get_or-set_same ss t new Gone (slice_get_within ss t old at))
+          ∙ (same_test ∙ ap is_left (sym (get_or_from_slice_get ss t old Gone at) ∙ ap (λ (k : ℕ). get_or ss k Gone) (sym same)))
+      | inr other ↦ ap is_left (get_or-set_other ss t u new Gone other)
+    ]
+
+-- tickets among which fewer are left, or the same
+fewer_left : (ss rs : List Status) (ts : List ℕ) (q : ℕ → Bool) → length rs ≡ length ss → ((t : ℕ) → is_left_at rs t ≡ (is_left_at ss t && q t)) → HasLeft ss ts → HasLeft rs ts
+fewer_left ss rs ts q long are h = record {
+  few = omega (arith, h.few, long);
+  below = subst (λ (n : ℕ). All (λ (t : ℕ). t < n) ts) (sym long) h.below;
+  left =
+      of_left ts
+      ∙ (ap (filter q) h.left ∙ (sym (of_left (range_with_len 0 (length ss))) ∙ ap (λ (n : ℕ). left_among rs (range_with_len 0 n)) (sym long)));
+}
   where
-    by_test : slice_get ts (position_or_len is_left (statuses_of es)) ≡ slice_get (tickets_of (left_of (zip ts es))) 0 → (b : Bool) → is_left e.status ≡ b
-        → slice_get (t ∷ ts) (cond (not (is_left e.status)) (1 + position_or_len is_left (statuses_of es)) 0) ≡ slice_get (tickets_of (left_of ((t, e) ∷ zip ts es))) 0
-    by_test rest true is =
-        ap (λ (b : Bool). slice_get (t ∷ ts) (cond (not b) (1 + position_or_len is_left (statuses_of es)) 0)) is
-        ∙ sym (ap (λ ys. slice_get (tickets_of ys) 0) (left_first (t, e) (zip ts es) is))
-    by_test rest false is =
-        ap (λ (b : Bool). slice_get (t ∷ ts) (cond (not b) (1 + position_or_len is_left (statuses_of es)) 0)) is
-        ∙ (ap (slice_get (t ∷ ts)) (let next : 1 + position_or_len is_left (statuses_of es) ≡ suc (position_or_len is_left (statuses_of es)) = omega arith in next)
-        ∙ (rest ∙ sym (ap (λ ys. slice_get (tickets_of ys) 0) (left_rest (t, e) (zip ts es) is))))
+    of_left : (us : List ℕ) → left_among rs us ≡ filter q (left_among ss us)
+    of_left us = filter_agree (is_left_at rs) (λ (t : ℕ). is_left_at ss t && q t) are us ∙ filter_twice (is_left_at ss) q us
 
--- where all are left, the first is
-pub all_left : (es : List Entry) → All (λ (e : Entry). is_left e.status ≡ true) es → 0 ≡ position_or_len is_left (statuses_of es)
-all_left [] all = refl
-all_left (e ∷ es) all = sym (ap (λ (b : Bool). cond (not b) (1 + position_or_len is_left (statuses_of es)) 0) (all 0 e (omega arith)))
+-- a call that waited runs
+pub left_started : (ss : List Status) (ts : List ℕ) (t : ℕ) → slice_get ss t ≡ Some Waiting → HasLeft ss ts → HasLeft (slice_set ss t Running) ts
+left_started ss ts t at h =
+    fewer_left ss (slice_set ss t Running) ts (λ (u : ℕ). true) (length-set ss t Running)
+    (λ (u : ℕ). left_still ss t u Waiting Running at refl ∙ sym (and-true (is_left_at ss u))) h
 
--- the first that is left is no earlier where one more is gone
-pub first_later : (ss : List Status) (t : ℕ) → position_or_len is_left ss ≤ position_or_len is_left (slice_set ss t Gone)
-first_later [] t = omega arith
-first_later (r ∷ ss) zero = by_test (not (is_left r))
-  where
-    by_test : (b : Bool) → cond b (1 + position_or_len is_left ss) 0 ≤ 1 + position_or_len is_left ss
-    by_test true = omega arith
-    by_test false = omega arith
-first_later (r ∷ ss) (suc t) = by_test (not (is_left r)) (first_later ss t)
-  where
-    by_test : (b : Bool) → position_or_len is_left ss ≤ position_or_len is_left (slice_set ss t Gone)
-        → cond b (1 + position_or_len is_left ss) 0 ≤ cond b (1 + position_or_len is_left (slice_set ss t Gone)) 0
-    by_test true later = omega (arith, later)
-    by_test false later = omega arith
+pub first_started : (ss : List Status) (ts : List ℕ) (t : ℕ) → slice_get ss t ≡ Some Waiting → first_left ss ts ≡ first_left (slice_set ss t Running) ts
+first_started ss ts t at =
+    first_agree (is_left_at ss) (is_left_at (slice_set ss t Running)) (λ (u : ℕ). sym (left_still ss t u Waiting Running at refl)) ts
 
--- what is gone is not the first that is left
-pub first_past : (es : List Entry) (k : ℕ) (d : Entry) → k ≤ position_or_len is_left (statuses_of es) → k < length es → is_gone (get_or es k d).status ≡ true
-    → k + 1 ≤ position_or_len is_left (statuses_of es)
-first_past es k d before inside gone =
-    let same : length (statuses_of es) ≡ length es = length-map es (λ (e : Entry). e.status) in
-    let at : get_or (statuses_of es) k d.status ≡ (get_or es k d).status = get_or-map (λ (e : Entry). e.status) es k d d.status inside in
-    past (statuses_of es) k d.status before (omega (arith, inside, same)) (ap is_gone at ∙ gone)
-  where
-    past : (ss : List Status) (n : ℕ) (s : Status) → n ≤ position_or_len is_left ss → n < length ss → is_gone (get_or ss n s) ≡ true → n + 1 ≤ position_or_len is_left ss
-    past ss n s below within is = grind (arith, passes_at_first is_left ss s)
+-- a call is gone
+pub left_finished : (ss : List Status) (ts : List ℕ) (t : ℕ) → t < length ss → HasLeft ss ts → HasLeft (slice_set ss t Gone) ts
+left_finished ss ts t within h =
+    fewer_left ss (slice_set ss t Gone) ts (λ (u : ℕ). not (u == t)) (length-set ss t Gone) (λ (u : ℕ). gone_at ss t u within) h
 
--- what is left is the first that is left, where all before it are gone
-pub first_here : (es : List Entry) (k : ℕ) (d : Entry) → k ≤ position_or_len is_left (statuses_of es) → k < length es → is_gone (get_or es k d).status ≡ false
-    → position_or_len is_left (statuses_of es) ≡ k
-first_here es k d before inside left =
-    let same : length (statuses_of es) ≡ length es = length-map es (λ (e : Entry). e.status) in
-    let at : get_or (statuses_of es) k d.status ≡ (get_or es k d).status = get_or-map (λ (e : Entry). e.status) es k d d.status inside in
-    here (statuses_of es) k d.status before (omega (arith, inside, same)) (ap is_gone at ∙ left)
-  where
-    here : (ss : List Status) (n : ℕ) (s : Status) → n ≤ position_or_len is_left ss → n < length ss → is_gone (get_or ss n s) ≡ false → position_or_len is_left ss ≡ n
-    here ss n s below within is = grind (arith, fails_before_first is_left ss n s)
+pub first_finished : (ss : List Status) (ts : List ℕ) (t : ℕ) → t < length ss → first_left ss ts ≤ first_left (slice_set ss t Gone) ts
+first_finished ss ts t within =
+    let later = first_later (is_left_at ss) (λ (u : ℕ). not (u == t)) ts in
+    let same = first_agree (is_left_at (slice_set ss t Gone)) (λ (u : ℕ). is_left_at ss u && not (u == t)) (λ (u : ℕ). gone_at ss t u within) ts in
+    omega (arith, later, same)
 
-pub first_within : (es : List Entry) → position_or_len is_left (statuses_of es) ≤ length es
-first_within es =
-    let same : length (statuses_of es) ≡ length es = length-map es (λ (e : Entry). e.status) in
-    omega (arith, prefix_len-le-length (λ s. not (is_left s)) (statuses_of es), same)
+-- a call enters that is left
+module _ (ss : List Status) (s : Status) (left : is_left s ≡ true) where
+  older_same : (t : ℕ) → t < length ss → is_left_at (ss ++ s ∷ []) t ≡ is_left_at ss t
+  older_same t within = ap is_left (get_or_append_left ss (s ∷ []) Gone t within)
 
-pub ruleset first_of = (first_past, first_here, first_within)
+  newest_left : is_left_at (ss ++ s ∷ []) (length ss) ≡ true
+  newest_left = ap is_left (get_or-append_seam ss s [] Gone) ∙ left
+
+  left_pushed : (ts : List ℕ) → All (λ (t : ℕ). t < length ss) ts → left_among (ss ++ s ∷ []) (ts ++ length ss ∷ []) ≡ left_among ss ts ++ length ss ∷ []
+  left_pushed ts below =
+      filter-append (is_left_at (ss ++ s ∷ [])) ts (length ss ∷ [])
+      ∙ ap₂ (λ (us vs : List ℕ). us ++ vs) (filter_below (is_left_at (ss ++ s ∷ [])) (is_left_at ss) (length ss) older_same ts below)
+      (ap (λ (b : Bool). cond b (length ss ∷ []) []) newest_left)
+
+  pub left_entered : (ts : List ℕ) → HasLeft ss ts → HasLeft (ss ++ s ∷ []) (ts ++ length ss ∷ [])
+  left_entered ts h =
+      let long : length (ss ++ s ∷ []) ≡ length ss + 1 = length-append ss (s ∷ []) in
+      let next : length (ss ++ s ∷ []) ≡ suc (length ss) = omega (arith, long) in
+      record {
+        few = let more = length-append ts (length ss ∷ []) in omega (arith, h.few, long, more);
+        below = All-push (λ (t : ℕ). t < length (ss ++ s ∷ [])) ts (length ss) (λ k d within. let low = h.below k d within in omega (arith, low, long)) (omega (arith, long));
+        left =
+            left_pushed ts h.below
+            ∙ (ap (λ (us : List ℕ). us ++ length ss ∷ []) h.left
+            ∙ (sym (left_pushed (range_with_len 0 (length ss)) (tickets_below (length ss)))
+            ∙ ap (left_among (ss ++ s ∷ [])) (sym (ap (range_with_len 0) next ∙ (one_ticket_more 0 (length ss) ∙ ap (λ (n : ℕ). range_with_len 0 (length ss) ++ n ∷ []) (zero-add (length ss)))))));
+      }
+
+  pub first_entered : (ts : List ℕ) → All (λ (t : ℕ). t < length ss) ts → first_left ss ts ≡ first_left (ss ++ s ∷ []) (ts ++ length ss ∷ [])
+  first_entered ts below =
+      let same = first_below (is_left_at (ss ++ s ∷ [])) (is_left_at ss) (length ss) older_same ts below in
+      sym same ∙ pushed (is_left_at (ss ++ s ∷ [])) ts (length ss) newest_left
+    where
+      pushed : (p : ℕ → Bool) (us : List ℕ) (u : ℕ) → p u ≡ true → position_or_len p us ≡ position_or_len p (us ++ u ∷ [])
+      pushed p us u passes = grind (arith, nat_tests, position_or_len_push p us u, passes)
+
+-- tickets whose calls are gone are dropped
+pub left_dropped : (ss : List Status) (ts : List ℕ) → HasLeft ss ts → HasLeft ss (left_among ss ts)
+left_dropped ss ts h = record {
+  few = let fewer = length-filter-le (is_left_at ss) ts in omega (arith, h.few, fewer);
+  below = All-filter (is_left_at ss) (λ (t : ℕ). t < length ss) ts h.below;
+  left = filter_again (is_left_at ss) ts ∙ h.left;
+}
+
+pub first_dropped : (ss : List Status) (ts : List ℕ) → 0 ≡ first_left ss (left_among ss ts)
+first_dropped ss ts = all_pass (is_left_at ss) (left_among ss ts) (filter_passes (is_left_at ss) ts)

@@ -1,6 +1,6 @@
 -- What private contracts and what types keep cite: no contract of an exported item does.
+pub mod Paired
 pub mod Window
-pub mod WindowKept
 pub mod QueueKept
 pub mod Work
 pub mod View

@@ -59,6 +59,14 @@ pub record IsQueued {H : Type 0} (q : Queued H) : Type 0 where
 abbrev pub empty : {H : Type 0} → Config → H → Queued H
 empty config hash = record { cap = config.cap; limit = config.limit; bits = config.bits; hash = hash; entries = [] }
 
+-- what was chosen at the opening of a queue
+abbrev pub config_of : {H : Type 0} → Queued H → Config
+config_of q = record { cap = q.cap; limit = q.limit; bits = q.bits }
+
+-- the same queue with nothing entered
+abbrev pub emptied : {H : Type 0} → Queued H → Queued H
+emptied q = record q { entries = [] }
+
 -- a call that enters, without a reply: it runs if all its requests were granted, else it waits
 abbrev pub entry : ℕ → Call → Bool → QueueEntry
 entry client call free =

@@ -79,9 +79,9 @@ impl<H: Place> Core<H> {
         self.machine.step(&self.library, event)
     }
 
-    /// Opens a turn for a call that is handed in, for a client that has a script, an empty one too; the script
-    /// and what is kept for it stay as they are. Refused, in this order, by `TurnOpen`, `Spent` and `Busy`, as Enter is. A refusal
-    /// changes nothing. It takes no memory.
+    /// Opens a turn for a call that is handed in, for a client that has a script, an empty one too; the script and what
+    /// is kept for it stay as they are. Refused, in this order, by `TurnOpen`, `Spent` and `Busy`, as Enter is. A
+    /// refusal changes nothing. It takes no memory.
     pub fn enter(&mut self, client: u32, call: Call) -> Result<(), Refusal>
         requires client { client < length self.old.state.scripts }
         requires ready { IsReady (library_of self.old) call }

@@ -7,8 +7,8 @@ pub enum Event {
     /// For the indirect key of the next call of a client's script, by the client's number from 0, its source is loaded,
     /// without a claim; the value is kept for the call, in place of one that was kept before.
     Find(u32),
-    /// A turn opens for the next call of a client's script, by the client's number from 0; a call with an indirect key takes
-    /// the value that is kept for it.
+    /// A turn opens for the next call of a client's script, by the client's number from 0; a call with an indirect key
+    /// takes the value that is kept for it.
     Enter(u32),
     /// The call of the open turn requests its next claim, whose delta is added to the record's pair word.
     Claim,

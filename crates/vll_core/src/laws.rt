@@ -84,8 +84,8 @@ pub fn finished_machines_have_the_serial_end()
     ensures { FinishedMachinesHaveTheSerialEnd }
 {}
 
-/// Calls that are ready are proper, and those that a library makes are so as they enter, so a machine over its procedures
-/// meets what the laws ask for: when a call is handed in, and in its scripts.
+/// Calls that are ready are proper, and those that a library makes are so as they enter, so a machine over its
+/// procedures meets what the laws ask for: when a call is handed in, and in its scripts.
 pub fn fitting_calls_are_proper()
     ensures call { ReadyCallIsProper }
     ensures scripts { FittingScriptsAreProper }
@@ -98,8 +98,8 @@ pub fn later_calls_leave_serial_runs()
     ensures answers { LaterCallsLeaveSerialAnswers }
 {}
 
-/// No move leads a ticket from gone to anything else, nor from running or gone back to waiting. So a ticket that has run
-/// never starts again, wherever moves lead: it gets one pass, ever.
+/// No move leads a ticket from gone to anything else, nor from running or gone back to waiting. So a ticket that has
+/// run never starts again, wherever moves lead: it gets one pass, ever.
 pub fn tickets_start_once()
     ensures gone { GoneTicketsStay }
     ensures started { StartedTicketsDoNotWait }

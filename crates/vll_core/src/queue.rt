@@ -1,9 +1,9 @@
-ghost use Rattle.std.specs.Prelude.{◌≡◌, ◌<◌, ◌↔◌, Some, length, count_by, position, slice_get, slice_set, IfOk, IsTrue};
+ghost use Rattle.std.specs.Prelude.{◌≡◌, ◌<◌, ◌≤◌, ◌↔◌, Some, length, count_by, position, slice_get, slice_set, vec_capacity, IfOk, IsTrue};
 ghost use Rattle.std.specs.Option.{option_copied};
 ghost use Rattle.vll_sca.specs.Status.{is_waiting as waiting, is_running as running};
 ghost use Rattle.vll_sca.specs.declared.status.Status.TheVariants as Status;
 ghost use Rattle.vll_core.specs.Faults.{Refuses, config_fault};
-ghost use Rattle.vll_core.specs.Queue.{IsQueued, empty, entry, admitted, lines, statuses, is_left, started, finished, front_among, fronted, found_by, scanned};
+ghost use Rattle.vll_core.specs.Queue.{IsQueued, empty, emptied, entry, admitted, lines, statuses, is_left, started, finished, front_among, fronted, found_by, scanned};
 
 use crate::config::{Config, OpenFault};
 use crate::line::Line;
@@ -23,7 +23,7 @@ pub struct Queue<H: Place> {
     // What each call changes lies together.
     journal: Vec<Line>,
     statuses: Vec<Status>,
-    // What the analysis reads of the entries that are left.
+    // The tickets of the calls that run or wait.
     window: Window,
     waiting: u32,
     running: u32,
@@ -52,8 +52,8 @@ impl<H: Place> Model for Queue<H> {
 }
 
 impl<H: Place + Drop> Queue<H> {
-    /// A queue in which nothing is entered, with room for `limit` calls. Each place of the room is written once, so that the
-    /// system has mapped it before the first call. The lowest fault that stands is returned: `Limit`, `Cap` or
+    /// A queue in which nothing is entered, with room for `limit` calls. Each place of the room is written once, so
+    /// that the system has mapped it before the first call. The lowest fault that stands is returned: `Limit`, `Cap` or
     /// `Bits`, before any memory is asked for; if none stands, `NoMemory` is the only one.
     pub fn open(alloc: Global, config: Config, hash: H) -> Result<Queue<H>, OpenFault>
         ensures refused { Refuses (config_fault config) result }
@@ -96,6 +96,44 @@ impl<H: Place + Drop> Queue<H> {
     {
         let Queue { journal, .. } = self;
         journal
+    }
+
+    /// Begins anew: the queue with nothing entered, for the same configuration and hash, and the lines by ticket, moved
+    /// out. The list that is handed in has room for as many lines as the limit; what it holds is dropped, and its room
+    /// is for the next lines. The list of lines has as much room, so it can be handed in the next time. It takes no
+    /// memory.
+    pub fn reopen(self, mut journal: Vec<Line>) -> (Queue<H>, Vec<Line>)
+        requires room { self.limit ≤ vec_capacity journal }
+        ensures queue { result.0 ≡ emptied self }
+        ensures lines { result.1.items ≡ lines self }
+        ensures room { self.limit ≤ vec_capacity result.1 }
+    {
+        let Queue {
+            journal: lines,
+            mut statuses,
+            mut window,
+            cap,
+            limit,
+            bits,
+            hash,
+            ..
+        } = self;
+        journal.clear();
+        statuses.clear();
+        window.clear();
+        let queue = Queue {
+            journal,
+            statuses,
+            window,
+            waiting: 0,
+            running: 0,
+            is_fruitless: false,
+            cap,
+            limit,
+            bits,
+            hash,
+        };
+        (queue, lines)
     }
 }
 
@@ -175,7 +213,7 @@ impl<H: Place> Queue<H> {
             Status::Waiting
         };
         self.statuses.push_reserved(status);
-        self.window.push(&call.claims, status);
+        self.window.push(ticket.0);
         ticket
     }
 
@@ -192,7 +230,7 @@ impl<H: Place> Queue<H> {
         ensures ticket { result ≡ front_among (statuses self.old) }
         ensures fronted { self.new ≡ fronted self.old }
     {
-        let front = Ticket(self.window.front()?);
+        let front = self.lowest()?;
         if !is_waiting(self.status(front)?) {
             return None;
         }
@@ -211,7 +249,9 @@ impl<H: Place> Queue<H> {
         if self.is_fruitless {
             return None;
         }
-        let found = self.window.scan(&mut self.bits, &self.hash);
+        let found = self
+            .window
+            .scan(&mut self.bits, &self.hash, &self.journal, &self.statuses);
         self.is_fruitless = found.is_none();
         let ticket = Ticket(found?);
         self.start(ticket);
@@ -224,7 +264,6 @@ impl<H: Place> Queue<H> {
         ensures { self.new ≡ started self.old ticket }
     {
         self.statuses[ticket.0 as usize] = Status::Running;
-        self.window.start(ticket.0);
         self.waiting -= 1;
         self.running += 1;
     }
@@ -240,9 +279,9 @@ impl<H: Place> Queue<H> {
         line.reply = Some(*reply);
         self.running -= 1;
         self.is_fruitless = false;
-        self.window.remove(ticket.0);
+        self.window.pass_gone(&self.statuses);
         let left = self.waiting as usize + self.running as usize;
-        self.window.shrink(2 * left);
+        self.window.shrink(2 * left, &self.statuses);
     }
 }
 
@@ -253,3 +292,4 @@ fn is_waiting(status: Status) -> bool
 }
 
 mod window;
+mod window_entries;

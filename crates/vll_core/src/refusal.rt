@@ -13,11 +13,10 @@ pub enum Refusal {
     Busy,
     /// To Load, Store, Release and Finish: the ticket is not running.
     NotRunning,
-    /// The step is not the call's next one: to Find, the call has no indirect key; to Enter, it has one and no value is kept
-    /// for it; to Claim, all claims have been requested; to Admit, claims are left;
-    /// to Load, all loads are made; to Store, loads are left, the call aborted, or all stores are made;
-    /// to Release, loads or stores are left, or all releases are made;
-    /// to Finish, loads, stores or releases are left.
+    /// The step is not the call's next one: to Find, the call has no indirect key; to Enter, it has one and no value is
+    /// kept for it; to Claim, all claims have been requested; to Admit, claims are left; to Load, all loads are made;
+    /// to Store, loads are left, the call aborted, or all stores are made; to Release, loads or stores are left, or all
+    /// releases are made; to Finish, loads, stores or releases are left.
     OutOfStep,
     /// To Front: the lowest ticket that is not gone does not wait, or there is none; to Scan: each waiting call
     /// is in hash conflict with an earlier one that runs or waits.

@@ -3,9 +3,10 @@
 use Rattle.std.proofs.Common.{◌≡◌, ℕ, zero, suc, ◌+◌, ◌<◌, Bool, true, false, not, cond, ◌&&◌, ◌||◌, ◌==◌, List, [], ◌∷◌, ◌++◌, length, map, take, get_or, set, slice_get, Some, None, refl, sym, ap, ap₂, ◌∙◌, subst, arith, length-set, get_or-set_same, get_or-set_other, eq-eqb, ne_eqb, inl, inr}
 use Rattle.std.specs.Prelude.{All}
 use Rattle.std.specs.List.{list_any, filter}
+use Rattle.std.specs.Option.{option_map}
 use Rattle.std.proofs.lemmas.Bool.{cases_eq}
-use Rattle.std.proofs.lemmas.List.{map-append, append_assoc, append-nil, take_more}
-use Rattle.std.proofs.lemmas.Option.{slice_get_within, get_or_from_slice_get, none-some}
+use Rattle.std.proofs.lemmas.List.{map-append, append_assoc, take_more}
+use Rattle.std.proofs.lemmas.Option.{slice_get_within, get_or_from_slice_get, none-some, same_Some}
 use Rattle.std.proofs.lemmas.List.Elements.{All-from_get_or}
 use Rattle.vll_record.specs.declared.claim.Claim.{Claim}
 use Rattle.vll_record.specs.declared.claim.Mode.{Mode}
@@ -13,6 +14,7 @@ use Rattle.vll_record.specs.declared.claim.Mode.TheVariants.{Read, Write}
 use Rattle.vll_record.specs.Claim.{is_write, conflicts, conflict}
 use Rattle.vll_sca.specs.declared.entry.Entry.{Entry}
 use Rattle.vll_sca.specs.declared.claim_marks.ClaimMarks.{ClaimMarks}
+use Rattle.vll_sca.specs.declared.status.Status.{Status}
 use Rattle.vll_sca.specs.Status.{is_gone}
 use Rattle.vll_sca.specs.Scan.{hashed, holds_back}
 use Rattle.vll_sca.specs.Private.ClaimMarks.{HasRoom, IsClear, meets, with_bits, written, read, with_claims, claims_left}
@@ -253,12 +255,13 @@ module _ (b : Bool) (h : Claim → Claim) (cs : List Claim) (i : ℕ) (before m 
     room = subst (HasRoom n) (sym same) room;
   }
 
--- an entry that is not gone has its claims, and one that is gone has none
-pub claims_left-one : (e : Entry) → is_gone e.status ≡ false → claims_left (e ∷ []) ≡ e.claims
-claims_left-one e left = ap (λ gone. cond gone [] e.claims ++ []) left ∙ append-nil e.claims
-
-pub claims_left-gone : (e : Entry) → is_gone e.status ≡ true → claims_left (e ∷ []) ≡ []
-claims_left-gone e gone = ap (λ b. cond b [] e.claims ++ []) gone
+-- the entry at an index, by its status and its claims
+pub entry_at : (es : List Entry) (i : ℕ) (s : Status) (cs : List Claim) → option_map (λ (e : Entry). e.status) (slice_get es i) ≡ Some s → option_map (λ (e : Entry). e.claims) (slice_get es i) ≡ Some cs
+    → ◌≡◌ {A = Entry} (record { claims = cs; status = s }) (get_or es i (record { claims = cs; status = s }))
+entry_at [] i s cs status claims = absurd (none-some s status)
+entry_at (e ∷ es) zero s cs status claims =
+    ap₂ (λ (ds : List Claim) (t : Status). let d : Entry = record { claims = ds; status = t } in d) (sym (same_Some e.claims cs claims)) (sym (same_Some e.status s status))
+entry_at (e ∷ es) (suc i) s cs status claims = entry_at es i s cs status claims
 
 module _ (b : Bool) (h : Claim → Claim) (es : List Entry) (i : ℕ) (e : Entry) (before m new : ClaimMarks) (n : ℕ) where
   -- the marks after one more entry

@@ -3,7 +3,7 @@ ghost use Rattle.vll_sca.specs.Scan.{scan};
 ghost use Rattle.vll_sca.specs.declared.bits.BitsFault.TheVariants as BitsFault;
 
 use crate::claim_marks::ClaimMarks;
-use crate::entry::Entry;
+use crate::entries::Entries;
 use crate::place::Place;
 use std::alloc::Global;
 use std::marker::Model;
@@ -14,11 +14,14 @@ pub const MOST_BITS: u32 = 1_048_576;
 // As docs/SCENARIO.md says.
 const _: () = prove!(MOST_BITS == 1_048_576);
 
+// Clearing so many bits takes about as long as taking the marks of one entry back.
+const BITS_OF_AN_ENTRY: u32 = 1_024;
+
 /// The room for a scan: two arrays of bits that records share. Contracts see the number of bits.
 #[derive(Drop)]
 pub struct Bits {
     count: u32,
-    // Clear between scans, so that no scan costs a walk over the bits.
+    // Clear between scans, so that a short scan costs no walk over the bits.
     marks: ClaimMarks,
 }
 
@@ -62,13 +65,18 @@ impl Bits {
     /// claim of the other have the same place, modulo the number of bits, and at least one of the two is Write.
     /// So a collision can only hold an entry back. What an earlier scan left has no effect; no memory is taken.
     /// What it costs grows with the entries that it passes, and not with the number of bits.
-    pub fn scan<H: Place>(&mut self, hash: &H, entries: &[Entry]) -> Option<usize>
-        ensures found { result ≡ scan (H.place_of hash.now) self.old entries.now }
+    pub fn scan<H: Place, E: Entries>(&mut self, hash: &H, entries: &E) -> Option<usize>
+        ensures found { result ≡ scan (H.place_of hash.now) self.old (E.entries_of entries.now) }
         ensures same { self.new ≡ self.old }
     {
         let found = self.marks.first_clear(hash, self.count, entries);
         let passed = found.unwrap_or(entries.len());
-        self.marks.take_back(hash, self.count, &entries[..passed]);
+        // Both leave no mark; the one that costs less is taken.
+        if passed > (self.count / BITS_OF_AN_ENTRY) as usize {
+            self.marks.clear_all();
+        } else {
+            self.marks.take_back(hash, self.count, entries, passed);
+        }
         found
     }
 }

@@ -1,10 +1,10 @@
-ghost use Rattle.std.specs.Prelude.{◌≡◌, ◌<◌, ◌≤◌, ◌&&◌, not, false, true, [], ◌∷◌, length, map, IfOk};
+ghost use Rattle.std.specs.Prelude.{◌≡◌, ◌<◌, ◌≤◌, ◌&&◌, not, false, true, [], ◌∷◌, length, map, take, IfOk};
 ghost use Rattle.std.specs.List.{list_any};
 ghost use Rattle.vll_sca.specs.Status.{is_waiting};
 ghost use Rattle.vll_sca.specs.Scan.{hashed, scan};
 ghost use Rattle.vll_sca.specs.Private.ClaimMarks.{HasRoom, IsClear, meets, with_claims, claims_left, passed};
 
-use crate::entry::Entry;
+use crate::entries::Entries;
 use crate::marks::Marks;
 use crate::place::{Place, place_modulo};
 use crate::status::Status;
@@ -35,63 +35,85 @@ impl ClaimMarks {
 
     /// The index of the first waiting entry that meets no mark of an earlier one, and `None` if there is none. Each
     /// entry that is passed is marked after its own test, so that it is met by later entries and not by itself.
-    pub(crate) fn first_clear<H: Place>(
+    pub(crate) fn first_clear<H: Place, E: Entries>(
         &mut self,
         hash: &H,
         bits: u32,
-        entries: &[Entry],
+        entries: &E,
     ) -> Option<usize>
         requires room { HasRoom bits self.old }
         requires clear { IsClear self.old }
-        ensures found { result ≡ scan (H.place_of hash.now) bits entries.now }
+        ensures found { result ≡ scan (H.place_of hash.now) bits (E.entries_of entries.now) }
         ensures marked { self.new ≡ with_claims true
-            (map (hashed (H.place_of hash.now) bits) (claims_left (passed result entries.now))) self.old }
+            (map (hashed (H.place_of hash.now) bits) (claims_left (passed result (E.entries_of entries.now)))) self.old }
     {
-        for (i, entry) in entries.iter().enumerate() {
-            if self.is_clear(hash, bits, entry) {
+        for i in 0..entries.len() {
+            let status = entries.status(i);
+            let claims = entries.claims(i);
+            if self.is_clear(hash, bits, status, claims) {
                 return Some(i);
             }
-            self.mark(hash, bits, entry);
+            self.mark(hash, bits, status, claims);
         }
         None
     }
 
-    /// Takes back the marks of these entries. It tests no mark.
-    pub(crate) fn take_back<H: Place>(&mut self, hash: &H, bits: u32, entries: &[Entry])
-        requires { HasRoom bits self.old }
-        ensures { self.new ≡ with_claims false (map (hashed (H.place_of hash.now) bits) (claims_left entries.now)) self.old }
+    /// Takes back the marks of the first `passed` entries. It tests no mark.
+    pub(crate) fn take_back<H: Place, E: Entries>(
+        &mut self,
+        hash: &H,
+        bits: u32,
+        entries: &E,
+        passed: usize,
+    )
+        requires room { HasRoom bits self.old }
+        requires within { passed ≤ length (E.entries_of entries.now) }
+        ensures { self.new ≡ with_claims false
+            (map (hashed (H.place_of hash.now) bits) (claims_left (take passed (E.entries_of entries.now)))) self.old }
     {
-        for entry in entries {
-            self.unmark(hash, bits, entry);
+        for i in 0..passed {
+            self.unmark(hash, bits, entries.status(i), entries.claims(i));
         }
     }
 
-    // The entry waits, and none of its claims meets a mark.
-    fn is_clear<H: Place>(&self, hash: &H, bits: u32, entry: &Entry) -> bool
-        requires { HasRoom bits self.now }
-        ensures { result ≡ (is_waiting entry.now.status
-            && not (list_any (meets self.now) (map (hashed (H.place_of hash.now) bits) entry.now.claims))) }
+    /// Takes all marks back, in time that grows with the number of bits.
+    pub(crate) fn clear_all(&mut self)
+        ensures writes { length self.new.writes ≡ length self.old.writes }
+        ensures reads { length self.new.reads ≡ length self.old.reads }
+        ensures clear { IsClear self.new }
     {
-        matches!(entry.status, Status::Waiting) && !self.meets(hash, bits, &entry.claims)
+        self.writes.clear_all();
+        self.reads.clear_all();
+    }
+
+    // An entry waits, and none of its claims meets a mark.
+    fn is_clear<H: Place>(&self, hash: &H, bits: u32, status: Status, claims: &Claims) -> bool
+        requires { HasRoom bits self.now }
+        ensures { result ≡ (is_waiting status
+            && not (list_any (meets self.now) (map (hashed (H.place_of hash.now) bits) claims.now))) }
+    {
+        matches!(status, Status::Waiting) && !self.meets(hash, bits, claims)
     }
 
     // Marks the claims of an entry that runs or waits. One that is gone holds none back.
-    fn mark<H: Place>(&mut self, hash: &H, bits: u32, entry: &Entry)
+    fn mark<H: Place>(&mut self, hash: &H, bits: u32, status: Status, claims: &Claims)
         requires { HasRoom bits self.old }
-        ensures { self.new ≡ with_claims true (map (hashed (H.place_of hash.now) bits) (claims_left (entry.now ∷ []))) self.old }
+        ensures { self.new ≡ with_claims true
+            (map (hashed (H.place_of hash.now) bits) (claims_left (record { claims = claims.now; status = status } ∷ []))) self.old }
     {
-        if !matches!(entry.status, Status::Gone) {
-            self.mark_claims(hash, bits, &entry.claims);
+        if !matches!(status, Status::Gone) {
+            self.mark_claims(hash, bits, claims);
         }
     }
 
     // Takes back what `mark` has marked.
-    fn unmark<H: Place>(&mut self, hash: &H, bits: u32, entry: &Entry)
+    fn unmark<H: Place>(&mut self, hash: &H, bits: u32, status: Status, claims: &Claims)
         requires { HasRoom bits self.old }
-        ensures { self.new ≡ with_claims false (map (hashed (H.place_of hash.now) bits) (claims_left (entry.now ∷ []))) self.old }
+        ensures { self.new ≡ with_claims false
+            (map (hashed (H.place_of hash.now) bits) (claims_left (record { claims = claims.now; status = status } ∷ []))) self.old }
     {
-        if !matches!(entry.status, Status::Gone) {
-            self.unmark_claims(hash, bits, &entry.claims);
+        if !matches!(status, Status::Gone) {
+            self.unmark_claims(hash, bits, claims);
         }
     }
 

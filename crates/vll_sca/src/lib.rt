@@ -3,6 +3,7 @@
 
 mod bits;
 mod claim_marks;
+mod entries;
 mod entry;
 mod laws;
 mod marks;
@@ -10,6 +11,7 @@ mod place;
 mod status;
 
 pub use bits::{Bits, BitsFault, MOST_BITS};
+pub use entries::Entries;
 pub use entry::Entry;
 pub use laws::{
     conflict_implies_hash_conflict, gone_beginnings_do_not_matter, gone_entries_do_not_matter,

@@ -54,4 +54,12 @@ impl Marks {
         let word = self.words[place / 64];
         self.words[place / 64] = word & !(1 << (place % 64));
     }
+
+    /// Takes all marks back.
+    pub(crate) fn clear_all(&mut self)
+        ensures room { length self.new ≡ length self.old }
+        ensures clear { All (λ b. b ≡ false) self.new }
+    {
+        self.words.fill(0);
+    }
 }

@@ -1,48 +1,45 @@
--- The window of the queue: the entries that are left, each beside its ticket.
-use Rattle.std.specs.Prelude.{ℕ, ◌+◌, ◌==◌, Bool, List, [], ◌∷◌, ◌++◌, map, if◌then◌else◌}
-use Rattle.std.specs.List.{filter, list_any}
-use Rattle.vll_sca.specs.declared.status.Status.{Status}
+-- The window of the queue: the tickets of the calls that are left, those that run or wait, among others whose calls are gone.
+use Rattle.std.specs.Prelude.{◌≡◌, ℕ, ◌<◌, ◌≤◌, Bool, List, [], length, map, All, slice_index_or}
+use Rattle.std.specs.List.{filter, position_or_len, range_with_len}
 use Rattle.vll_sca.specs.declared.entry.Entry.{Entry}
+use Rattle.vll_sca.specs.declared.status.Status.{Status}
+use Rattle.vll_sca.specs.declared.status.Status.TheVariants.{Gone}
+use Rattle.vll_core.specs.declared.line.Line.{Line}
+use Rattle.vll_core.specs.declared.queue.window.Window.{Window}
 use Rattle.vll_core.specs.Queue.{is_left}
+use Rattle.vll_core.specs.Private.Paired.{seen}
 
--- the statuses of entries
-abbrev pub statuses_of : List Entry → List Status
-statuses_of es = map (λ (e : Entry). e.status) es
+-- the call of a ticket is left
+abbrev pub is_left_at : List Status → ℕ → Bool
+is_left_at ss t = is_left (slice_index_or ss t Gone)
 
--- the tickets of entries
-abbrev pub tickets_of : List (ℕ × Entry) → List ℕ
-tickets_of xs = map (λ (x : ℕ × Entry). x.0) xs
+-- the tickets whose calls are left
+abbrev pub left_among : List Status → List ℕ → List ℕ
+left_among ss ts = filter (is_left_at ss) ts
 
--- the entries that are left
-abbrev pub left_of : List (ℕ × Entry) → List (ℕ × Entry)
-left_of xs = filter (λ (x : ℕ × Entry). is_left x.1.status) xs
+-- the index of the first ticket whose call is left, or the number of tickets
+abbrev pub first_left : List Status → List ℕ → ℕ
+first_left ss ts = position_or_len (is_left_at ss) ts
 
--- how many entries there is room for, the ticket of the next one, and those that are left
-pub record Windowed : Type 0 where
-  pub room : ℕ
-  pub next : ℕ
-  pub left : List (ℕ × Entry)
+-- the tickets are those of entered calls, and have all whose calls are left, in order
+pub record HasLeft (ss : List Status) (ts : List ℕ) : Type 0 where
+  pub few : length ts ≤ length ss
+  pub below : All (λ (t : ℕ). t < length ss) ts
+  pub left : left_among ss ts ≡ left_among ss (range_with_len 0 (length ss))
 
--- a window in which nothing is
-abbrev pub no_entries : ℕ → Windowed
-no_entries room = record { room = room; next = 0; left = [] }
+-- so are those of the window, which knows the first whose call is left
+pub record IsWindow (ss : List Status) (w : Window) : Type 0 where
+  pub tickets : HasLeft ss w.tickets.items
+  pub first : w.first ≡ first_left ss w.tickets.items
 
--- an entry is put at the end, beside the next ticket
-abbrev pub with_entry : Windowed → Entry → Windowed
-with_entry w e = record { room = w.room; next = w.next + 1; left = w.left ++ (w.next, e) ∷ [] }
+-- the entry of a ticket, as the analysis sees it
+abbrev pub entry_at : List Line → List Status → ℕ → Entry
+entry_at ls ss t = slice_index_or (seen ls ss) t (record { claims = []; status = Gone })
 
--- the entry of a ticket gets another status
-abbrev pub put_status : ℕ → Status → List (ℕ × Entry) → List (ℕ × Entry)
-put_status t s xs = map (λ (x : ℕ × Entry). if x.0 == t then (x.0, record { claims = x.1.claims; status = s }) else x) xs
+-- the entries of tickets
+abbrev pub entries_at : List Line → List Status → List ℕ → List Entry
+entries_at ls ss ts = map (entry_at ls ss) ts
 
--- the same in a window, which an entry leaves that is gone
-abbrev pub with_status : Windowed → ℕ → Status → Windowed
-with_status w t s = record { room = w.room; next = w.next; left = left_of (put_status t s w.left) }
-
--- a ticket is one of these
-abbrev pub contains : ℕ → List ℕ → Bool
-contains t ts = list_any (λ (u : ℕ). u == t) ts
-
--- one of the entries has the ticket
-abbrev pub has_ticket : ℕ → List (ℕ × Entry) → Bool
-has_ticket t xs = contains t (tickets_of xs)
+-- each beside its ticket
+abbrev pub numbered : List Line → List Status → List ℕ → List (ℕ × Entry)
+numbered ls ss ts = map (λ (t : ℕ). (t, entry_at ls ss t)) ts

@@ -12,10 +12,10 @@ use vll_sca::Place;
 impl<H: Place> Core<H> {
     /// Closes an open turn by Claim and Admit, and then brings the lowest ticket that is not gone to its end, by Front
     /// and its own steps, until all are gone; the answer is how many events that took. Each of them is one that `step`
-    /// takes, and none is Find, Enter or Scan, so no state is stuck. At the end no turn is open, each record is what the
-    /// entered calls make of it one at a time in order of entry, and each counter is 0. The events are at most three for
-    /// each claim of a call that is not gone, and two for the call; and four for each claim of the open turn's call, and
-    /// three. It takes no memory.
+    /// takes, and none is Find, Enter or Scan, so no state is stuck. At the end no turn is open, each record is what
+    /// the entered calls make of it one at a time in order of entry, and each counter is 0. The events are at most
+    /// three for each claim of a call that is not gone, and two for the call; and four for each claim of the open
+    /// turn's call, and three. It takes no memory.
     pub fn drain(&mut self) -> u64
         ensures drained { IsDrained (opening_of H.place_of self.old) self.old.state self.new.state result }
         ensures few { result ≤ most_events self.old.state }

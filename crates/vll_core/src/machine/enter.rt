@@ -1,4 +1,5 @@
-// The source of a script's next call is loaded, and a turn opens, for the next call of a script or for one that is handed in.
+// The source of a script's next call is loaded, and a turn opens, for the next call of a script or for one that is
+// handed in.
 ghost use Rattle.std.specs.Prelude.{◌≡◌, ◌<◌, ◌≤◌, ◌↔◌, Err, Ok, IfSome, length};
 ghost use Rattle.vll_check.specs.Calls.{Fits, IsReady};
 ghost use Rattle.vll_core.specs.Machine.{entered, is_turn_of, next_call, ready, step, told, waiting};
@@ -16,9 +17,9 @@ use vll_record::value_word;
 use vll_sca::Place;
 
 impl<H: Place> Machine<H> {
-    /// Opens a turn for a call that is handed in, for a client that has a script, an empty one too; the script
-    /// and what is kept for it stay as they are. Refused, in this order, by `TurnOpen`, `Spent` and `Busy`, as Enter is. A refusal
-    /// changes nothing. The library is the one of the opening. It takes no memory.
+    /// Opens a turn for a call that is handed in, for a client that has a script, an empty one too; the script and what
+    /// is kept for it stay as they are. Refused, in this order, by `TurnOpen`, `Spent` and `Busy`, as Enter is. A
+    /// refusal changes nothing. The library is the one of the opening. It takes no memory.
     pub fn enter(&mut self, library: &Library, client: u32, call: Call) -> Result<(), Refusal>
         requires same { library.now ≡ library_of self.old }
         requires client { client < length self.old.state.scripts }
@@ -108,7 +109,8 @@ impl<H: Place> Machine<H> {
         script.get(self.next[index]).copied()
     }
 
-    // The next call of a client's script as it enters, and `None` if it has an indirect key and no value is kept for it.
+    // The next call of a client's script as it enters, and `None` if it has an indirect key and no value is kept for
+    // it.
     fn ready(&self, library: &Library, client: u32, call: &Call) -> Option<Call>
         requires same { library.now ≡ library_of self.now }
         requires fits { Fits library.now call.now }

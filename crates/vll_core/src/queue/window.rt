@@ -1,167 +1,147 @@
-ghost use Rattle.std.specs.Prelude.{◌≡◌, ◌<◌, ◌≤◌, true, length, take, slice_get, IfOk, IsOk};
-ghost use Rattle.std.specs.List.{position_or_len, zip};
-ghost use Rattle.std.specs.List.Sorted.{IsNonDecreasing};
+ghost use Rattle.std.specs.Prelude.{◌≡◌, ◌<◌, ◌≤◌, [], ◌∷◌, ◌++◌, length, take, slice_get, All, IfOk, vec_capacity};
 ghost use Rattle.vll_sca.specs.Status.{is_gone as gone};
 ghost use Rattle.vll_sca.specs.Scan.{scan_numbered};
-ghost use Rattle.vll_sca.specs.declared.status.Status.TheVariants as Status;
-ghost use Rattle.vll_core.specs.Queue.{is_left};
-ghost use Rattle.vll_core.specs.Private.Window.{no_entries, with_entry, with_status, has_ticket, contains, tickets_of, left_of, statuses_of};
+ghost use Rattle.vll_core.specs.Private.Window.{left_among, first_left, numbered, IsWindow};
 
+use crate::line::Line;
+use crate::queue::window_entries::WindowEntries;
 use crate::room::list_with_room;
 use std::alloc::{AllocError, Global};
-use std::marker::Model;
-use vll_record::Claims;
-use vll_sca::{Bits, Entry, Place, Status};
+use vll_sca::{Bits, Place, Status};
 
-/// The entries that are left, those that run or wait, in order of entry and each with its ticket. A call that is
-/// gone stays among them until `shrink` drops it. Contracts see those that are left.
+/// The tickets of the calls that are left, those that run or wait, in order. The ticket of a call that is gone stays
+/// among them until `shrink` drops it. Where each call stands, the statuses by ticket tell.
 #[derive(Drop)]
 pub(crate) struct Window {
-    room: u32,
-    // The ticket of the next entry.
-    next: u32,
-    // They rise.
     tickets: Vec<u32>,
-    // Together, so that a scan walks over nothing else.
-    entries: Vec<Entry>,
-    // The index of the first entry that is left, or the number of entries.
+    // The index of the first ticket whose call is left, or the number of tickets.
     first: usize,
 }
 
-impl Model for Window {
-    ghost use Rattle.vll_core.specs.Private.Window.{Windowed};
-
-    ghost Value = { Windowed };
-
-    ghost use Rattle.vll_core.specs.Private.WindowKept.{kept, IsKept};
-
-    ghost view = { kept };
-
-    ghost invariant = { IsKept };
-}
-
 impl Window {
-    /// A window without entries, and room for so many.
+    /// A window without tickets, and room for so many.
     pub(crate) fn with_room(alloc: Global, room: u32) -> Result<Window, AllocError>
-        ensures { IfOk result (λ w. w ≡ no_entries room) }
+        ensures tickets { IfOk result (λ w. w.tickets.items ≡ []) }
+        ensures first { IfOk result (λ w. w.first ≡ 0) }
+        ensures room { IfOk result (λ w. room ≤ vec_capacity w.tickets) }
     {
-        let blank = Entry {
-            claims: Claims::new(),
-            status: Status::Gone,
-        };
         Ok(Window {
-            room,
-            next: 0,
             tickets: list_with_room(alloc, room as usize, 0)?,
-            entries: list_with_room(alloc, room as usize, blank)?,
             first: 0,
         })
     }
 
-    /// Puts an entry that is left at the end. Its ticket is the number of those before it. No memory is taken.
-    pub(crate) fn push(&mut self, claims: &Claims, status: Status)
-        requires room { self.old.next < self.old.room }
-        requires left { is_left status ≡ true }
-        ensures { self.new ≡ with_entry self.old (record { claims = claims.now; status = status }) }
+    /// Drops all tickets, and keeps the room.
+    pub(crate) fn clear(&mut self)
+        ensures tickets { self.new.tickets.items ≡ [] }
+        ensures first { self.new.first ≡ 0 }
+        ensures room { vec_capacity self.new.tickets ≡ vec_capacity self.old.tickets }
     {
-        self.tickets.push_reserved(self.next);
-        self.entries.push_reserved(Entry {
-            claims: *claims,
-            status,
-        });
-        self.next += 1;
+        self.tickets.clear();
+        self.first = 0;
     }
 
-    /// The lowest ticket that is left.
+    /// Puts a ticket at the end. No memory is taken.
+    pub(crate) fn push(&mut self, ticket: u32)
+        requires room { length self.old.tickets.items < vec_capacity self.old.tickets }
+        ensures tickets { self.new.tickets.items ≡ self.old.tickets.items ++ ticket ∷ [] }
+        ensures first { self.new.first ≡ self.old.first }
+        ensures room { vec_capacity self.new.tickets ≡ vec_capacity self.old.tickets }
+    {
+        self.tickets.push_reserved(ticket);
+    }
+
+    /// The lowest ticket whose call is left.
     pub(crate) fn front(&self) -> Option<u32>
-        ensures { result ≡ slice_get (tickets_of self.now.left) 0 }
+        ensures { result ≡ slice_get self.now.tickets.items self.now.first }
     {
         self.tickets.get(self.first).copied()
     }
 
     /// The ticket that the contention analysis finds.
-    pub(crate) fn scan<H: Place>(&self, bits: &mut Bits, hash: &H) -> Option<u32>
-        ensures found { result ≡ scan_numbered (H.place_of hash.now) bits.old self.now.left }
+    pub(crate) fn scan<H: Place>(
+        &self,
+        bits: &mut Bits,
+        hash: &H,
+        journal: &[Line],
+        statuses: &[Status],
+    ) -> Option<u32>
+        requires lines { length journal.now ≡ length statuses.now }
+        requires below { All (λ t. t < length statuses.now) self.now.tickets.items }
+        ensures found { result
+            ≡ scan_numbered (H.place_of hash.now) bits.old (numbered journal.now statuses.now self.now.tickets.items) }
         ensures same { bits.new ≡ bits.old }
     {
-        let index = bits.scan(hash, &self.entries)?;
+        let entries = WindowEntries {
+            tickets: &self.tickets,
+            journal,
+            statuses,
+        };
+        let index = bits.scan(hash, &entries)?;
         self.tickets.get(index).copied()
     }
 
-    /// The call of a ticket that is left begins to run.
-    pub(crate) fn start(&mut self, ticket: u32)
-        requires { has_ticket ticket self.old.left ≡ true }
-        ensures { self.new ≡ with_status self.old ticket Status.Running }
+    /// Moves on to the first ticket whose call is left, after one is gone.
+    pub(crate) fn pass_gone(&mut self, statuses: &[Status])
+        requires below { All (λ t. t < length statuses.now) self.old.tickets.items }
+        requires gone { self.old.first ≤ first_left statuses.now self.old.tickets.items }
+        ensures { self.new ≡ record self.old { first = first_left statuses.now self.old.tickets.items } }
     {
-        let index = index_of(&self.tickets, ticket);
-        self.entries[index].status = Status::Running;
+        self.first = first_left(&self.tickets, statuses, self.first);
     }
 
-    /// The call of a ticket that is left is gone.
-    pub(crate) fn remove(&mut self, ticket: u32)
-        requires { has_ticket ticket self.old.left ≡ true }
-        ensures { self.new ≡ with_status self.old ticket Status.Gone }
+    /// Drops the tickets whose calls are gone, if there are more tickets than this. None that is left goes.
+    pub(crate) fn shrink(&mut self, most: usize, statuses: &[Status])
+        requires { IsWindow statuses.now self.old }
+        ensures kept { IsWindow statuses.now self.new }
+        ensures room { vec_capacity self.new.tickets ≡ vec_capacity self.old.tickets }
     {
-        let index = index_of(&self.tickets, ticket);
-        self.entries[index].status = Status::Gone;
-        self.first = first_left(&self.entries, self.first);
-    }
-
-    /// Drops the entries that are gone, if there are more entries than this. None that is left goes.
-    pub(crate) fn shrink(&mut self, most: usize)
-        ensures { self.new ≡ self.old }
-    {
-        if self.entries.len() > most {
-            self.drop_gone();
+        if self.tickets.len() > most {
+            self.drop_gone(statuses);
         }
     }
 
-    fn drop_gone(&mut self)
-        ensures { self.new ≡ self.old }
+    fn drop_gone(&mut self, statuses: &[Status])
+        requires { IsWindow statuses.now self.old }
+        ensures left { self.new.tickets.items ≡ left_among statuses.now self.old.tickets.items }
+        ensures first { self.new.first ≡ 0 }
+        ensures room { vec_capacity self.new.tickets ≡ vec_capacity self.old.tickets }
     {
-        let kept = gather_left(&mut self.tickets, &mut self.entries);
+        let kept = gather_left(&mut self.tickets, statuses, self.first);
         self.tickets.truncate(kept);
-        self.entries.truncate(kept);
         self.first = 0;
     }
 }
 
-// The index of a ticket that is among these.
-fn index_of(tickets: &[u32], ticket: u32) -> usize
-    requires rising { IsNonDecreasing tickets.now }
-    requires there { contains ticket tickets.now ≡ true }
-    ensures { slice_get tickets.now result ≡ Some ticket }
+// The index of the first ticket whose call is left, from one on, or the number of tickets. All before that one are
+// gone.
+fn first_left(tickets: &[u32], statuses: &[Status], from: usize) -> usize
+    requires below { All (λ t. t < length statuses.now) tickets.now }
+    requires gone { from ≤ first_left statuses.now tickets.now }
+    ensures { result ≡ first_left statuses.now tickets.now }
 {
-    tickets.binary_search(&ticket).unwrap()
-}
-
-// The index of the first entry that is left, from one on, or the number of entries. All before that one are gone.
-#[tactic(auto, using(crate::proofs::Windows::first_of))]
-fn first_left(entries: &[Entry], from: usize) -> usize
-    requires gone { from ≤ position_or_len is_left (statuses_of entries.now) }
-    ensures { result ≡ position_or_len is_left (statuses_of entries.now) }
-{
-    for index in from..entries.len() {
-        if !is_gone(entries[index].status) {
+    for index in from..tickets.len() {
+        if !is_gone(statuses[tickets[index] as usize]) {
             return index;
         }
     }
-    entries.len()
+    tickets.len()
 }
 
-// Moves the entries that are left to the front, with their tickets, and returns how many they are.
-fn gather_left(tickets: &mut [u32], entries: &mut [Entry]) -> usize
-    requires { length tickets.old ≡ length entries.old }
-    ensures left { zip (take result tickets.new) (take result entries.new) ≡ left_of (zip tickets.old entries.old) }
-    ensures within { result ≤ length entries.old }
-    ensures tickets { length tickets.new ≡ length tickets.old }
-    ensures entries { length entries.new ≡ length entries.old }
+// Moves the tickets whose calls are left to the front, and returns how many they are. All before the first one are
+// gone.
+fn gather_left(tickets: &mut [u32], statuses: &[Status], first: usize) -> usize
+    requires below { All (λ t. t < length statuses.now) tickets.old }
+    requires first { first ≡ first_left statuses.now tickets.old }
+    ensures left { take result tickets.new ≡ left_among statuses.now tickets.old }
+    ensures within { result ≤ length tickets.old }
+    ensures length { length tickets.new ≡ length tickets.old }
 {
     let mut kept = 0;
-    for i in 0..entries.len() {
-        if !is_gone(entries[i].status) {
-            tickets[kept] = tickets[i];
-            entries[kept] = entries[i];
+    for i in first..tickets.len() {
+        let ticket = tickets[i];
+        if !is_gone(statuses[ticket as usize]) {
+            tickets[kept] = ticket;
             kept += 1;
         }
     }

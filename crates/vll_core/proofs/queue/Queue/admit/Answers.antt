@@ -1,10 +1,10 @@
-use Rattle.std.proofs.Common.{◌∙◌, ap, sym, Bool, refl, arith, if◌then◌else◌}
+use Rattle.std.proofs.Common.{length, ◌∙◌, ap, sym, Bool, refl, arith, if◌then◌else◌}
 use Rattle.std.proofs.lemmas.Bool.{true≢false}
 use Rattle.vll_sca.specs.Status.{is_waiting, is_gone}
 use Rattle.vll_sca.specs.declared.status.Status.TheVariants.{Running, Waiting}
-use Rattle.vll_core.specs.Queue.{is_left}
 use Rattle.vll_core.proofs.Entries.{shown_length, shown_room, shown_idle}
-use Rattle.vll_core.proofs.QueueChanges.{kept_counted, shown_entered, window_room}
+use Rattle.vll_core.proofs.QueueChanges.{IsPushed, pushed_next, kept_counted, shown_entered}
+use Rattle.vll_core.proofs.queue.Queue.admit.Given.{Over}
 use Rattle.vll_core.proofs.queue.Queue.admit.Goals.{then-free, else-free}
 use Rattle.vll_core.proofs.queue.Queue.admit.Goals as goal
 
@@ -19,19 +19,17 @@ push_reserved-requires-2 g c =
       | else-free w ↦ rw w.self-inside-is (omega (arith, shown_room _ _ c.self.invariant c.self.view_is c.requires.unspent, c.self.invariant.room))
     ]
 
-pub push-requires-clause-room : goal.push-requires-clause-room
-push-requires-clause-room g c =
+pub push-requires : goal.push-requires
+push-requires g c =
     elim c.if-free.branch [
-      | then-free w ↦ rw w.self-inside-is (window_room _ c.self.invariant (shown_room _ _ c.self.invariant c.self.view_is c.requires.unspent))
-      | else-free w ↦ rw w.self-inside-is (window_room _ c.self.invariant (shown_room _ _ c.self.invariant c.self.view_is c.requires.unspent))
+      | then-free w ↦ record { room = rw w.self-inside-is (omega (arith, shown_room _ _ c.self.invariant c.self.view_is c.requires.unspent, c.self.invariant.window.tickets.few, c.self.invariant.room_in_window)) }
+      | else-free w ↦ record { room = rw w.self-inside-is (omega (arith, shown_room _ _ c.self.invariant c.self.view_is c.requires.unspent, c.self.invariant.window.tickets.few, c.self.invariant.room_in_window)) }
     ]
 
-pub push-requires-clause-left : goal.push-requires-clause-left
-push-requires-clause-left g c =
-    elim c.if-free.branch [
-      | then-free w ↦ ap is_left w.status-is
-      | else-free w ↦ ap is_left w.status-is
-    ]
+-- the ticket that is put into the window is the next one
+pushed : (g : Over) (c : goal.After-push g) → IsPushed c.if-free.self-inside.window c.push.new.self (length c.self.inside.statuses.items)
+pushed g c =
+    pushed_next _ _ c.len.result _ c.push.ensures.tickets c.push.ensures.first c.push.ensures.room (omega (arith, c.self.invariant.as_many, c.len.ensures))
 
 pub invariant_of-self : goal.invariant_of-self
 invariant_of-self g c =
@@ -40,12 +38,12 @@ invariant_of-self g c =
           kept_counted c.self.inside c.if-free.self-inside c.push_reserved-2.new.self c.push_reserved.new.self c.push.new.self _ _ _ _ _
           c.self.invariant (shown_room _ _ c.self.invariant c.self.view_is c.requires.unspent) (shown_idle _ _ c.self.invariant c.self.view_is c.requires.idle)
           w.self-inside-is c.push_reserved-2.ensures.items c.push_reserved-2.ensures.capacity
-          c.push_reserved.ensures.items c.push_reserved.ensures.capacity c.push.ensures refl (ap is_gone w.status-is) (rw w.status-is (omega arith)) (rw w.status-is refl) (λ is_set. is_set) (λ _. ap is_waiting w.status-is)
+          c.push_reserved.ensures.items c.push_reserved.ensures.capacity (pushed g c) refl (ap is_gone w.status-is) (rw w.status-is (omega arith)) (rw w.status-is refl) (λ is_set. is_set) (λ _. ap is_waiting w.status-is)
       | else-free w ↦
           kept_counted c.self.inside c.if-free.self-inside c.push_reserved-2.new.self c.push_reserved.new.self c.push.new.self _ _ _ _ _
           c.self.invariant (shown_room _ _ c.self.invariant c.self.view_is c.requires.unspent) (shown_idle _ _ c.self.invariant c.self.view_is c.requires.idle)
           w.self-inside-is c.push_reserved-2.ensures.items c.push_reserved-2.ensures.capacity
-          c.push_reserved.ensures.items c.push_reserved.ensures.capacity c.push.ensures refl (ap is_gone w.status-is) (rw w.status-is refl) (rw w.status-is (omega arith)) (λ is_set. absurd (true≢false (sym is_set))) (λ is_set. absurd (true≢false (sym is_set)))
+          c.push_reserved.ensures.items c.push_reserved.ensures.capacity (pushed g c) refl (ap is_gone w.status-is) (rw w.status-is refl) (rw w.status-is (omega arith)) (λ is_set. absurd (true≢false (sym is_set))) (λ is_set. absurd (true≢false (sym is_set)))
     ]
 
 pub returns-clause-ticket : goal.returns-clause-ticket

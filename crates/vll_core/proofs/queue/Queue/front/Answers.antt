@@ -1,32 +1,27 @@
-use Rattle.vll_core.proofs.queue.Queue.front.Given.{Over}
-use Rattle.vll_core.proofs.queue.Queue.front.Goals.{After-from_residual, After-from_residual-in_err-status, Then-not-is_waiting, After-start}
 use Rattle.std.proofs.Common.{◌≡◌, ◌∙◌, sym, ap, Option, Some, None, ℕ, Bool, if◌then◌else◌}
 use Rattle.vll_sca.specs.declared.status.Status.{Status}
 use Rattle.vll_core.specs.Queue.{statuses, front_among, started_if, waiting_ticket}
-use Rattle.vll_core.proofs.Entries.{front_shown, waits}
-use Rattle.vll_core.proofs.QueueScan.{shown_front, shown_no_front}
+use Rattle.vll_core.proofs.Entries.{front_none, front_some, waits}
+use Rattle.vll_core.proofs.queue.Queue.front.Given.{Over}
+use Rattle.vll_core.proofs.queue.Queue.front.Goals.{After-from_residual, After-from_residual-in_err-status, Then-not-is_waiting, After-start}
 use Rattle.vll_core.proofs.queue.Queue.front.Goals as goal
 
 none_left : (g : Over) (c : After-from_residual g) → front_among (statuses c.args.self.now) ≡ None
-none_left g c = shown_no_front _ _ _ c.self.invariant c.self.view_is c.front.ensures c.in_err-front.was
+none_left g c = front_none _ _ c.lowest.ensures c.in_err-front.was
 
 absent : (g : Over) (c : After-from_residual-in_err-status g) → front_among (statuses c.args.self.now) ≡ None
 absent g c =
-    front_shown c.args.self.now c.in_ok-front.field-0 c.status.result None
-    (shown_front _ _ _ _ c.self.invariant c.self.view_is c.front.ensures c.in_ok-front.was) c.status.ensures
-    (ap (λ (o : Option Status). waiting_ticket c.in_ok-front.field-0 o) c.in_err-status.was)
+    front_some _ _ _ _ None c.lowest.ensures c.in_ok-front.was c.status.ensures (ap (λ (o : Option Status). waiting_ticket c.in_ok-front.front o) c.in_err-status.was)
 
 idle : (g : Over) (c : Then-not-is_waiting g) → front_among (statuses c.args.self.now) ≡ None
 idle g c =
-    front_shown c.args.self.now c.in_ok-front.field-0 c.status.result None
-    (shown_front _ _ _ _ c.self.invariant c.self.view_is c.front.ensures c.in_ok-front.was) c.status.ensures
-    (waits _ _ _ _ c.in_ok-status.was c.is_waiting.ensures ∙ ap (λ (w : Bool). if w then Some c.in_ok-front.field-0 else None) c.if-not-is_waiting.true)
+    front_some _ _ _ _ None c.lowest.ensures c.in_ok-front.was c.status.ensures
+    (waits _ _ _ _ c.in_ok-status.was c.is_waiting.ensures ∙ ap (λ (w : Bool). if w then Some c.in_ok-front.front else None) c.if-not-is_waiting.true)
 
-ready : (g : Over) (c : After-start g) → front_among (statuses c.args.self.now) ≡ Some c.in_ok-front.field-0
+ready : (g : Over) (c : After-start g) → front_among (statuses c.args.self.now) ≡ Some c.in_ok-front.front
 ready g c =
-    front_shown c.args.self.now c.in_ok-front.field-0 c.status.result (Some c.in_ok-front.field-0)
-    (shown_front _ _ _ _ c.self.invariant c.self.view_is c.front.ensures c.in_ok-front.was) c.status.ensures
-    (waits _ _ _ _ c.in_ok-status.was c.is_waiting.ensures ∙ ap (λ (w : Bool). if w then Some c.in_ok-front.field-0 else None) c.if-not-is_waiting.false)
+    front_some _ _ _ _ (Some c.in_ok-front.front) c.lowest.ensures c.in_ok-front.was c.status.ensures
+    (waits _ _ _ _ c.in_ok-status.was c.is_waiting.ensures ∙ ap (λ (w : Bool). if w then Some c.in_ok-front.front else None) c.if-not-is_waiting.false)
 
 pub returns-in_err-front-clause-ticket : goal.returns-in_err-front-clause-ticket
 returns-in_err-front-clause-ticket g c = c.from_residual.ensures ∙ sym (none_left g c)

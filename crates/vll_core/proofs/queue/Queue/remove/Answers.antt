@@ -1,7 +1,10 @@
-use Rattle.std.proofs.Common.{◌∙◌, arith, refl}
+use Rattle.std.proofs.Common.{◌<◌, List, length, vec_capacity, ap, subst, ◌∙◌, arith}
 use Rattle.std.proofs.lemmas.Option.{slice_get_within}
+use Rattle.vll_sca.specs.declared.status.Status.{Status}
+use Rattle.vll_core.specs.declared.queue.window.Window.{Window}
+use Rattle.vll_core.specs.Private.Window.{IsWindow}
 use Rattle.vll_core.proofs.Entries.{Ends, ends, shown_status}
-use Rattle.vll_core.proofs.QueueChanges.{kept_finished, shown_finished, window_has}
+use Rattle.vll_core.proofs.QueueChanges.{kept_finished, shown_finished, window_finished, window_passed}
 use Rattle.vll_core.proofs.queue.Queue.remove.Goals as goal
 
 pub index_mut-requires : goal.index_mut-requires
@@ -19,13 +22,28 @@ overflow_sub-self g c =
     in
     omega (arith, c.self.invariant.running, change.running)
 
-pub remove-requires : goal.remove-requires
-remove-requires g c = window_has _ _ _ c.self.invariant (shown_status _ _ _ _ _ c.self.invariant c.self.view_is c.ticket.view_is c.requires) refl
+pub pass_gone-requires : goal.pass_gone-requires
+pass_gone-requires g c =
+    let within : c.ticket.inside.0 < length c.self.inside.statuses.items =
+    slice_get_within c.self.inside.statuses.items _ _ (shown_status _ _ _ _ _ c.self.invariant c.self.view_is c.ticket.view_is c.requires)
+    in
+    let passes = window_finished c.self.inside.statuses.items c.self.inside.window c.ticket.inside.0 c.self.invariant.window within in
+    record { below = rw c.deref.ensures.value passes.below; gone = rw c.deref.ensures.value passes.gone }
+
+pub shrink-requires : goal.shrink-requires
+shrink-requires g c =
+    let within : c.ticket.inside.0 < length c.self.inside.statuses.items =
+    slice_get_within c.self.inside.statuses.items _ _ (shown_status _ _ _ _ _ c.self.invariant c.self.view_is c.ticket.view_is c.requires)
+    in
+    rw c.deref-2.ensures.value
+    (window_passed c.self.inside.statuses.items _ c.self.inside.window _ c.ticket.inside.0 c.self.invariant.window within c.deref.ensures.value c.pass_gone.ensures)
 
 pub invariant_of-self : goal.invariant_of-self
 invariant_of-self g c =
-    kept_finished _ _ _ _ _ c.self.invariant (shown_status _ _ _ _ _ c.self.invariant c.self.view_is c.ticket.view_is c.requires)
-    c.index_mut-line.ensures.value (c.shrink.ensures ∙ c.remove.ensures)
+    kept_finished c.self.inside c.shrink.new.self c.ticket.inside.0 c.args.reply.now c.index_mut-line.result.now c.self.invariant
+    (shown_status _ _ _ _ _ c.self.invariant c.self.view_is c.ticket.view_is c.requires) c.index_mut-line.ensures.value
+    (subst (λ (ss : List Status). IsWindow ss c.shrink.new.self) c.deref-2.ensures.value c.shrink.ensures.kept)
+    (c.shrink.ensures.room ∙ ap (λ (w : Window). vec_capacity w.tickets) c.pass_gone.ensures)
 
 pub returns : goal.returns
 returns g c =

@@ -4,8 +4,8 @@ use Rattle.vll_sca.specs.Scan.{hashed}
 use Rattle.vll_sca.specs.Private.ClaimMarks.{HasRoom, with_claims, claims_left}
 use Rattle.vll_sca.proofs.claim_marks.ClaimMarks.take_back.Given as goal
 
-abbrev pub invariant-loop-entry : goal.invariant-loop-entry
-invariant-loop-entry g l = record {
-  so_far : l.self ≡ with_claims false (map (hashed (g.H.Place.place_of l.hash) l.bits) (claims_left (take l.entry-index l.entries))) l.fn.self;
+abbrev pub invariant-loop-i : goal.invariant-loop-i
+invariant-loop-i g l = record {
+  so_far : l.self ≡ with_claims false (map (hashed (g.H.Place.place_of l.hash) l.bits) (claims_left (take l.i (g.E.Entries.entries_of l.entries)))) l.fn.self;
   room : HasRoom l.bits l.self;
 }

@@ -1,0 +1,27 @@
+ghost use Rattle.std.specs.Prelude.{◌≡◌, ◌<◌, length, Some, slice_get};
+ghost use Rattle.std.specs.Option.{option_map};
+
+use crate::status::Status;
+use vll_record::Claims;
+
+/// Entered calls in order, as the analysis reads them, wherever their claims and statuses lie.
+pub trait Entries {
+    ghost use Rattle.std.specs.Prelude.{List};
+    ghost use Rattle.vll_sca.specs.declared.entry.Entry.{Entry};
+
+    ghost entries_of: { Self → List Entry };
+
+    /// How many there are.
+    fn len(&self) -> usize
+        ensures { result ≡ length (entries_of self.now) };
+
+    /// Where the one at this index stands.
+    fn status(&self, index: usize) -> Status
+        requires { index < length (entries_of self.now) }
+        ensures { option_map (λ e. e.status) (slice_get (entries_of self.now) index) ≡ Some result };
+
+    /// The claims of the one at this index.
+    fn claims(&self, index: usize) -> &Claims
+        requires { index < length (entries_of self.now) }
+        ensures { option_map (λ e. e.claims) (slice_get (entries_of self.now) index) ≡ Some result.now };
+}
