@@ -5,7 +5,6 @@
 mod key;
 mod laws;
 mod news_seat;
-mod no_memory;
 mod pass_seat;
 mod queue_seat;
 mod rule;
@@ -19,7 +18,6 @@ pub use laws::{
     tickets_have_one_pass,
 };
 pub use news_seat::NewsSeat;
-pub use no_memory::NoMemory;
 pub use pass_seat::PassSeat;
 pub use queue_seat::QueueSeat;
 pub use session_seat::SessionSeat;

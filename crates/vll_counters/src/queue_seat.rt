@@ -86,8 +86,8 @@ impl Words {
         }
     }
 
-    /// The pass of a running call that has made all its stores and releases comes back and is spent: the call is gone, and
-    /// its line has its serial reply.
+    /// The pass of a running call that has made all its stores and releases comes back and is spent: the call is gone,
+    /// and its line has its serial reply.
     pub fn join_pass(&self, queue: &mut QueueSeat, pass: PassSeat)
         requires same { (queue.old.table ≡ self.now.table) × (pass.table ≡ self.now.table) }
         requires closed { queue.old.turn ≡ None }

@@ -36,8 +36,8 @@ impl Model for SessionSeat {
 }
 
 impl Words {
-    // One more client's session, before any call.
-    pub(crate) fn make_session(&self, queue: &mut QueueSeat) -> SessionSeat
+    /// One more client's session, before any call.
+    pub fn make_session(&self, queue: &mut QueueSeat) -> SessionSeat
         requires same { queue.old.table ≡ self.now.table }
         requires empty { queue.old.lines ≡ [] }
         ensures queue { queue.new ≡ record queue.old { clients = suc queue.old.clients } }
@@ -52,9 +52,9 @@ impl Words {
     }
 
     /// A session loads a record, by one load of its value word, which needs no lock. The clause calls the value the
-    /// record's present one at a moment that fits what the session knew. By then the session has seen all calls that have
-    /// entered, no more of its client's than before. If these run one at a time the record has the value before some
-    /// ticket, behind each one whose reply the session was given and whose call claims the record.
+    /// record's present one at a moment that fits what the session knew. By then the session has seen all calls that
+    /// have entered, no more of its client's than before. If these run one at a time the record has the value before
+    /// some ticket, behind each one whose reply the session was given and whose call claims the record.
     pub fn find(&self, session: &mut SessionSeat, id: RecordId) -> u64
         requires same { session.old.table ≡ self.now.table }
         requires there { id < length self.now.base.records }
@@ -111,9 +111,9 @@ impl Words {
         self.table.shared.load::<Opens<T>>(&mut queue.seat, 0);
     }
 
-    /// The session that has come leaves the queue, has seen all entered calls, and knows how many wait. If its turn is open,
-    /// the turn's call enters and waits: not all of its claims were granted. The session is given the reply of a ticket that is gone,
-    /// or none.
+    /// The session that has come leaves the queue, has seen all entered calls, and knows how many wait. If its turn is
+    /// open, the turn's call enters and waits: not all of its claims were granted. The session is given the reply of a
+    /// ticket that is gone, or none.
     pub fn give_session(&self, queue: &mut QueueSeat, given: Option<Ticket>) -> SessionSeat
         requires same { queue.old.table ≡ self.now.table }
         requires there { IsSome queue.old.session }

@@ -7,7 +7,6 @@ ghost use Rattle.vll_counters.specs.Steps.{first_queue};
 ghost use Rattle.vll_counters.specs.Told.{IsAtEnd};
 
 use crate::key::Key;
-use crate::no_memory::NoMemory;
 use crate::queue_seat::QueueSeat;
 use crate::rule::Law;
 use crate::session_seat::SessionSeat;
@@ -17,7 +16,7 @@ use std::alloc::{AllocError, Global};
 use std::marker::Model;
 use std::snapshot::Snapshot;
 use vll_check::Library;
-use vll_record::{Claim, granted, pair_word, value_word};
+use vll_record::{Claim, granted, pair_word};
 
 /// The words: the turn word 0, and each record's value word and pair word. Threads change them in single atomic steps,
 /// each by a seat, and the rule holds between any two steps. Contracts see which words they are, and the procedures
@@ -52,10 +51,20 @@ fn copied(alloc: Global, records: &[u64]) -> Result<Vec<u64>, AllocError>
     ensures room { IfOk result (λ v. 1 + 2 * length records.now ≤ vec_capacity v) }
 {
     let mut list = Vec::with_capacity(alloc, 1 + 2 * records.len())?;
+    copy(&mut list, records);
+    Ok(list)
+}
+
+// The records, in place of what the list held.
+fn copy(list: &mut Vec<u64>, records: &[u64])
+    requires room { length records.now ≤ vec_capacity list.old }
+    ensures items { list.new.items ≡ records.now }
+    ensures room { vec_capacity list.new ≡ vec_capacity list.old }
+{
+    list.clear();
     for value in records {
         list.push_reserved(*value);
     }
-    Ok(list)
 }
 
 // The words of these records, with no claim open.
@@ -77,7 +86,8 @@ fn gathered(mut words: Vec<u64>, closed: &Closed<(), Global>) -> Vec<u64>
     requires full { IsFull closed.now.words }
     requires empty { vec_len words ≡ 0 }
     requires room { slots_len closed.now.words ≤ vec_capacity words }
-    ensures { result.items ≡ slots_items closed.now.words }
+    ensures items { result.items ≡ slots_items closed.now.words }
+    ensures room { vec_capacity result ≡ vec_capacity words }
 {
     for i in 0..closed.words.len() {
         words.push_reserved(closed.word(i));
@@ -93,13 +103,14 @@ impl Words {
         records: &[u64],
         library: &Library,
         clients: u32,
-    ) -> Result<(Words, QueueSeat, Vec<SessionSeat>), NoMemory>
+    ) -> Result<(Words, QueueSeat, Vec<SessionSeat>), AllocError>
         requires records { library.now.records ≡ length records.now }
         ensures words { IfOk result (λ o. o.0.base ≡ record { procs = library.now.procs; records = records.now }) }
         ensures queue { IfOk result (λ o. o.1 ≡ shown_queue o.0.table (first_queue clients)) }
         ensures sessions { IfOk result (λ o. AreNewSessions o.0.table clients o.2.items) }
     {
-        let (words, mut queue) = Words::laid(alloc, records, library)?;
+        let room = copied(alloc, records)?;
+        let (words, mut queue) = Words::laid(alloc, room, records, library)?;
         let mut sessions = Vec::with_capacity(alloc, clients as usize)?;
         for _client in 0..clients {
             sessions.push_reserved(words.make_session(&mut queue));
@@ -107,18 +118,38 @@ impl Words {
         Ok((words, queue, sessions))
     }
 
-    // The words and the queue's seat.
-    fn laid(
+    /// The words of these records, as by `open`, and the queue's seat, which knows of no client: `make_session` makes the
+    /// sessions. The list has room for the words, as one that `close` gave has; what it holds is dropped. The block of
+    /// the atomic words is all the memory that is taken.
+    pub fn reopen(
         alloc: Global,
+        mut room: Vec<u64>,
         records: &[u64],
         library: &Library,
     ) -> Result<(Words, QueueSeat), AllocError>
         requires records { library.now.records ≡ length records.now }
+        requires room { 1 + 2 * length records.now ≤ vec_capacity room }
+        ensures words { IfOk result (λ o. o.0.base ≡ record { procs = library.now.procs; records = records.now }) }
+        ensures queue { IfOk result (λ o. o.1 ≡ shown_queue o.0.table (first_queue 0)) }
+    {
+        copy(&mut room, records);
+        Words::laid(alloc, room, records, library)
+    }
+
+    // The words of the records that the list has, in its room, and the queue's seat.
+    fn laid(
+        alloc: Global,
+        mut room: Vec<u64>,
+        records: &[u64],
+        library: &Library,
+    ) -> Result<(Words, QueueSeat), AllocError>
+        requires records { library.now.records ≡ length records.now }
+        requires items { room.items ≡ records.now }
+        requires room { 1 + 2 * length records.now ≤ vec_capacity room }
         ensures words { IfOk result (λ o. o.0.base ≡ record { procs = library.now.procs; records = records.now }) }
         ensures queue { IfOk result (λ o. o.1 ≡ shown_queue o.0.table (first_queue 0)) }
     {
         let _ = library.records();
-        let mut room = copied(alloc, records)?;
         let key = Key {
             library: Snapshot::of(library),
             records: Snapshot::of(&room),
@@ -130,13 +161,12 @@ impl Words {
         Ok((Words { table, room }, QueueSeat { seat }))
     }
 
-    /// A load of the two words of the claim's record, which changes nothing: they are near when a request and a load come to
-    /// them soon after; they need not lie on one line of the cache. Whether a request would have been granted by the word as it was; by now it may be another one, and no
+    /// A load of the pair word of the claim's record, which changes nothing: it is near when a request comes to it soon
+    /// after. Whether a request would have been granted by the word as it was; by now it may be another one, and no
     /// contract says more.
     pub fn look(&self, claim: Claim) -> bool
         requires { claim.id < length self.now.base.records }
     {
-        let _ = self.table.shared.peek(value_word(claim.id));
         granted(claim.mode, self.table.shared.peek(pair_word(claim.id)))
     }
 
@@ -147,7 +177,8 @@ impl Words {
         requires closed { queue.turn ≡ None }
         requires waiting { count_by is_waiting queue.statuses ≡ 0 }
         requires running { count_by is_running queue.statuses ≡ 0 }
-        ensures { IsAtEnd self.base queue.lines result.items }
+        ensures words { IsAtEnd self.base queue.lines result.items }
+        ensures room { 1 + 2 * length self.base.records ≤ vec_capacity result }
     {
         let Words { table, room } = self;
         let QueueSeat { seat } = queue;

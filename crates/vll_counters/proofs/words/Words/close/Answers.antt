@@ -3,8 +3,8 @@ use Rattle.vll_counters.specs.Shown.{WordsShown, queue_view}
 use Rattle.vll_counters.proofs.Seats.{queue_me, closes_at}
 use Rattle.vll_counters.proofs.words.Words.close.Goals as goal
 
-pub returns : goal.returns
-returns c =
+pub returns-clause-words : goal.returns-clause-words
+returns-clause-words c =
     let base = ap (λ (w : WordsShown). w.base) c.self.view_is in
     let me = queue_me _ _ _ c.queue.invariant.1 c.queue.view_is in
-    closes_at _ _ _ _ (queue_view c.args.queue) _ _ _ base c.queue.invariant.0 me c.requires.closed c.requires.waiting c.requires.running c.close_with-closed.ensures.values.2 c.gathered-words.ensures
+    closes_at _ _ _ _ (queue_view c.args.queue) _ _ _ base c.queue.invariant.0 me c.requires.closed c.requires.waiting c.requires.running c.close_with-closed.ensures.values.2 c.gathered-words.ensures.items
