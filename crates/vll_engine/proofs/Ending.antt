@@ -1,6 +1,6 @@
 -- The words at the end, divided, are the records and the pairs that the journal's calls leave, one at a time; and each session that came
 -- has seen the beginning of them.
-use Rattle.std.proofs.Common.{◌≡◌, ℕ, ◌<◌, List, [], ◌∷◌, length, map, Option, Some, None, All, slice_get, refl, sym, ap, ◌∙◌, subst, arith}
+use Rattle.std.proofs.Common.{◌≡◌, ℕ, ◌<◌, List, [], ◌∷◌, length, map, Option, Some, None, Result, Ok, Err, IfErr, IfOk, All, slice_get, refl, sym, ap, ◌∙◌, subst, arith}
 use Rattle.std.proofs.lemmas.Grind.{same_number_lists}
 use Rattle.std.proofs.lemmas.List.{get_or-map, length-map}
 use Rattle.vll_proc.specs.declared.syntax.Proc.{Proc}
@@ -12,7 +12,7 @@ use Rattle.vll_core.specs.State.{Base}
 use Rattle.vll_counters.specs.Shown.{SessionShown}
 use Rattle.vll_counters.specs.Told.{IsAtEnd}
 use Rattle.vll_counters.specs.Views.{calls_in}
-use Rattle.vll_engine.specs.Closed.{AreAnswered, IsSerial}
+use Rattle.vll_engine.specs.Closed.{AreSerial, IsSerial}
 use Rattle.vll_engine.specs.Private.Divided.{AreDivided}
 use Rattle.vll_engine.specs.Private.Kept.{AreOwn}
 use Rattle.vll_engine.specs.Sessions.{HasItsCalls}
@@ -27,6 +27,10 @@ end_length procs (m ∷ more) records = end_length procs more (apply procs m.1 r
     applied_length : (p : Option Proc) (call : Call) (now : List ℕ) → length (applied_at p call now).records ≡ length now
     applied_length None call now = refl
     applied_length (Some p) call now = length-applied p call now
+
+-- so what they leave is as long
+pub end_is_as_long : (e : Named) (ls : List Line) (now : List ℕ) → now ≡ end e.base.procs (calls_in ls) e.base.records → length now ≡ length e.base.records
+end_is_as_long e ls now is = ap length is ∙ end_length e.base.procs (calls_in ls) e.base.records
 
 within : (r m k : ℕ) → m ≡ k → r < m → r < k
 within r m k h low = omega (arith, h, low)
@@ -47,23 +51,43 @@ ended_pairs base ls words values pairs are divided =
     let below : r < length base.records = within r (length pairs) (length base.records) divided.as_many_pairs low in
     divided.each_pair r below ∙ are.pairs r below ∙ sym (get_or-map (λ (x : ℕ). 0) base.records r 0 0 below))
 
--- so what is left of an engine's words is serial
-pub serial_end : (e : Named) (base : Base) (room : ℕ) (ls : List Line) (words divided : List ℕ) (c : Closed) → base ≡ e.base → room ≡ length e.base.records → IsAtEnd base ls words → divided ≡ words
-    → AreDivided room divided c.records.items c.pairs.items → c.journal.items ≡ ls → AreOwn e ls → IsSerial e c
-serial_end e base room ls words divided c same count at_end as_words each journal own =
+-- so the calls of an engine's words are serial, and the values and pairs are what they leave
+pub serial_end : (e : Named) (base : Base) (room : ℕ) (ls : List Line) (words divided values pairs : List ℕ) → base ≡ e.base → room ≡ length e.base.records → IsAtEnd base ls words → divided ≡ words
+    → AreDivided room divided values pairs → AreOwn e ls → AreSerial e ls × (values ≡ end e.base.procs (calls_in ls) e.base.records) × (pairs ≡ map (λ (r : ℕ). 0) e.base.records)
+serial_end e base room ls words divided values pairs same count at_end as_words each own =
     let are : IsAtEnd e.base ls words = subst (λ (b : Base). IsAtEnd b ls words) same at_end in
-    let parts : AreDivided (length e.base.records) words c.records.items c.pairs.items =
-    subst (λ (x : ℕ × List ℕ). AreDivided x.0 x.1 c.records.items c.pairs.items) (λ i. (count i, as_words i)) each in
+    let parts : AreDivided (length e.base.records) words values pairs =
+    subst (λ (x : ℕ × List ℕ). AreDivided x.0 x.1 values pairs) (λ i. (count i, as_words i)) each in (
+      record { answered = are.replied; ready = own.ready; found = own.found; clients = own.clients },
+      ended_values e.base ls words values pairs are parts,
+      ended_pairs e.base ls words values pairs are parts,
+    )
+
+-- and so is what is closed
+pub serial_closed : (e : Named) (ls : List Line) (c : Closed) → AreSerial e ls → c.records.items ≡ end e.base.procs (calls_in ls) e.base.records
+    → c.pairs.items ≡ map (λ (r : ℕ). 0) e.base.records → c.journal.items ≡ ls → IsSerial e c
+serial_closed e ls c serial values pairs journal =
+    let own : AreSerial e c.journal.items = subst (AreSerial e) (sym journal) serial in
     record {
-      answered = subst (AreAnswered e) (sym journal) are.replied;
-      at_end = ended_values e.base ls words c.records.items c.pairs.items are parts ∙ ap (λ (xs : List Line). end e.base.procs (calls_in xs) e.base.records) (sym journal);
-      none_open = ended_pairs e.base ls words c.records.items c.pairs.items are parts;
-      ready = (subst (AreOwn e) (sym journal) own).ready;
-      found = (subst (AreOwn e) (sym journal) own).found;
-      clients = (subst (AreOwn e) (sym journal) own).clients;
+      answered = own.answered;
+      at_end = values ∙ ap (λ (xs : List Line). end e.base.procs (calls_in xs) e.base.records) (sym journal);
+      none_open = pairs;
+      ready = own.ready;
+      found = own.found;
+      clients = own.clients;
     }
 
 -- what sessions have of the calls in some lines they have of the same lines
 pub have_calls_of : (sessions : List SessionShown) (old new : List Line) → new ≡ old → All (λ (s : SessionShown). HasItsCalls (calls_in old) s.session) sessions
     → All (λ (s : SessionShown). HasItsCalls (calls_in new) s.session) sessions
 have_calls_of sessions old new same each = subst (λ (ls : List Line). All (λ (s : SessionShown). HasItsCalls (calls_in ls) s.session) sessions) (sym same) each
+
+-- what follows from a fact of a value
+pub ok_from : {A B : Type 0} (P Q : A → Type 0) (r : Result A B) → ((a : A) → P a → Q a) → IfOk r P → IfOk r Q
+ok_from P Q (Ok a) follows fact = follows a fact
+ok_from P Q (Err b) follows fact = tt
+
+-- and of an error
+pub err_from : {A B : Type 0} (P Q : B → Type 0) (r : Result A B) → ((b : B) → P b → Q b) → IfErr r P → IfErr r Q
+err_from P Q (Ok a) follows fact = tt
+err_from P Q (Err b) follows fact = follows b fact

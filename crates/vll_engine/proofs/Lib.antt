@@ -1,4 +1,5 @@
 pub mod Attempts
+pub mod Crossing
 pub mod Ending
 pub mod Entering
 pub mod Keeps

@@ -1,13 +1,14 @@
 -- What it is for a session's client to make a call, from its entry to its reply.
-use Rattle.std.specs.Prelude.{◌≡◌, ℕ, [], ◌∷◌, ◌++◌, length, Some}
+use Rattle.std.specs.Prelude.{◌≡◌, ℕ, [], ◌∷◌, ◌++◌, length, List, Ok, Some}
 use Rattle.vll_proc.specs.declared.call.Call.{Call}
 use Rattle.vll_proc.specs.declared.call.Reply.{Reply}
 use Rattle.vll_proc.specs.Serial.{answer}
+use Rattle.vll_check.specs.Calls.{call_made}
 use Rattle.vll_counters.specs.declared.views.SessionView.{SessionView}
 use Rattle.vll_engine.specs.declared.begun.Begun.TheVariants.{Blocked}
 use Rattle.vll_engine.specs.Begin.{FindsAndBegins}
 use Rattle.vll_engine.specs.Sessions.{SawOthers}
-use Rattle.vll_engine.specs.Shown.{Named}
+use Rattle.vll_engine.specs.Shown.{Named, library_of}
 
 -- the call has entered by this ticket with what it found, as `begin` says of a call that waits; since then the session has seen calls of other clients alone; and it was given the reply, which is that of the calls that it has seen, made one at a time
 pub record IsCalled (e : Named) (old new : SessionView) (call : Call) (ticket : ℕ) (reply : Reply) : Type 0 where
@@ -17,6 +18,12 @@ pub record IsCalled (e : Named) (old new : SessionView) (call : Call) (ticket : 
   pub others : SawOthers entered new
   pub given : new.given ≡ old.given ++ ticket ∷ []
   pub replied : answer e.base.procs new.seen e.base.records ticket ≡ Some reply
+
+-- the call that was made is the one that the library makes of this name and these arguments
+pub record IsCalledByName (e : Named) (old new : SessionView) (name args : List ℕ) (ticket : ℕ) (reply : Reply) : Type 0 where
+  pub call : Call
+  pub is : call_made (library_of e) name args ≡ Ok call
+  pub called : IsCalled e old new call ticket reply
 
 -- the call was turned away: the session has seen calls of other clients alone, and as many calls as the limit have entered
 pub record IsTurnedAway (e : Named) (old new : SessionView) : Type 0 where

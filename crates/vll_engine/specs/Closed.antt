@@ -1,16 +1,33 @@
 -- What an engine leaves when it is closed.
 use Rattle.std.specs.Prelude.{◌≡◌, ℕ, ◌<◌, List, map, All, Some, slice_get}
-use Rattle.vll_proc.specs.Serial.{end, answer}
+use Rattle.vll_proc.specs.Serial.{Made, end, answer}
 use Rattle.vll_check.specs.Calls.{IsReady}
 use Rattle.vll_core.specs.declared.line.Line.{Line}
 use Rattle.vll_counters.specs.Views.{calls_in}
 use Rattle.vll_engine.specs.Found.{AreFoundThere}
-use Rattle.vll_engine.specs.Shown.{Named, library_of}
+use Rattle.vll_engine.specs.Shown.{Named, OpeningShown, library_of}
 use Rattle.vll_engine.specs.declared.closed.Closed.{Closed}
 
 -- each line has the reply of its call, if the calls run one at a time in this order from the opening on
 abbrev pub AreAnswered : Named → List Line → Type 0
 AreAnswered e lines = (t : ℕ) (l : Line) → slice_get lines t ≡ Some l → l.reply ≡ answer e.base.procs (calls_in lines) e.base.records t
+
+-- the lines are those of calls that run one at a time in this order from the opening on: each line has its reply, and each call is one that
+-- may enter, of a client of the engine, and has found what was there
+pub record AreSerial (e : Named) (lines : List Line) : Type 0 where
+  pub answered : AreAnswered e lines
+  pub ready : All (λ (l : Line). IsReady (library_of e) l.call) lines
+  pub found : AreFoundThere e.base (calls_in lines)
+  pub clients : All (λ (l : Line). l.client < e.clients) lines
+
+-- an opening goes on where these calls of an engine ended: it has the records that they leave, run one at a time from the engine's opening
+-- on, and all else is as the engine was opened
+pub record GoesOn {H : Type 0} (place : H → ℕ → ℕ) (e : Named) (calls : List Made) (o : OpeningShown H) : Type 0 where
+  pub records : o.records ≡ end e.base.procs calls e.base.records
+  pub library : o.library ≡ library_of e
+  pub config : o.config ≡ e.config
+  pub places : place o.hash ≡ e.places
+  pub clients : o.clients ≡ e.clients
 
 -- what is left is what the journal's calls leave, run one at a time in this order from the opening on; no claim is open, and each call
 -- is one that may enter, of a client of the engine, and has found what was there

@@ -1,6 +1,7 @@
 -- What private contracts and what types keep cite: no contract of an exported item does.
 pub mod Begun
 pub mod Divided
+pub mod Ended
 pub mod Kept
 pub mod Opened
 pub mod Replied

@@ -27,9 +27,9 @@ pub struct Spent;
 impl<N: Name, H: Place + Send + Drop> Engine<N, H> {
     /// The session's client makes a call, from its entry to its reply: the answer is its ticket and its reply. A call
     /// that may run is executed at once. While it waits, or as many calls wait as the cap, this thread brings others to
-    /// their end, whoever's they are: the front, or what the scan finds. If there are none it rests, and looks again; it
-    /// does not give up. If the engine is spent no call has entered. A call that may run takes the lock twice. No worker
-    /// is needed, and no memory is taken.
+    /// their end, whoever's they are: the front, or what the scan finds. If there are none it rests, and looks again;
+    /// it does not give up. If the engine is spent no call has entered. A call that may run takes the lock twice. No
+    /// worker is needed, and no memory is taken.
     pub fn call(
         &self,
         wait: &impl Wait,

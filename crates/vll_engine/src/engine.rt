@@ -1,17 +1,17 @@
-ghost use Rattle.std.specs.Prelude.{◌≡◌, ◌<◌, ◌+◌, ◌++◌, ◌∷◌, [], All, IfErr, IfNone, IfOk, IfSome, IsSome, Some, length, slice_get, vec_capacity};
+ghost use Rattle.std.specs.Prelude.{◌≡◌, ◌<◌, ◌≤◌, ◌+◌, ◌++◌, ◌∷◌, [], All, IfErr, IfNone, IfOk, IfSome, IsSome, Some, length, slice_get, vec_capacity};
 ghost use Rattle.vll_check.specs.Calls.{Fits};
 ghost use Rattle.vll_check.specs.Catalog.{IsCatalog};
 ghost use Rattle.vll_proc.specs.Serial.{answer};
 ghost use Rattle.vll_counters.specs.Views.{calls_in};
 ghost use Rattle.vll_engine.specs.Begin.{FindsAndBegins};
-ghost use Rattle.vll_engine.specs.Closed.{IsSerial};
+ghost use Rattle.vll_engine.specs.Closed.{AreSerial, GoesOn, IsSerial};
 ghost use Rattle.vll_engine.specs.Onto.{IsOfLast};
 ghost use Rattle.vll_engine.specs.Pass.{IsDone, IsFresh, IsReleased, StaysOf};
 ghost use Rattle.vll_engine.specs.Sessions.{HasItsCalls, SawOthers};
 ghost use Rattle.vll_engine.specs.Shown.{library_of, words_of};
 
 use crate::begun::Begun;
-use crate::closed::{Closed, NotClosed};
+use crate::closed::{Closed, NotClosed, NotReopened, Reopened};
 use crate::execution;
 use crate::finding::find;
 use crate::hold::Hold;
@@ -22,9 +22,10 @@ use crate::pass::{Done, Pass, Released};
 use crate::room::Room;
 use crate::session::Session;
 use crossbeam_utils::CachePadded;
+use std::alloc::Global;
 use std::sync::{Mutex, Wait};
 use vll_check::Library;
-use vll_core::Ticket;
+use vll_core::{Line, Ticket};
 use vll_counters::Words;
 use vll_proc::{Call, Reply};
 use vll_sca::Place;
@@ -35,15 +36,16 @@ use vll_sca::Place;
 pub struct Engine<N: Name, H: Place + Send + Drop> {
     library: Library,
     pub(crate) words: Words,
-    // It is cold, and keeps what every thread reads apart from what each hold changes.
     room: Room,
-    locked: Mutex<Locked<N, H>>,
+    // What each hold changes begins on a line of the cache of its own.
+    locked: CachePadded<Mutex<Locked<N, H>>>,
     // Who waits looks at it all the time, so it lies apart from what a hold changes.
     latch: CachePadded<Latch>,
     ghost library_is: { library ≡ library_of N.engine },
     ghost catalog: { IsCatalog library },
     ghost words_are: { words ≡ words_of N.engine },
     ghost room_is: { room ≡ length N.engine.base.records },
+    ghost few_clients: { N.engine.clients < 4294967296 },
 }
 
 impl<N: Name, H: Place + Send + Drop> Engine<N, H> {
@@ -57,6 +59,7 @@ impl<N: Name, H: Place + Send + Drop> Engine<N, H> {
         requires library { library ≡ library_of N.engine }
         requires words { words ≡ words_of N.engine }
         requires room { room ≡ length N.engine.base.records }
+        requires few { N.engine.clients < 4294967296 }
     {
         // A contract knows that the procedures passed their tests only where the library is read.
         let _ = library.records();
@@ -64,7 +67,7 @@ impl<N: Name, H: Place + Send + Drop> Engine<N, H> {
             library,
             words,
             room,
-            locked: Mutex::new(locked),
+            locked: CachePadded::new(Mutex::new(locked)),
             latch: CachePadded::new(Latch::new()),
         }
     }
@@ -84,9 +87,10 @@ impl<N: Name, H: Place + Send + Drop> Engine<N, H> {
         Hold::new(self.locked.lock(wait), &self.words, &self.library, latch)
     }
 
-    /// A load of the pair word of each record that a call which fits claims. It changes nothing: a call that begins soon after
-    /// finds the words near. Whether each claim would have been granted by its word as it was: it is a hint, since the words
-    /// may be others by now. The record of an indirect key is not known yet, and is not among them. It takes no lock.
+    /// A load of the pair word of each record that a call which fits claims. It changes nothing: a call that begins
+    /// soon after finds the words near. Whether each claim would have been granted by its word as it was: it is a hint,
+    /// since the words may be others by now. The record of an indirect key is not known yet, and is not among them. It
+    /// takes no lock.
     pub fn look(&self, call: &Call) -> bool
         requires { Fits (library_of N.engine) call.now }
     {
@@ -99,11 +103,11 @@ impl<N: Name, H: Place + Send + Drop> Engine<N, H> {
     /// cap wait. After each answer the session has seen all calls that had entered when the lock was let go: behind
     /// what it had seen, calls of other clients alone and, after an entry, its own as the last.
     ///
-    /// If the call has an indirect key its source is loaded first, without a claim and before the lock is taken, and what
-    /// enters is the call with the value found; a refusal drops it. The source held the value before the call's ticket or
-    /// an earlier one, and behind each call that claims it and whose reply the session was given. If the source has
-    /// another value when the body begins the call is aborted with `Reason::Moved`; the engine does not try again. The
-    /// pass of a call that may run is for this call, with what it found.
+    /// If the call has an indirect key its source is loaded first, without a claim and before the lock is taken, and
+    /// what enters is the call with the value found; a refusal drops it. The source held the value before the call's
+    /// ticket or an earlier one, and behind each call that claims it and whose reply the session was given. If the
+    /// source has another value when the body begins the call is aborted with `Reason::Moved`; the engine does not try
+    /// again. The pass of a call that may run is for this call, with what it found.
     pub fn begin(&self, wait: &impl Wait, session: &mut Session, call: &Call) -> Begun
         requires session { session.old.table ≡ N.engine.table }
         requires fits { Fits (library_of N.engine) call.now }
@@ -136,8 +140,8 @@ impl<N: Name, H: Place + Send + Drop> Engine<N, H> {
     }
 
     /// Loads each claim's record, runs the body, and stores each Write claim's record unless the call aborts. It takes
-    /// no lock, and other calls may make their own steps between any two of these. The reply is that of the serial run of
-    /// the calls that the pass has seen, at its ticket.
+    /// no lock, and other calls may make their own steps between any two of these. The reply is that of the serial run
+    /// of the calls that the pass has seen, at its ticket.
     #[inline(always)]
     pub fn execute(&self, pass: Pass) -> Done
         requires pass { IsFresh N.engine pass }
@@ -168,8 +172,8 @@ impl<N: Name, H: Place + Send + Drop> Engine<N, H> {
         execution::execute_and_release::<N>(&self.words, &self.library, pass)
     }
 
-    /// Takes the last pass off a list, executes its call and releases the claims, as by `execute_and_release`, but without
-    /// a copy of the call. `None` exactly if the list is empty.
+    /// Takes the last pass off a list, executes its call and releases the claims, as by `execute_and_release`, but
+    /// without a copy of the call. `None` exactly if the list is empty.
     #[inline(always)]
     pub fn run_last(&self, passes: &mut Vec<Pass>) -> Option<Released>
         requires passes { All (IsFresh N.engine) passes.old.items }
@@ -199,9 +203,9 @@ impl<N: Name, H: Place + Send + Drop> Engine<N, H> {
         self.hold(wait).finish(released)
     }
 
-    /// The reply in the ticket's line; `None` if there is no such line or it has no reply yet. It is that of the calls which
-    /// the session has then seen, made one at a time. The session sees all calls that have entered; a ticket whose reply
-    /// it was given is answered ever after.
+    /// The reply in the ticket's line; `None` if there is no such line or it has no reply yet. It is that of the calls
+    /// which the session has then seen, made one at a time. The session sees all calls that have entered; a ticket
+    /// whose reply it was given is answered ever after.
     pub fn reply(&self, wait: &impl Wait, session: &mut Session, ticket: Ticket) -> Option<Reply>
         requires session { session.old.table ≡ N.engine.table }
         ensures reply { IfSome result (λ reply. answer N.engine.base.procs session.new.session.seen N.engine.base.records ticket ≡ Some reply) }
@@ -213,11 +217,11 @@ impl<N: Name, H: Place + Send + Drop> Engine<N, H> {
         self.hold(wait).reply(session, ticket)
     }
 
-    /// The records, their pair words and the journal, if no call runs or waits: each line has its reply, the
-    /// records are those of the journal's calls made one at a time, and each pair word is 0. Each call may enter, has found
-    /// what was there, and is of a client of the engine. The journal begins with what each session handed in has seen, and
-    /// has no other calls of its client. Else all is handed back, with the numbers of those that run and wait. The list may
-    /// lack sessions.
+    /// The records, their pair words and the journal, if no call runs or waits: each line has its reply, the records
+    /// are those of the journal's calls made one at a time, and each pair word is 0. Each call may enter, has found
+    /// what was there, and is of a client of the engine. The journal begins with what each session handed in has seen,
+    /// and has no other calls of its client. Else all is handed back, with the numbers of those that run and wait. The
+    /// list may lack sessions.
     pub fn close(self, sessions: Vec<Session>) -> Result<Closed, NotClosed<N, H>>
         requires sessions { All (λ s. s.table ≡ N.engine.table) sessions.items }
         ensures serial { IfOk result (λ c. IsSerial N.engine c) }
@@ -232,6 +236,56 @@ impl<N: Name, H: Place + Send + Drop> Engine<N, H> {
             locked,
             latch: _,
         } = self;
-        locked.into_inner().close(library, words, room, sessions)
+        let locked = locked.into_inner().into_inner();
+        Ok(
+            locked
+                .close(library, words, room, sessions)?
+                .into_closed::<N>(),
+        )
+    }
+
+    /// Closes the engine, and opens another one over the records as its calls have left them, with the same library,
+    /// configuration and hash, for as many clients: the journal, and the opening. It begins by another name, and its
+    /// journal with its first call. Of the journal, the replies and the sessions this says what `close` says. All
+    /// sessions have to be handed in. The list for the journal has room for as many lines as the limit, as the one that
+    /// is returned has; what it holds is dropped.
+    ///
+    /// All lists are used again. The block of the atomic words is given back, and one of the same size is taken: that
+    /// is all the memory that it takes. If it is refused, or if calls run or wait, it answers what `close` answers, and
+    /// the list that was handed in.
+    pub fn reopen(
+        self,
+        alloc: Global,
+        sessions: Vec<Session>,
+        journal: Vec<Line>,
+    ) -> Result<Reopened<H>, NotReopened<N, H>>
+        requires sessions { All (λ s. s.table ≡ N.engine.table) sessions.items }
+        requires all { length sessions.items ≡ N.engine.clients }
+        requires room { N.engine.config.limit ≤ vec_capacity journal }
+        ensures serial { IfOk result (λ r. AreSerial N.engine r.journal.items) }
+        ensures opening { IfOk result (λ r. GoesOn H.place_of N.engine (calls_in r.journal.items) r.opening) }
+        ensures sessions { IfOk result (λ r. All (λ s. HasItsCalls (calls_in r.journal.items) s.session) sessions.items) }
+        ensures room { IfOk result (λ r. N.engine.config.limit ≤ vec_capacity r.journal) }
+        ensures closed { IfErr result (λ n. IfOk n.left (λ c. IsSerial N.engine c)) }
+        ensures closed_sessions { IfErr result (λ n. IfOk n.left (λ c. All (λ s. HasItsCalls (calls_in c.journal.items) s.session) sessions.items)) }
+        ensures back { IfErr result (λ n. IfErr n.left (λ o. o.sessions ≡ sessions)) }
+        ensures left { IfErr result (λ n. IfErr n.left (λ o. 0 < o.running + o.waiting)) }
+        ensures list { IfErr result (λ n. n.journal ≡ journal) }
+    {
+        let Engine {
+            library,
+            words,
+            room,
+            locked,
+            latch: _,
+        } = self;
+        let locked = locked.into_inner().into_inner();
+        match locked.close(library, words, room, sessions) {
+            Ok(ended) => ended.reopen::<N>(alloc, journal),
+            Err(open) => Err(NotReopened {
+                left: Err(open),
+                journal,
+            }),
+        }
     }
 }

@@ -62,8 +62,8 @@ impl<'a, N: Name, H: Place + Send + Drop> Hold<'a, N, H> {
         }
     }
 
-    /// A session's client enters a call, or is refused, as by `Engine::begin`. If the call has an indirect key its source
-    /// is loaded under this hold.
+    /// A session's client enters a call, or is refused, as by `Engine::begin`. If the call has an indirect key its
+    /// source is loaded under this hold.
     pub fn begin(&mut self, session: &mut Session, call: &Call) -> Begun
         requires session { session.old.table ≡ N.engine.table }
         requires fits { Fits (library_of N.engine) call.now }
@@ -120,8 +120,8 @@ impl<'a, N: Name, H: Place + Send + Drop> Hold<'a, N, H> {
         }
     }
 
-    /// As `begin`, but the pass of a call that may run is put behind the others of a list that has room for it. So the call
-    /// is copied once, to where its pass lies.
+    /// As `begin`, but the pass of a call that may run is put behind the others of a list that has room for it. So the
+    /// call is copied once, to where its pass lies.
     #[inline(always)]
     pub fn begin_onto(
         &mut self,
@@ -197,7 +197,8 @@ impl<'a, N: Name, H: Place + Send + Drop> Hold<'a, N, H> {
         }
     }
 
-    /// As `next_front`, but the pass is put behind the others of a list that has room for it. Tells whether there is one.
+    /// As `next_front`, but the pass is put behind the others of a list that has room for it. Tells whether there is
+    /// one.
     #[inline(always)]
     pub fn next_front_onto(&mut self, passes: &mut Vec<Pass>) -> bool
         requires room { length passes.old.items < vec_capacity passes.old }
@@ -211,7 +212,8 @@ impl<'a, N: Name, H: Place + Send + Drop> Hold<'a, N, H> {
         true
     }
 
-    /// As `next_scan`, but the pass is put behind the others of a list that has room for it. Tells whether there is one.
+    /// As `next_scan`, but the pass is put behind the others of a list that has room for it. Tells whether there is
+    /// one.
     pub fn next_scan_onto(&mut self, passes: &mut Vec<Pass>) -> bool
         requires room { length passes.old.items < vec_capacity passes.old }
         ensures pass { MatchBool result (HasOneMore N.engine passes.old.items passes.new.items) (passes.new.items ≡ passes.old.items) }
@@ -241,11 +243,11 @@ impl<'a, N: Name, H: Place + Send + Drop> Hold<'a, N, H> {
         Some(self.guard.pass(seat, ticket))
     }
 
-    /// As `next_scan`, unless a scan is put off. A scan that finds none owes as many entries as calls wait. Each finished call
-    /// pays for eight of them, and each time that this call puts a scan off for 64. One is put off while 64 or more are
-    /// owed and 64 calls or more wait, so that what such scans cost a call does not grow with the calls that wait. At most
-    /// one time in a row for each 64 that wait this answers `None` though a scan would find a call. Whoever is about to
-    /// leave the engine alone asks `next_scan` in its place.
+    /// As `next_scan`, unless a scan is put off. A scan that finds none owes as many entries as calls wait. Each
+    /// finished call pays for eight of them, and each time that this call puts a scan off for 64. One is put off while
+    /// 64 or more are owed and 64 calls or more wait, so that what such scans cost a call does not grow with the calls
+    /// that wait. At most one time in a row for each 64 that wait this answers `None` though a scan would find a call.
+    /// Whoever is about to leave the engine alone asks `next_scan` in its place.
     pub fn next_scan_if_due(&mut self) -> Option<Pass>
         ensures { IfSome result (IsFresh N.engine) }
     {
@@ -261,6 +263,15 @@ impl<'a, N: Name, H: Place + Send + Drop> Hold<'a, N, H> {
         ensures reply { result.1 ≡ released.reply }
     {
         self.guard.finish(self.words, released)
+    }
+
+    /// As `finish`, but the reply is not copied out: it stands in the line alone.
+    #[inline(always)]
+    pub fn finish_untold(&mut self, released: Released) -> Ticket
+        requires released { IsReleased N.engine released }
+        ensures { result ≡ released.pass.ticket }
+    {
+        self.guard.finish_untold(self.words, released)
     }
 
     /// The reply in the ticket's line, if there is one yet, as by `Engine::reply`.

@@ -5,9 +5,13 @@
 
 mod begun;
 mod calling;
+mod client;
+mod clients;
 mod closed;
+mod ended;
 mod engine;
 mod execution;
+mod fault;
 mod finding;
 mod hold;
 mod latch;
@@ -20,16 +24,21 @@ mod pass;
 mod patience;
 mod rest;
 mod room;
+mod service;
 mod session;
 
 pub use begun::{BeginRefusal, Begun, BegunOnto};
 pub use calling::Spent;
-pub use closed::{Closed, NotClosed};
+pub use client::Client;
+pub use clients::Clients;
+pub use closed::{Closed, NotClosed, NotReopened, Reopened};
 pub use engine::Engine;
+pub use fault::EngineFault;
 pub use hold::Hold;
 pub use laws::news_orders_calls;
 pub use name::Name;
 pub use news::News;
 pub use opening::Opening;
 pub use pass::{Done, Pass, Released};
+pub use service::Service;
 pub use session::Session;

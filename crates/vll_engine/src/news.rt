@@ -46,9 +46,9 @@ impl<N: Name, H: Place + Send + Drop> Engine<N, H> {
         }
     }
 
-    /// A session hears news of this engine: from now on what it has seen begins with the calls that the news has, so each
-    /// of its later calls gets a higher ticket than all of them. Behind what it had seen it has seen calls of other clients
-    /// alone. It takes no lock.
+    /// A session hears news of this engine: from now on what it has seen begins with the calls that the news has, so
+    /// each of its later calls gets a higher ticket than all of them. Behind what it had seen it has seen calls of
+    /// other clients alone. It takes no lock.
     pub fn hear(&self, session: &mut Session, news: News<N>)
         requires session { session.old.table ≡ N.engine.table }
         ensures heard { Hears session.old.session session.new.session news.calls }

@@ -1,6 +1,9 @@
 ghost use Rattle.std.specs.Prelude.{◌≡◌, ◌<◌, IfOk, length};
 ghost use Rattle.vll_core.specs.Faults.{Refuses, open_fault};
-ghost use Rattle.vll_counters.specs.Shown.{AreNewSessions};
+ghost use Rattle.vll_core.specs.Queue.{config_of, emptied};
+ghost use Rattle.vll_core.specs.State.{catalog_of};
+ghost use Rattle.vll_counters.specs.Shown.{AreNewSessions, shown_queue};
+ghost use Rattle.vll_counters.specs.Steps.{first_queue};
 ghost use Rattle.vll_engine.specs.Private.Seats.{AreClients};
 ghost use Rattle.vll_engine.specs.Shown.{name_of, opening};
 
@@ -65,10 +68,7 @@ impl<H: Place + Drop> Opening<H> {
         }
         let queue = Queue::open(alloc, config, hash)?;
         let room = Room::new(alloc, records.len() as u32)?;
-        let Ok((words, seat, seats)) = Words::open(alloc, records.as_slice(), &library, clients)
-        else {
-            return Err(OpenFault::NoMemory);
-        };
+        let (words, seat, seats) = Words::open(alloc, records.as_slice(), &library, clients)?;
         let sessions = sessions(alloc, seats)?;
         Ok(Opening {
             words,
@@ -79,10 +79,38 @@ impl<H: Place + Drop> Opening<H> {
             room,
         })
     }
+
+    // An opening of these parts, in which nothing is entered.
+    pub(crate) fn of(
+        library: Library,
+        words: Words,
+        seat: QueueSeat,
+        queue: Queue<H>,
+        room: Room,
+        sessions: Vec<Session>,
+    ) -> Opening<H>
+        requires library { library ≡ catalog_of words.base }
+        requires queue { queue ≡ emptied queue }
+        requires seat { seat ≡ shown_queue words.table (first_queue seat.clients) }
+        requires few { seat.clients < 4294967296 }
+        requires room { room ≡ length words.base.records }
+        requires sessions { AreNewSessions words.table seat.clients sessions.items }
+        ensures { result ≡ opening words.table library words.base.records (config_of queue) queue.hash seat.clients }
+    {
+        Opening {
+            words,
+            seat,
+            queue,
+            library,
+            sessions,
+            room,
+        }
+    }
 }
 
 impl<H: Place + Send + Drop> Opening<H> {
-    /// The engine, and a session for each client, in order, which has seen nothing. The name is one that names this opening.
+    /// The engine, and a session for each client, in order, which has seen nothing. The name is one that names this
+    /// opening.
     pub fn start<N: Name>(self) -> (Engine<N, H>, Vec<Session>)
         requires named { N.engine ≡ name_of H.place_of self }
         ensures sessions { AreNewSessions N.engine.table N.engine.clients result.1.items }

@@ -33,6 +33,21 @@ impl Room {
             pairs: touched(alloc, count as usize)?,
         })
     }
+
+    // The room that these lists are, for so many records. What they hold is dropped.
+    pub(crate) fn of(count: u32, mut records: Vec<u64>, mut pairs: Vec<u64>) -> Room
+        requires records { count ≤ vec_capacity records }
+        requires pairs { count ≤ vec_capacity pairs }
+        ensures { result ≡ count }
+    {
+        records.clear();
+        pairs.clear();
+        Room {
+            count,
+            records,
+            pairs,
+        }
+    }
 }
 
 // An empty list with room for so many words. Each is written once, since a system may promise memory and look for it

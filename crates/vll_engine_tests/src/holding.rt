@@ -75,7 +75,8 @@ fn holds<N: Name, R: Wait + Abort>(
     front
 }
 
-// Ticket 0 is released and ticket 1 waits. What comes under one hold leaves ticket 1 to run, and ticket 2 to wait for it.
+// Ticket 0 is released and ticket 1 waits. What comes under one hold leaves ticket 1 to run, and ticket 2 to wait for
+// it.
 fn works_under_one_hold<N: Name, R: Wait + Abort>(rt: &R, opening: Opening<Placing>)
     requires { N.engine ≡ name_of placing opening }
 {
@@ -122,8 +123,8 @@ fn begins<N: Name, R: Wait + Abort>(
     }
 }
 
-// Under one hold, which no other thread has a part of, a released call is finished and the next bump begins. It is free,
-// and is released.
+// Under one hold, which no other thread has a part of, a released call is finished and the next bump begins. It is
+// free, and is released.
 fn goes_on<N: Name, R: Wait + Abort>(
     rt: &R,
     engine: &Engine<N, Placing>,

@@ -8,9 +8,13 @@ mod calling;
 #[cfg(test)]
 mod closing;
 #[cfg(test)]
+mod embedding;
+#[cfg(test)]
 mod finding;
 #[cfg(test)]
 mod holding;
+#[cfg(test)]
+mod judging;
 #[cfg(test)]
 mod looking;
 #[cfg(test)]
@@ -19,6 +23,8 @@ mod opening;
 mod playing;
 #[cfg(test)]
 mod queueing;
+#[cfg(test)]
+mod reopening;
 #[cfg(test)]
 mod schedules;
 #[cfg(test)]

@@ -1,4 +1,4 @@
-// News, from one client to another one, by a channel.
+// News, from one thread to another one, by a channel.
 ghost use Rattle.std.specs.Prelude.{◌≡◌, ◌<◌, length};
 ghost use Rattle.vll_engine.specs.Shown.{name_of};
 ghost use Rattle.vll_sca.specs.Placing.{placing};
@@ -11,6 +11,7 @@ use std::marker::Brand;
 use std::process::Abort;
 use std::sync::Wait;
 use std::test::*;
+use std::thread::{Threads, join};
 use vll_core::Ticket;
 use vll_engine::{Engine, Name, News, Opening, Session, Spent};
 use vll_sca::Placing;
@@ -63,7 +64,7 @@ fn hears_and_makes<N: Name, R: Wait + Abort>(
     }
 }
 
-// The first client makes its bump, and sends the news to the other one.
+// One client makes its bump, and sends the news to the other one.
 fn tells<N: Name, R: Wait + Abort>(
     rt: &R,
     engine: &Engine<N, Placing>,
@@ -82,7 +83,7 @@ fn tells<N: Name, R: Wait + Abort>(
     session
 }
 
-// The other client makes its bump once it has heard.
+// The other client waits for the news, and makes its bump once it has heard.
 fn hears<N: Name, R: Wait + Abort>(
     rt: &R,
     engine: &Engine<N, Placing>,
@@ -101,7 +102,8 @@ fn hears<N: Name, R: Wait + Abort>(
     session
 }
 
-fn one_tells_and_one_hears<N: Name, R: Wait + Abort>(
+// Each client has a thread of its own.
+fn one_tells_and_one_hears<N: Name + Send + Sync, R: Wait + Threads + Abort + Sync>(
     rt: &R,
     alloc: Global,
     opening: Opening<Placing>,
@@ -112,8 +114,18 @@ fn one_tells_and_one_hears<N: Name, R: Wait + Abort>(
     let (engine, mut sessions) = started::<N>(opening);
     let other = last_of::<N>(rt, &mut sessions);
     let one = last_of::<N>(rt, &mut sessions);
-    let one = tells(rt, &engine, one, to);
-    let other = hears(rt, &engine, other, from);
+    let engine_now = &engine;
+    let (one, other) = join(
+        rt,
+        move || -> Session
+            requires { one.table ≡ N.engine.table }
+            ensures { result.table ≡ N.engine.table }
+        { tells(rt, engine_now, one, to) },
+        move || -> Session
+            requires { other.table ≡ N.engine.table }
+            ensures { result.table ≡ N.engine.table }
+        { hears(rt, engine_now, other, from) },
+    );
     put_back::<N>(rt, &mut sessions, one);
     put_back::<N>(rt, &mut sessions, other);
     closes(rt, engine, sessions, &[2], &[0, 1]);

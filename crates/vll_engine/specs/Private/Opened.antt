@@ -1,6 +1,6 @@
 -- What the type of an opening shows and keeps.
-use Rattle.std.specs.Prelude.{◌≡◌, length}
-use Rattle.vll_core.specs.Queue.{empty}
+use Rattle.std.specs.Prelude.{◌≡◌, ◌<◌, length}
+use Rattle.vll_core.specs.Queue.{config_of, empty}
 use Rattle.vll_counters.specs.Shown.{shown_queue, AreNewSessions}
 use Rattle.vll_counters.specs.Steps.{first_queue}
 use Rattle.vll_engine.specs.declared.opening.Opening.TheInside.{Inside}
@@ -12,16 +12,17 @@ shown a = record {
   table = a.words.table;
   library = a.library;
   records = a.words.base.records;
-  config = record { cap = a.queue.cap; limit = a.queue.limit; bits = a.queue.bits };
+  config = config_of a.queue;
   hash = a.queue.hash;
   clients = a.seat.clients;
 }
 
--- the words, their queue's seat and the sessions are new, the library is that of the words, and there is room for what is left at the end
+-- the words, their queue's seat and the sessions are new, a number of 32 bits counts the clients, the library is that of the words, and there is room for what is left at the end
 pub record IsOpening {H : Type 0} (a : Inside H) : Type 0 where
   pub procs : a.library.procs ≡ a.words.base.procs
   pub records : a.library.records ≡ length a.words.base.records
   pub queue : a.queue ≡ empty (shown a).config a.queue.hash
   pub seat : a.seat ≡ shown_queue a.words.table (first_queue a.seat.clients)
+  pub few : a.seat.clients < 4294967296
   pub sessions : AreNewSessions a.words.table a.seat.clients a.sessions.items
   pub room : a.room ≡ length a.words.base.records

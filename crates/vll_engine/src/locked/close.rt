@@ -1,21 +1,20 @@
-ghost use Rattle.std.specs.Prelude.{◌≡◌, ◌+◌, ◌*◌, ◌<◌, All, IfErr, IfOk, None, count_by, length};
+ghost use Rattle.std.specs.Prelude.{◌≡◌, ◌+◌, ◌*◌, ◌<◌, ◌≤◌, [], All, IfErr, IfOk, None, count_by, length, vec_capacity};
 ghost use Rattle.vll_core.specs.Queue.{lines, statuses};
-ghost use Rattle.vll_counters.specs.Told.{IsAtEnd};
 ghost use Rattle.vll_counters.specs.Views.{calls_in};
 ghost use Rattle.vll_sca.specs.Status.{is_running, is_waiting};
-ghost use Rattle.vll_engine.specs.Closed.{IsSerial};
 ghost use Rattle.vll_engine.specs.Private.Divided.{AreDivided};
+ghost use Rattle.vll_engine.specs.Private.Ended.{IsEnded};
 ghost use Rattle.vll_engine.specs.Sessions.{HasItsCalls};
 ghost use Rattle.vll_engine.specs.Shown.{library_of, words_of};
 
 use super::Locked;
-use crate::closed::{Closed, NotClosed};
+use crate::closed::NotClosed;
+use crate::ended::Ended;
 use crate::engine::Engine;
 use crate::name::Name;
 use crate::room::Room;
 use crate::session::Session;
 use vll_check::Library;
-use vll_core::Line;
 use vll_counters::{QueueSeat, SessionSeat, Words};
 use vll_record::{RecordId, pair_word, value_word};
 use vll_sca::Place;
@@ -28,15 +27,17 @@ impl<N: Name, H: Place + Send + Drop> Locked<N, H> {
         library: Library,
         words: Words,
         room: Room,
-        sessions: Vec<Session>,
-    ) -> Result<Closed, NotClosed<N, H>>
+        mut sessions: Vec<Session>,
+    ) -> Result<Ended<H>, NotClosed<N, H>>
         requires library { library ≡ library_of N.engine }
         requires words { words ≡ words_of N.engine }
         requires room { room ≡ length N.engine.base.records }
+        requires few { N.engine.clients < 4294967296 }
         requires sessions { All (λ s. s.table ≡ N.engine.table) sessions.items }
-        ensures serial { IfOk result (λ c. IsSerial N.engine c) }
-        ensures journal { IfOk result (λ c. calls_in c.journal.items ≡ calls_in (lines self)) }
-        ensures sessions { IfOk result (λ c. All (λ s. HasItsCalls (calls_in c.journal.items) s.session) sessions.items) }
+        ensures ended { IfOk result (λ x. IsEnded H.place_of N.engine x) }
+        ensures queue { IfOk result (λ x. x.queue ≡ self) }
+        ensures clients { IfOk result (λ x. x.clients ≡ length sessions.items) }
+        ensures sessions { IfOk result (λ x. All (λ s. HasItsCalls (calls_in (lines x.queue)) s.session) sessions.items) }
         ensures back { IfErr result (λ n. n.sessions ≡ sessions) }
         ensures running { IfErr result (λ n. n.running ≡ count_by is_running (statuses self)) }
         ensures waiting { IfErr result (λ n. n.waiting ≡ count_by is_waiting (statuses self)) }
@@ -58,22 +59,35 @@ impl<N: Name, H: Place + Send + Drop> Locked<N, H> {
             patience: _,
             of: _,
         } = self;
-        visit_all(&words, &mut seat, sessions);
-        let ends = words.close(seat);
-        Ok(divided(ends.as_slice(), queue.into_journal(), room))
+        let clients = sessions.len();
+        visit_all(&words, &mut seat, &mut sessions);
+        let words = words.close(seat);
+        let (records, pairs) = divided(words.as_slice(), room);
+        Ok(Ended {
+            library,
+            words,
+            records,
+            pairs,
+            queue,
+            sessions,
+            clients,
+        })
     }
 }
 
-// Each session comes and leaves: it has seen the beginning of the calls that have entered, with all of its client.
-fn visit_all(words: &Words, queue: &mut QueueSeat, sessions: Vec<Session>)
+// Each session comes and leaves, and none stays in the list: it has seen the beginning of the calls that have entered,
+// with all of its client.
+fn visit_all(words: &Words, queue: &mut QueueSeat, sessions: &mut Vec<Session>)
     requires same { queue.old.table ≡ words.now.table }
-    requires sessions { All (λ s. s.table ≡ words.now.table) sessions.items }
+    requires sessions { All (λ s. s.table ≡ words.now.table) sessions.old.items }
     requires closed { queue.old.turn ≡ None }
     requires alone { queue.old.session ≡ None }
     ensures same { queue.new ≡ queue.old }
-    ensures sessions { All (λ s. HasItsCalls (calls_in queue.old.lines) s.session) sessions.items }
+    ensures sessions { All (λ s. HasItsCalls (calls_in queue.old.lines) s.session) sessions.old.items }
+    ensures none { sessions.new.items ≡ [] }
+    ensures room { vec_capacity sessions.new ≡ vec_capacity sessions.old }
 {
-    for session in sessions {
+    while let Some(session) = sessions.pop() {
         let Session { client: _, seat } = session;
         let Some(seat) = seat else { unreachable!() };
         visit(words, queue, seat);
@@ -92,11 +106,11 @@ fn visit(words: &Words, queue: &mut QueueSeat, session: SessionSeat)
     let _ = words.give_session(queue, None);
 }
 
-// The words divided into the records' values and their pairs, with the journal.
-fn divided(words: &[u64], journal: Vec<Line>, room: Room) -> Closed
+// The words divided into the records' values and their pairs.
+fn divided(words: &[u64], room: Room) -> (Vec<u64>, Vec<u64>)
     requires long { length words.now ≡ 1 + 2 * room }
-    ensures words { AreDivided room words.now result.records.items result.pairs.items }
-    ensures journal { result.journal.items ≡ journal.items }
+    ensures words { AreDivided room words.now result.0.items result.1.items }
+    ensures room { (room ≤ vec_capacity result.0) × (room ≤ vec_capacity result.1) }
 {
     let Room {
         count,
@@ -107,9 +121,5 @@ fn divided(words: &[u64], journal: Vec<Line>, room: Room) -> Closed
         records.push_reserved(words[value_word(RecordId(r))]);
         pairs.push_reserved(words[pair_word(RecordId(r))]);
     }
-    Closed {
-        records,
-        pairs,
-        journal,
-    }
+    (records, pairs)
 }

@@ -20,6 +20,18 @@ impl<N: Name, H: Place> Locked<N, H> {
         ensures reply { result.1 ≡ released.reply }
         ensures queue { self.new ≡ finished self.old released.pass.ticket released.reply }
     {
+        let reply = released.reply;
+        (self.finish_untold(words, released), reply)
+    }
+
+    // The same, but the reply stands in the line alone.
+    #[inline(always)]
+    pub(crate) fn finish_untold(&mut self, words: &Words, released: Released) -> Ticket
+        requires words { words.now ≡ words_of N.engine }
+        requires released { IsReleased N.engine released }
+        ensures ticket { result ≡ released.pass.ticket }
+        ensures queue { self.new ≡ finished self.old released.pass.ticket released.reply }
+    {
         let Released {
             seat,
             ticket,
@@ -28,6 +40,6 @@ impl<N: Name, H: Place> Locked<N, H> {
         words.join_pass(&mut self.seat, seat);
         self.queue.remove(ticket, &reply);
         self.patience.finished();
-        (ticket, reply)
+        ticket
     }
 }

@@ -1,0 +1,288 @@
+// Engines that go on from the records of others.
+ghost use Rattle.std.specs.Prelude.{◌≡◌, ◌≤◌, All, IfOk, length, vec_capacity};
+ghost use Rattle.vll_engine.specs.Shown.{name_of};
+ghost use Rattle.vll_sca.specs.Placing.{placing};
+
+use crate::judging::judge;
+use crate::playing::{
+    begins_blocked, begins_free, call_of, closes, finishes, is_given, last_of, put_back, started,
+};
+use std::alloc::{AllocError, Global};
+use std::marker::Brand;
+use std::process::Abort;
+use std::sync::Wait;
+use std::test::*;
+use vll_core::{Config, Line};
+use vll_engine::{Engine, Name, NotReopened, Opening, Reopened, Session, Spent};
+use vll_sca::Placing;
+use vll_test_procedures::library;
+
+// How many calls each engine of these tests takes.
+pub(crate) const LIMIT: u32 = 4;
+
+// An opening over these records, for two clients.
+pub(crate) fn opening_for_two(alloc: Global, records: [u64; 2]) -> Result<Opening<Placing>, Fail>
+    ensures limit { IfOk result (λ o. o.config.limit ≡ LIMIT) }
+    ensures clients { IfOk result (λ o. o.clients ≡ 2) }
+{
+    let library = library(alloc, 2)?;
+    let records = Vec::from_array(alloc, records)?;
+    let config = Config {
+        cap: LIMIT,
+        limit: LIMIT,
+        bits: 64,
+    };
+    let opening = Opening::new(alloc, records, library, config, Placing::Modulo, 2)?;
+    Ok(opening)
+}
+
+// A list for a journal.
+pub(crate) fn room_for_lines(alloc: Global) -> Result<Vec<Line>, AllocError>
+    ensures { IfOk result (λ v. LIMIT ≤ vec_capacity v) }
+{
+    Vec::with_capacity(alloc, LIMIT as usize)
+}
+
+// An engine is reopened, with its two sessions.
+fn reopened<N: Name, R: Abort>(
+    rt: &R,
+    alloc: Global,
+    engine: Engine<N, Placing>,
+    sessions: Vec<Session>,
+    journal: Vec<Line>,
+) -> Reopened<Placing>
+    requires sessions { All (λ s. s.table ≡ N.engine.table) sessions.items }
+    requires limit { N.engine.config.limit ≡ LIMIT }
+    requires clients { N.engine.clients ≡ 2 }
+    requires room { LIMIT ≤ vec_capacity journal }
+    ensures limit { result.opening.config.limit ≡ LIMIT }
+    ensures clients { result.opening.clients ≡ 2 }
+    ensures room { LIMIT ≤ vec_capacity result.journal }
+{
+    assert_eq!(rt; sessions.len(), 2);
+    match engine.reopen(alloc, sessions, journal) {
+        Ok(reopened) => reopened,
+        Err(_) => panic!(rt; "the engine is not reopened"),
+    }
+}
+
+// An engine with two sessions is not reopened, since so many calls run and so many wait. All is handed back.
+fn is_not_reopened<N: Name, R: Abort>(
+    rt: &R,
+    alloc: Global,
+    engine: Engine<N, Placing>,
+    sessions: Vec<Session>,
+    journal: Vec<Line>,
+    running: u32,
+    waiting: u32,
+) -> (Engine<N, Placing>, Vec<Session>, Vec<Line>)
+    requires sessions { All (λ s. s.table ≡ N.engine.table) sessions.items }
+    requires limit { N.engine.config.limit ≡ LIMIT }
+    requires clients { N.engine.clients ≡ 2 }
+    requires room { LIMIT ≤ vec_capacity journal }
+    ensures sessions { result.1 ≡ sessions }
+    ensures journal { result.2 ≡ journal }
+{
+    assert_eq!(rt; sessions.len(), 2);
+    match engine.reopen(alloc, sessions, journal) {
+        Ok(_) => panic!(rt; "no call is left"),
+        Err(NotReopened { left, journal }) => match left {
+            Ok(_) => panic!(rt; "there is no memory"),
+            Err(open) => {
+                assert_eq!(rt; open.running, running);
+                assert_eq!(rt; open.waiting, waiting);
+                (open.engine, open.sessions, journal)
+            }
+        },
+    }
+}
+
+// A pass is out, and a call of the other session waits behind it.
+fn goes_on_once_nothing_is_left<N: Name, R: Wait + Abort>(
+    rt: &R,
+    alloc: Global,
+    opening: Opening<Placing>,
+    journal: Vec<Line>,
+) -> Reopened<Placing>
+    requires named { N.engine ≡ name_of placing opening }
+    requires limit { opening.config.limit ≡ LIMIT }
+    requires clients { opening.clients ≡ 2 }
+    requires room { LIMIT ≤ vec_capacity journal }
+    ensures limit { result.opening.config.limit ≡ LIMIT }
+    ensures clients { result.opening.clients ≡ 2 }
+    ensures room { LIMIT ≤ vec_capacity result.journal }
+{
+    let (engine, mut sessions) = started::<N>(opening);
+    let mut one = last_of::<N>(rt, &mut sessions);
+    let mut zero = last_of::<N>(rt, &mut sessions);
+    let first = begins_free(rt, &engine, &mut zero, 0, 0);
+    begins_blocked(rt, &engine, &mut one, 0, 1);
+    put_back::<N>(rt, &mut sessions, one);
+    put_back::<N>(rt, &mut sessions, zero);
+    let (engine, sessions, journal) = is_not_reopened(rt, alloc, engine, sessions, journal, 1, 1);
+    finishes(rt, &engine, first, 6);
+    let (engine, sessions, journal) = is_not_reopened(rt, alloc, engine, sessions, journal, 0, 1);
+    let second = is_given::<N, R>(rt, engine.next_front(rt), 1);
+    finishes(rt, &engine, second, 7);
+    reopened(rt, alloc, engine, sessions, journal)
+}
+
+// The next engine has the records, takes as many calls as the one before, and numbers them from 0.
+fn begins_anew<N: Name, R: Wait + Abort>(rt: &R, opening: Opening<Placing>)
+    requires { N.engine ≡ name_of placing opening }
+{
+    let (engine, mut sessions) = started::<N>(opening);
+    assert_eq!(rt; sessions.len(), 2);
+    let mut one = last_of::<N>(rt, &mut sessions);
+    assert_eq!(rt; one.client(), 1);
+    let mut output = 7;
+    for ticket in 0..LIMIT {
+        let pass = begins_free(rt, &engine, &mut one, 0, ticket);
+        output += 1;
+        finishes(rt, &engine, pass, output);
+    }
+    put_back::<N>(rt, &mut sessions, one);
+    closes(rt, engine, sessions, &[11, 9], &[1, 1, 1, 1]);
+}
+
+#[test]
+fn reopen_hands_all_back_while_calls_are_left(rt: HostRuntime) -> Result<(), Fail> {
+    let opening = opening_for_two(rt.alloc(), [5, 9])?;
+    let journal = room_for_lines(rt.alloc())?;
+    let next = goes_on_once_nothing_is_left::<Brand, HostRuntime>(
+        &rt,
+        rt.alloc(),
+        opening,
+        journal,
+    );
+    assert_eq!(rt; next.journal.len(), 2);
+    begins_anew::<Brand, HostRuntime>(&rt, next.opening);
+    Ok(())
+}
+
+// A call that a test makes: the procedure, and its arguments.
+type Asked<'a> = (&'a str, &'a [u64]);
+
+// The session's client makes a call, from its entry to its reply.
+fn makes<N: Name, R: Wait + Abort>(
+    rt: &R,
+    engine: &Engine<N, Placing>,
+    session: &mut Session,
+    asked: Asked<'_>,
+)
+    requires { session.old.table ≡ N.engine.table }
+    ensures { session.new.table ≡ N.engine.table }
+{
+    let (name, args) = asked;
+    let Ok(call) = engine.library().call(name, args) else {
+        panic!(rt; "there is no {name}");
+    };
+    match engine.call(rt, session, &call) {
+        Ok(_) => {}
+        Err(Spent) => panic!(rt; "the engine is spent"),
+    }
+}
+
+// An epoch: the two clients make these calls in turn, and the engine is reopened.
+fn epoch<N: Name, R: Wait + Abort>(
+    rt: &R,
+    alloc: Global,
+    opening: Opening<Placing>,
+    journal: Vec<Line>,
+    calls: &[Asked<'_>],
+) -> Reopened<Placing>
+    requires named { N.engine ≡ name_of placing opening }
+    requires limit { opening.config.limit ≡ LIMIT }
+    requires clients { opening.clients ≡ 2 }
+    requires room { LIMIT ≤ vec_capacity journal }
+    ensures limit { result.opening.config.limit ≡ LIMIT }
+    ensures clients { result.opening.clients ≡ 2 }
+    ensures room { LIMIT ≤ vec_capacity result.journal }
+{
+    let (engine, mut sessions) = started::<N>(opening);
+    let mut now = last_of::<N>(rt, &mut sessions);
+    let mut next = last_of::<N>(rt, &mut sessions);
+    for asked in calls {
+        makes(rt, &engine, &mut now, *asked);
+        (now, next) = (next, now);
+    }
+    put_back::<N>(rt, &mut sessions, now);
+    put_back::<N>(rt, &mut sessions, next);
+    reopened(rt, alloc, engine, sessions, journal)
+}
+
+// An epoch by a name of its own, whose lines are judged and then put behind those of the epochs before it.
+fn next_epoch<R: Wait + Abort>(
+    rt: &R,
+    alloc: Global,
+    opening: Opening<Placing>,
+    journal: Vec<Line>,
+    calls: &[Asked<'_>],
+    joined: &mut Vec<Line>,
+) -> Reopened<Placing>
+    requires limit { opening.config.limit ≡ LIMIT }
+    requires clients { opening.clients ≡ 2 }
+    requires room { LIMIT ≤ vec_capacity journal }
+    ensures limit { result.opening.config.limit ≡ LIMIT }
+    ensures clients { result.opening.clients ≡ 2 }
+    ensures room { LIMIT ≤ vec_capacity result.journal }
+{
+    let next = epoch::<Brand, R>(rt, alloc, opening, journal, calls);
+    assert_eq!(rt; next.journal.len(), calls.len());
+    for line in next.journal.iter() {
+        if joined.push(*line).is_err() {
+            panic!(rt; "there is no room for a line");
+        }
+    }
+    next
+}
+
+// What an engine has whose clients make no call.
+fn ends_with<N: Name, R: Abort>(rt: &R, opening: Opening<Placing>, records: &[u64])
+    requires { N.engine ≡ name_of placing opening }
+{
+    let (engine, sessions) = started::<N>(opening);
+    closes(rt, engine, sessions, records, &[]);
+}
+
+// Each epoch begins with the records that the one before has left: a take that aborts at first, and commits later.
+#[test]
+fn three_epochs_are_one_serial_run(rt: HostRuntime) -> Result<(), Fail> {
+    let alloc = rt.alloc();
+    let mut joined = Vec::with_capacity(alloc, 9)?;
+    let first = next_epoch(
+        &rt,
+        alloc,
+        opening_for_two(alloc, [5, 9])?,
+        room_for_lines(alloc)?,
+        &[("bump", &[0]), ("take", &[0, 10]), ("transfer", &[1, 0, 4])],
+        &mut joined,
+    );
+    let second = next_epoch(
+        &rt,
+        alloc,
+        first.opening,
+        first.journal,
+        &[
+            ("take", &[0, 10]),
+            ("via", &[0]),
+            ("sum2", &[0, 1]),
+            ("read", &[1]),
+        ],
+        &mut joined,
+    );
+    let third = next_epoch(
+        &rt,
+        alloc,
+        second.opening,
+        second.journal,
+        &[("take", &[0, 10]), ("via", &[0])],
+        &mut joined,
+    );
+    let library = library(alloc, 2)?;
+    let mut records = [5, 9];
+    judge(&rt, &library, &mut records, joined.as_slice());
+    assert_eq!(rt; joined.len(), 9);
+    ends_with::<Brand, HostRuntime>(&rt, third.opening, &records);
+    Ok(())
+}
