@@ -1,4 +1,3 @@
-pub mod Crossing
 pub mod Gained
 pub mod Same
 pub mod Fair

@@ -1,4 +1,5 @@
 pub mod Shown
 pub mod Tokens
 pub mod Merge
+pub mod Tallies
 pub mod Private

@@ -3,17 +3,15 @@ ghost use Rattle.std.specs.Prelude.{◌≡◌, [], IfOk};
 use crate::pace::Pace;
 use crate::passes::Passes;
 use crate::stack::Stack;
-use crate::token::Token;
+use crate::taken::Taken;
 use std::alloc::{AllocError, Global};
 use vll_core::Ticket;
 use vll_engine::Released;
 
-// What a worker has under way: tokens whose next calls are to begin, tokens whose calls were tried and that go back to the
-// pool or stay in hand, passes of calls that may run, calls that were executed, and the tickets of those that are finished
-// and not told of yet.
+// What a worker has under way: the tokens that it has taken, passes of calls that may run, calls that were executed, and
+// the tickets of those that are finished and not told of yet.
 pub(crate) struct Batch {
-    pub(crate) tokens: Stack<Token>,
-    pub(crate) tried: Stack<Token>,
+    pub(crate) taken: Taken,
     pub(crate) passes: Passes,
     pub(crate) released: Stack<Released>,
     pub(crate) finished: Stack<Ticket>,
@@ -23,8 +21,8 @@ pub(crate) struct Batch {
 // The room for a batch.
 pub(crate) struct BatchRoom {
     batch: Batch,
-    ghost tokens: { batch.tokens ≡ [] },
-    ghost tried: { batch.tried ≡ [] },
+    ghost untried: { batch.taken.untried ≡ [] },
+    ghost tried: { batch.taken.tried ≡ [] },
     ghost passes: { batch.passes ≡ [] },
     ghost released: { batch.released ≡ [] },
     ghost finished: { batch.finished ≡ [] },
@@ -33,15 +31,13 @@ pub(crate) struct BatchRoom {
 impl BatchRoom {
     // Room for what one of so many workers has under way that takes at most so many tokens before a hold.
     pub(crate) fn new(alloc: Global, workers: u32, most: usize) -> Result<BatchRoom, AllocError> {
-        let tokens = Stack::new(alloc)?;
-        let tried = Stack::new(alloc)?;
+        let taken = Taken::new(alloc)?;
         let finished = Stack::new(alloc)?;
         let passes = Passes::new(alloc)?;
         match Stack::new(alloc) {
             Ok(released) => Ok(BatchRoom {
                 batch: Batch {
-                    tokens,
-                    tried,
+                    taken,
                     passes,
                     released,
                     finished,
@@ -57,8 +53,8 @@ impl BatchRoom {
 
     // Nothing is under way yet.
     pub(crate) fn open(self) -> Batch
-        ensures tokens { result.tokens ≡ [] }
-        ensures tried { result.tried ≡ [] }
+        ensures untried { result.taken.untried ≡ [] }
+        ensures tried { result.taken.tried ≡ [] }
         ensures passes { result.passes ≡ [] }
         ensures released { result.released ≡ [] }
         ensures finished { result.finished ≡ [] }
@@ -82,8 +78,7 @@ impl Batch {
         requires released { self.released ≡ [] }
     {
         let Batch {
-            tokens: _,
-            tried: _,
+            taken: _,
             passes,
             released,
             finished: _,

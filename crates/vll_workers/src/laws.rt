@@ -26,8 +26,8 @@ pub fn spent_engines_took_fewer_calls()
 {}
 
 /// What a token's session has gained since it was handed in, by any run of any engine that was closed with it, are the
-/// calls of the token's script that have entered since, each with a value found if it has an indirect key, and else just
-/// as it is.
+/// calls of the token's script that have entered since, each with a value found if it has an indirect key, and else
+/// just as it is.
 pub fn sessions_gain_found_calls()
     ensures { (e : Named) (handed back : List TokenShown) (closed : Closed) → AreFit e handed → IsClosedWith e back closed
         → (i : ℕ) (t : TokenShown) → slice_get back i ≡ Some t → (of : IsOf handed t)

@@ -12,6 +12,8 @@ mod roster;
 mod running;
 mod shared;
 mod stack;
+mod taken;
+mod tally;
 mod token;
 mod work;
 mod worker;
@@ -22,4 +24,5 @@ pub use laws::{
     journals_merge_the_scripts, sessions_gain_found_calls, spent_engines_took_fewer_calls,
 };
 pub use running::{MOST_WORKERS, run, run_limited};
+pub use tally::Tally;
 pub use token::Token;

@@ -1,4 +1,5 @@
 use crate::stack::MOST_BATCH;
+use crate::tally::Tally;
 use std::hint::spin_loop;
 use std::thread::yield_now;
 
@@ -32,8 +33,19 @@ const MOST_HEAT: u32 = 64;
 // So many rounds in a row may find no token before a worker leaves.
 const MOST_IDLE: u32 = 16;
 
+// What holds a call back that is to begin.
+#[derive(Clone, Copy)]
+pub(crate) enum HeldBy {
+    // It does not look free.
+    Look,
+    // A claim of it is denied, and it waits.
+    Claim,
+    // As many calls wait as the cap.
+    Cap,
+}
+
 // How many tokens a worker takes before a hold and how many calls it begins, for how many rounds it keeps the tokens in
-// hand, and how long it waits after a round that came to nothing.
+// hand, and how long it waits after a round that came to nothing; and what it did so far.
 // It is a matter of speed alone.
 #[derive(Clone, Copy)]
 pub(crate) struct Pace {
@@ -48,6 +60,7 @@ pub(crate) struct Pace {
     rounds: u32,
     // In so many more rounds that begin calls, each is looked at once more under the hold.
     heat: u32,
+    tally: Tally,
 }
 
 impl Pace {
@@ -64,7 +77,18 @@ impl Pace {
             keeps: false,
             rounds: ROUNDS_IN_HAND,
             heat: 0,
+            tally: Tally::none(),
         }
+    }
+
+    // What the worker did so far.
+    pub(crate) fn tally(&self) -> Tally {
+        self.tally
+    }
+
+    // The engine's lock is to be taken.
+    pub(crate) fn takes_hold(&mut self) {
+        self.tally.holds = self.tally.holds.saturating_add(1);
     }
 
     // Whether calls were held back under holds of late, so that each is to be looked at once more before it begins.
@@ -73,7 +97,12 @@ impl Pace {
     }
 
     // A call was held back under a hold.
-    pub(crate) fn heat_up(&mut self) {
+    pub(crate) fn saw_held(&mut self, by: HeldBy) {
+        match by {
+            HeldBy::Look => {}
+            HeldBy::Claim => self.tally.blocked = self.tally.blocked.saturating_add(1),
+            HeldBy::Cap => self.tally.busy = self.tally.busy.saturating_add(1),
+        }
         self.heat = MOST_HEAT.min(self.heat.saturating_add(HEAT_OF_ONE));
     }
 
@@ -87,8 +116,8 @@ impl Pace {
         self.most
     }
 
-    // How many calls are to be ready before the next hold: one less if the last round found the front, since the next one
-    // may find it too and then begins none.
+    // How many calls are to be ready before the next hold: one less if the last round found the front, since the next
+    // one may find it too and then begins none.
     pub(crate) fn calls(&self) -> u32 {
         if self.had_front {
             self.now.saturating_sub(1)
@@ -100,6 +129,12 @@ impl Pace {
     // Whether the front was found.
     pub(crate) fn saw_front(&mut self, had_front: bool) {
         self.had_front = had_front;
+        self.tally.front = self.tally.front.saturating_add(u64::from(had_front));
+    }
+
+    // Whether the scan found a call.
+    pub(crate) fn saw_scan(&mut self, had_call: bool) {
+        self.tally.scan = self.tally.scan.saturating_add(u64::from(had_call));
     }
 
     // So many calls began that may run, and whether another one was held back.
@@ -146,6 +181,7 @@ impl Pace {
         if self.is_leaving(had_token) {
             return false;
         }
+        self.tally.rests = self.tally.rests.saturating_add(1);
         let mut longest = LONGEST_OF_FEW;
         if had_token {
             self.idle = 0;

@@ -12,8 +12,8 @@ use vll_engine::{BegunOnto, Engine, Hold, Name, Pass, Released, Session};
 use vll_proc::Call;
 use vll_sca::Place;
 
-// The passes of calls that may run, up to MOST_BATCH. Each lies where it was made until its call is executed, so that its
-// call is copied once. All room is taken when the list is made. To a contract it is the list of the passes.
+// The passes of calls that may run, up to MOST_BATCH. Each lies where it was made until its call is executed, so that
+// its call is copied once. All room is taken when the list is made. To a contract it is the list of the passes.
 pub(crate) struct Passes {
     items: Vec<Pass>,
 }

@@ -32,9 +32,9 @@ const _: () = prove!(MOST_WORKERS == 64);
 ///
 /// The tokens come back in rising order of their clients, each with `next` the length of its script. Of its client's
 /// calls, each token's session has seen just those of its script enter, from the old `next` to the new one, in order,
-/// each with what it found. The memory that is needed is taken before the first thread is started. If some threads cannot be started, the others
-/// and the calling thread do the work. The calling thread also makes the calls that are left once the workers have
-/// ended. If there are no tokens no thread is started.
+/// each with what it found. The memory that is needed is taken before the first thread is started. If some threads
+/// cannot be started, the others and the calling thread do the work. The calling thread also makes the calls that are
+/// left once the workers have ended. If there are no tokens no thread is started.
 ///
 /// `NoMemory`, and `Spawn` if no thread could be started, hand the tokens back as they came. `Spent` is returned
 /// after all has ended if the engine took no more calls, and hands all tokens back in rising order: one of them has
@@ -69,8 +69,8 @@ pub fn run<
 /// thread does their work. So at most one thread more than `starts` is at work at once, however many workers there are.
 /// It is for a service that has to bound its threads, and for tests of what a run does whose threads are refused.
 ///
-/// If `starts` is 0, tokens are handed back as they came, by `Spawn` or `NoMemory`, and no call enters. Without tokens a
-/// run is well, and starts none.
+/// If `starts` is 0, tokens are handed back as they came, by `Spawn` or `NoMemory`, and no call enters. Without tokens
+/// a run is well, and starts none.
 pub fn run_limited<
     N: Name + Send + Sync,
     H: Place + Send + Sync + Drop,

@@ -125,7 +125,8 @@ impl Token {
         self.ready
     }
 
-    // The next call begins, and counts as entered unless it is refused. If it may run, its pass is put behind the others.
+    // The next call begins, and counts as entered unless it is refused. If it may run, its pass is put behind the
+    // others.
     #[inline(always)]
     pub(crate) fn begin<N: Name, H: Place + Send + Drop>(
         &mut self,

@@ -10,8 +10,8 @@ use crate::gate::Gate;
 use crate::pace::Pace;
 use crate::pool::Pool;
 use crate::roster::Roster;
-use crate::stack::{MOST_BATCH, Stack};
-use crate::token::Token;
+use crate::stack::MOST_BATCH;
+use crate::taken::Taken;
 use crate::worker::Worker;
 use std::sync::{Mutex, Wait};
 use vll_engine::{Engine, Name};
@@ -42,6 +42,7 @@ impl<'a, N: Name, H: Place + Send + Drop, T: Roster, W: Wait, G: Gate> Work<'a, 
         let mut batch = self.open(room);
         drop(self.door.lock(self.wait));
         self.run(&mut worker, &mut batch);
+        self.gate.left(batch.pace.tally());
         batch.end();
         worker
     }
@@ -58,10 +59,11 @@ impl<'a, N: Name, H: Place + Send + Drop, T: Roster, W: Wait, G: Gate> Work<'a, 
         let mut batch = self.open(room);
         for _ in self.wait.forever() {
             let Some(token) = worker.take_last(self.wait, self.pool) else {
+                self.gate.left(batch.pace.tally());
                 batch.end();
                 return worker;
             };
-            batch.tried.push(token);
+            batch.taken.tried.push(token);
             self.run(&mut worker, &mut batch);
         }
         unreachable!()
@@ -69,8 +71,8 @@ impl<'a, N: Name, H: Place + Send + Drop, T: Roster, W: Wait, G: Gate> Work<'a, 
 
     // Nothing is under way yet. Tokens may stay in hand between rounds if the gate does not wait for calls.
     fn open(self, room: BatchRoom) -> Batch
-        ensures tokens { result.tokens ≡ [] }
-        ensures tried { result.tried ≡ [] }
+        ensures untried { result.taken.untried ≡ [] }
+        ensures tried { result.taken.tried ≡ [] }
         ensures passes { result.passes ≡ [] }
         ensures released { result.released ≡ [] }
         ensures finished { result.finished ≡ [] }
@@ -86,16 +88,16 @@ impl<'a, N: Name, H: Place + Send + Drop, T: Roster, W: Wait, G: Gate> Work<'a, 
     fn run(self, worker: &mut Worker<T>, batch: &mut Batch)
         requires fit { AreFit N.engine T.tokens }
         requires limit { T.limit ≡ N.engine.config.limit }
-        requires old { IsAtWork T.tokens self.pool.now worker.old batch.old.tried }
-        requires few { length batch.old.tried ≤ MOST_BATCH }
-        requires tokens { batch.old.tokens ≡ [] }
+        requires old { IsAtWork T.tokens self.pool.now worker.old batch.old.taken.tried }
+        requires few { length batch.old.taken.tried ≤ MOST_BATCH }
+        requires untried { batch.old.taken.untried ≡ [] }
         requires passes { batch.old.passes ≡ [] }
         requires released { batch.old.released ≡ [] }
         requires finished { batch.old.finished ≡ [] }
         ensures new { IsAtWork T.tokens self.entry.pool.now worker.new [] }
         ensures parts { (view worker.new.pass).parts ≡ (view worker.old.pass).parts }
-        ensures tokens { batch.new.tokens ≡ [] }
-        ensures tried { batch.new.tried ≡ [] }
+        ensures untried { batch.new.taken.untried ≡ [] }
+        ensures tried { batch.new.taken.tried ≡ [] }
         ensures passes { batch.new.passes ≡ [] }
         ensures released { batch.new.released ≡ [] }
         ensures finished { batch.new.finished ≡ [] }
@@ -106,7 +108,7 @@ impl<'a, N: Name, H: Place + Send + Drop, T: Roster, W: Wait, G: Gate> Work<'a, 
                 batch.pace.went_well();
                 self.execute_all(&mut batch.passes, &mut batch.released);
             } else if !batch.pace.rest(had_token) {
-                self.put_back(worker, &mut batch.tokens, &mut batch.tried);
+                self.put_back(worker, &mut batch.taken);
                 return;
             }
         }
@@ -118,59 +120,53 @@ impl<'a, N: Name, H: Place + Send + Drop, T: Roster, W: Wait, G: Gate> Work<'a, 
     fn round(self, worker: &mut Worker<T>, batch: &mut Batch) -> bool
         requires fit { AreFit N.engine T.tokens }
         requires limit { T.limit ≡ N.engine.config.limit }
-        requires old { IsAtWork T.tokens self.pool.now worker.old batch.old.tried }
-        requires few { length batch.old.tried ≤ MOST_BATCH }
-        requires tokens { batch.old.tokens ≡ [] }
+        requires old { IsAtWork T.tokens self.pool.now worker.old batch.old.taken.tried }
+        requires few { length batch.old.taken.tried ≤ MOST_BATCH }
+        requires untried { batch.old.taken.untried ≡ [] }
         requires passes { batch.old.passes ≡ [] }
         requires released { All (IsReleased N.engine) batch.old.released }
         requires few_released { length batch.old.released ≤ MOST_BATCH }
         requires finished { batch.old.finished ≡ [] }
-        ensures new { IsAtWork T.tokens self.entry.pool.now worker.new batch.new.tried }
-        ensures few { length batch.new.tried ≤ MOST_BATCH }
+        ensures new { IsAtWork T.tokens self.entry.pool.now worker.new batch.new.taken.tried }
+        ensures few { length batch.new.taken.tried ≤ MOST_BATCH }
         ensures parts { (view worker.new.pass).parts ≡ (view worker.old.pass).parts }
-        ensures tokens { batch.new.tokens ≡ [] }
+        ensures untried { batch.new.taken.untried ≡ [] }
         ensures passes { All (IsFresh N.engine) batch.new.passes }
         ensures released { batch.new.released ≡ [] }
         ensures finished { batch.new.finished ≡ [] }
     {
         let most = batch.pace.most();
         let calls = batch.pace.calls();
-        self.take_some(worker, &mut batch.tokens, &mut batch.tried, most, calls);
+        self.take_some(worker, &mut batch.taken, most, calls);
+        batch.pace.takes_hold();
         let mut hold = self.engine.hold(self.wait);
         self.finish_all(&mut hold, &mut batch.released, &mut batch.finished);
         let had_token = self.find(
             worker,
             &mut hold,
-            &mut batch.tokens,
-            &mut batch.tried,
+            &mut batch.taken,
             &mut batch.passes,
             &mut batch.pace,
         );
         drop(hold);
-        self.settle(worker, &mut batch.tokens, &mut batch.tried, &mut batch.pace);
+        self.settle(worker, &mut batch.taken, &mut batch.pace);
         self.tell_all(&mut batch.finished);
         had_token
     }
 
     // The tokens go back to the pool, or stay in hand for the next round.
-    fn settle(
-        self,
-        worker: &mut Worker<T>,
-        tokens: &mut Stack<Token>,
-        tried: &mut Stack<Token>,
-        pace: &mut Pace,
-    )
-        requires old { IsAtWork T.tokens self.pool.now worker.old (tokens.old ++ tried.old) }
-        requires few { length tokens.old + length tried.old ≤ MOST_BATCH }
-        ensures new { IsAtWork T.tokens self.entry.pool.now worker.new tried.new }
+    fn settle(self, worker: &mut Worker<T>, taken: &mut Taken, pace: &mut Pace)
+        requires old { IsAtWork T.tokens self.pool.now worker.old (taken.old.untried ++ taken.old.tried) }
+        requires few { length taken.old.untried + length taken.old.tried ≤ MOST_BATCH }
+        ensures new { IsAtWork T.tokens self.entry.pool.now worker.new taken.new.tried }
         ensures parts { (view worker.new.pass).parts ≡ (view worker.old.pass).parts }
-        ensures tokens { tokens.new ≡ [] }
-        ensures few { length tried.new ≤ MOST_BATCH }
+        ensures untried { taken.new.untried ≡ [] }
+        ensures few { length taken.new.tried ≤ MOST_BATCH }
     {
         if pace.stay_in_hand() {
-            self.keep_in_hand(worker, tokens, tried);
+            self.keep_in_hand(worker, taken);
         } else {
-            self.put_back(worker, tokens, tried);
+            self.put_back(worker, taken);
         }
     }
 }

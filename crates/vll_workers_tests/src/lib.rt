@@ -16,6 +16,8 @@ mod runs;
 #[cfg(test)]
 mod staying;
 #[cfg(test)]
+mod tallies;
+#[cfg(test)]
 mod tokens;
 #[cfg(test)]
 mod told;

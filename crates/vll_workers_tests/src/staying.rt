@@ -100,8 +100,8 @@ fn runs_beside<N: Name + Send + Sync, R: Wait + Threads + Abort + Sync, G: Gate 
 }
 
 // One worker has a token in its first two rounds, and executes a chain of calls that waits. In the round that finishes
-// the last of them it has no token and finds no call, and it is held back at the end of that. Then another call may run,
-// which its next round finds.
+// the last of them it has no token and finds no call, and it is held back at the end of that. Then another call may
+// run, which its next round finds.
 fn stays_after_an_empty_round<N: Name + Send + Sync, R: Wait + Threads + Abort + Sync>(
     rt: &R,
     alloc: Global,

@@ -20,8 +20,8 @@ use vll_workers::run;
 // How many reads of one record each of four clients makes.
 const READS: u32 = 20;
 
-// A batch has eight calls at most, and all but these can get their replies while its first one is held back: the clients
-// whose calls those are can make their next ones, since their tokens lie in the pool.
+// A batch has eight calls at most, and all but these can get their replies while its first one is held back: the
+// clients whose calls those are can make their next ones, since their tokens lie in the pool.
 const AWAITED: u64 = 72;
 
 fn gets_all_others<N: Name + Send + Sync, R: Wait + Threads + Abort + Sync>(

@@ -8,10 +8,11 @@ ghost use Rattle.vll_workers.specs.Tokens.{AreFit, IsFit, IsOf};
 
 use super::Work;
 use crate::gate::Gate;
-use crate::pace::Pace;
+use crate::pace::{HeldBy, Pace};
 use crate::passes::Passes;
 use crate::roster::Roster;
-use crate::stack::{MOST_BATCH, Stack};
+use crate::stack::MOST_BATCH;
+use crate::taken::Taken;
 use crate::token::Token;
 use crate::worker::Worker;
 use std::sync::Wait;
@@ -23,31 +24,30 @@ enum Course {
     // All that began are free.
     Free,
     // One waits, or may not begin now.
-    Held,
+    Held(HeldBy),
     // The engine takes no more.
     Spent,
 }
 
 impl<N: Name, H: Place + Send + Drop, T: Roster, W: Wait, G: Gate> Work<'_, N, H, T, W, G> {
     // The call at the front, if it waits. Else the tokens' next calls begin, and it is those that are free; if there is
-    // none, it is the one that the scan finds. So no worker rests or leaves while a call waits that may run. Tells whether
-    // there was a token.
+    // none, it is the one that the scan finds. So no worker rests or leaves while a call waits that may run. Tells
+    // whether there was a token.
     pub(super) fn find(
         self,
         worker: &mut Worker<T>,
         hold: &mut Hold<'_, N, H>,
-        tokens: &mut Stack<Token>,
-        tried: &mut Stack<Token>,
+        taken: &mut Taken,
         passes: &mut Passes,
         pace: &mut Pace,
     ) -> bool
         requires fit { AreFit N.engine T.tokens }
         requires limit { T.limit ≡ N.engine.config.limit }
-        requires old { IsAtWork T.tokens self.pool.now worker.old (tokens.old ++ tried.old) }
-        requires few { length tokens.old + length tried.old ≤ MOST_BATCH }
+        requires old { IsAtWork T.tokens self.pool.now worker.old (taken.old.untried ++ taken.old.tried) }
+        requires few { length taken.old.untried + length taken.old.tried ≤ MOST_BATCH }
         requires passes { passes.old ≡ [] }
-        ensures new { IsAtWork T.tokens self.entry.pool.now worker.new (tokens.new ++ tried.new) }
-        ensures few { length tokens.new + length tried.new ≤ MOST_BATCH }
+        ensures new { IsAtWork T.tokens self.entry.pool.now worker.new (taken.new.untried ++ taken.new.tried) }
+        ensures few { length taken.new.untried + length taken.new.tried ≤ MOST_BATCH }
         ensures parts { (view worker.new.pass).parts ≡ (view worker.old.pass).parts }
         ensures passes { All (IsFresh N.engine) passes.new }
     {
@@ -56,17 +56,17 @@ impl<N: Name, H: Place + Send + Drop, T: Roster, W: Wait, G: Gate> Work<'_, N, H
             return true;
         }
         pace.saw_front(false);
-        if tokens.is_empty() {
-            self.take_some(worker, tokens, tried, MOST_BATCH, 1);
+        if taken.untried.is_empty() {
+            self.take_some(worker, taken, MOST_BATCH, 1);
         }
-        let had_token = !tokens.is_empty();
-        self.begin_all(worker, hold, tokens, tried, passes, pace);
+        let had_token = !taken.untried.is_empty();
+        self.begin_all(worker, hold, taken, passes, pace);
         // A worker that takes tokens under a hold alone leaves once it finds the pool empty there.
         if !pace.takes_ahead() {
-            self.put_back(worker, tokens, tried);
+            self.put_back(worker, taken);
         }
         if passes.is_empty() {
-            passes.find_by_scan(hold);
+            pace.saw_scan(passes.find_by_scan(hold));
         }
         had_token
     }
@@ -76,52 +76,50 @@ impl<N: Name, H: Place + Send + Drop, T: Roster, W: Wait, G: Gate> Work<'_, N, H
         self,
         worker: &mut Worker<T>,
         hold: &mut Hold<'_, N, H>,
-        tokens: &mut Stack<Token>,
-        tried: &mut Stack<Token>,
+        taken: &mut Taken,
         passes: &mut Passes,
         pace: &mut Pace,
     )
         requires fit { AreFit N.engine T.tokens }
         requires limit { T.limit ≡ N.engine.config.limit }
-        requires old { IsAtWork T.tokens self.pool.now worker.old (tokens.old ++ tried.old) }
-        requires few { length tokens.old + length tried.old ≤ MOST_BATCH }
+        requires old { IsAtWork T.tokens self.pool.now worker.old (taken.old.untried ++ taken.old.tried) }
+        requires few { length taken.old.untried + length taken.old.tried ≤ MOST_BATCH }
         requires passes { passes.old ≡ [] }
-        ensures new { IsAtWork T.tokens self.entry.pool.now worker.new (tokens.new ++ tried.new) }
-        ensures few { length tokens.new + length tried.new ≤ MOST_BATCH }
+        ensures new { IsAtWork T.tokens self.entry.pool.now worker.new (taken.new.untried ++ taken.new.tried) }
+        ensures few { length taken.new.untried + length taken.new.tried ≤ MOST_BATCH }
         ensures parts { (view worker.new.pass).parts ≡ (view worker.old.pass).parts }
         ensures passes { All (IsFresh N.engine) passes.new }
     {
         let mut was_held = false;
-        for _ in 0..tokens.len() {
-            was_held |= !self.begin_next(worker, hold, tokens, tried, passes, pace);
+        for _ in 0..taken.untried.len() {
+            was_held |= !self.begin_next(worker, hold, taken, passes, pace);
         }
         pace.began(passes.len() as u32, was_held);
     }
 
-    // Begins the next calls of the last token, and tells whether all that began are free. The token is set aside, or stays
-    // with the worker if no call is left or the engine takes no more. If calls were held back of late its words are looked
-    // at once more, and its call is put off if that does not look free now. A call with an indirect key begins as the first
-    // of a batch, and is left for another one if it is not.
+    // Begins the next calls of the last token, and tells whether all that began are free. The token is set aside, or
+    // stays with the worker if no call is left or the engine takes no more. If calls were held back of late its words
+    // are looked at once more, and its call is put off if that does not look free now. A call with an indirect key
+    // begins as the first of a batch, and is left for another one if it is not.
     fn begin_next(
         self,
         worker: &mut Worker<T>,
         hold: &mut Hold<'_, N, H>,
-        tokens: &mut Stack<Token>,
-        tried: &mut Stack<Token>,
+        taken: &mut Taken,
         passes: &mut Passes,
         pace: &mut Pace,
     ) -> bool
         requires fit { AreFit N.engine T.tokens }
         requires limit { T.limit ≡ N.engine.config.limit }
-        requires old { IsAtWork T.tokens self.pool.now worker.old (tokens.old ++ tried.old) }
-        requires few { length tokens.old + length tried.old ≤ MOST_BATCH }
+        requires old { IsAtWork T.tokens self.pool.now worker.old (taken.old.untried ++ taken.old.tried) }
+        requires few { length taken.old.untried + length taken.old.tried ≤ MOST_BATCH }
         requires passes { All (IsFresh N.engine) passes.old }
-        ensures new { IsAtWork T.tokens self.entry.pool.now worker.new (tokens.new ++ tried.new) }
-        ensures few { length tokens.new + length tried.new ≤ MOST_BATCH }
+        ensures new { IsAtWork T.tokens self.entry.pool.now worker.new (taken.new.untried ++ taken.new.tried) }
+        ensures few { length taken.new.untried + length taken.new.tried ≤ MOST_BATCH }
         ensures parts { (view worker.new.pass).parts ≡ (view worker.old.pass).parts }
         ensures passes { All (IsFresh N.engine) passes.new }
     {
-        let Some(mut token) = tokens.pop() else {
+        let Some(mut token) = taken.untried.pop() else {
             return true;
         };
         if token.is_through() {
@@ -129,17 +127,17 @@ impl<N: Name, H: Place + Send + Drop, T: Roster, W: Wait, G: Gate> Work<'_, N, H
             return true;
         }
         if self.is_left(&mut token, passes, pace) {
-            tried.push(token);
+            taken.tried.push(token);
             return false;
         }
         match self.begin_calls(hold, &mut token, passes, pace.is_hot()) {
             Course::Free => {
-                tried.push(token);
+                taken.tried.push(token);
                 true
             }
-            Course::Held => {
-                pace.heat_up();
-                tried.push(token);
+            Course::Held(by) => {
+                pace.saw_held(by);
+                taken.tried.push(token);
                 false
             }
             Course::Spent => {
@@ -158,21 +156,22 @@ impl<N: Name, H: Place + Send + Drop, T: Roster, W: Wait, G: Gate> Work<'_, N, H
             return true;
         }
         if pace.is_hot() && self.looks_free(token, 1) == 0 && token.put_off() {
-            pace.heat_up();
+            pace.saw_held(HeldBy::Look);
             return true;
         }
         !passes.is_empty() && self.is_indirect(token, 0)
     }
 
-    // Whether the token's next call is to be looked at once more, as each behind the first one is, and does not look free.
+    // Whether the token's next call is to be looked at once more, as each behind the first one is, and does not look
+    // free.
     fn looks_held(self, token: &Token, first: u32, is_hot: bool) -> bool
         requires { IsFit N.engine token.now }
     {
         is_hot && token.next() != first && self.looks_free(token, 1) == 0
     }
 
-    // Begins as many of the token's next calls as looked free, one at least, up to the first that is not free now, or does
-    // not look so if calls were held back of late, or until the batch is full.
+    // Begins as many of the token's next calls as looked free, one at least, up to the first that is not free now, or
+    // does not look so if calls were held back of late, or until the batch is full.
     fn begin_calls(
         self,
         hold: &mut Hold<'_, N, H>,
@@ -192,7 +191,7 @@ impl<N: Name, H: Place + Send + Drop, T: Roster, W: Wait, G: Gate> Work<'_, N, H
         let first = token.next();
         for _ in 0..token.ready() {
             if self.looks_held(token, first, is_hot) {
-                return Course::Held;
+                return Course::Held(HeldBy::Look);
             }
             if passes.len() == MOST_BATCH {
                 return Course::Free;
@@ -202,8 +201,8 @@ impl<N: Name, H: Place + Send + Drop, T: Roster, W: Wait, G: Gate> Work<'_, N, H
             }
             match token.begin(hold, passes) {
                 BegunOnto::Free => {}
-                BegunOnto::Blocked(_) | BegunOnto::Refused(BeginRefusal::Busy) =>
-                    return Course::Held,
+                BegunOnto::Blocked(_) => return Course::Held(HeldBy::Claim),
+                BegunOnto::Refused(BeginRefusal::Busy) => return Course::Held(HeldBy::Cap),
                 BegunOnto::Refused(BeginRefusal::Spent) => return Course::Spent,
             }
         }

@@ -9,7 +9,7 @@ use crate::gate::Gate;
 use crate::passes::Passes;
 use crate::roster::Roster;
 use crate::stack::{MOST_BATCH, Stack};
-use crate::token::Token;
+use crate::taken::Taken;
 use crate::worker::Worker;
 use std::sync::Wait;
 use vll_core::Ticket;
@@ -18,41 +18,31 @@ use vll_sca::Place;
 
 impl<N: Name, H: Place + Send + Drop, T: Roster, W: Wait, G: Gate> Work<'_, N, H, T, W, G> {
     // Puts the tokens back into the pool, those that were tried behind the others.
-    pub(super) fn put_back(
-        self,
-        worker: &mut Worker<T>,
-        tokens: &mut Stack<Token>,
-        tried: &mut Stack<Token>,
-    )
-        requires old { IsAtWork T.tokens self.pool.now worker.old (tokens.old ++ tried.old) }
+    pub(super) fn put_back(self, worker: &mut Worker<T>, taken: &mut Taken)
+        requires old { IsAtWork T.tokens self.pool.now worker.old (taken.old.untried ++ taken.old.tried) }
         ensures new { IsAtWork T.tokens self.entry.pool.now worker.new [] }
         ensures parts { (view worker.new.pass).parts ≡ (view worker.old.pass).parts }
-        ensures tokens { tokens.new ≡ [] }
-        ensures tried { tried.new ≡ [] }
+        ensures untried { taken.new.untried ≡ [] }
+        ensures tried { taken.new.tried ≡ [] }
     {
-        while let Some(token) = tokens.pop() {
+        while let Some(token) = taken.untried.pop() {
             worker.put(self.wait, self.pool, token);
         }
-        while let Some(token) = tried.pop() {
+        while let Some(token) = taken.tried.pop() {
             worker.put(self.wait, self.pool, token);
         }
     }
 
     // Keeps the tokens in hand for the next round: those that are left go to those that were tried.
-    pub(super) fn keep_in_hand(
-        self,
-        worker: &Worker<T>,
-        tokens: &mut Stack<Token>,
-        tried: &mut Stack<Token>,
-    )
-        requires old { IsAtWork T.tokens self.pool.now worker.now (tokens.old ++ tried.old) }
-        requires few { length tokens.old + length tried.old ≤ MOST_BATCH }
-        ensures new { IsAtWork T.tokens self.entry.pool.now worker.now tried.new }
-        ensures tokens { tokens.new ≡ [] }
-        ensures few { length tried.new ≤ MOST_BATCH }
+    pub(super) fn keep_in_hand(self, worker: &Worker<T>, taken: &mut Taken)
+        requires old { IsAtWork T.tokens self.pool.now worker.now (taken.old.untried ++ taken.old.tried) }
+        requires few { length taken.old.untried + length taken.old.tried ≤ MOST_BATCH }
+        ensures new { IsAtWork T.tokens self.entry.pool.now worker.now taken.new.tried }
+        ensures untried { taken.new.untried ≡ [] }
+        ensures few { length taken.new.tried ≤ MOST_BATCH }
     {
-        while let Some(token) = tokens.pop() {
-            tried.push(token);
+        while let Some(token) = taken.untried.pop() {
+            taken.tried.push(token);
         }
     }
 
@@ -83,7 +73,7 @@ impl<N: Name, H: Place + Send + Drop, T: Roster, W: Wait, G: Gate> Work<'_, N, H
         ensures { released.new ≡ [] }
     {
         while let Some(done) = released.pop() {
-            finished.push(hold.finish(done).0);
+            finished.push(hold.finish_untold(done));
         }
     }
 

@@ -8,6 +8,7 @@ use super::Work;
 use crate::gate::Gate;
 use crate::roster::Roster;
 use crate::stack::{MOST_BATCH, Stack};
+use crate::taken::Taken;
 use crate::token::Token;
 use crate::worker::Worker;
 use std::sync::Wait;
@@ -15,61 +16,54 @@ use vll_engine::Name;
 use vll_sca::Place;
 
 impl<N: Name, H: Place + Send + Drop, T: Roster, W: Wait, G: Gate> Work<'_, N, H, T, W, G> {
-    // Takes tokens, at first those that were kept in hand, then those of the pool, until so many calls are ready to begin or
-    // so many tokens are taken.
+    // Takes tokens, at first those that were kept in hand, then those of the pool, until so many calls are ready to
+    // begin or so many tokens are taken.
     pub(super) fn take_some(
         self,
         worker: &mut Worker<T>,
-        tokens: &mut Stack<Token>,
-        tried: &mut Stack<Token>,
+        taken: &mut Taken,
         most: usize,
         calls: u32,
     )
         requires fit { AreFit N.engine T.tokens }
-        requires old { IsAtWork T.tokens self.pool.now worker.old (tokens.old ++ tried.old) }
-        requires few { length tokens.old + length tried.old ≤ MOST_BATCH }
-        ensures new { IsAtWork T.tokens self.entry.pool.now worker.new (tokens.new ++ tried.new) }
+        requires old { IsAtWork T.tokens self.pool.now worker.old (taken.old.untried ++ taken.old.tried) }
+        requires few { length taken.old.untried + length taken.old.tried ≤ MOST_BATCH }
+        ensures new { IsAtWork T.tokens self.entry.pool.now worker.new (taken.new.untried ++ taken.new.tried) }
         ensures parts { (view worker.new.pass).parts ≡ (view worker.old.pass).parts }
-        ensures few { length tokens.new + length tried.new ≤ MOST_BATCH }
+        ensures few { length taken.new.untried + length taken.new.tried ≤ MOST_BATCH }
     {
         let mut ready = 0u32;
         for _ in 0..most {
-            if ready >= calls || tokens.len() == MOST_BATCH {
+            if ready >= calls || taken.untried.len() == MOST_BATCH {
                 return;
             }
-            let Some(more) = self.take_one(worker, tokens, tried, calls - ready) else {
+            let Some(more) = self.take_one(worker, taken, calls - ready) else {
                 return;
             };
             ready = ready.saturating_add(more);
         }
     }
 
-    // Takes a token that was kept in hand, or else one of the pool, if there is one. How many of its next calls, at most so
-    // many, are ready to begin.
-    fn take_one(
-        self,
-        worker: &mut Worker<T>,
-        tokens: &mut Stack<Token>,
-        tried: &mut Stack<Token>,
-        most: u32,
-    ) -> Option<u32>
+    // Takes a token that was kept in hand, or else one of the pool, if there is one. How many of its next calls, at
+    // most so many, are ready to begin.
+    fn take_one(self, worker: &mut Worker<T>, taken: &mut Taken, most: u32) -> Option<u32>
         requires fit { AreFit N.engine T.tokens }
-        requires old { IsAtWork T.tokens self.pool.now worker.old (tokens.old ++ tried.old) }
-        requires few { length tokens.old + length tried.old ≤ MOST_BATCH }
-        requires room { length tokens.old < MOST_BATCH }
-        ensures new { IsAtWork T.tokens self.entry.pool.now worker.new (tokens.new ++ tried.new) }
+        requires old { IsAtWork T.tokens self.pool.now worker.old (taken.old.untried ++ taken.old.tried) }
+        requires few { length taken.old.untried + length taken.old.tried ≤ MOST_BATCH }
+        requires room { length taken.old.untried < MOST_BATCH }
+        ensures new { IsAtWork T.tokens self.entry.pool.now worker.new (taken.new.untried ++ taken.new.tried) }
         ensures parts { (view worker.new.pass).parts ≡ (view worker.old.pass).parts }
-        ensures few { length tokens.new + length tried.new ≤ MOST_BATCH }
+        ensures few { length taken.new.untried + length taken.new.tried ≤ MOST_BATCH }
     {
-        if let Some(token) = tried.pop() {
-            return Some(self.add(token, tokens, most));
+        if let Some(token) = taken.tried.pop() {
+            return Some(self.add(token, &mut taken.untried, most));
         }
         let token = worker.take(self.wait, self.pool)?;
-        Some(self.add(token, tokens, most))
+        Some(self.add(token, &mut taken.untried, most))
     }
 
-    // Adds a token whose next calls are to begin. How many of them, at most so many, are ready; or so many, if its next call
-    // has an indirect key, so that no other token is taken behind it and that call is the first to begin.
+    // Adds a token whose next calls are to begin. How many of them, at most so many, are ready; or so many, if its next
+    // call has an indirect key, so that no other token is taken behind it and that call is the first to begin.
     fn add(self, token: Token, tokens: &mut Stack<Token>, most: u32) -> u32
         requires fit { IsFit N.engine token }
         requires room { length tokens.old < MOST_BATCH }
@@ -82,9 +76,9 @@ impl<N: Name, H: Place + Send + Drop, T: Roster, W: Wait, G: Gate> Work<'_, N, H
         if is_first { most } else { ready }
     }
 
-    // Looks at the words that the token's next calls claim, at most so many, so that they are near when these begin, and
-    // notes how many are ready to begin: those that look free, one behind the other. If none does the next one is put off,
-    // unless it was put off too often: then it is ready all the same.
+    // Looks at the words that the token's next calls claim, at most so many, so that they are near when these begin,
+    // and notes how many are ready to begin: those that look free, one behind the other. If none does the next one is
+    // put off, unless it was put off too often: then it is ready all the same.
     fn look_at(self, token: &mut Token, most: u32) -> u32
         requires { IsFit N.engine token.old }
         ensures { token.new ≡ token.old }
@@ -116,9 +110,9 @@ impl<N: Name, H: Place + Send + Drop, T: Roster, W: Wait, G: Gate> Work<'_, N, H
         most
     }
 
-    // Whether the token's call so many places behind the next one has an indirect key. What it finds is best found while
-    // no call of this worker's has begun and is not executed yet: such a call may store to the record that is looked at,
-    // and abort the other one.
+    // Whether the token's call so many places behind the next one has an indirect key. What it finds is best found
+    // while no call of this worker's has begun and is not executed yet: such a call may store to the record that is
+    // looked at, and abort the other one.
     pub(super) fn is_indirect(self, token: &Token, ahead: u32) -> bool
         requires { IsFit N.engine token.now }
     {

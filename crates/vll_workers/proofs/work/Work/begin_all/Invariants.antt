@@ -8,5 +8,5 @@ use Rattle.vll_workers.proofs.work.Work.begin_all.Given as goal
 
 abbrev pub invariant-loop : goal.invariant-loop
 invariant-loop g l =
-    IsAtWork g.T.Roster.tokens l.self.pool.now l.worker (l.tokens ++ l.tried) × ((view l.worker.pass).parts ≡ (view l.initial.worker.pass).parts)
-    × All (IsFresh g.N.Name.engine) l.passes × (length l.tokens + length l.tried ≤ MOST_BATCH)
+    IsAtWork g.T.Roster.tokens l.self.pool.now l.worker (l.taken.untried ++ l.taken.tried) × ((view l.worker.pass).parts ≡ (view l.initial.worker.pass).parts)
+    × All (IsFresh g.N.Name.engine) l.passes × (length l.taken.untried + length l.taken.tried ≤ MOST_BATCH)

@@ -38,16 +38,16 @@ pub returns-in-Blocked-clause-passes : goal.returns-in-Blocked-clause-passes
 returns-in-Blocked-clause-passes g c =
     fresh_begun g.N.Name.engine c.loop.token c.begin.new.self c.begin.result c.loop.passes c.begin.new.passes (c.is_through.ensures.left c.if-is_through.false) c.begin.ensures.begun c.loop.invariant.2
 
-pub returns-in-Blocked-2-clause-own : goal.returns-in-Blocked-2-clause-own
-returns-in-Blocked-2-clause-own g c =
+pub returns-in-Refused-Busy-clause-own : goal.returns-in-Refused-Busy-clause-own
+returns-in-Refused-Busy-clause-own g c =
     of_begun g.N.Name.engine g.T.Roster.tokens c.loop.token c.begin.new.self c.begin.result c.loop.passes c.begin.new.passes c.loop.invariant.0 (c.is_through.ensures.left c.if-is_through.false) c.begin.ensures.begun
 
-pub returns-in-Blocked-2-clause-client : goal.returns-in-Blocked-2-clause-client
-returns-in-Blocked-2-clause-client g c =
+pub returns-in-Refused-Busy-clause-client : goal.returns-in-Refused-Busy-clause-client
+returns-in-Refused-Busy-clause-client g c =
     client_begun g.N.Name.engine c.loop.token c.begin.new.self c.begin.result c.loop.passes c.begin.new.passes c.begin.ensures.begun ∙ c.loop.invariant.1
 
-pub returns-in-Blocked-2-clause-passes : goal.returns-in-Blocked-2-clause-passes
-returns-in-Blocked-2-clause-passes g c =
+pub returns-in-Refused-Busy-clause-passes : goal.returns-in-Refused-Busy-clause-passes
+returns-in-Refused-Busy-clause-passes g c =
     fresh_begun g.N.Name.engine c.loop.token c.begin.new.self c.begin.result c.loop.passes c.begin.new.passes (c.is_through.ensures.left c.if-is_through.false) c.begin.ensures.begun c.loop.invariant.2
 
 pub loop-preserved : goal.loop-preserved
@@ -63,5 +63,5 @@ begin-requires-clause-room g c = search rules
 pub returns-in-Blocked-clause-spent : goal.returns-in-Blocked-clause-spent
 returns-in-Blocked-clause-spent g c = search rules
 
-pub returns-in-Blocked-2-clause-spent : goal.returns-in-Blocked-2-clause-spent
-returns-in-Blocked-2-clause-spent g c = search rules
+pub returns-in-Refused-Busy-clause-spent : goal.returns-in-Refused-Busy-clause-spent
+returns-in-Refused-Busy-clause-spent g c = search rules

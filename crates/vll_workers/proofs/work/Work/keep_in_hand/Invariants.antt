@@ -6,7 +6,7 @@ use Rattle.vll_workers.proofs.work.Work.keep_in_hand.Given as goal
 
 abbrev pub invariant-loop-token : goal.invariant-loop-token
 invariant-loop-token g l =
-    IsAtWork g.T.Roster.tokens l.self.pool.now l.worker (l.tokens ++ l.tried) × (length l.tokens + length l.tried ≤ MOST_BATCH)
+    IsAtWork g.T.Roster.tokens l.self.pool.now l.worker (l.taken.untried ++ l.taken.tried) × (length l.taken.untried + length l.taken.tried ≤ MOST_BATCH)
 
 abbrev pub decreases-loop-token : goal.decreases-loop-token
-decreases-loop-token g l = length l.tokens
+decreases-loop-token g l = length l.taken.untried

@@ -8,5 +8,5 @@ use Rattle.vll_workers.proofs.work.Work.run.Given as goal
 
 abbrev pub invariant-loop : goal.invariant-loop
 invariant-loop g l =
-    IsAtWork g.T.Roster.tokens l.self.pool.now l.worker l.batch.tried × ((view l.worker.pass).parts ≡ (view l.initial.worker.pass).parts)
-    × (length l.batch.tried ≤ MOST_BATCH) × (l.batch.tokens ≡ []) × (l.batch.passes ≡ []) × All (IsReleased g.N.Name.engine) l.batch.released × (length l.batch.released ≤ MOST_BATCH) × (l.batch.finished ≡ [])
+    IsAtWork g.T.Roster.tokens l.self.pool.now l.worker l.batch.taken.tried × ((view l.worker.pass).parts ≡ (view l.initial.worker.pass).parts)
+    × (length l.batch.taken.tried ≤ MOST_BATCH) × (l.batch.taken.untried ≡ []) × (l.batch.passes ≡ []) × All (IsReleased g.N.Name.engine) l.batch.released × (length l.batch.released ≤ MOST_BATCH) × (l.batch.finished ≡ [])

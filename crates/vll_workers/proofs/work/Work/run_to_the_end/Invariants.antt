@@ -8,4 +8,4 @@ use Rattle.vll_workers.proofs.work.Work.run_to_the_end.Given as goal
 abbrev pub invariant-loop : goal.invariant-loop
 invariant-loop g l =
     IsAtWork g.T.Roster.tokens l.self.pool.now l.worker [] × ((view l.worker.pass).parts ≡ all_parts)
-    × (l.batch.tokens ≡ []) × (l.batch.tried ≡ []) × (l.batch.passes ≡ []) × (l.batch.released ≡ []) × (l.batch.finished ≡ [])
+    × (l.batch.taken.untried ≡ []) × (l.batch.taken.tried ≡ []) × (l.batch.passes ≡ []) × (l.batch.released ≡ []) × (l.batch.finished ≡ [])
