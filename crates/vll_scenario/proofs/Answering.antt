@@ -29,7 +29,7 @@ use Rattle.vll_scenario.specs.Shape.{◌>>=◌, edition_at, in_part, list_if_the
 use Rattle.vll_scenario.specs.Streams.{AreTooMany}
 use Rattle.vll_scenario.specs.Syntax.{has_members, proc_at}
 use Rattle.vll_scenario.specs.Tree.{number_at, u32_at}
-use Rattle.vll_scenario.specs.Private.Bytes.{ReadsAll}
+use Rattle.vll_scenario.specs.Bytes.{ReadsAll}
 
 -- ---- the tree of the bytes
 

@@ -7,4 +7,6 @@ pub mod Bounds
 pub mod Checking
 pub mod Sizes
 pub mod Answering
+pub mod Written
+pub mod Results
 mod Rows

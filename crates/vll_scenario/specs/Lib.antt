@@ -5,6 +5,8 @@ pub mod Shape
 pub mod Setup
 pub mod Scenario
 pub mod Reading
+pub mod Line
 pub mod Streams
+pub mod Bytes
 pub mod Plain
 pub mod Private

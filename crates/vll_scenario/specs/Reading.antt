@@ -5,7 +5,8 @@ use Rattle.serde_json.specs.Data.{Data}
 use Rattle.vll_scenario.specs.declared.fault.ScenarioFault.{ScenarioFault}
 use Rattle.vll_scenario.specs.declared.fault.ScenarioFault.TheVariants as fault
 use Rattle.vll_scenario.specs.declared.limits.TheConstants.{MOST_BYTES}
-use Rattle.vll_scenario.specs.Scenario.{IsTree}
+use Rattle.vll_scenario.specs.Scenario.{IsTree, scenario_at}
+use Rattle.vll_scenario.specs.Setup.{Setup}
 use Rattle.vll_scenario.specs.Streams.{AreTooMany}
 
 -- what is answered for bytes: that there are too many, or what their tree gives
@@ -29,3 +30,7 @@ abbrev pub Tells : {A : Type 0} → (Option Data → Result A ScenarioFault) →
 Tells of known (Err fault.Read) = Unit {0}
 Tells of known (Err fault.NoMemory) = Unit {0}
 Tells of known result = IfSome known (λ bytes. IsAnswerBy of bytes result)
+
+-- the scenario, or the fault, is that of the bytes that were read
+abbrev pub IsRead : Option (List ℕ) → Option (List ℕ) → Result Setup ScenarioFault → Type 0
+IsRead old new result = Reads scenario_at old new result × Tells scenario_at old result

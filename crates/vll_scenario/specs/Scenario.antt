@@ -70,7 +70,7 @@ script_made catalog client script = each_given (call_at catalog client) 0 script
 abbrev pub scripts_made : Catalog → List (List Asked) → Result (List (List Call)) ScenarioFault
 scripts_made catalog scripts = each_given (script_made catalog) 0 scripts
 
--- what is chosen for the machine. Where it is not given, the cap is 1024, the number of bits 4096, and the limit the number of calls in all scripts, at least 1
+-- what is chosen for the machine: if not given, cap 1024, bits 4096, and as the limit the number of calls, at least 1
 abbrev pub config_of : Parts → Config
 config_of p = record { cap = unwrap_or p.cap CAP; limit = unwrap_or p.limit (max 1 (sum_by length p.scripts)); bits = unwrap_or p.bits BITS }
 

@@ -1,4 +1,4 @@
--- What a scenario is: its records, its procedures, each client's calls, what is chosen for the machine, and its schedule.
+-- What a scenario is: its records, its procedures, each client's calls, what is chosen for the machine, its schedule.
 use Rattle.std.specs.Prelude.{◌≡◌, ℕ, ◌≤◌, Bool, ◌&&◌, nat_le, List, length, map, sum_by, All, None}
 use Rattle.std.specs.Global.{Vec}
 use Rattle.vll_proc.specs.declared.call.Call.{Call}
@@ -12,7 +12,7 @@ use Rattle.vll_core.specs.declared.event.Event.{Event}
 use Rattle.vll_core.specs.Faults.{open_fault}
 use Rattle.vll_scenario.specs.declared.limits.TheConstants.{MOST_CLIENTS, MOST_EVENTS, MOST_PROCS}
 
--- what contracts see of a `Scenario`: the records, the procedures, each client's calls, what is chosen for the machine, the hash, and the schedule
+-- what contracts see of a `Scenario`: records, procedures, calls, choices for the machine, the hash, and the schedule
 pub record Setup : Type 0 where
   pub records : List ℕ
   pub procs : List Proc
@@ -41,7 +41,7 @@ pub record HasSizes {C : Type 0} (procs : List Proc) (scripts : List (List C)) (
   pub few_calls : sum_by length scripts ≤ MOST_CALLS
   pub few_events : length schedule ≤ MOST_EVENTS
 
--- what the type of a scenario keeps: its sizes, that a machine can be opened for it, and that each call is one that its library makes
+-- what the type of a scenario keeps: its sizes, that a machine opens for it, and that its library makes each call
 pub record IsSetup (s : Setup) : Type 0 where
   pub sizes : HasSizes s.procs s.scripts s.schedule
   pub openable : open_fault (length s.records) s.config ≡ None

@@ -7,11 +7,14 @@ mod plain;
 mod reading;
 mod scenario;
 mod stream;
+mod writing;
 
 pub use fault::{Part, ScenarioFault, Spot};
 pub use limits::{MOST_BYTES, MOST_CLIENTS, MOST_EVENTS, MOST_PROCS};
 pub use plain::Plain;
+pub use reading::bytes::{ReadFault, read_bytes};
 pub use reading::read_scenario;
 pub use scenario::{Scenario, ScenarioParts};
 pub use stream::{Sink, Source};
 pub use vll_check::{CallFault, CheckFault};
+pub use writing::{WriteFault, write_text};

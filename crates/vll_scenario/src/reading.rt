@@ -8,7 +8,7 @@ ghost use Rattle.vll_scenario.specs.Private.Reading.{data_of};
 ghost use Rattle.vll_scenario.specs.declared.fault.ScenarioFault.TheVariants as ScenarioFault;
 
 mod asked;
-mod bytes;
+pub(crate) mod bytes;
 mod members;
 mod options;
 mod schedule;
@@ -29,10 +29,11 @@ use std::alloc::Global;
 
 /// Reads a scenario: one JSON text, whose form docs/SCENARIO.md describes.
 ///
-/// The reader is read until it gives no more bytes; once more than `MOST_BYTES` have come, at most a piece of 8,192 bytes
-/// more, it is read no further. If it tells its bytes the answer is that for just these. Of several faults the first is answered, in the order that `ScenarioFault` tells. `Read` comes exactly
-/// if the reader has failed. `NoMemory` is for want of memory, and can come in the place of any answer but
-/// `Read`. Each other answer, `Ok` among them, is that of the bytes that came.
+/// The reader is read until it gives no more bytes; once more than `MOST_BYTES` have come, at most a piece of 8,192
+/// bytes more, it is read no further. If it tells its bytes the answer is that for just these. Of several faults the
+/// first is answered, in the order that `ScenarioFault` tells. `Read` comes exactly if the reader has failed.
+/// `NoMemory` is for want of memory, and can come in the place of any answer but `Read`. Each other answer, `Ok` among
+/// them, is that of the bytes that came.
 pub fn read_scenario<S: Source>(alloc: Global, reader: &mut S) -> Result<Scenario, ScenarioFault>
     requires { S.failed reader.old ≡ false }
     ensures answer { Reads scenario_at (S.remaining reader.old) (S.remaining reader.new) result }

@@ -1,5 +1,5 @@
 ghost use Rattle.std.specs.Prelude.{◌≡◌, ◌↔◌, false, true, IfOk};
-ghost use Rattle.vll_scenario.specs.Private.Bytes.{ReadsAll, ReadsSome, ReadsTooMany};
+ghost use Rattle.vll_scenario.specs.Bytes.{ReadsAll, ReadsSome, ReadsTooMany};
 
 use crate::fault::ScenarioFault;
 use crate::limits::MOST_BYTES;
@@ -9,12 +9,12 @@ use std::alloc::{AllocError, Global};
 // How many bytes are asked for at a time.
 const PIECE: usize = 8_192;
 
-// Why the bytes of a source were not read to their end.
+/// Why the bytes of a source were not read to their end.
 #[derive(Debug, Drop)]
-pub(crate) enum ReadFault {
-    // The source failed.
+pub enum ReadFault {
+    /// The source failed.
     Read,
-    // More bytes came than a scenario may have.
+    /// More bytes came than a scenario may have.
     Size,
     NoMemory,
 }
@@ -32,7 +32,7 @@ impl From<AllocError> for ReadFault {
 
 impl From<ReadFault> for ScenarioFault {
     ghost use Rattle.std.specs.Prelude.{◌≡◌};
-    ghost use Rattle.vll_scenario.specs.Private.Bytes.{fault_of};
+    ghost use Rattle.vll_scenario.specs.Bytes.{fault_of};
 
     ghost from_gives = { λ f e. e ≡ fault_of f };
 
@@ -45,8 +45,8 @@ impl From<ReadFault> for ScenarioFault {
     }
 }
 
-// The bytes of a source, up to its end. Once too many have come nothing more is read.
-pub(crate) fn read_bytes<S: Source>(alloc: Global, source: &mut S) -> Result<Vec<u8>, ReadFault>
+/// The bytes of a source, up to its end. Once more than `MOST_BYTES` have come nothing more is read.
+pub fn read_bytes<S: Source>(alloc: Global, source: &mut S) -> Result<Vec<u8>, ReadFault>
     requires { S.failed source.old ≡ false }
     ensures ok { IfOk result
         (λ v. ReadsAll (S.remaining source.old) (S.remaining source.new) v.items) }

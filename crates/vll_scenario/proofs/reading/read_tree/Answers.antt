@@ -1,5 +1,5 @@
 use Rattle.std.proofs.Common.{subst, sym}
-use Rattle.vll_scenario.specs.Private.Bytes.{ReadsAll}
+use Rattle.vll_scenario.specs.Bytes.{ReadsAll}
 use Rattle.vll_scenario.proofs.Answering.{tree_reads}
 use Rattle.vll_scenario.proofs.reading.read_tree.Goals as goal
 
