@@ -1,0 +1,71 @@
+//! A mistake in a scenario, and the way to it.
+use std::alloc::{AllocError, Global};
+
+// A step from a piece of a scenario to one inside it: what the inner piece is, and its index if it is one of several.
+#[derive(Clone, Copy)]
+struct Step {
+    name: &'static str,
+    index: Option<usize>,
+}
+
+// What is wrong with a piece of a scenario, and the steps to that piece, the last one first.
+#[derive(Drop)]
+pub(crate) struct Mistake {
+    steps: Vec<Step>,
+    why: String,
+}
+
+// The mistake that was found, if there is one.
+pub(crate) type Found = Result<Option<Mistake>, AllocError>;
+
+// This is wrong with the piece at hand.
+pub(crate) fn wrong(alloc: Global, why: String) -> Found {
+    Ok(Some(Mistake {
+        steps: Vec::new(alloc),
+        why,
+    }))
+}
+
+// The same, said without a value.
+pub(crate) fn wrong_as(alloc: Global, why: &str) -> Found {
+    wrong(alloc, String::from_str(alloc, why)?)
+}
+
+// What was found in a piece that has this name, as seen from the piece around it.
+pub(crate) fn inside(found: Option<Mistake>, name: &'static str) -> Found {
+    with_step(found, Step { name, index: None })
+}
+
+// The same of one of several.
+pub(crate) fn inside_item(found: Option<Mistake>, name: &'static str, index: usize) -> Found {
+    with_step(
+        found,
+        Step {
+            name,
+            index: Some(index),
+        },
+    )
+}
+
+fn with_step(found: Option<Mistake>, step: Step) -> Found {
+    let Some(mut mistake) = found else {
+        return Ok(None);
+    };
+    mistake.steps.push(step)?;
+    Ok(Some(mistake))
+}
+
+impl Mistake {
+    // Writes the way to the piece, behind what it begins at, and what is wrong with it.
+    pub(crate) fn tell(&self, text: &mut String) -> Result<(), AllocError> {
+        for step in self.steps.iter().rev() {
+            let name = step.name;
+            match step.index {
+                Some(index) => write!(text, ", {name} {index}")?,
+                None => write!(text, ", {name}")?,
+            }
+        }
+        let why = self.why.as_str();
+        writeln!(text, "\nwhy: {why}")
+    }
+}

@@ -1,0 +1,83 @@
+use crate::mistake::{Found, wrong};
+use crate::shown::{Quoted, Shown};
+use serde_json::Value;
+use std::alloc::{AllocError, Global};
+
+// How many unknown members are told.
+const MOST_TOLD: usize = 4;
+
+// The mistake in the members of what has to be an object with the first members and none but these and the second ones.
+pub(crate) fn member_mistake(alloc: Global, value: &Value, must: &[&str], may: &[&str]) -> Found {
+    if !value.is_object() {
+        let shown = Shown(value);
+        let mut why = format!(in alloc;
+            "{shown} is no object; there has to be one with the members "
+        )?;
+        push_names(&mut why, must)?;
+        return wrong(alloc, why);
+    }
+    let mut why = String::new(alloc);
+    push_missing(&mut why, value, must)?;
+    push_unknown(&mut why, value, must, may)?;
+    if why.is_empty() {
+        return Ok(None);
+    }
+    why.push_str("; the members are ")?;
+    push_names(&mut why, must)?;
+    if !may.is_empty() {
+        why.push_str(", and if wanted ")?;
+        push_names(&mut why, may)?;
+    }
+    wrong(alloc, why)
+}
+
+// Appends names, with commas between them.
+pub(crate) fn push_names(text: &mut String, names: &[&str]) -> Result<(), AllocError> {
+    for (i, name) in names.iter().enumerate() {
+        let comma = if i == 0 { "" } else { ", " };
+        write!(text, "{comma}{name}")?;
+    }
+    Ok(())
+}
+
+fn push_missing(why: &mut String, value: &Value, must: &[&str]) -> Result<(), AllocError> {
+    for name in must {
+        if value.get(*name).is_none() {
+            let comma = comma_behind(why);
+            write!(why, "{comma}the member \"{name}\" is missing")?;
+        }
+    }
+    Ok(())
+}
+
+fn push_unknown(
+    why: &mut String,
+    value: &Value,
+    must: &[&str],
+    may: &[&str],
+) -> Result<(), AllocError> {
+    let Some(members) = value.as_object() else {
+        return Ok(());
+    };
+    let mut told = 0usize;
+    for name in members.keys() {
+        if !has(must, name.as_str()) && !has(may, name.as_str()) {
+            if told == MOST_TOLD {
+                return why.push_str(", and so are others");
+            }
+            told = told.saturating_add(1);
+            let comma = comma_behind(why);
+            let name = Quoted(name.as_str());
+            write!(why, "{comma}the member {name} is not known here")?;
+        }
+    }
+    Ok(())
+}
+
+fn comma_behind(text: &String) -> &'static str {
+    if text.is_empty() { "" } else { ", " }
+}
+
+fn has(names: &[&str], name: &str) -> bool {
+    names.iter().any(|other| name == *other)
+}

@@ -1,0 +1,69 @@
+//! Pieces of a scenario as they are shown to a person: in printable ASCII, and cut if they are long.
+use serde_json::Value;
+use std::fmt;
+
+// How many characters of a text are shown.
+const MOST_SHOWN: usize = 40;
+
+// A text in quotation marks.
+#[derive(Clone, Copy)]
+pub(crate) struct Quoted<'a>(pub &'a str);
+
+impl fmt::Display for Quoted<'_> {
+    fn fmt<W: fmt::Write>(&self, f: &mut fmt::Formatter<W>) -> fmt::Result {
+        f.write_str("\"")?;
+        for (count, c) in self.0.chars().enumerate() {
+            if count == MOST_SHOWN {
+                return f.write_str("..\"");
+            }
+            show_char(f, c)?;
+        }
+        f.write_str("\"")
+    }
+}
+
+// A character as it stands in JSON, if it is printable ASCII, and else by its number.
+fn show_char<W: fmt::Write>(f: &mut fmt::Formatter<W>, c: char) -> fmt::Result {
+    let number = c as u32;
+    match c {
+        '"' => f.write_str("\\\""),
+        '\\' => f.write_str("\\\\"),
+        ' '..='~' => write!(f, "{c}"),
+        _ => write!(f, "\\u{{{number:x}}}"),
+    }
+}
+
+// A JSON value: a number or a text as it is, and what kind of value anything else is.
+#[derive(Clone, Copy)]
+pub(crate) struct Shown<'a>(pub &'a Value);
+
+impl fmt::Display for Shown<'_> {
+    fn fmt<W: fmt::Write>(&self, f: &mut fmt::Formatter<W>) -> fmt::Result {
+        match self.0 {
+            Value::Null => f.write_str("null"),
+            Value::Bool(true) => f.write_str("true"),
+            Value::Bool(false) => f.write_str("false"),
+            Value::Number(_) => show_number(f, self.0),
+            Value::String(text) => {
+                let text = Quoted(text.as_str());
+                write!(f, "{text}")
+            }
+            Value::Array(list) if list.is_empty() => f.write_str("an empty list"),
+            Value::Array(_) => f.write_str("a list"),
+            Value::Object(_) => f.write_str("an object"),
+        }
+    }
+}
+
+fn show_number<W: fmt::Write>(f: &mut fmt::Formatter<W>, value: &Value) -> fmt::Result {
+    if let Some(number) = value.as_u64() {
+        return write!(f, "{number}");
+    }
+    if let Some(number) = value.as_i64() {
+        return write!(f, "{number}");
+    }
+    match value.as_f64() {
+        Some(number) => write!(f, "{number:?}"),
+        None => f.write_str("a number"),
+    }
+}
