@@ -1,5 +1,5 @@
 -- The tokens that a run is handed, and the engine that is closed once they are back.
-use Rattle.std.proofs.Common.{◌≡◌, ℕ, zero, suc, ◌+◌, ◌<◌, List, [], ◌∷◌, ◌++◌, map, length, reverse, Option, Some, refl, ap, ap₂, ◌∙◌, sym, arith, slice_get, subst, Result, Ok, Err, IfOk, append_assoc, zero-add, nat_eq, false}
+use Rattle.std.proofs.Common.{◌≡◌, ℕ, zero, suc, ◌+◌, ◌<◌, List, [], ◌∷◌, ◌++◌, length, reverse, Some, refl, ap, ap₂, ◌∙◌, sym, arith, slice_get, subst, Result, Ok, Err, IfOk, append_assoc, zero-add, nat_eq, false}
 use Rattle.std.specs.Global.{Vec}
 use Rattle.std.specs.List.{All, AllByRecursion, IsDistinct}
 use Rattle.std.specs.Option.{option_map}

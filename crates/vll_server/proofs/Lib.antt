@@ -1,6 +1,5 @@
 pub mod Texts
 pub mod Standing
-pub mod Written
 pub mod Served
 pub mod Handed
 pub mod Rows

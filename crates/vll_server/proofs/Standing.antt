@@ -1,5 +1,5 @@
 -- The text of what stands at the end of a replay, call by call and record by record.
-use Rattle.std.proofs.Common.{◌≡◌, ℕ, zero, suc, ◌+◌, ◌*◌, ◌<◌, ◌≤◌, List, [], ◌∷◌, ◌++◌, map, length, drop, get_or, Option, Some, None, slice_index, refl, sym, ap, ap₂, ◌∙◌, arith, add-zero, zero-add, add-one, append_assoc, drop-cons, Result, Ok, Err, MatchResult, is_ok, if◌then◌else◌}
+use Rattle.std.proofs.Common.{◌≡◌, ℕ, zero, suc, ◌+◌, ◌*◌, ◌<◌, ◌≤◌, List, [], ◌∷◌, ◌++◌, map, length, drop, get_or, Option, Some, None, slice_index, refl, sym, ap, ap₂, ◌∙◌, arith, add-zero, zero-add, add-one, append_assoc, drop-cons, if◌then◌else◌}
 use Rattle.std.specs.List.{enumerate_from, flat_map, slice_get}
 use Rattle.std.specs.Option.{option_map}
 use Rattle.std.proofs.lemmas.List.{append-nil, drop_all, length-map}
@@ -98,10 +98,3 @@ records-next b s words r old new whole are within grown so_far =
     let told : (slice_index words (2 * r + 1), slice_index words (2 * r + 2)) ≡ record_words b s (r, get_or b.records r 0) =
     ap₂ (λ i j. (slice_index words i, slice_index words j)) odd even ∙ ap₂ (λ (v c : ℕ). (v, c)) (are.values r within) (are.pairs r within) in
     texts_from-next record_line (record_words b s) b.records r (get_or b.records r 0) (slice_index words (2 * r + 1), slice_index words (2 * r + 2)) old new whole (slice_get-get_or b.records r 0 within) told grown so_far
-
--- ---- what was made of the scenario
-
--- a result whose fault alone was replaced
-pub ok_before : {T E D : Type 0} (was : Result T E) (now : Result T D) (Fault : E → Type 0) (x : T) → MatchResult was (λ y. now ≡ Ok y) Fault → is_ok now ≡ is_ok was → now ≡ Ok x → was ≡ Ok x
-ok_before (Ok y) now Fault x cases variant is = let same : y ≡ x = cc in ap Ok same
-ok_before (Err e) now Fault x cases variant is = absurd (cc)

@@ -1,11 +1,9 @@
 -- What a replay comes to: the scenario that was read, and the text that its schedule gives.
-use Rattle.std.specs.Prelude.{ℕ, List, Option, Result, Ok}
+use Rattle.std.specs.Prelude.{ℕ, List, Option, Ok}
 use Rattle.vll_sca.specs.Placing.{placing}
 use Rattle.vll_core.specs.State.{Opening}
-use Rattle.vll_scenario.specs.declared.fault.ScenarioFault.{ScenarioFault}
-use Rattle.vll_scenario.specs.Reading.{Reads, Tells}
+use Rattle.vll_scenario.specs.Reading.{IsRead}
 use Rattle.vll_server.specs.ReplayText.{replay_text}
-use Rattle.vll_scenario.specs.Scenario.{scenario_at}
 use Rattle.vll_scenario.specs.Setup.{Setup}
 use Rattle.vll_server.specs.Text.{Text}
 
@@ -22,10 +20,6 @@ opening_for s = record {
 -- the text of a scenario's replay
 abbrev pub text_of_setup : Setup → Text
 text_of_setup s = replay_text (opening_for s) s.scripts s.schedule
-
--- the scenario, or the fault, is that of the bytes that were read
-abbrev pub IsRead : Option (List ℕ) → Option (List ℕ) → Result Setup ScenarioFault → Type 0
-IsRead old new result = Reads scenario_at old new result × Tells scenario_at old result
 
 -- a scenario was read, and this holds of the text of its replay
 abbrev pub Replays : Option (List ℕ) → Option (List ℕ) → (Text → Type 0) → Type 0

@@ -1,5 +1,5 @@
 -- What serving a scenario comes to: the scripts' calls in the order in which they entered, and the text that they give.
-use Rattle.std.specs.Prelude.{◌≡◌, ◌<◌, ◌+◌, ℕ, List, Some, map, slice_get}
+use Rattle.std.specs.Prelude.{◌≡◌, ℕ, Some, map, slice_get}
 use Rattle.vll_proc.specs.Serial.{answer, end}
 use Rattle.vll_core.specs.declared.line.Line.{Line}
 use Rattle.vll_core.specs.State.{Base}

@@ -3,17 +3,6 @@ use thiserror::Error;
 use vll_scenario::ScenarioFault;
 use vll_workers::RunFault;
 
-/// Why a text was not written whole. After `NoMemory` nothing has been written, and after `Write` a
-/// beginning of it.
-#[derive(Clone, Copy, PartialEq, Eq, Debug, Error)]
-pub enum WriteFault {
-    #[error("no memory")]
-    NoMemory,
-    /// A write or a flush failed, or a write took nothing.
-    #[error("write")]
-    Write,
-}
-
 /// Why a scenario was not served. After `Write` a beginning of the outcome has been written, and after any other
 /// fault nothing.
 #[derive(Clone, Copy, PartialEq, Eq, Debug, Error)]

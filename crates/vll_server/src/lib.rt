@@ -10,15 +10,18 @@ mod serving;
 mod text;
 
 pub use choosing::serve_as;
-pub use fault::{ReplayFault, ServeFault, WriteFault};
+pub use fault::{ReplayFault, ServeFault};
 pub use laws::served_texts_are_serial;
 pub use options::{Bits, Cap, RunOptions, UpTo, Workers};
-pub use replaying::replay;
-pub use serving::{run_scenario, serve};
+pub use replaying::event_text::push_event_line;
+pub use replaying::replay_text::push_state;
+pub use replaying::{core_of, replay};
+pub use serving::{number_of_calls, run_scenario, serve};
 pub use text::outcome::write_outcome;
 pub use vll_core::Line;
 pub use vll_engine::Closed;
 pub use vll_scenario::{
     CallFault, CheckFault, MOST_BYTES, MOST_CLIENTS, MOST_EVENTS, MOST_PROCS, Part, Plain,
-    Scenario, ScenarioFault, ScenarioParts, Sink, Source, Spot, read_scenario,
+    Scenario, ScenarioFault, ScenarioParts, Sink, Source, Spot, WriteFault, read_scenario,
+    write_text,
 };

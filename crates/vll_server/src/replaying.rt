@@ -4,23 +4,23 @@ ghost use Rattle.std.specs.Io.KnownBytes.{Appends};
 ghost use Rattle.vll_sca.specs.Placing.{placing};
 ghost use Rattle.vll_core.specs.Machine.{opened};
 ghost use Rattle.vll_core.specs.Shown.{opening_of};
-ghost use Rattle.vll_server.specs.Replay.{IsRead, Replays, opening_for, text_of_setup};
+ghost use Rattle.vll_scenario.specs.Reading.{IsRead};
+ghost use Rattle.vll_server.specs.Replay.{Replays, opening_for, text_of_setup};
 ghost use Rattle.vll_scenario.specs.Streams.{AppendsBeginning};
 ghost use Rattle.vll_scenario.specs.declared.fault.ScenarioFault.{ScenarioFault};
 ghost use Rattle.vll_scenario.specs.declared.fault.ScenarioFault.TheVariants.{Read};
 ghost use Rattle.vll_server.specs.declared.fault.ReplayFault.TheVariants as fault;
 
-mod event_text;
-mod replay_text;
+pub(crate) mod event_text;
+pub(crate) mod replay_text;
 
 use crate::fault::ReplayFault;
-use crate::text::outcome::write_text;
 use replay_text::{push_event_lines, push_state};
 use sqlite_items::Items;
 use std::alloc::{AllocError, Global};
 use vll_core::{Core, Event, OpenFault};
 use vll_sca::Placing;
-use vll_scenario::{Scenario, ScenarioParts, Sink, Source, read_scenario};
+use vll_scenario::{Scenario, ScenarioParts, Sink, Source, read_scenario, write_text};
 
 /// Reads a scenario, takes the steps of its schedule one after the other on the machine of atomic steps, and
 /// writes a line for each, refused ones among them, and then the outcome of what stands at the end: a line for
@@ -64,8 +64,11 @@ fn text_of_replay(alloc: Global, scenario: Scenario) -> Result<String, AllocErro
     Ok(text)
 }
 
-// The machine of a scenario, with nothing entered, and the scenario's schedule.
-fn core_of(alloc: Global, scenario: Scenario) -> Result<(Core<Placing>, Items<Event>), AllocError>
+/// The machine of a scenario, with nothing entered, and the scenario's schedule.
+pub fn core_of(
+    alloc: Global,
+    scenario: Scenario,
+) -> Result<(Core<Placing>, Items<Event>), AllocError>
     ensures opening { IfOk result (λ made. opening_of placing made.0 ≡ opening_for scenario) }
     ensures state { IfOk result (λ made. made.0.state ≡ opened scenario.scripts) }
     ensures schedule { IfOk result (λ made. made.1 ≡ scenario.schedule) }

@@ -15,7 +15,7 @@ ghost use Rattle.vll_scenario.specs.Streams.{AppendsBeginning};
 
 mod tokens;
 
-use crate::fault::{ServeFault, WriteFault};
+use crate::fault::ServeFault;
 use crate::text::outcome::write_outcome;
 use std::alloc::{AllocError, Global};
 use std::marker::Brand;
@@ -26,11 +26,11 @@ use vll_core::{Config, MOST_CALLS, OpenFault};
 use vll_engine::{Closed, Engine, Name, NotClosed, Opening, Session};
 use vll_proc::Call;
 use vll_sca::Placing;
-use vll_scenario::{MOST_CLIENTS, Scenario, ScenarioParts, Sink};
+use vll_scenario::{MOST_CLIENTS, Scenario, ScenarioParts, Sink, WriteFault};
 use vll_workers::{Gate, MOST_WORKERS, RunError, RunFault};
 
-/// Has a scenario's scripts run by `run_scenario`, and writes the text of the outcome: a line for each call in the order
-/// in which the calls entered, and then one for each record.
+/// Has a scenario's scripts run by `run_scenario`, and writes the text of the outcome: a line for each call in the
+/// order in which the calls entered, and then one for each record.
 ///
 /// Nothing is written before the run has ended well and the engine is closed. `Run`, `Unfinished` and `NoMemory` come
 /// before that, and leave the writer as it was; `NoMemory` comes too if the text cannot be made, which is before its
@@ -70,8 +70,8 @@ pub fn serve<R: Threads + Wait + Sync, W: Wait + Sync, G: Gate + Sync, S: Sink>(
 /// The journal has the calls in the order in which they entered: each script's in its order, and no others. The replies
 /// and records are those of these calls made one at a time, in this order, and each pair word is 0.
 ///
-/// `Run` tells what the workers' run answered, which is never that the engine is spent. `Unfinished` tells how many calls
-/// were left in the engine after the run: some were. `NoMemory` is for want of memory outside the workers' run.
+/// `Run` tells what the workers' run answered, which is never that the engine is spent. `Unfinished` tells how many
+/// calls were left in the engine after the run: some were. `NoMemory` is for want of memory outside the workers' run.
 pub fn run_scenario<R: Threads + Wait + Sync, W: Wait + Sync, G: Gate + Sync>(
     rt: &R,
     wait: &W,
@@ -128,8 +128,8 @@ fn opening_of(
     }
 }
 
-// How many calls all scripts have together.
-fn number_of_calls(scripts: &[Vec<Call>]) -> u32
+/// How many calls all scripts have together, at most 65,536.
+pub fn number_of_calls(scripts: &[Vec<Call>]) -> u32
     requires { sum_by length (lists_of scripts.now) ≤ MOST_CALLS }
     ensures { result ≡ sum_by length (lists_of scripts.now) }
 {

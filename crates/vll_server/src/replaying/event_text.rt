@@ -66,7 +66,9 @@ fn push_event(text: &mut String, told: &Result<Seen, Refusal>) -> Result<(), All
     }
 }
 
-pub(crate) fn push_event_line(
+/// Appends the line of an event of a replay, with its number: what it was answered, or why it was refused. After
+/// `AllocError` a beginning of the line may be there.
+pub fn push_event_line(
     text: &mut String,
     index: usize,
     told: &Result<Seen, Refusal>,

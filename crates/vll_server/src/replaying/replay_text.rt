@@ -32,8 +32,9 @@ pub(crate) fn push_event_lines(
     Ok(())
 }
 
-// Appends the outcome of what stands.
-pub(crate) fn push_state(text: &mut String, core: &Core<Placing>) -> Result<(), AllocError>
+/// Appends the outcome of what stands: a line for each entered call, with its reply, or whether it runs or waits, and
+/// one for each record. After `AllocError` a beginning of it may be there.
+pub fn push_state(text: &mut String, core: &Core<Placing>) -> Result<(), AllocError>
     ensures { OnOk result (string_bytes text.new ≡ string_bytes text.old ++ state_text core.now.base core.now.state) }
 {
     push_calls(text, core)?;

@@ -1,13 +1,12 @@
-ghost use Rattle.std.specs.Prelude.{◌≡◌, ◌↔◌, false, true, IfErr, OnErr, OnOk};
+ghost use Rattle.std.specs.Prelude.{◌≡◌, ◌↔◌, false, true, OnOk};
 ghost use Rattle.std.specs.Io.KnownBytes.{Appends};
 ghost use Rattle.vll_scenario.specs.Streams.{AppendsBeginning};
 ghost use Rattle.vll_server.specs.Text.{closed_text};
 
-use crate::fault::WriteFault;
 use crate::text::closed_text_of;
 use std::alloc::Global;
 use vll_engine::Closed;
-use vll_scenario::Sink;
+use vll_scenario::{Sink, WriteFault, write_text};
 
 /// Writes the text of what a run leaves: a line for each call, and then one for each record, with its value and its
 /// pair word. If there are more records than pair words, or fewer, there are as many such lines as the shorter list
@@ -26,24 +25,4 @@ pub fn write_outcome<W: Sink>(
 {
     let text = closed_text_of(alloc, closed).map_err(|_| WriteFault::NoMemory)?;
     write_text(writer, text.as_bytes())
-}
-
-// Writes a text whole, and flushes.
-pub(crate) fn write_text<W: Sink>(writer: &mut W, text: &[u8]) -> Result<(), WriteFault>
-    requires { W.failed writer.old ≡ false }
-    ensures ok { OnOk result
-        (Appends (W.contents writer.old) (W.contents writer.new) text.now) }
-    ensures err { OnErr result
-        (AppendsBeginning (W.contents writer.old) (W.contents writer.new) text.now) }
-    ensures fault { IfErr result (λ fault. fault ≡ WriteFault.Write) }
-    ensures failed { (result ≡ Err WriteFault.Write) ↔ (W.failed writer.new ≡ true) }
-{
-    let mut rest = text;
-    'pieces: while !rest.is_empty() {
-        match writer.write(rest) {
-            Ok(count) if count > 0 => rest = &rest[count..],
-            _ => return Err(WriteFault::Write),
-        }
-    }
-    writer.flush().map_err(|_| WriteFault::Write)
 }

@@ -2,9 +2,10 @@ use Rattle.std.proofs.Common.{◌≡◌, ◌∙◌, IfOk, OnOk, refl, arith, sub
 use Rattle.std.specs.Io.KnownBytes.{Appends}
 use Rattle.std.proofs.lemmas.Grind.{common_steps}
 use Rattle.std.proofs.lemmas.Result.{on_ok_weaker}
-use Rattle.vll_server.specs.Replay.{IsRead, text_of_setup}
+use Rattle.vll_scenario.proofs.Results.{ok_before}
+use Rattle.vll_scenario.specs.Reading.{IsRead}
+use Rattle.vll_server.specs.Replay.{text_of_setup}
 use Rattle.vll_scenario.specs.Streams.{AppendsBeginning}
-use Rattle.vll_server.proofs.Standing.{ok_before}
 use Rattle.vll_server.proofs.replaying.replay.Goals as goal
 
 pub returns-clause-ok : goal.returns-clause-ok
