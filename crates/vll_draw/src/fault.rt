@@ -1,0 +1,16 @@
+use thiserror::Error;
+use vll_server::ScenarioFault;
+
+/// Why a page was not written whole.
+#[derive(Clone, Copy, PartialEq, Eq, Debug, Error)]
+pub enum DrawFault {
+    /// There is no scenario to draw. Nothing has been written.
+    #[error("scenario: {0}")]
+    Scenario(ScenarioFault),
+    /// Memory was wanting after the scenario was read. Nothing has been written.
+    #[error("draw: no memory")]
+    NoMemory,
+    /// The page was not written whole.
+    #[error("draw: write")]
+    Write,
+}
