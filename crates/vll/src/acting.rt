@@ -1,14 +1,20 @@
 //! What the program does as it is asked, over any reader and writer. `main` hands in standard input and output.
-ghost use Rattle.std.specs.Prelude.{◌≡◌, ◌<◌, ◌+◌, ◌↔◌, ℕ, false, true, Err, OnOk};
+ghost use Rattle.std.specs.Prelude.{◌≡◌, ◌<◌, ◌+◌, ◌↔◌, ℕ, false, true, Err, None, OnOk, Some};
 ghost use Rattle.std.specs.Io.KnownBytes.{Appends};
 ghost use Rattle.vll_scenario.specs.Streams.{AppendsBeginning};
 ghost use Rattle.vll_scenario.specs.declared.fault.ScenarioFault.{ScenarioFault};
-ghost use Rattle.vll_server.specs.Replay.{IsRead, Replays};
+ghost use Rattle.vll_scenario.specs.Reading.{IsRead};
+ghost use Rattle.vll_draw.specs.Page.{Draws};
+ghost use Rattle.vll_draw.specs.declared.fault.DrawFault.{DrawFault};
+ghost use Rattle.vll_draw.specs.declared.fault.DrawFault.TheVariants as draw_fault;
+ghost use Rattle.vll_server.specs.Replay.{Replays};
 ghost use Rattle.vll_server.specs.declared.fault.ReplayFault.{ReplayFault};
 ghost use Rattle.vll_server.specs.declared.fault.ReplayFault.TheVariants as replay_fault;
 ghost use Rattle.vll_server.specs.declared.fault.ServeFault.{ServeFault};
 ghost use Rattle.vll_server.specs.declared.fault.ServeFault.TheVariants as serve_fault;
 ghost use Rattle.vll_workers.specs.declared.fault.RunFault.TheVariants as run_fault;
+ghost use Rattle.vll_explain.specs.Told.{Explains};
+ghost use Rattle.vll_scenario.specs.declared.writing.WriteFault.TheVariants as write_fault;
 ghost use Rattle.vll.specs.Private.Acting.{Does, Runs};
 ghost use Rattle.vll.specs.declared.fault.Fault.TheVariants as fault;
 
@@ -17,6 +23,8 @@ use crate::fault::Fault;
 use std::alloc::Global;
 use std::sync::Wait;
 use std::thread::Threads;
+use vll_draw::{Window, draw};
+use vll_explain::explain;
 use vll_server::{RunOptions, Sink, Source, read_scenario, replay, serve_as};
 use vll_workers::OpenGate;
 
@@ -31,12 +39,17 @@ pub(crate) fn act<R: Print + Eprint + AllocGlobal + Threads + Wait + Sync, S: So
     requires writer { W.failed writer.old ≡ false }
     ensures ok { OnOk result (Does action (S.remaining reader.old) (S.remaining reader.new)
         (Appends (W.contents writer.old) (W.contents writer.new))) }
+    ensures explained { (why : ScenarioFault) → result ≡ Err (fault.Explained why)
+        → Explains (S.remaining reader.old) (S.remaining reader.new) (Some why)
+        (Appends (W.contents writer.old) (W.contents writer.new)) }
 {
     match action {
         // A text that cannot be printed has no line of its own.
         Action::Tell(text) => text.print(rt).map_err(|_| Fault::CommandLine),
         Action::Run(options) => run(rt, rt.alloc(), options, reader, writer),
         Action::Replay => replay_schedule(rt.alloc(), reader, writer),
+        Action::Explain => explain_fault(rt.alloc(), reader, writer),
+        Action::Draw(window) => draw_schedule(rt.alloc(), reader, writer, window),
     }
 }
 
@@ -61,6 +74,7 @@ fn run<R: Threads + Wait + Sync, S: Source, W: Sink>(
     ensures spent { ¬ (result ≡ Err (fault.Run (serve_fault.Run run_fault.Spent))) }
     ensures unfinished { (running waiting : ℕ) → result ≡ Err (fault.Run (serve_fault.Unfinished running waiting))
         → 0 < running + waiting }
+    ensures unexplained { (why : ScenarioFault) → ¬ (result ≡ Err (fault.Explained why)) }
 {
     let scenario = match read_scenario(alloc, reader) {
         Ok(scenario) => scenario,
@@ -87,9 +101,57 @@ fn replay_schedule<S: Source, W: Sink>(
         (AppendsBeginning (W.contents writer.old) (W.contents writer.new)) }
     ensures before { (why : ReplayFault) → result ≡ Err (fault.Replay why) → ¬ (why ≡ replay_fault.Write) → writer.new ≡ writer.old }
     ensures failed { (result ≡ Err (fault.Replay replay_fault.Write)) ↔ (W.failed writer.new ≡ true) }
+    ensures unexplained { (why : ScenarioFault) → ¬ (result ≡ Err (fault.Explained why)) }
 {
     match replay(alloc, reader, writer) {
         Ok(()) => Ok(()),
         Err(why) => Err(Fault::Replay(why)),
+    }
+}
+
+// Reads a scenario, and writes its fault with an explanation, or what it has.
+fn explain_fault<S: Source, W: Sink>(
+    alloc: Global,
+    reader: &mut S,
+    writer: &mut W,
+) -> Result<(), Fault>
+    requires reader { S.failed reader.old ≡ false }
+    requires writer { W.failed writer.old ≡ false }
+    ensures ok { OnOk result (Explains (S.remaining reader.old) (S.remaining reader.new) None
+        (Appends (W.contents writer.old) (W.contents writer.new))) }
+    ensures explained { (why : ScenarioFault) → result ≡ Err (fault.Explained why)
+        → Explains (S.remaining reader.old) (S.remaining reader.new) (Some why)
+        (Appends (W.contents writer.old) (W.contents writer.new)) }
+    ensures no_memory { result ≡ Err (fault.Explain write_fault.NoMemory) → writer.new ≡ writer.old }
+    ensures failed { (result ≡ Err (fault.Explain write_fault.Write)) ↔ (W.failed writer.new ≡ true) }
+{
+    match explain(alloc, reader, writer) {
+        Ok(None) => Ok(()),
+        Ok(Some(why)) => Err(Fault::Explained(why)),
+        Err(why) => Err(Fault::Explain(why)),
+    }
+}
+
+// Reads a scenario, and writes the page that draws the replay of its schedule.
+fn draw_schedule<S: Source, W: Sink>(
+    alloc: Global,
+    reader: &mut S,
+    writer: &mut W,
+    window: Window,
+) -> Result<(), Fault>
+    requires reader { S.failed reader.old ≡ false }
+    requires writer { W.failed writer.old ≡ false }
+    ensures ok { OnOk result (Draws (S.remaining reader.old) (S.remaining reader.new)
+        (Appends (W.contents writer.old) (W.contents writer.new))) }
+    ensures write { result ≡ Err (fault.Draw draw_fault.Write)
+        → Draws (S.remaining reader.old) (S.remaining reader.new)
+        (AppendsBeginning (W.contents writer.old) (W.contents writer.new)) }
+    ensures before { (why : DrawFault) → result ≡ Err (fault.Draw why) → ¬ (why ≡ draw_fault.Write) → writer.new ≡ writer.old }
+    ensures failed { (result ≡ Err (fault.Draw draw_fault.Write)) ↔ (W.failed writer.new ≡ true) }
+    ensures unexplained { (why : ScenarioFault) → ¬ (result ≡ Err (fault.Explained why)) }
+{
+    match draw(alloc, reader, writer, window) {
+        Ok(()) => Ok(()),
+        Err(why) => Err(Fault::Draw(why)),
     }
 }

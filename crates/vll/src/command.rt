@@ -5,10 +5,11 @@ ghost use Rattle.vll.specs.Private.Options.{Gives};
 use crate::fault::Fault;
 use clap::error::ErrorKind;
 use clap::{Arg, ArgMatches, Command, Error, value_parser};
-use std::alloc::Global;
+use std::alloc::{AllocError, Global};
 use vll_core::MOST_WAITING;
+use vll_draw::{MOST_COLUMNS, Window};
 use vll_sca::MOST_BITS;
-use vll_server::{RunOptions, UpTo};
+use vll_server::{MOST_EVENTS, RunOptions, UpTo};
 use vll_workers::MOST_WORKERS;
 
 /// What the command line asks for.
@@ -20,6 +21,10 @@ pub(crate) enum Action {
     Run(RunOptions),
     /// To replay the schedule of the scenario that stands on standard input.
     Replay,
+    /// To explain why the scenario that stands on standard input is refused, or to tell what it has.
+    Explain,
+    /// To draw these events of its replay.
+    Draw(Window),
 }
 
 // CHANGELOG.md tells what came with it.
@@ -29,6 +34,8 @@ const EXAMPLES: &str = "Examples:
   vll run < scenario.json
   vll run --workers 8 --cap 64 < scenario.json
   vll replay < scenario.json
+  vll explain < scenario.json
+  vll draw < scenario.json > page.html
 
 docs/SCENARIO.md describes the format of a scenario, and what is printed.";
 
@@ -48,6 +55,24 @@ const REPLAY_EXAMPLE: &str = "Example:
 
 docs/SCENARIO.md describes the format of a scenario with its schedule, and what is printed.";
 
+const EXPLAIN_EXAMPLE: &str = "Example:
+  vll explain < scenario.json
+
+Of a scenario that run refuses it prints the same line, where the mistake is, and what is wrong there. Of any other
+it prints ok, and what the scenario has. The exit status is that of run for a scenario that is refused, and else 0.
+
+docs/SCENARIO.md describes the format of a scenario, and what is printed.";
+
+const DRAW_EXAMPLES: &str = "Examples:
+  vll draw < scenario.json > page.html
+  vll draw --from 1000 --count 100 < scenario.json > page.html
+
+docs/SCENARIO.md describes the format of a scenario with its schedule, and the page.";
+
+const FROM: &str = "The number of the first event that is drawn, 0 to 1048576";
+
+const COUNT: &str = "How many events are drawn at most, 1 to 3600";
+
 const WORKERS: &str = "Threads that make the calls, 1 to 64";
 
 const CAP: &str = "Calls that may wait at a time, 1 to 65536 [default: the scenario's cap]";
@@ -55,12 +80,15 @@ const CAP: &str = "Calls that may wait at a time, 1 to 65536 [default: the scena
 const BITS: &str = "Places of the contention analysis, 1 to 1048576 [default: the scenario's bits]";
 
 /// Reads the command line, whose first word is the program's name. Words that are neither `run` with its
-/// options nor `replay` nor ask for help or the version are `Fault::CommandLine`, and so is want of memory.
+/// options, `replay`, `explain`, or `draw` with its own, nor ask for help or the version are `Fault::CommandLine`, and
+/// so is want of memory.
 pub(crate) fn action_of(alloc: Global, words: &[String]) -> Result<Action, Fault> {
     match matches_of(alloc, words) {
         Ok(matches) => match matches.subcommand() {
             Some(("run", options)) => Ok(Action::Run(options_of(options)?)),
             Some(("replay", _)) => Ok(Action::Replay),
+            Some(("explain", _)) => Ok(Action::Explain),
+            Some(("draw", options)) => Ok(Action::Draw(window_of(options)?)),
             _ => Err(Fault::CommandLine),
         },
         Err(text) => match text.kind() {
@@ -82,6 +110,9 @@ fn matches_of<'a>(alloc: Global, words: &'a [String]) -> Result<ArgMatches<'a>, 
             "Takes the steps of the schedule of the scenario on standard input, and prints what each answers",
         )
         .after_help(REPLAY_EXAMPLE);
+    let explain = Command::new(alloc, "explain")
+        .about("Explains why the scenario on standard input is refused, or tells what it has")
+        .after_help(EXPLAIN_EXAMPLE);
     Command::new(alloc, "vll")
         .about("Runs the calls of a scenario as transactions")
         .version(VERSION)
@@ -89,7 +120,25 @@ fn matches_of<'a>(alloc: Global, words: &'a [String]) -> Result<ArgMatches<'a>, 
         .subcommand_required(true)
         .subcommand(run)?
         .subcommand(replay)?
+        .subcommand(explain)?
+        .subcommand(draw_command(alloc)?)?
         .try_get_matches_from(words)
+}
+
+fn draw_command<'a>(alloc: Global) -> Result<Command<'a>, AllocError> {
+    let from = Arg::new(alloc, "from")
+        .long("from")
+        .value_name("N")
+        .value_parser(value_parser!(u32).range(0..=i64::from(MOST_EVENTS as u32)))
+        .default_value("0")
+        .help(FROM);
+    Command::new(alloc, "draw")
+        .about(
+            "Writes a page that draws the replay of the schedule of the scenario on standard input",
+        )
+        .after_help(DRAW_EXAMPLES)
+        .arg(from)?
+        .arg(number::<MOST_COLUMNS>(alloc, "count", COUNT).default_value("360"))
 }
 
 // The option `--NAME`, which takes a whole number from 1 to `MOST`.
@@ -111,6 +160,23 @@ fn options_of(matches: &ArgMatches<'_>) -> Result<RunOptions, Fault>
     let cap = number_of(matches, "cap")?;
     let bits = number_of(matches, "bits")?;
     Ok(RunOptions { workers, cap, bits })
+}
+
+// What the options of `draw` say.
+fn window_of(matches: &ArgMatches<'_>) -> Result<Window, Fault>
+    ensures from { IfOk result (λ w. Gives (one_text (found_of matches.now) (codes "from")) (Some w.from)) }
+    ensures count { IfOk result (λ w. Gives (one_text (found_of matches.now) (codes "count")) (Some w.count)) }
+{
+    let from = whole_of(matches, "from").ok_or(Fault::CommandLine)?;
+    let count = number_of(matches, "count")?.ok_or(Fault::CommandLine)?;
+    Ok(Window { from, count })
+}
+
+// The number that an option gives which may be 0, if it is there.
+fn whole_of(matches: &ArgMatches<'_>, name: &str) -> Option<u32>
+    ensures { Gives (one_text (found_of matches.now) name.now) result }
+{
+    matches.get_one(name)
 }
 
 // The number that an option gives, if it is there.

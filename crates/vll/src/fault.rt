@@ -1,7 +1,8 @@
 ghost use Rattle.std.specs.Prelude.{◌<◌};
 
 use thiserror::Error;
-use vll_server::{ReplayFault, ScenarioFault, ServeFault};
+use vll_draw::DrawFault;
+use vll_server::{ReplayFault, ScenarioFault, ServeFault, WriteFault};
 
 /// Why the program ended without an outcome. Its text is the line that is printed.
 #[derive(Clone, Copy, Debug, PartialEq, Eq, Error)]
@@ -15,6 +16,13 @@ pub(crate) enum Fault {
     Run(ServeFault),
     #[error("vll: {0}")]
     Replay(ReplayFault),
+    #[error("vll: explain: {0}")]
+    Explain(WriteFault),
+    /// The scenario is refused with this fault. Its line has been printed, with the explanation.
+    #[error("vll: scenario: {0}")]
+    Explained(ScenarioFault),
+    #[error("vll: {0}")]
+    Draw(DrawFault),
 }
 
 impl Fault {
@@ -23,8 +31,12 @@ impl Fault {
         ensures { 0 < result }
     {
         match self {
-            Fault::CommandLine | Fault::Scenario(_) | Fault::Replay(ReplayFault::Scenario(_)) => 2,
-            Fault::Run(_) | Fault::Replay(_) => 1,
+            Fault::CommandLine
+            | Fault::Scenario(_)
+            | Fault::Replay(ReplayFault::Scenario(_))
+            | Fault::Draw(DrawFault::Scenario(_))
+            | Fault::Explained(_) => 2,
+            Fault::Run(_) | Fault::Replay(_) | Fault::Draw(_) | Fault::Explain(_) => 1,
         }
     }
 }

@@ -1,5 +1,5 @@
-//! The program `vll`: reads a scenario from standard input, runs it or replays its schedule, and writes what came
-//! of it.
+//! The program `vll`: reads a scenario from standard input, runs it, replays its schedule, draws the replay or explains
+//! its fault, and writes what came of it.
 #![tactic(auto)]
 
 ghost use Rattle.std.specs.Prelude.{◌≡◌, ◌↔◌, IsOk};
@@ -21,7 +21,9 @@ use vll_server::Plain;
 
 fn main(rt: HostRuntime) -> ExitCode {
     let done = work(&rt);
-    if let Err(fault) = &done {
+    if let Err(fault) = &done
+        && !matches!(fault, Fault::Explained(_))
+    {
         // If standard output itself has failed, the status alone tells of the fault.
         let _ = println!(rt; "{fault}");
     }

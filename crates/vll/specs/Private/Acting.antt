@@ -1,8 +1,11 @@
 -- What it is to do what the command line asks for.
-use Rattle.std.specs.Prelude.{ℕ, List, Option, Ok}
+use Rattle.std.specs.Prelude.{ℕ, List, Option, None, Ok}
+use Rattle.vll_draw.specs.Page.{Draws}
+use Rattle.vll_explain.specs.Told.{Explains}
 use Rattle.vll_scenario.specs.Setup.{Setup}
 use Rattle.vll_server.specs.Options.{with_options}
-use Rattle.vll_server.specs.Replay.{IsRead, Replays}
+use Rattle.vll_scenario.specs.Reading.{IsRead}
+use Rattle.vll_server.specs.Replay.{Replays}
 use Rattle.vll_server.specs.Serve.{Serves}
 use Rattle.vll_server.specs.Text.{Text}
 use Rattle.vll_server.specs.declared.options.RunOptions.{RunOptions}
@@ -13,8 +16,11 @@ use Rattle.vll.specs.declared.command.Action.TheVariants as action
 abbrev pub Runs : RunOptions → Option (List ℕ) → Option (List ℕ) → (Text → Type 0) → Type 0
 Runs options old new Holds = (setup : Setup) × IsRead old new (Ok setup) × Serves (with_options options setup) Holds
 
--- a run serves what was read and a replay replays it, and this holds of the text; what is told is neither
+-- a run serves what was read, a replay replays it, an explanation tells what it has, a drawing lists its replay, and
+-- this holds of the text. What is told is none of these
 abbrev pub Does : Action → Option (List ℕ) → Option (List ℕ) → (Text → Type 0) → Type 0
 Does (action.Run options) old new Holds = Runs options old new Holds
 Does action.Replay old new Holds = Replays old new Holds
+Does action.Explain old new Holds = Explains old new None Holds
+Does (action.Draw window) old new Holds = Draws old new Holds
 Does (action.Tell text) old new Holds = Unit {0}
