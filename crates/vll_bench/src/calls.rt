@@ -1,41 +1,20 @@
 //! The calls of scripts in the engine, with no worker: each thread makes the calls of one client after the other's.
-ghost use Rattle.std.specs.Prelude.{◌≡◌, ◌<◌, All, length};
+ghost use Rattle.std.specs.Prelude.{◌≡◌, ◌<◌, All};
 ghost use Rattle.vll_check.specs.Calls.{Fits};
 ghost use Rattle.vll_engine.specs.Shown.{library_of, name_of};
 ghost use Rattle.vll_sca.specs.Placing.{placing};
 
+use crate::caller::{Caller, callers};
 use crate::fault::Fault;
 use crate::runs::count_of;
 use crate::timed::Timed;
-use std::alloc::{AllocError, Global};
-use std::marker::{Model, PhantomData};
+use std::alloc::Global;
 use std::sync::{Mutex, Wait};
 use std::thread::{Threads, map_indices};
 use std::time::{Clock, Instant};
-use vll_engine::{Engine, Name, Opening, Session, Spent};
+use vll_engine::{Engine, Name, Opening, Spent};
 use vll_proc::Call;
 use vll_sca::Placing;
-
-// A client of the engine, with the calls that it makes. Contracts see its session.
-#[derive(Drop)]
-struct Client<N: Name> {
-    session: Session,
-    script: Vec<Call>,
-    of: PhantomData<N>,
-}
-
-impl<N: Name> Model for Client<N> {
-    ghost use Rattle.std.specs.Prelude.{◌≡◌, All};
-    ghost use Rattle.vll_check.specs.Calls.{Fits};
-    ghost use Rattle.vll_counters.specs.Shown.{SessionShown};
-    ghost use Rattle.vll_engine.specs.Shown.{library_of};
-
-    ghost Value = { SessionShown };
-
-    ghost view = { λ c. c.session };
-
-    ghost invariant = { λ c. (c.session.table ≡ N.engine.table) × All (Fits (library_of N.engine)) c.script.items };
-}
 
 /// Times the calls by so many threads, in an engine of this name.
 pub(crate) fn time_calls<N: Name + Send + Sync, R: Threads + Wait + Clock + Sync>(
@@ -49,14 +28,14 @@ pub(crate) fn time_calls<N: Name + Send + Sync, R: Threads + Wait + Clock + Sync
     requires named { N.engine ≡ name_of placing opening }
     requires fits { All (λ script. All (Fits (library_of N.engine)) script.items) scripts.items }
 {
-    let (engine, sessions) = opening.start::<N>();
-    let clients = Mutex::new(clients::<N>(alloc, sessions, scripts)?);
+    let (engine, clients) = opening.start_clients::<N>();
+    let callers = Mutex::new(callers(alloc, clients, scripts)?);
     let start = Instant::now(rt)?;
     let shares = map_indices(
         rt,
         alloc,
         threads,
-        &|_| { make_share(rt, &engine, &clients) },
+        &|_| { make_share(rt, &engine, &callers) },
     )?;
     let time = start.elapsed(rt)?;
     for made in shares.iter() {
@@ -71,42 +50,17 @@ pub(crate) fn time_calls<N: Name + Send + Sync, R: Threads + Wait + Clock + Sync
     }
 }
 
-// A client for each script, with its session.
-fn clients<N: Name>(
-    alloc: Global,
-    sessions: Vec<Session>,
-    scripts: Vec<Vec<Call>>,
-) -> Result<Vec<Client<N>>, AllocError>
-    requires sessions { All (λ s. s.table ≡ N.engine.table) sessions.items }
-    requires fits { All (λ script. All (Fits (library_of N.engine)) script.items) scripts.items }
-{
-    let mut sessions = sessions;
-    let mut scripts = scripts;
-    let mut clients = Vec::new(alloc);
-    while let Some(script) = scripts.pop() {
-        let Some(session) = sessions.pop() else {
-            break;
-        };
-        clients.push(Client {
-            session,
-            script,
-            of: PhantomData,
-        })?;
-    }
-    Ok(clients)
-}
-
 // Makes the calls of the next client, and of the one that is next then, until none is left.
 fn make_share<N: Name>(
     rt: &impl Wait,
     engine: &Engine<N, Placing>,
-    clients: &Mutex<Vec<Client<N>>>,
+    callers: &Mutex<Vec<Caller<N>>>,
 ) -> Result<(), Fault> {
     for _ in rt.forever() {
-        let Some(client) = clients.lock(rt).pop() else {
+        let Some(caller) = callers.lock(rt).pop() else {
             return Ok(());
         };
-        make_script(rt, engine, client)?;
+        make_script(rt, engine, caller)?;
     }
     Ok(())
 }
@@ -115,15 +69,11 @@ fn make_share<N: Name>(
 fn make_script<N: Name>(
     rt: &impl Wait,
     engine: &Engine<N, Placing>,
-    client: Client<N>,
+    caller: Caller<N>,
 ) -> Result<(), Fault> {
-    let Client {
-        mut session,
-        script,
-        of: _,
-    } = client;
+    let Caller { mut client, script } = caller;
     for call in &script {
-        if let Err(Spent) = engine.call(rt, &mut session, call) {
+        if let Err(Spent) = client.make(rt, engine, call) {
             return Err(Fault::Refused);
         }
     }

@@ -1,4 +1,4 @@
-ghost use Rattle.std.specs.Prelude.{◌≡◌, All, IfOk, IfSome};
+ghost use Rattle.std.specs.Prelude.{◌≡◌, IfOk};
 ghost use Rattle.vll_check.specs.Calls.{Fits};
 ghost use Rattle.vll_engine.specs.Shown.{library_of, name_of};
 ghost use Rattle.vll_sca.specs.Placing.{placing};
@@ -10,7 +10,7 @@ use std::sync::Wait;
 use std::time::{CpuClock, Duration};
 use vll_check::{CallFault, Library};
 use vll_core::MOST_CALLS;
-use vll_engine::{Begun, Engine, Name, Opening, Session, Spent};
+use vll_engine::{Begun, Client, Engine, Name, Opening, Spent};
 use vll_proc::Call;
 use vll_sca::Placing;
 
@@ -20,8 +20,8 @@ const CALLS: u32 = MOST_CALLS;
 // How often they are made. The fastest counts, since other work disturbs the others.
 const REPEATS: u32 = 5;
 
-/// Prints how many nanoseconds of processor time a bump takes from `begin` to `finish`, and how many by the engine's own
-/// call, when one thread makes one call after the other.
+/// Prints how many nanoseconds of processor time a bump takes from `begin` to `finish`, and how many by the engine's
+/// own call, when one thread makes one call after the other.
 pub(crate) fn measure_engine<R: Wait + CpuClock + Print + AllocGlobal>(
     rt: &R,
 ) -> Result<(), Fault> {
@@ -52,17 +52,17 @@ fn time_of<N: Name, R: Wait + CpuClock>(
 ) -> Result<Duration, Fault>
     requires { N.engine ≡ name_of placing opening }
 {
-    let (engine, mut sessions) = opening.start::<N>();
-    let Some(mut session) = last::<N>(&mut sessions) else {
+    let (engine, mut clients) = opening.start_clients::<N>();
+    let Some(mut client) = clients.pop() else {
         return Err(Fault::Refused);
     };
     let call = made(engine.library())?;
     let start = rt.thread_cpu_time()?;
     for _ in 0..CALLS {
         if is_call {
-            whole(rt, &engine, &mut session, &call)?;
+            whole(rt, &engine, &mut client, &call)?;
         } else {
-            cycle(rt, &engine, &mut session, &call)?;
+            cycle(rt, &engine, &mut client, &call)?;
         }
     }
     Ok(rt.thread_cpu_time()?.saturating_sub(start))
@@ -72,14 +72,12 @@ fn time_of<N: Name, R: Wait + CpuClock>(
 fn cycle<N: Name>(
     rt: &impl Wait,
     engine: &Engine<N, Placing>,
-    session: &mut Session,
+    client: &mut Client<N>,
     call: &Call,
 ) -> Result<(), Fault>
-    requires session { session.old.table ≡ N.engine.table }
-    requires fits { Fits (library_of N.engine) call.now }
-    ensures { session.new.table ≡ session.old.table }
+    requires { Fits (library_of N.engine) call.now }
 {
-    match engine.begin(rt, session, call) {
+    match client.begin(rt, engine, call) {
         Begun::Free(pass) => {
             let done = engine.execute(pass);
             engine.finish(rt, engine.release(done));
@@ -93,25 +91,15 @@ fn cycle<N: Name>(
 fn whole<N: Name>(
     rt: &impl Wait,
     engine: &Engine<N, Placing>,
-    session: &mut Session,
+    client: &mut Client<N>,
     call: &Call,
 ) -> Result<(), Fault>
-    requires session { session.old.table ≡ N.engine.table }
-    requires fits { Fits (library_of N.engine) call.now }
-    ensures { session.new.table ≡ session.old.table }
+    requires { Fits (library_of N.engine) call.now }
 {
-    match engine.call(rt, session, call) {
+    match client.make(rt, engine, call) {
         Ok(_) => Ok(()),
         Err(Spent) => Err(Fault::Refused),
     }
-}
-
-// The last session of a list.
-fn last<N: Name>(sessions: &mut Vec<Session>) -> Option<Session>
-    requires { All (λ s. s.table ≡ N.engine.table) sessions.old.items }
-    ensures { IfSome result (λ s. s.table ≡ N.engine.table) }
-{
-    sessions.pop()
 }
 
 // The bump of record 0.

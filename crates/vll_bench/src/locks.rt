@@ -127,8 +127,8 @@ fn make_ready(
     make_from(rt, procedure, records, call, &mut frame, 0)
 }
 
-// Takes the locks of a call's records from a cell on, makes the call, and stores what it writes into these records. Returns
-// whether it committed. A lock is let go once its record is stored.
+// Takes the locks of a call's records from a cell on, makes the call, and stores what it writes into these records.
+// Returns whether it committed. A lock is let go once its record is stored.
 fn make_from(
     rt: &impl Wait,
     procedure: &Proc,

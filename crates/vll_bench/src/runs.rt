@@ -12,11 +12,11 @@ use std::sync::Wait;
 use std::thread::Threads;
 use std::time::{Clock, Instant};
 use vll_engine::{Name, Opening};
-use vll_proc::{Call, Reply};
+use vll_proc::Call;
 use vll_sca::Placing;
 use vll_scripts::{opening, tokens};
 use vll_server::{Line, MOST_CLIENTS, Plain, read_scenario};
-use vll_workers::{MOST_WORKERS, OpenGate, RunError, run};
+use vll_workers::{Gate, MOST_WORKERS, OpenGate, RunError, run};
 
 /// Runs the scenario on standard input by so many worker threads, as often as `rounds` says, and prints how many
 /// nanoseconds each run takes, without its reading and without what follows it.
@@ -32,19 +32,20 @@ pub(crate) fn measure_runs<R: Threads + Wait + Clock + Input + Print + AllocGlob
     for _ in 0..rounds {
         let scenario = read_scenario(rt.alloc(), &mut Plain::new(bytes.as_slice()))?;
         let (opening, scripts) = opening(rt.alloc(), scenario)?;
-        let timed = time_of::<Brand, R>(rt, rt.alloc(), opening, scripts, workers)?;
+        let timed = time_of::<Brand, R, _>(rt, rt.alloc(), opening, scripts, workers, &OpenGate)?;
         println!(rt; "{}", timed.time.as_nanos())?;
     }
     Ok(())
 }
 
 /// Times the run in an engine of this name.
-pub(crate) fn time_of<N: Name + Send + Sync, R: Threads + Wait + Clock + Sync>(
+pub(crate) fn time_of<N: Name + Send + Sync, R: Threads + Wait + Clock + Sync, G: Gate + Sync>(
     rt: &R,
     alloc: Global,
     opening: Opening<Placing>,
     scripts: Vec<Vec<Call>>,
     workers: u32,
+    gate: &G,
 ) -> Result<Timed, Fault>
     requires workers { (1 ≤ workers) × (workers ≤ MOST_WORKERS) }
     requires named { N.engine ≡ name_of placing opening }
@@ -56,7 +57,7 @@ pub(crate) fn time_of<N: Name + Send + Sync, R: Threads + Wait + Clock + Sync>(
     let (engine, sessions) = opening.start::<N>();
     let tokens = tokens::<N>(alloc, sessions, scripts)?;
     let start = Instant::now(rt)?;
-    let ran = run(rt, rt, alloc, &engine, tokens, workers, &OpenGate);
+    let ran = run(rt, rt, alloc, &engine, tokens, workers, gate);
     let time = start.elapsed(rt)?;
     match ran {
         Ok(_) => {}
@@ -71,11 +72,11 @@ pub(crate) fn time_of<N: Name + Send + Sync, R: Threads + Wait + Clock + Sync>(
     }
 }
 
-/// How many calls a journal has, and how many of them committed.
+/// How many calls a journal has, and what became of them.
 pub(crate) fn count_of(journal: &[Line]) -> Count {
     let mut count = Count::none();
     for line in journal {
-        count = count.with_call(matches!(line.reply, Some(Reply::Committed(_))));
+        count = count.with_reply(&line.reply);
     }
     count
 }

@@ -1,10 +1,12 @@
 use std::time::Duration;
+use vll_proc::{Reason, Reply};
 
-/// How many calls were made, and how many of them committed.
+/// How many calls were made, how many of them committed, and how many were aborted as moved.
 #[derive(Clone, Copy, PartialEq, Eq)]
 pub(crate) struct Count {
     pub calls: u64,
     pub committed: u64,
+    pub moved: u64,
 }
 
 impl Count {
@@ -13,6 +15,7 @@ impl Count {
         Count {
             calls: 0,
             committed: 0,
+            moved: 0,
         }
     }
 
@@ -21,6 +24,16 @@ impl Count {
         Count {
             calls: self.calls.saturating_add(1),
             committed: self.committed.saturating_add(u64::from(committed)),
+            moved: self.moved,
+        }
+    }
+
+    /// These calls and one more, with this reply.
+    pub(crate) fn with_reply(self, reply: &Option<Reply>) -> Count {
+        let is_moved = matches!(reply, Some(Reply::Aborted(Reason::Moved)));
+        Count {
+            moved: self.moved.saturating_add(u64::from(is_moved)),
+            ..self.with_call(matches!(reply, Some(Reply::Committed(_))))
         }
     }
 
@@ -29,7 +42,13 @@ impl Count {
         Count {
             calls: self.calls.saturating_add(others.calls),
             committed: self.committed.saturating_add(others.committed),
+            moved: self.moved.saturating_add(others.moved),
         }
+    }
+
+    /// How many calls were aborted, for whatever reason.
+    pub(crate) fn aborted(self) -> u64 {
+        self.calls.saturating_sub(self.committed)
     }
 }
 

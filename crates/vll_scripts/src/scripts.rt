@@ -1,18 +1,18 @@
-ghost use Rattle.std.specs.Prelude.{◌≡◌, ◌≤◌, ◌<◌, ◌^◌, All, IfOk, length, nat_eq, sum_by};
+ghost use Rattle.std.specs.Prelude.{◌≡◌, ◌≤◌, ◌<◌, ◌^◌, All, IfOk, length, nat_eq};
 ghost use Rattle.std.specs.List.{IsDistinct};
 ghost use Rattle.vll_check.specs.Calls.{Fits};
 ghost use Rattle.vll_counters.specs.Shown.{AreNewSessions};
 ghost use Rattle.vll_engine.specs.Shown.{library_of, name_of};
 ghost use Rattle.vll_sca.specs.Placing.{placing};
-ghost use Rattle.vll_scenario.specs.Setup.{lists_of};
 ghost use Rattle.vll_workers.specs.Tokens.{AreFit, clients_of};
 
 use std::alloc::{AllocError, Global};
-use vll_core::{Config, MOST_CALLS, OpenFault};
+use vll_core::{Config, OpenFault};
 use vll_engine::{Name, Opening, Session};
 use vll_proc::Call;
 use vll_sca::Placing;
 use vll_scenario::{MOST_CLIENTS, Scenario, ScenarioParts};
+use vll_server::number_of_calls;
 use vll_workers::Token;
 
 /// An engine over a scenario's records and procedures, which has no name yet, and the scripts. The engine has the
@@ -74,16 +74,4 @@ pub fn tokens<N: Name>(
         tokens.push(Token::new(client, session, script))?;
     }
     Ok(tokens)
-}
-
-// How many calls all scripts have together.
-fn number_of_calls(scripts: &[Vec<Call>]) -> u32
-    requires { sum_by length (lists_of scripts.now) ≤ MOST_CALLS }
-    ensures { result ≡ sum_by length (lists_of scripts.now) }
-{
-    let mut count = 0;
-    for script in scripts {
-        count += script.len() as u32;
-    }
-    count
 }

@@ -3,7 +3,7 @@ use Rattle.std.proofs.Common.{All, sym, subst}
 use Rattle.std.specs.Global.{Vec}
 use Rattle.vll_proc.specs.declared.call.Call.{Call}
 use Rattle.vll_check.specs.Calls.{Fits}
-use Rattle.vll_bench.proofs.compare.time_of.Goals as goal
+use Rattle.vll_bench.proofs.ways.Team.time.Goals as goal
 
 pub time_serial-requires : goal.time_serial-requires
 time_serial-requires g c =

@@ -1,0 +1,251 @@
+//! The calls of scripts in the engine, with no worker, as `calls` makes them, but by the parts of `Engine::call`, so
+//! that what the threads do can be counted.
+ghost use Rattle.std.specs.Prelude.{◌≡◌, ◌<◌, All};
+ghost use Rattle.vll_check.specs.Calls.{Fits};
+ghost use Rattle.vll_engine.specs.Pass.{IsFresh};
+ghost use Rattle.vll_engine.specs.Shown.{library_of, name_of};
+ghost use Rattle.vll_sca.specs.Placing.{placing};
+
+use crate::caller::{Caller, callers};
+use crate::fault::Fault;
+use crate::runs::count_of;
+use crate::timed::Count;
+use std::alloc::Global;
+use std::hint::spin_loop;
+use std::sync::{Mutex, Wait};
+use std::thread::{Threads, map_indices, yield_now};
+use vll_core::Ticket;
+use vll_engine::{BeginRefusal, Begun, Engine, Hold, Name, Opening, Pass, Session};
+use vll_proc::Call;
+use vll_sca::Placing;
+use vll_workers::Tally;
+
+// The first pause of a thread that finds nothing to do, the longest, and after how many turns it lets others run: as
+// `Engine::call` pauses.
+const FIRST_PAUSE: u32 = 32;
+
+const LONGEST_PAUSE: u32 = 1_024;
+
+const TURNS_A_YIELD: u32 = 64;
+
+/// Makes the calls by so many threads, in an engine of this name. What came of them, and what the threads did.
+pub(crate) fn count_calls<N: Name + Send + Sync, R: Threads + Wait + Sync>(
+    rt: &R,
+    alloc: Global,
+    opening: Opening<Placing>,
+    scripts: Vec<Vec<Call>>,
+    threads: usize,
+) -> Result<(Count, Tally), Fault>
+    requires some { 0 < threads }
+    requires named { N.engine ≡ name_of placing opening }
+    requires fits { All (λ script. All (Fits (library_of N.engine)) script.items) scripts.items }
+{
+    let (engine, clients) = opening.start_clients::<N>();
+    let callers = Mutex::new(callers(alloc, clients, scripts)?);
+    let shares = map_indices(
+        rt,
+        alloc,
+        threads,
+        &|_| { make_share(rt, &engine, &callers) },
+    )?;
+    let mut tally = Tally::none();
+    for made in shares.iter() {
+        tally = tally.with((*made)?);
+    }
+    match engine.close(Vec::new(alloc)) {
+        Ok(closed) => Ok((count_of(closed.journal.as_slice()), tally)),
+        Err(_) => Err(Fault::Unfinished),
+    }
+}
+
+// Makes the calls of the next client, and of the one that is next then, until none is left.
+fn make_share<N: Name>(
+    rt: &impl Wait,
+    engine: &Engine<N, Placing>,
+    callers: &Mutex<Vec<Caller<N>>>,
+) -> Result<Tally, Fault> {
+    let mut tally = Tally::none();
+    for _ in rt.forever() {
+        let Some(caller) = callers.lock(rt).pop() else {
+            return Ok(tally);
+        };
+        make_script(rt, engine, caller, &mut tally)?;
+    }
+    Ok(tally)
+}
+
+// Makes the calls of a client.
+fn make_script<N: Name>(
+    rt: &impl Wait,
+    engine: &Engine<N, Placing>,
+    caller: Caller<N>,
+    tally: &mut Tally,
+) -> Result<(), Fault> {
+    let Caller { client, script } = caller;
+    let mut session = client.into_session();
+    for call in &script {
+        make(rt, engine, &mut session, call, tally)?;
+    }
+    Ok(())
+}
+
+// Makes a call, from its entry to its reply.
+fn make<N: Name>(
+    rt: &impl Wait,
+    engine: &Engine<N, Placing>,
+    session: &mut Session,
+    call: &Call,
+    tally: &mut Tally,
+) -> Result<(), Fault>
+    requires session { session.old.table ≡ N.engine.table }
+    requires fits { Fits (library_of N.engine) call.now }
+    ensures { session.new.table ≡ session.old.table }
+{
+    let mut pause = 0;
+    for _ in rt.forever() {
+        if try_make(rt, engine, session, call, &mut pause, tally)? {
+            return Ok(());
+        }
+    }
+    unreachable!()
+}
+
+// The same, unless as many calls wait as the cap: then this thread helps once. Whether the call was made.
+fn try_make<N: Name>(
+    rt: &impl Wait,
+    engine: &Engine<N, Placing>,
+    session: &mut Session,
+    call: &Call,
+    pause: &mut u32,
+    tally: &mut Tally,
+) -> Result<bool, Fault>
+    requires session { session.old.table ≡ N.engine.table }
+    requires fits { Fits (library_of N.engine) call.now }
+    ensures { session.new.table ≡ session.old.table }
+{
+    let mut hold = take_hold(rt, engine, tally);
+    match hold.begin(session, call) {
+        Begun::Free(pass) => {
+            drop(hold);
+            make_free(rt, engine, session, pass, tally);
+            Ok(true)
+        }
+        Begun::Blocked(ticket) => {
+            tally.blocked = tally.blocked.saturating_add(1);
+            await_reply(rt, engine, hold, session, ticket, tally);
+            Ok(true)
+        }
+        Begun::Refused(why) => {
+            if why == BeginRefusal::Spent {
+                return Err(Fault::Refused);
+            }
+            tally.busy = tally.busy.saturating_add(1);
+            help(rt, engine, hold, pause, tally);
+            Ok(false)
+        }
+    }
+}
+
+// Makes a call that may run, up to its reply.
+fn make_free<N: Name>(
+    rt: &impl Wait,
+    engine: &Engine<N, Placing>,
+    session: &mut Session,
+    pass: Pass,
+    tally: &mut Tally,
+)
+    requires session { session.old.table ≡ N.engine.table }
+    requires pass { IsFresh N.engine pass }
+    ensures { session.new.table ≡ session.old.table }
+{
+    let ticket = pass.ticket();
+    let hold = bring_to_its_end(rt, engine, pass, tally);
+    await_reply(rt, engine, hold, session, ticket, tally);
+}
+
+// Waits for the reply of a ticket, and helps meanwhile.
+fn await_reply<'a, N: Name>(
+    rt: &impl Wait,
+    engine: &'a Engine<N, Placing>,
+    hold: Hold<'a, N, Placing>,
+    session: &mut Session,
+    ticket: Ticket,
+    tally: &mut Tally,
+)
+    requires session { session.old.table ≡ N.engine.table }
+    ensures { session.new.table ≡ session.old.table }
+{
+    let mut pause = 0;
+    let mut hold = hold;
+    for _ in rt.forever() {
+        if hold.reply(session, ticket).is_some() {
+            return;
+        }
+        hold = help(rt, engine, hold, &mut pause, tally);
+    }
+    unreachable!()
+}
+
+// Brings a call to its end that may run, if there is one, and else rests. The lock is let go meanwhile.
+fn help<'a, N: Name>(
+    rt: &impl Wait,
+    engine: &'a Engine<N, Placing>,
+    hold: Hold<'a, N, Placing>,
+    pause: &mut u32,
+    tally: &mut Tally,
+) -> Hold<'a, N, Placing> {
+    let mut hold = hold;
+    if let Some(pass) = hold.next_front() {
+        drop(hold);
+        *pause = 0;
+        tally.front = tally.front.saturating_add(1);
+        return bring_to_its_end(rt, engine, pass, tally);
+    }
+    if let Some(pass) = hold.next_scan_if_due() {
+        drop(hold);
+        *pause = 0;
+        tally.scan = tally.scan.saturating_add(1);
+        return bring_to_its_end(rt, engine, pass, tally);
+    }
+    drop(hold);
+    tally.rests = tally.rests.saturating_add(1);
+    *pause = LONGEST_PAUSE.min(pause.saturating_mul(2).saturating_add(FIRST_PAUSE));
+    rest(*pause);
+    take_hold(rt, engine, tally)
+}
+
+// Executes a call, releases its claims, and finishes it under a new hold.
+fn bring_to_its_end<'a, N: Name>(
+    rt: &impl Wait,
+    engine: &'a Engine<N, Placing>,
+    pass: Pass,
+    tally: &mut Tally,
+) -> Hold<'a, N, Placing>
+    requires { IsFresh N.engine pass }
+{
+    let released = engine.execute_and_release(pass);
+    let mut hold = take_hold(rt, engine, tally);
+    hold.finish(released);
+    hold
+}
+
+// Takes the engine's lock.
+fn take_hold<'a, N: Name>(
+    rt: &impl Wait,
+    engine: &'a Engine<N, Placing>,
+    tally: &mut Tally,
+) -> Hold<'a, N, Placing> {
+    tally.holds = tally.holds.saturating_add(1);
+    engine.hold(rt)
+}
+
+// Waits for so many turns.
+fn rest(turns: u32) {
+    for turn in 0..turns {
+        if turn % TURNS_A_YIELD == TURNS_A_YIELD - 1 {
+            yield_now();
+        } else {
+            spin_loop();
+        }
+    }
+}

@@ -1,0 +1,95 @@
+//! What became of the calls of a scenario in the engine, and what the threads did that made them.
+ghost use Rattle.std.specs.Prelude.{◌≤◌};
+ghost use Rattle.vll_workers.specs.declared.running.TheConstants.{MOST_WORKERS};
+
+use crate::adding::Adding;
+use crate::counted::count_calls;
+use crate::fault::Fault;
+use crate::runs;
+use crate::timed::Count;
+use crate::ways::Way;
+use std::io::Read;
+use std::marker::Brand;
+use std::sync::Wait;
+use std::thread::Threads;
+use std::time::Clock;
+use vll_scripts::opening;
+use vll_server::{Plain, read_scenario};
+use vll_workers::{MOST_WORKERS, Tally};
+
+// How many threads make the calls.
+const THREADS: [u32; 3] = [1, 2, 4];
+
+/// Makes the calls of the scenario on standard input once by the steps of `Engine::call` and once by workers, for each
+/// number of threads, and prints what became of them.
+pub(crate) fn count_ways<R: Threads + Wait + Clock + Input + Print + AllocGlobal + Sync>(
+    rt: &R,
+) -> Result<(), Fault> {
+    let mut bytes = Vec::new(rt.alloc());
+    rt.reader().read_to_end(&mut bytes)?;
+    let bytes = bytes.as_slice();
+    println!(rt;
+        "way     threads    calls  committed  aborted    moved  blocked     busy    front     scan    holds    rests"
+    )?;
+    for threads in THREADS {
+        let (count, tally) = count_once(rt, bytes, threads)?;
+        print_line(rt, Way::Call.name(), threads, count, tally)?;
+    }
+    for workers in THREADS {
+        let (count, tally) = count_run(rt, bytes, workers)?;
+        print_line(rt, Way::Engine.name(), workers, count, tally)?;
+    }
+    Ok(())
+}
+
+// Makes the calls by so many threads, on a scenario that is read anew.
+fn count_once<R: Threads + Wait + AllocGlobal + Sync>(
+    rt: &R,
+    bytes: &[u8],
+    threads: u32,
+) -> Result<(Count, Tally), Fault>
+    requires { 1 ≤ threads }
+{
+    let scenario = read_scenario(rt.alloc(), &mut Plain::new(bytes))?;
+    let (opening, scripts) = opening(rt.alloc(), scenario)?;
+    count_calls::<Brand, R>(rt, rt.alloc(), opening, scripts, threads as usize)
+}
+
+// Has the calls made by so many workers, on a scenario that is read anew.
+fn count_run<R: Threads + Wait + Clock + AllocGlobal + Sync>(
+    rt: &R,
+    bytes: &[u8],
+    workers: u32,
+) -> Result<(Count, Tally), Fault>
+    requires { (1 ≤ workers) × (workers ≤ MOST_WORKERS) }
+{
+    let scenario = read_scenario(rt.alloc(), &mut Plain::new(bytes))?;
+    let (opening, scripts) = opening(rt.alloc(), scenario)?;
+    let adding = Adding::new(rt);
+    let timed = runs::time_of::<Brand, R, _>(rt, rt.alloc(), opening, scripts, workers, &adding)?;
+    Ok((timed.count, adding.into_tally()))
+}
+
+// Prints the line of so many threads.
+fn print_line(
+    rt: &impl Print,
+    name: &'static str,
+    threads: u32,
+    count: Count,
+    tally: Tally,
+) -> Result<(), Fault> {
+    print!(rt;
+        "{:<8}{:>7}{:>9}{:>11}{:>9}{:>9}",
+        name,
+        threads,
+        count.calls,
+        count.committed,
+        count.aborted(),
+        count.moved
+    )?;
+    println!(rt;
+        "{:>9}{:>9}{:>9}{:>9}{:>9}{:>9}",
+        tally.blocked, tally.busy, tally.front, tally.scan, tally.holds, tally.rests
+    )?;
+    Ok(())
+}
