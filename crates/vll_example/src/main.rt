@@ -2,12 +2,11 @@
 #![tactic(auto)]
 
 mod bank;
-mod fault;
 mod procedures;
 mod relay;
 
-use crate::fault::Fault;
+use vll_engine::EngineFault;
 
-fn main(rt: HostRuntime) -> Result<(), Fault> {
+fn main(rt: HostRuntime) -> Result<(), EngineFault> {
     bank::open(&rt, rt.alloc())
 }

@@ -5,10 +5,10 @@ ghost use Rattle.vll_proc.specs.declared.syntax.KeyAt.TheVariants as at;
 ghost use Rattle.vll_proc.specs.declared.syntax.Stmt.{Abort, If, Set};
 ghost use Rattle.vll_example.specs.Bank.{procedures, sum_of_two, transfer};
 
-use crate::fault::Fault;
 use sqlite_items::{Boxed, Items};
 use std::alloc::{AllocError, Global};
 use vll_check::{Library, check};
+use vll_engine::EngineFault;
 use vll_proc::{Edition, Expr, KeyAt, KeyDecl, Proc, Stmt, Text};
 use vll_record::Mode;
 
@@ -99,7 +99,7 @@ fn sum(alloc: Global) -> Result<Proc, AllocError>
 }
 
 /// The library of both procedures, for a number of accounts.
-pub(crate) fn library(alloc: Global, accounts: u32) -> Result<Library, Fault>
+pub(crate) fn library(alloc: Global, accounts: u32) -> Result<Library, EngineFault>
     ensures { IfOk result (λ l. l ≡ record { records = accounts; procs = procedures }) }
 {
     let mut procs = Vec::new(alloc);

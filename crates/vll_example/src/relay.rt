@@ -1,10 +1,9 @@
 // News from one client to the other one.
-ghost use Rattle.std.specs.Prelude.{◌≡◌, ◌<◌, IfOk};
+ghost use Rattle.std.specs.Prelude.{◌<◌, IfOk};
 
-use crate::fault::Fault;
 use std::sync::Wait;
 use vll_core::Ticket;
-use vll_engine::{Engine, Name, Session, news_orders_calls};
+use vll_engine::{Client, Engine, EngineFault, Name, news_orders_calls};
 use vll_sca::Placing;
 
 /// The first client makes a transfer and tells the other one, which then makes its own: the tickets of both. The other
@@ -12,18 +11,15 @@ use vll_sca::Placing;
 pub(crate) fn relay<N: Name>(
     rt: &impl Wait,
     engine: &Engine<N, Placing>,
-    first: &mut Session,
-    other: &mut Session,
-) -> Result<(Ticket, Ticket), Fault>
-    requires first { first.old.table ≡ N.engine.table }
-    requires other { other.old.table ≡ N.engine.table }
+    first: &mut Client<N>,
+    other: &mut Client<N>,
+) -> Result<(Ticket, Ticket), EngineFault>
     ensures order { IfOk result (λ tickets. tickets.0 < tickets.1) }
 {
     news_orders_calls();
-    let transfer = engine.library().call("transfer", &[0, 1, 5])?;
-    let (told, _) = engine.call(rt, first, &transfer)?;
-    let news = engine.tell(first);
-    engine.hear(other, news);
-    let (behind, _) = engine.call(rt, other, &transfer)?;
+    let (told, _) = first.call(rt, engine, "transfer", &[0, 1, 5])?;
+    let news = first.tell(engine);
+    other.hear(engine, news);
+    let (behind, _) = other.call(rt, engine, "transfer", &[0, 1, 5])?;
     Ok((told, behind))
 }

@@ -5,10 +5,10 @@ use Rattle.vll_engine.specs.Shown.{library_of}
 use Rattle.vll_example.proofs.Total.{journal_keeps}
 use Rattle.vll_example.proofs.bank.close.Goals as goal
 
-pub returns-in-Ok : goal.returns-in-Ok
-returns-in-Ok g c =
+pub returns : goal.returns
+returns g c =
     let e = g.N.Name.engine in
-    let serial = c.in-Ok.ensures.serial in
-    let lines = c.in-Ok.closed.journal.items in
+    let serial = c.in_ok-closed.ensures.serial in
+    let lines = c.in_ok-closed.closed.journal.items in
     let keep = journal_keeps (library_of e) (sum e.base.records) lines c.requires.procedures serial.ready in
     record { total = ap sum serial.at_end ∙ (c.invariants_carry_over.ensures.end e.base.procs (calls_in lines) e.base.records (refl, refl) keep).1 }

@@ -1,6 +1,0 @@
--- The new sessions are of the engine's words.
-use Rattle.vll_engine.proofs.Opens.{new_sessions_are_there}
-use Rattle.vll_example.proofs.bank.serve.Goals as goal
-
-pub last-requires : goal.last-requires
-last-requires g c = new_sessions_are_there g.N.Name.engine.table g.N.Name.engine.clients c.start-engine.result.1.items c.start-engine.ensures.sessions
