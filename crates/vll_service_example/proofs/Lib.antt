@@ -1,0 +1,3 @@
+mod Bodies
+mod Calls
+mod Epochs

@@ -1,0 +1,3 @@
+pub mod Bank
+pub mod Tally
+pub mod Service

@@ -1,0 +1,171 @@
+// What the bank's clients can call.
+ghost use Rattle.std.specs.Prelude.{◌≡◌, ◌∷◌, [], IfOk};
+ghost use Rattle.vll_proc.specs.declared.syntax.Expr.{Add, Arg, Key, Less, Num, Sub};
+ghost use Rattle.vll_proc.specs.declared.syntax.KeyAt.TheVariants as at;
+ghost use Rattle.vll_proc.specs.declared.syntax.Stmt.{Abort, If, Set};
+ghost use Rattle.vll_record.specs.declared.claim.Mode.TheVariants.{Read, Write};
+ghost use Rattle.vll_service_example.specs.Bank.{deposit, procedures, read_all, transfer};
+
+use sqlite_items::{Boxed, Items};
+use std::alloc::{AllocError, Global};
+use vll_check::{Library, check};
+use vll_engine::EngineFault;
+use vll_proc::{Edition, Expr, KeyAt, KeyDecl, Proc, Stmt, Text};
+use vll_record::Mode;
+
+/// How many accounts the bank has. The first one is its till.
+pub(crate) const ACCOUNTS: u32 = 8;
+
+/// The most that is taken in one deposit.
+pub(crate) const MOST_DEPOSIT: u64 = 100;
+
+/// The code with which a transfer aborts if its first account holds less than the amount.
+const TOO_LITTLE: u16 = 1;
+
+/// The code with which a deposit of more than `MOST_DEPOSIT` aborts.
+const TOO_MUCH: u16 = 2;
+
+/// The number of `read_all` in the library.
+pub(crate) const READ_ALL: u32 = 2;
+
+// A key that writes the account which is the argument of this place.
+fn written(argument: u8) -> KeyDecl
+    ensures { result ≡ record { mode = Write; at = at.Arg argument } }
+{
+    KeyDecl {
+        mode: Mode::Write,
+        at: KeyAt::Arg(argument),
+    }
+}
+
+// A key that writes the till.
+fn till() -> KeyDecl
+    ensures { result ≡ record { mode = Write; at = at.Fixed 0 } }
+{
+    KeyDecl {
+        mode: Mode::Write,
+        at: KeyAt::Fixed(0),
+    }
+}
+
+// A key that reads this account.
+fn read(account: u32) -> KeyDecl
+    ensures { result ≡ record { mode = Read; at = at.Fixed account } }
+{
+    KeyDecl {
+        mode: Mode::Read,
+        at: KeyAt::Fixed(account),
+    }
+}
+
+fn less(alloc: Global, left: Expr, right: Expr) -> Result<Expr, AllocError>
+    ensures { IfOk result (λ e. e ≡ Less left right) }
+{
+    Ok(Expr::Less(Boxed::new(alloc, left)?, Boxed::new(alloc, right)?))
+}
+
+// Aborts with a code if the left value is less.
+fn abort_if_less(alloc: Global, left: Expr, right: Expr, code: u16) -> Result<Stmt, AllocError>
+    ensures { IfOk result (λ s. s ≡ If (Less left right) (Abort code ∷ []) []) }
+{
+    let is_less = less(alloc, left, right)?;
+    let mut then = Vec::new(alloc);
+    then.push(Stmt::Abort(code))?;
+    Ok(Stmt::If(is_less, Items::from_vec(then), Items::new(alloc)))
+}
+
+// Takes the amount, which is this argument, from the account of the first key.
+fn take(alloc: Global, amount: u8) -> Result<Stmt, AllocError>
+    ensures { IfOk result (λ s. s ≡ Set 0 (Sub (Key 0) (Arg amount))) }
+{
+    let left = Boxed::new(alloc, Expr::Key(0))?;
+    Ok(Stmt::Set(0, Expr::Sub(left, Boxed::new(alloc, Expr::Arg(amount))?)))
+}
+
+// Puts it to the account of the second key.
+fn put(alloc: Global, amount: u8) -> Result<Stmt, AllocError>
+    ensures { IfOk result (λ s. s ≡ Set 1 (Add (Key 1) (Arg amount))) }
+{
+    let left = Boxed::new(alloc, Expr::Key(1))?;
+    Ok(Stmt::Set(1, Expr::Add(left, Boxed::new(alloc, Expr::Arg(amount))?)))
+}
+
+// Moves an amount from one account to another, and replies what is left of the first. It aborts if that holds less.
+fn transfer(alloc: Global) -> Result<Proc, AllocError>
+    ensures { IfOk result (λ p. p ≡ transfer) }
+{
+    let mut body = Vec::new(alloc);
+    body.push(abort_if_less(alloc, Expr::Key(0), Expr::Arg(2), TOO_LITTLE)?)?;
+    body.push(take(alloc, 2)?)?;
+    body.push(put(alloc, 2)?)?;
+    body.push(Stmt::Reply(Expr::Key(0)))?;
+    Ok(Proc {
+        edition: Edition::Two,
+        name: Text::new(String::from_str(alloc, "transfer")?),
+        args: 3,
+        keys: Items::from_slice(alloc, &[written(0), written(1)])?,
+        body: Items::from_vec(body),
+    })
+}
+
+// Moves an amount from the till to an account, and replies what that holds then. It aborts if the amount is more than
+// is taken in one deposit.
+fn deposit(alloc: Global) -> Result<Proc, AllocError>
+    ensures { IfOk result (λ p. p ≡ deposit) }
+{
+    let mut body = Vec::new(alloc);
+    body.push(abort_if_less(alloc, Expr::Num(MOST_DEPOSIT), Expr::Arg(1), TOO_MUCH)?)?;
+    body.push(take(alloc, 1)?)?;
+    body.push(put(alloc, 1)?)?;
+    body.push(Stmt::Reply(Expr::Key(1)))?;
+    Ok(Proc {
+        edition: Edition::Two,
+        name: Text::new(String::from_str(alloc, "deposit")?),
+        args: 2,
+        keys: Items::from_slice(alloc, &[till(), written(0)])?,
+        body: Items::from_vec(body),
+    })
+}
+
+// Replies what each account holds.
+fn read_all(alloc: Global) -> Result<Proc, AllocError>
+    ensures { IfOk result (λ p. p ≡ read_all) }
+{
+    let mut body = Vec::new(alloc);
+    body.push(Stmt::Reply(Expr::Key(0)))?;
+    body.push(Stmt::Reply(Expr::Key(1)))?;
+    body.push(Stmt::Reply(Expr::Key(2)))?;
+    body.push(Stmt::Reply(Expr::Key(3)))?;
+    body.push(Stmt::Reply(Expr::Key(4)))?;
+    body.push(Stmt::Reply(Expr::Key(5)))?;
+    body.push(Stmt::Reply(Expr::Key(6)))?;
+    body.push(Stmt::Reply(Expr::Key(7)))?;
+    let keys = [
+        read(0),
+        read(1),
+        read(2),
+        read(3),
+        read(4),
+        read(5),
+        read(6),
+        read(7),
+    ];
+    Ok(Proc {
+        edition: Edition::Two,
+        name: Text::new(String::from_str(alloc, "read_all")?),
+        args: 0,
+        keys: Items::from_slice(alloc, &keys)?,
+        body: Items::from_vec(body),
+    })
+}
+
+/// The library of the bank's procedures, in this order: `transfer`, `deposit` and `read_all`.
+pub(crate) fn library(alloc: Global) -> Result<Library, EngineFault>
+    ensures { IfOk result (λ l. l ≡ record { records = ACCOUNTS; procs = procedures }) }
+{
+    let mut procs = Vec::new(alloc);
+    procs.push(check(transfer(alloc)?, ACCOUNTS)?)?;
+    procs.push(check(deposit(alloc)?, ACCOUNTS)?)?;
+    procs.push(check(read_all(alloc)?, ACCOUNTS)?)?;
+    Ok(Library::new(ACCOUNTS, procs)?)
+}
