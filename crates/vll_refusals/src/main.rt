@@ -3,6 +3,7 @@
 #![tactic(auto)]
 
 mod answer;
+mod reopening;
 mod rooms;
 mod runs;
 mod texts;
@@ -17,7 +18,7 @@ use std::thread::Threads;
 use std::{env, io};
 
 const USAGE: &str = "usage: vll_refusals CALL
-the calls: bits queue core words opening run run_limited read_scenario write_outcome serve replay";
+the calls: bits queue core words opening reopen run run_limited read_scenario write_outcome serve replay";
 
 fn main(rt: HostRuntime) -> ExitCode {
     match answer_of(&rt) {
@@ -54,6 +55,7 @@ fn of_call<R: Print + AllocGlobal + Threads + Wait + Sync>(
         "core" => rooms::core(rt)?,
         "words" => rooms::words(rt)?,
         "opening" => rooms::opening(rt)?,
+        "reopen" => reopening::reopen(rt)?,
         "run" => runs::run_clients(rt, None)?,
         "run_limited" => runs::run_clients(rt, Some(runs::STARTS))?,
         "read_scenario" => texts::read(rt)?,

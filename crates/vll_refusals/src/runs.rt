@@ -19,9 +19,10 @@ use vll_scripts::{opening, tokens};
 use vll_server::{MOST_CLIENTS, Plain, Scenario, ScenarioFault, read_scenario};
 use vll_workers::{OpenGate, RunFault, Token, run, run_limited};
 
-const CLIENTS: usize = 4;
+pub(crate) const CLIENTS: usize = 4;
 
-const CALLS: u32 = 3;
+/// How many calls each client makes.
+pub(crate) const CALLS: u32 = 3;
 
 const WORKERS: u32 = 8;
 
@@ -107,7 +108,8 @@ fn are_through(tokens: &[Token]) -> bool {
     tokens.len() == CLIENTS
 }
 
-// Whether the tokens are in the order in which they were handed in, the last client's first, and none has entered a call.
+// Whether the tokens are in the order in which they were handed in, the last client's first, and none has entered a
+// call.
 fn are_as_they_came(tokens: &[Token]) -> bool {
     for (client, token) in tokens.iter().rev().enumerate() {
         if token.client() as usize != client || token.next() != 0 {
@@ -117,16 +119,24 @@ fn are_as_they_came(tokens: &[Token]) -> bool {
     tokens.len() == CLIENTS
 }
 
-// Whether each call has added 1, in the order of entry.
+// Whether each call of all clients has added 1, in the order of entry.
 fn is_done(closed: &Closed) -> bool {
-    for (ticket, line) in closed.journal.iter().enumerate() {
+    counts_up(closed.journal.as_slice(), 12) && holds(closed, 12)
+}
+
+/// Whether so many calls have added 1 each, in the order of entry.
+pub(crate) fn counts_up(journal: &[Line], calls: usize) -> bool {
+    for (ticket, line) in journal.iter().enumerate() {
         if !replies(line, ticket as u64) {
             return false;
         }
     }
-    closed.journal.len() == 12
-        && closed.records.as_slice() == [12].as_slice()
-        && closed.pairs.as_slice() == [0].as_slice()
+    journal.len() == calls
+}
+
+/// Whether the record has this value, and no claim is open.
+pub(crate) fn holds(closed: &Closed, value: u64) -> bool {
+    closed.records.as_slice() == [value].as_slice() && closed.pairs.as_slice() == [0].as_slice()
 }
 
 // Whether the reply is one more than the ticket.
@@ -141,7 +151,5 @@ fn replies(line: &Line, ticket: u64) -> bool {
 
 // Whether nothing has entered.
 fn is_untouched(closed: &Closed) -> bool {
-    closed.journal.is_empty()
-        && closed.records.as_slice() == [0].as_slice()
-        && closed.pairs.as_slice() == [0].as_slice()
+    closed.journal.is_empty() && holds(closed, 0)
 }

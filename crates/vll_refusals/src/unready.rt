@@ -1,5 +1,8 @@
 use std::alloc::{AllocError, AllocFailed};
 use std::io;
+use vll_check::CallFault;
+use vll_core::OpenFault;
+use vll_engine::EngineFault;
 use vll_server::ScenarioFault;
 
 /// The call could not be made: what it needs was not there.
@@ -26,6 +29,24 @@ impl From<io::Error> for Unready {
 
 impl From<ScenarioFault> for Unready {
     fn from(_: ScenarioFault) -> Unready {
+        Unready
+    }
+}
+
+impl From<OpenFault> for Unready {
+    fn from(_: OpenFault) -> Unready {
+        Unready
+    }
+}
+
+impl From<CallFault> for Unready {
+    fn from(_: CallFault) -> Unready {
+        Unready
+    }
+}
+
+impl From<EngineFault> for Unready {
+    fn from(_: EngineFault) -> Unready {
         Unready
     }
 }

@@ -1,0 +1,144 @@
+//! An engine that goes on from its records.
+ghost use Rattle.std.specs.Prelude.{◌≡◌};
+
+use crate::answer::Answer;
+use crate::runs::{CALLS, CLIENTS, counts_up, four_clients, holds};
+use crate::unready::Unready;
+use crate::{begin, end};
+use std::alloc::Global;
+use std::sync::Wait;
+use vll_core::{Config, Line};
+use vll_engine::{Client, Clients, Closed, Engine, Name, NotReopened, Opening, Reopened, Service};
+use vll_sca::Placing;
+use vll_server::ScenarioParts;
+
+// The client in a line that the engine has not written.
+const MARK: u32 = 77;
+
+/// Makes the calls of one client, and reopens the engine.
+pub(crate) fn reopen<R: Print + AllocGlobal + Wait>(rt: &R) -> Result<Answer, Unready> {
+    let ScenarioParts {
+        records,
+        library,
+        config,
+        placing,
+        ..
+    } = four_clients(rt.alloc())?.into_parts();
+    let config = Config {
+        cap: config.cap,
+        limit: CALLS,
+        bits: config.bits,
+    };
+    let opening = Opening::new(
+        rt.alloc(),
+        records,
+        library,
+        config,
+        placing,
+        CLIENTS as u32,
+    )?;
+    opening.serve(Reopening {
+        rt,
+        alloc: rt.alloc(),
+    })
+}
+
+// Has a client's calls made, and the engine reopened. The list for its journal comes with the line of a call.
+#[derive(Drop)]
+struct Reopening<'a, R> {
+    rt: &'a R,
+    alloc: Global,
+}
+
+impl<'a, R: Print + Wait> Service for Reopening<'a, R> {
+    type Answer = Result<Answer, Unready>;
+
+    ghost use Rattle.std.specs.Prelude.{◌≡◌};
+    ghost use Rattle.vll_refusals.specs.declared.runs.TheConstants.{CALLS};
+
+    ghost allows = { λ _ e. e.config.limit ≡ CALLS };
+
+    fn serve<N: Name + Send + Sync>(
+        self,
+        engine: Engine<N, Placing>,
+        mut clients: Clients<N>,
+    ) -> Result<Answer, Unready>
+        requires limit { N.engine.config.limit ≡ CALLS }
+    {
+        let client = clients.pop().ok_or(Unready)?;
+        clients.push(make_calls(self.rt, &engine, client)?)?;
+        if !clients.are_all() {
+            return Err(Unready);
+        }
+        let mut journal = Vec::with_capacity(self.alloc, CALLS as usize)?;
+        journal.push(marked(&engine)?)?;
+        begin(self.rt)?;
+        let reopened = engine.reopen(self.alloc, clients.into_sessions(), journal);
+        end(self.rt)?;
+        match reopened {
+            Ok(next) => Ok(of_next(next)),
+            Err(NotReopened { left, journal }) => Ok(match left {
+                Ok(closed) => {
+                    Answer::NoMemory.only_if(is_closed(&closed) && is_marked(journal.as_slice()))
+                }
+                Err(_) => Answer::Wrong,
+            }),
+        }
+    }
+}
+
+// A client makes its calls.
+fn make_calls<N: Name>(
+    rt: &impl Wait,
+    engine: &Engine<N, Placing>,
+    client: Client<N>,
+) -> Result<Client<N>, Unready> {
+    let mut client = client;
+    for _ in 0..CALLS {
+        client.call(rt, engine, "bump", &[0])?;
+    }
+    Ok(client)
+}
+
+// A line of no client of the engine.
+fn marked<N: Name>(engine: &Engine<N, Placing>) -> Result<Line, Unready> {
+    Ok(Line {
+        call: engine.library().call("bump", &[0])?,
+        client: MARK,
+        reply: None,
+    })
+}
+
+// Whether a list has that line alone.
+fn is_marked(journal: &[Line]) -> bool {
+    match journal {
+        [line] => line.client == MARK,
+        _ => false,
+    }
+}
+
+// Whether all calls are in the journal, and their record is handed back.
+fn is_closed(closed: &Closed) -> bool {
+    counts_up(closed.journal.as_slice(), CALLS as usize) && holds(closed, u64::from(CALLS))
+}
+
+// What is answered of an engine that goes on: the next one has the record, and has taken no call yet.
+fn of_next(next: Reopened<Placing>) -> Answer {
+    let is_all = counts_up(next.journal.as_slice(), CALLS as usize);
+    Answer::Ample.only_if(is_all && next.opening.serve(Closing))
+}
+
+// Whether an engine has the record, and has taken no call.
+#[derive(Drop)]
+struct Closing;
+
+impl Service for Closing {
+    type Answer = bool;
+
+    fn serve<N: Name + Send + Sync>(self, engine: Engine<N, Placing>, clients: Clients<N>) -> bool {
+        match engine.close(clients.into_sessions()) {
+            Ok(closed) => closed.journal.is_empty() && holds(&closed, u64::from(CALLS)),
+            Err(_) => false,
+        }
+    }
+}
