@@ -16,8 +16,8 @@ SUFFIXES = {'.json': True, '.out': True, '.judge': False, '.args': False}
 NAMES_FILE = '@'
 JUDGED = '@judge'
 
-FAULT = re.compile(rb'^vll: (run|replay|scenario|command line)', re.MULTILINE)
-STATUS = {b'run': 1, b'replay': 1, b'scenario': 2, b'command line': 2}
+FAULT = re.compile(rb'^vll: (run|replay|explain|draw|scenario|command line)', re.MULTILINE)
+STATUS = {b'run': 1, b'replay': 1, b'explain': 1, b'draw': 1, b'scenario': 2, b'command line': 2}
 
 # Bytes, or the file that holds them, or the script that prints them.
 Source = Union[bytes, Path]

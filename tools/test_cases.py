@@ -59,7 +59,8 @@ FILES = {
 NAMES = ['01_both', 'again', 'clients', 'failed', 'first', 'judged', 'made', 'no_words', 'one_line', 'raw', 'steps',
          'two_lines', 'words']
 
-# A program that prints what it reads with a line end behind it, and ends with the status that goes with that.
+# A program that prints what it reads with a line end behind it, and ends with the status that goes with that. What it
+# explains is that a text is no JSON text.
 RIGHT = f'''
 case "$*" in
   '' | 'run  --cap=1') echo 'vll: command line'; exit 2 ;;
@@ -69,6 +70,7 @@ case $text in
   *bump*) text='{LAWFUL.rstrip()}' ;;
 esac
 printf '%s\\n' "$text"
+[ "$*" = explain ] && printf '%s\\n' 'at: byte 0' 'why: it is no JSON text'
 case $text in
   'vll: scenario'*) exit 2 ;;
   'vll: replay'*) exit 1 ;;
@@ -93,6 +95,9 @@ WRONG = {
                                                  ['no_words', 'words']),
     'an unlawful outcome': ('committed 7', 'committed 6', ['01_both', 'clients', 'judged']),
     'no options': ('text=$(cat)', '[ "$2" = --workers ] && exit 1; text=$(cat)', ['clients']),
+    'nothing is explained': ('[ "$*" = explain ]', 'false', ['one_line']),
+    'another place is explained': ('at: byte 0', 'at: procs 0', ['one_line']),
+    'another status of what is explained': ("no JSON text'", "no JSON text' && exit 1", ['one_line']),
     'a line is cut': ('text=$(cat)', 'text=$(head -n 2)', ['made']),
 }
 
@@ -137,7 +142,8 @@ class Reading(Room):
         for printed, status in [
                 (b'', 0), (b'call 0 client 0 committed\n', 0),
                 (b'vll: command line\n', 2), (b'vll: scenario: size\n', 2), (b'vll: run: spent\n', 1),
-                (b'vll: replay: write\n', 1), (b'record 0 value 1 pair 0\nvll: run: write\n', 1),
+                (b'vll: replay: write\n', 1), (b'vll: explain: write\n', 1),
+                (b'record 0 value 1 pair 0\nvll: run: write\n', 1),
                 (b'0 refused vll: scenario: size\n', 0)]:
             self.assertEqual(status_of(printed), status, printed)
 
@@ -217,7 +223,7 @@ class Running(Room):
         ran = subprocess.run(command, stdout=subprocess.PIPE, check=False)
         self.assertEqual(ran.returncode, 1)
         # it cannot be tried everywhere how threads are lacked
-        self.assertRegex(ran.stdout.decode(), '\ntrials: 0 passed, (24 failed, 1|25 failed, 0) skipped\n$')
+        self.assertRegex(ran.stdout.decode(), '\ntrials: 0 passed, (31 failed, 1|32 failed, 0) skipped\n$')
 
     def test_texts_are_printed(self):
         self.keep(FILES)

@@ -23,8 +23,11 @@ OUTCOME = b'call 0 client 0 committed 70\nrecord 0 value 70 pair 0\n'
 REFUSED = [
     ['rnu'], ['run', '--capacity=3'], ['scenario.json'], ['help', '-h'], ['help', 'help', 'run'], ['--help=1'],
     ['run', '-V'], ['run', '--workers', '65', '--help'], ['run', '--cap', '--help'], ['--', 'run'], ['run', '--', '-h'],
-    ['run', '--workers==3'], ['run', '--workers', '--', '3'], ['--help', b'\xff']]
-ACCEPTED = [['run', '--'], ['run', '--workers', '+3'], ['run', '--bits=0001048576', '--'], ['replay', '--']]
+    ['run', '--workers==3'], ['run', '--workers', '--', '3'], ['--help', b'\xff'],
+    ['replay', '--none'], ['explain', '--none'], ['explain', '--from', '1'], ['run', '--from', '1'],
+    ['draw', '--from=1', '--from', '1'], ['draw', '--count', '3601'], ['draw', '--count'], ['help', 'drawing']]
+ACCEPTED = [['run', '--'], ['run', '--workers', '+3'], ['run', '--bits=0001048576', '--'], ['replay', '--'],
+            ['explain', '--'], ['draw', '--'], ['draw', '--from', '0'], ['draw', '--count=3600', '--from=1048576']]
 
 # In place of rt: it notes how it was called, and prints as `rt try` and `rt run` do.
 RT = '''#!/usr/bin/env bash
@@ -98,8 +101,10 @@ class WithStandIn(unittest.TestCase):
         self.assertEqual((self.room / 'words').read_text().splitlines()[0], str(self.room / 'crates/vll'))
 
     def test_input_comes_from_a_file(self):
-        self.vll('--unproved', 'replay', given=b'{}')
-        self.assertFalse((self.room / 'no_file').exists())
+        for command in 'replay', 'explain':
+            self.vll('--unproved', command, given=b'{}')
+            self.assertEqual((self.room / 'input').read_bytes(), b'{}')
+            self.assertFalse((self.room / 'no_file').exists())
 
     def test_outcome_is_printed_byte_for_byte(self):
         for printed in OUTCOME, b'', b'no end of the line', b'\0\xff\n\n':
@@ -177,10 +182,10 @@ class WithStandIn(unittest.TestCase):
 
     def test_help_is_there_before_the_program(self):
         for words in ('--help',), ('-h',), ('help',), ('help', 'run'), ('run', '--help'), ('replay', '-h'), \
-                ('run', '--help', '--workers', '65'):
+                ('help', 'explain'), ('help', 'draw'), ('run', '--help', '--workers', '65'):
             ran = self.vll(*words)
             self.assertEqual((ran.returncode, ran.stderr), (0, b''))
-            for part in b'./vll --unproved', b'run [--workers N] [--cap N] [--bits N]', b'replay':
+            for part in b'./vll --unproved', b'run [--workers N] [--cap N] [--bits N]', b'replay', b'explain':
                 self.assertIn(part, ran.stdout)
             self.assertNotIn(b'set -euo', ran.stdout)
         self.assertFalse((self.room / 'words').exists())
@@ -213,7 +218,7 @@ class WithStandIn(unittest.TestCase):
             self.assertIn(part, said)
 
     def test_words_of_use_have_the_program_built(self):
-        for words in ('run',), ('replay',), ('run', '--workers', '3', '--cap=4', '--bits', '5'):
+        for words in ('run',), ('replay',), ('explain',), ('run', '--workers', '3', '--cap=4', '--bits', '5'):
             self.assertTrue(self.is_built_for(*words))
             self.assertFalse(self.is_built_for(*words))
             shutil.rmtree(self.room / 'crates/vll/out')

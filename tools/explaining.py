@@ -1,0 +1,73 @@
+"""Judges what `vll explain` prints of a scenario that is refused.
+
+The first line has to be the fault's, as every command prints it. Behind it an explanation has to stand, which names the
+piece that the line tells of, and says what is wrong with it in words that go with the fault.
+"""
+import re
+
+WORDS = [b'explain']
+# What the program says if its second look has not found the mistake.
+NOT_FOUND = 'a second look'
+# The most bytes that are printed, as docs/SCENARIO.md says.
+MOST_BYTES = 20 * 1024
+
+LISTS = 'records', 'procs', 'clients', 'schedule'
+SIZES = 'procs', 'clients', 'calls of all clients', 'schedule', 'records', 'limit', 'cap', 'bits'
+# By the number of a test, what is said of a procedure and of a call that fail it.
+CHECKS = {
+    1: r'arguments, and 8 are allowed', 2: r'keys, and version', 3: r'argument \d+ is not declared',
+    4: r'there is no record \d+', 5: r'key \d+ is not declared', 6: r'key \d+ is set, and is a "read" key',
+    7: r'argument \d+ is not declared', 8: r'there is no local \d+', 9: r'local \d+ is read before it is surely set',
+    10: r'replies, and 8 are allowed', 11: r'deep, and 32 are allowed', 12: r'nodes, and 1024 are allowed',
+    13: r'its source is key \d+', 14: r'"through" key, and so is key \d+', 15: r'turns, and 64 are allowed',
+    16: r'weighs \d+, and 65536 is allowed'}
+# Where in the procedure that is.
+PLACES = {1: 'args', 2: 'keys', 3: r'keys, key \d+', 4: r'keys, key \d+', 13: r'keys, key \d+', 14: r'keys, key \d+',
+          10: 'body', 12: 'body', 16: 'body'}
+CALLS = {
+    1: r'no procedure has the name', 2: r'number of arguments of ".*" is \d+, and not \d+',
+    3: r'there is no record \d+'}
+NAMED = r'( \("(?:[^"\\]|\\.)*"\))?'
+
+
+def pieces_of(words):
+    """How the place and the reason have to begin or what they have to hold, by the words of a fault, as patterns."""
+    kind = words[0]
+    if kind == 'shape':
+        part, index = words[1:]
+        if part == 'top':
+            return 'the scenario$', ''
+        return (rf'{part}( {index}{NAMED}(, .*)?)?$' if part in LISTS else rf'{part}$'), ''
+    if kind == 'check':
+        number = int(words[2])
+        return rf'procs {words[1]}{NAMED}, {PLACES.get(number, "body, .*")}$', CHECKS[number]
+    if kind == 'call':
+        number = int(words[3])
+        behind = r', argument \d+' if number == 3 else ''
+        return rf'clients {words[1]}, call {words[2]}{NAMED}{behind}$', CALLS[number]
+    return {
+        'size': (rf'(standard input|the scenario, ({"|".join(SIZES)}))$',
+                 r'more than 16777216 bytes|\d+ is not from \d+ to'),
+        'json': (r'(byte \d+|line \d+, column \d+, which is byte \d+: ".*")$', ''),
+        'name': (r'procs \d+ and procs \d+$', r'both have the name "'),
+        'read': ('standard input$', 'cannot be read'),
+        'no': ('standard input$', 'not enough memory'),
+    }[kind]
+
+
+def unexplained(line, printed):
+    """Why a text does not explain the fault of a line, if it does not."""
+    if not printed.startswith(line):
+        return f'the first line is not {line!r}, but {printed[:80]!r}'
+    if len(printed) > MOST_BYTES or not re.fullmatch(rb'[ -~\n]*', printed):
+        return 'it is too long, or has other characters than printable ASCII'
+    told = re.fullmatch(r'at: (.+)\nwhy: (.+)\n', printed[len(line):].decode())
+    if not told:
+        return f'no explanation stands behind the line: {printed[len(line):][:200]!r}'
+    place, why = told.groups()
+    if NOT_FOUND in why:
+        return f'the mistake was not found: {why!r}'
+    for pattern, text in zip(pieces_of(line.decode().split()[2:]), (place, why)):
+        if not re.search(('^' if text is place else '') + pattern, text):
+            return f'{text!r} is not of the form {pattern!r}'
+    return None
