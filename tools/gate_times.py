@@ -10,7 +10,6 @@ last line. In kits that keep what they proved before, that takes nothing; `rt ci
 The minutes are those of the prover's processes that run below this command, looked at several times a second.
 """
 import os
-import re
 import subprocess
 import sys
 import threading
@@ -22,17 +21,18 @@ SECONDS_BETWEEN = 0.2
 TICKS = os.sysconf('SC_CLK_TCK')
 
 
-def work_of(words):
-    """Whose work the prover does that was called with these words: the crate, and one of KINDS. None for others."""
+def work_of(words, folder):
+    """Whose work the prover does that was called with these words in this folder: the crate, and one of KINDS. None for
+    others. Proofs and tests are checked where the crate lies, in crates/NAME, and an edit in a copy of it elsewhere."""
     if len(words) < 2 or not words[0].endswith('/rattle') or '--crate-name' not in words[:-1]:
         return None
     crate = words[words.index('--crate-name') + 1]
     if '--test' in words:
         return crate, 'tests'
+    if folder.endswith(f'/crates/{crate}'):
+        return crate, 'proof'
     over = words[words.index('--incremental') + 1] if '--incremental' in words[:-1] else ''
-    if re.search(r'/rt-edits?-[^/]*/', over):
-        return crate, 'seed' if over.endswith('/seed') else 'edits'
-    return crate, 'proof'
+    return crate, 'seed' if over.endswith('/seed') else 'edits'
 
 
 class Times:
@@ -52,12 +52,12 @@ class Times:
                     # The name stands in brackets, and may hold blanks itself.
                     numbers = (folder / 'stat').read_text().rpartition(')')[2].split()
                     words = (folder / 'cmdline').read_bytes().decode(errors='replace').split('\0')
+                    cwd = os.readlink(folder / 'cwd')
                 except OSError:
                     continue
                 seconds = (int(numbers[11]) + int(numbers[12])) / TICKS
-                processes[int(folder.name)] = int(numbers[1]), numbers[19], seconds, words
-        for process, (_, began, seconds, words) in processes.items():
-            work = work_of(words)
+                processes[int(folder.name)] = int(numbers[1]), numbers[19], seconds, work_of(words, cwd)
+        for process, (_, began, seconds, work) in processes.items():
             if work and self.is_below(process, processes):
                 self.seen[process, began] = work, seconds
 

@@ -10,18 +10,21 @@ from pathlib import Path
 import gate_times
 
 CHECK = '/kit/bin/rattle', 'check', '--crate-name', 'low'
+CRATE = '/house/crates/low'
+COPY = '/room/rt-edit-7-x'
 
 
 class GateTimes(unittest.TestCase):
 
     def test_work_is_told_by_the_words(self):
-        for over, kind in (('/room/rt-edits-7-x/seed', 'seed'), ('/room/rt-edits-7-x/12', 'edits'),
-                           ('/house/low/out/incremental', 'proof')):
-            self.assertEqual(gate_times.work_of([*CHECK, '--incremental', over]), ('low', kind))
-        self.assertEqual(gate_times.work_of(CHECK), ('low', 'proof'))
-        self.assertEqual(gate_times.work_of([*CHECK, '--test']), ('low', 'tests'))
+        for folder, over, kind in ((COPY, ['--incremental', '/room/rt-edits-7-x/seed'], 'seed'),
+                                   (COPY, ['--incremental', '/room/rt-edits-7-x/12'], 'edits'),
+                                   (COPY, [], 'edits'), (CRATE, [], 'proof'),
+                                   (CRATE, ['--incremental', 'out/incremental'], 'proof')):
+            self.assertEqual(gate_times.work_of([*CHECK, *over], folder), ('low', kind))
+        self.assertEqual(gate_times.work_of([*CHECK, '--test'], CRATE), ('low', 'tests'))
         for words in [''], ['/bin/sh', '-c', 'rattle'], CHECK[:1], CHECK[:3], [CHECK[0], '--version']:
-            self.assertIsNone(gate_times.work_of(words))
+            self.assertIsNone(gate_times.work_of(words, CRATE))
 
     def test_last_look_at_each_process_below_the_command_counts(self):
         proc = Path(tempfile.mkdtemp())
@@ -34,6 +37,8 @@ class GateTimes(unittest.TestCase):
             numbers = '0 ' * 9 + f'{ticks} {ticks} ' + '0 ' * 6 + f'{began} 0'
             (folder / 'stat').write_text(f'{number} (a (b) c) S {parent} {numbers}')
             (folder / 'cmdline').write_bytes('\0'.join(words).encode())
+            if not (folder / 'cwd').is_symlink():
+                (folder / 'cwd').symlink_to(CRATE)
 
         process(10, 1, 0, 'rt', 'ci')
         process(11, 10, 3, *CHECK)
