@@ -31,6 +31,7 @@ ACCEPTED = [['run', '--'], ['run', '--workers', '+3'], ['run', '--bits=000104857
 
 # In place of rt: it notes how it was called, and prints as `rt try` and `rt run` do.
 RT = '''#!/usr/bin/env bash
+[[ $1 != lib ]] || { pwd >>"$ROOM/beside"; ls >"$ROOM/copied"; cp ../../crates.txt "$ROOM/listed"; exit 0; }
 printf '%s\\n' "$PWD" "$@" >"$ROOM/words"
 cat >"$ROOM/input"
 [[ -f /dev/stdin ]] || printf 'no file\\n' >"$ROOM/no_file"
@@ -56,6 +57,14 @@ class WithStandIn(unittest.TestCase):
         (self.room / 'bin/rt').write_text(RT)
         (self.room / 'bin/rt').chmod(0o755)
         self.answer(OUTCOME, 0)
+
+    def let_two_checks_fit(self):
+        """Has the copy believe that the machine holds two checks at a time, and the program be made from vll_draw."""
+        (self.room / 'tools').mkdir()
+        (self.room / 'tools/jobs.py').write_text('print(2)\n')
+        for part in 'src', 'must-fail', 'out':
+            (self.room / 'crates/vll_draw' / part).mkdir(parents=True)
+        self.list_crates('vll_deep:', 'vll_draw:', 'vll: vll_draw vll_deep', 'vll_other: vll_draw')
 
     def answer(self, printed, status, last=None):
         """What the stand-in prints, and the status of the program that it ran."""
@@ -216,6 +225,20 @@ class WithStandIn(unittest.TestCase):
                 'vll_deep is proved: 1 of 3 crates, after 0 minutes', \
                 '3 of 9 functions checked; 1 of 3 crates are proved':
             self.assertIn(part, said)
+
+    def test_what_stands_beside_the_engine_is_proved_in_a_copy_meanwhile(self):
+        self.assertTrue(self.is_built_for('run'))
+        self.assertFalse((self.room / 'beside').exists())
+        self.let_two_checks_fit()
+        self.assertTrue(self.is_built_for('run'))
+        folder = Path((self.room / 'beside').read_text().strip())
+        self.assertEqual(folder.parts[-2:], ('crates', 'vll_draw'))
+        self.assertFalse(str(folder).startswith(str(self.room)))
+        self.assertEqual((self.room / 'copied').read_text().split(), ['src'])
+        listed = [line.split(':')[0] for line in (self.room / 'listed').read_text().splitlines()]
+        self.assertIn('vll_draw', listed)
+        self.assertNotIn('vll_other', listed)
+        self.assertFalse(folder.exists())
 
     def test_words_of_use_have_the_program_built(self):
         for words in ('run',), ('replay',), ('explain',), ('run', '--workers', '3', '--cap=4', '--bits', '5'):
