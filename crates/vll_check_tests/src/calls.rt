@@ -1,3 +1,4 @@
+use crate::asserts::holds;
 use crate::made::{cells, one_claim, read, two_claims, write};
 use crate::procedures::library;
 use std::test::Fail;
@@ -16,7 +17,7 @@ fn call_has_its_arguments_and_its_claims(rt: HostRuntime) -> Result<(), Fail> {
         claims: two_claims(read(0), write(1)),
         cells: cells(1, 0),
     };
-    assert!(rt; call == wanted);
+    holds(&rt, call == wanted);
     Ok(())
 }
 
@@ -24,8 +25,8 @@ fn call_has_its_arguments_and_its_claims(rt: HostRuntime) -> Result<(), Fail> {
 fn record_of_two_keys_is_claimed_once(rt: HostRuntime) -> Result<(), Fail> {
     let library = library(rt.alloc())?;
     let call = library.call("transfer", &[1, 1, 7])?;
-    assert!(rt; call.claims == one_claim(write(1)));
-    assert!(rt; call.cells == cells(0, 0));
+    holds(&rt, call.claims == one_claim(write(1)));
+    holds(&rt, call.cells == cells(0, 0));
     Ok(())
 }
 
@@ -33,7 +34,7 @@ fn record_of_two_keys_is_claimed_once(rt: HostRuntime) -> Result<(), Fail> {
 fn made_call_fits_and_no_other(rt: HostRuntime) -> Result<(), Fail> {
     let library = library(rt.alloc())?;
     let call = library.call("transfer", &[1, 0, 7])?;
-    assert!(rt; library.fits(&call));
+    holds(&rt, library.fits(&call));
     let args = [0, 1, 7, 0, 0, 0, 0, 0];
     let claims = Claims::new();
     let others = [
@@ -50,7 +51,7 @@ fn made_call_fits_and_no_other(rt: HostRuntime) -> Result<(), Fail> {
         Call { claims, ..call },
     ];
     for other in &others {
-        assert!(rt; !library.fits(other));
+        holds(&rt, !library.fits(other));
     }
     Ok(())
 }

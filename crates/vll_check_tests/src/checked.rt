@@ -1,3 +1,4 @@
+use crate::asserts::{equal, holds};
 use crate::procedures::procedure;
 use sqlite_items::Items;
 use std::alloc::{AllocError, Global};
@@ -22,9 +23,9 @@ fn repeat_of_nothing(alloc: Global, edition: Edition) -> Result<Proc, AllocError
 fn checked_procedure_is_the_one_that_was_given(rt: HostRuntime) -> Result<(), Fail> {
     let procedure = procedure(rt.alloc(), "p", 3, &[])?;
     let checked = check(procedure, 2)?;
-    assert_eq!(rt; checked.records(), 2);
-    assert_eq!(rt; checked.proc().args, 3);
-    assert!(rt; checked.proc().name.as_str() == "p");
+    equal(&rt, checked.records(), 2);
+    equal(&rt, checked.proc().args, 3);
+    holds(&rt, checked.proc().name.as_str() == "p");
     Ok(())
 }
 
@@ -32,7 +33,7 @@ fn checked_procedure_is_the_one_that_was_given(rt: HostRuntime) -> Result<(), Fa
 fn repeat_is_of_edition_two(rt: HostRuntime) -> Result<(), Fail> {
     let one = repeat_of_nothing(rt.alloc(), Edition::One)?;
     let two = repeat_of_nothing(rt.alloc(), Edition::Two)?;
-    assert!(rt; check(one, 2).err() == Some(CheckFault::Turns));
-    assert!(rt; check(two, 2).err() == None);
+    holds(&rt, check(one, 2).err() == Some(CheckFault::Turns));
+    holds(&rt, check(two, 2).err() == None);
     Ok(())
 }

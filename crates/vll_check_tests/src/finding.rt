@@ -1,3 +1,4 @@
+use crate::asserts::{equal, holds};
 use crate::made::{cells, one_claim, read, two_claims, write};
 use crate::procedures::{fitting, library};
 use std::test::Fail;
@@ -8,8 +9,8 @@ use vll_record::RecordId;
 fn found_value_names_the_record(rt: HostRuntime) -> Result<(), Fail> {
     let library = library(rt.alloc())?;
     let call = fitting(&library, "via", &[1])?;
-    assert_eq!(rt; library.source(&call), Some(RecordId(1)));
-    assert!(rt; !library.is_ready(&call));
+    equal(&rt, library.source(&call), Some(RecordId(1)));
+    holds(&rt, !library.is_ready(&call));
     let found = library.with_found(&call, 5);
     let wanted = Call {
         found: Some(5),
@@ -17,8 +18,8 @@ fn found_value_names_the_record(rt: HostRuntime) -> Result<(), Fail> {
         cells: cells(0, 1),
         ..call
     };
-    assert!(rt; found == wanted);
-    assert!(rt; library.is_ready(&found));
+    holds(&rt, found == wanted);
+    holds(&rt, library.is_ready(&found));
     Ok(())
 }
 
@@ -27,13 +28,13 @@ fn record_found_may_be_the_source(rt: HostRuntime) -> Result<(), Fail> {
     let library = library(rt.alloc())?;
     let call = fitting(&library, "via", &[1])?;
     let found = library.with_found(&call, 4);
-    assert!(rt; found.claims == one_claim(write(1)));
-    assert!(rt; found.cells == cells(0, 0));
+    holds(&rt, found.claims == one_claim(write(1)));
+    holds(&rt, found.cells == cells(0, 0));
     let other = Call {
         found: Some(5),
         ..found
     };
-    assert!(rt; !library.is_ready(&other));
+    holds(&rt, !library.is_ready(&other));
     Ok(())
 }
 
@@ -41,13 +42,13 @@ fn record_found_may_be_the_source(rt: HostRuntime) -> Result<(), Fail> {
 fn call_without_an_indirect_key_is_ready(rt: HostRuntime) -> Result<(), Fail> {
     let library = library(rt.alloc())?;
     let call = fitting(&library, "z", &[])?;
-    assert_eq!(rt; library.source(&call), None);
-    assert!(rt; library.is_ready(&call));
-    assert!(rt; library.with_found(&call, 5) == call);
+    equal(&rt, library.source(&call), None);
+    holds(&rt, library.is_ready(&call));
+    holds(&rt, library.with_found(&call, 5) == call);
     let other = Call {
         found: Some(5),
         ..call
     };
-    assert!(rt; !library.is_ready(&other));
+    holds(&rt, !library.is_ready(&other));
     Ok(())
 }

@@ -1,3 +1,4 @@
+use crate::asserts::{equal, holds};
 use crate::procedures::library;
 use std::test::Fail;
 use vll_check::Library;
@@ -13,10 +14,10 @@ fn is_named(library: &Library, number: u32, name: &str) -> bool {
 #[test]
 fn procedures_have_the_numbers_of_their_list(rt: HostRuntime) -> Result<(), Fail> {
     let library = library(rt.alloc())?;
-    assert_eq!(rt; library.records(), 3);
-    assert!(rt; is_named(&library, 0, "z"));
-    assert!(rt; is_named(&library, 2, "via"));
-    assert!(rt; library.proc(3).is_none());
+    equal(&rt, library.records(), 3);
+    holds(&rt, is_named(&library, 0, "z"));
+    holds(&rt, is_named(&library, 2, "via"));
+    holds(&rt, library.proc(3).is_none());
     Ok(())
 }
 
@@ -25,7 +26,7 @@ fn calls_have_the_numbers_of_their_procedures(rt: HostRuntime) -> Result<(), Fai
     let library = library(rt.alloc())?;
     let z = library.call("z", &[])?;
     let via = library.call("via", &[2])?;
-    assert_eq!(rt; z.number, 0);
-    assert_eq!(rt; via.number, 2);
+    equal(&rt, z.number, 0);
+    equal(&rt, via.number, 2);
     Ok(())
 }

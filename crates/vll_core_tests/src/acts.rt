@@ -1,4 +1,5 @@
 // What is done to a core, and what has to come of it.
+use crate::asserts::{equal, equal_at};
 use crate::opening::opened;
 use crate::words::{said, standing};
 use std::alloc::{AllocError, Global};
@@ -65,7 +66,7 @@ pub(crate) fn play(
 ) -> Result<(), Fail> {
     for (step, words) in steps {
         let said = answer(rt.alloc(), core, *step)?;
-        assert_eq!(rt; said.as_str(), *words, "{step:?}");
+        equal_at(rt, *step, said.as_str(), *words);
     }
     Ok(())
 }
@@ -76,7 +77,7 @@ fn check_standing(
     text: &str,
 ) -> Result<(), Fail> {
     let now = standing(rt.alloc(), core)?;
-    assert_eq!(rt; now.as_str(), text);
+    equal(rt, now.as_str(), text);
     Ok(())
 }
 
@@ -89,22 +90,22 @@ fn refuse(
     for (step, words) in steps {
         play(rt, core, &[(*step, *words)])?;
         let after = standing(rt.alloc(), core)?;
-        assert_eq!(rt; after, before, "{step:?}");
+        equal_at(rt, *step, after.as_str(), before.as_str());
     }
     Ok(())
 }
 
 fn check_drain(rt: &impl Abort, core: &mut Core<Placing>, made: u64) {
-    assert_eq!(rt; core.drain(), made);
+    equal(rt, core.drain(), made);
 }
 
 fn check_counts(rt: &impl Abort, core: &Core<Placing>, running: u32, waiting: u32) {
-    assert_eq!(rt; core.running(), running);
-    assert_eq!(rt; core.waiting(), waiting);
+    equal(rt, core.running(), running);
+    equal(rt, core.waiting(), waiting);
 }
 
 fn check_words(rt: &impl Abort, core: &Core<Placing>, words: &[u64]) {
-    assert_eq!(rt; core.words(), words);
+    equal(rt, core.words(), words);
 }
 
 fn perform(

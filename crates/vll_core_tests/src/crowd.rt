@@ -4,6 +4,7 @@ ghost use Rattle.vll_check.specs.Calls.{Fits};
 
 use crate::acts::Step::{Admit, Claim, Enter};
 use crate::acts::play;
+use crate::asserts::equal;
 use std::alloc::Global;
 use std::process::Abort;
 use std::test::Fail;
@@ -93,10 +94,10 @@ fn as_many_calls_as_can_wait_for_one_record_and_end(rt: HostRuntime) -> Result<(
     for others in 1..=65_535 {
         enter_behind(&rt, &mut core, others)?;
     }
-    assert_eq!(rt; core.words(), [0, 0, 281_474_976_710_656].as_slice());
+    equal(&rt, core.words(), [0, 0, 281_474_976_710_656].as_slice());
     play(&rt, &mut core, &[(Enter(1), "refused spent")])?;
     // Four steps for the first, and five for each that waits.
-    assert_eq!(rt; core.drain(), 4 + 5 * 65_535);
-    assert_eq!(rt; core.words(), [0, 65_536, 0].as_slice());
+    equal(&rt, core.drain(), 4 + 5 * 65_535);
+    equal(&rt, core.words(), [0, 65_536, 0].as_slice());
     Ok(())
 }

@@ -6,6 +6,7 @@ ghost use Rattle.vll_core.specs.Shown.{library_of};
 use self::Turn::{Hand, Then};
 use crate::acts::Step::{self, Admit, Claim, Enter, Find, Finish, Front, Load, Release, Store};
 use crate::acts::event;
+use crate::asserts::equal_at;
 use crate::words::{said, words_of};
 use std::alloc::{AllocError, Global};
 use std::process::Abort;
@@ -76,7 +77,7 @@ fn answer(
 }
 
 fn check_said(rt: &impl Abort, turn: Turn, said: &str, words: &str) {
-    assert_eq!(rt; said, words, "{turn:?}");
+    equal_at(rt, turn, said, words);
 }
 
 fn play(

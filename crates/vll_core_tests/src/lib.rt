@@ -4,6 +4,8 @@
 #[cfg(test)]
 mod acts;
 #[cfg(test)]
+mod asserts;
+#[cfg(test)]
 mod crowd;
 #[cfg(test)]
 mod draining;

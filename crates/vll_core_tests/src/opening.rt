@@ -1,4 +1,5 @@
 // Cores of scenarios, and what an opening refuses.
+use crate::asserts::{equal, equal_at};
 use std::alloc::Global;
 use std::test::Fail;
 use vll_check::Library;
@@ -45,7 +46,7 @@ fn lowest_fault_of_an_opening_is_answered(rt: HostRuntime) -> Result<(), Fail> {
     ] {
         let config = Config { cap, limit, bits };
         let fault = fault_of(rt.alloc(), records, config)?;
-        assert_eq!(rt; fault, expected, "{records} {limit} {cap} {bits}");
+        equal_at(&rt, (records, limit, cap, bits), fault, expected);
     }
     Ok(())
 }
@@ -57,10 +58,11 @@ fn nothing_is_entered_at_the_opening(rt: HostRuntime) -> Result<(), Fail> {
         r#"{"version":1,"records":[7,0,18446744073709551615],"procs":[],"clients":[],
             "cap":1,"limit":1,"bits":1,"hash":"spread"}"#,
     )?;
-    assert_eq!(rt;
+    equal(
+        &rt,
         core.words(),
-        [0, 7, 0, 0, 0, 18446744073709551615, 0].as_slice()
+        [0, 7, 0, 0, 0, 18446744073709551615, 0].as_slice(),
     );
-    assert_eq!(rt; core.journal().len(), 0);
+    equal(&rt, core.journal().len(), 0);
     Ok(())
 }

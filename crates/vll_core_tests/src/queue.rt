@@ -2,6 +2,7 @@
 mod playing;
 mod scanning;
 
+use crate::asserts::equal;
 use playing::Act::{Busy, Counts, Line, Lines, Spent, Standing, Steps};
 use playing::Step::{Blocked, Finish, Free, Front, Scan};
 use playing::{config, run};
@@ -25,7 +26,7 @@ fn lowest_fault_of_a_configuration_is_answered(rt: HostRuntime) {
         (config(1, 1, 1_048_577), Some(OpenFault::Bits)),
     ] {
         let opened = Queue::open(rt.alloc(), chosen, Placing::Modulo);
-        assert_eq!(rt; opened.err(), fault);
+        equal(&rt, opened.err(), fault);
     }
 }
 
@@ -65,7 +66,7 @@ fn calls_enter_in_order_up_to_the_limit(rt: HostRuntime) -> Result<(), Fail> {
             Line(1, Some((1, 8, None))),
         ],
     )?;
-    assert_eq!(rt; lines, 2);
+    equal(&rt, lines, 2);
     Ok(())
 }
 

@@ -5,6 +5,7 @@ ghost use Rattle.vll_counters.specs.Shown.{AreNewSessions, library_of, shown_que
 ghost use Rattle.vll_counters.specs.Steps.{first_queue};
 ghost use Rattle.vll_counters.specs.Told.{has_stored_pass};
 
+use crate::asserts::{equal, fail};
 use std::process::Abort;
 use std::test::*;
 use vll_check::{CallFault, Library};
@@ -31,8 +32,12 @@ fn words_without_calls_keep_the_records(rt: HostRuntime) -> Result<(), Fail> {
     let alloc = rt.alloc();
     let library = library(alloc, 2)?;
     let (words, queue, sessions) = Words::open(alloc, &[5, 7], &library, 3)?;
-    assert_eq!(rt; sessions.len(), 3);
-    assert_eq!(rt; words.close(queue).as_slice(), [0, 5, 0, 7, 0].as_slice());
+    equal(&rt, sessions.len(), 3);
+    equal(
+        &rt,
+        words.close(queue).as_slice(),
+        [0, 5, 0, 7, 0].as_slice(),
+    );
     Ok(())
 }
 
@@ -42,7 +47,7 @@ fn ready_call(rt: &impl Abort, library: &Library, name: &str) -> Result<Call, Ca
 {
     let call = library.call(name, &[0])?;
     if !library.is_ready(&call) {
-        panic!(rt; "the call is not ready");
+        fail(rt, "the call is not ready");
     }
     Ok(call)
 }
@@ -92,7 +97,7 @@ fn enter(
     words.join_session(queue, session, Some(call));
     let requested = words.request(queue, *claim);
     if !granted(claim.mode, requested) {
-        panic!(rt; "another call has the record");
+        fail(rt, "another call has the record");
     }
     let pass = words.give_pass(queue, Ticket(0));
     let session = words.give_session(queue, None);
@@ -110,7 +115,7 @@ fn load(rt: &impl Abort, words: &Words, pass: &mut PassSeat, claim: &Claim) -> u
     ensures left { (pass.new.pass.call ≡ pass.old.pass.call) × (pass.new.pass.releases ≡ pass.old.pass.releases) × (pass.new.pass.ticket ≡ pass.old.pass.ticket) }
 {
     let Mode::Read = claim.mode else {
-        panic!(rt; "the call writes");
+        fail(rt, "the call writes");
     };
     words.load(pass, claim.id)
 }
@@ -135,15 +140,15 @@ fn change(
     ensures left { (pass.new.pass.call ≡ call.now) × (pass.new.pass.releases ≡ pass.old.pass.releases) × (pass.new.pass.ticket ≡ pass.old.pass.ticket) }
 {
     let Mode::Write = claim.mode else {
-        panic!(rt; "the call reads");
+        fail(rt, "the call reads");
     };
     let Some(procedure) = library.proc(call.number) else {
-        panic!(rt; "no procedure");
+        fail(rt, "no procedure");
     };
     let mut frame = Frame::new();
     frame.put(0, words.load(pass, claim.id));
     let Reply::Committed(_) = frame.run(procedure, call) else {
-        panic!(rt; "the call aborts");
+        fail(rt, "the call aborts");
     };
     words.store(pass, claim.id, frame.get(0));
 }
@@ -178,10 +183,10 @@ fn a_read_finds_the_record_and_leaves_no_claim(rt: HostRuntime) -> Result<(), Fa
     let (requested, mut pass, _) = enter(&rt, &words, &mut queue, session, &call, &claim);
     let loaded = load(&rt, &words, &mut pass, &claim);
     let released = end(&words, &mut queue, pass, &claim);
-    assert_eq!(rt; requested, 0);
-    assert_eq!(rt; loaded, 5);
-    assert_eq!(rt; released, 1);
-    assert_eq!(rt; words.close(queue).as_slice(), [0, 5, 0].as_slice());
+    equal(&rt, requested, 0);
+    equal(&rt, loaded, 5);
+    equal(&rt, released, 1);
+    equal(&rt, words.close(queue).as_slice(), [0, 5, 0].as_slice());
     Ok(())
 }
 
@@ -199,9 +204,9 @@ fn a_session_finds_what_a_pass_has_stored(rt: HostRuntime) -> Result<(), Fail> {
     change(&rt, &words, &library, &mut pass, &call, &claim);
     let stored = words.find(&mut session, claim.id);
     end(&words, &mut queue, pass, &claim);
-    assert_eq!(rt; first, 5);
-    assert_eq!(rt; entered, 5);
-    assert_eq!(rt; stored, 6);
-    assert_eq!(rt; words.close(queue).as_slice(), [0, 6, 0].as_slice());
+    equal(&rt, first, 5);
+    equal(&rt, entered, 5);
+    equal(&rt, stored, 6);
+    equal(&rt, words.close(queue).as_slice(), [0, 6, 0].as_slice());
     Ok(())
 }

@@ -3,6 +3,7 @@ ghost use Rattle.std.specs.Prelude.{◌≡◌};
 ghost use Rattle.vll_engine.specs.Shown.{name_of};
 ghost use Rattle.vll_sca.specs.Placing.{placing};
 
+use crate::asserts::{equal, fail};
 use crate::opening::opening_over;
 use crate::playing::{begins_free, call_of, ends, last_of, output_of, releases, started};
 use std::marker::Brand;
@@ -78,7 +79,7 @@ fn begins_beside_a_hold<N: Name, R: Wait + Abort>(
             let released = releases(rt, engine, pass);
             engine.finish(rt, released).1
         }
-        Begun::Blocked(_) | Begun::Refused(_) => panic!(rt; "the call is not free"),
+        Begun::Blocked(_) | Begun::Refused(_) => fail(rt, "the call is not free"),
     }
 }
 
@@ -110,7 +111,7 @@ fn finds_beside_a_hold<N: Name + Send + Sync, R: Wait + Threads + Abort + Sync>(
     if let Reply::Aborted(Reason::Moved) = reply {
         return true;
     }
-    assert_eq!(rt; output_of(&reply), Some(21));
+    equal(rt, output_of(&reply), Some(21));
     false
 }
 

@@ -3,6 +3,7 @@ ghost use Rattle.std.specs.Prelude.{◌≡◌};
 ghost use Rattle.vll_engine.specs.Shown.{name_of};
 ghost use Rattle.vll_sca.specs.Placing.{placing};
 
+use crate::asserts::{equal, fail, holds};
 use crate::opening::opening;
 use crate::playing::{
     begins_blocked, begins_free, bump_of, closed_of, closes, finishes, last_of, output_of,
@@ -31,7 +32,7 @@ fn bumps<N: Name, R: Wait + Abort>(
     let call = bump_of(rt, engine.library(), record);
     match engine.call(rt, session, &call) {
         Ok((ticket, reply)) => (ticket, output_of(&reply).unwrap_or(0)),
-        Err(Spent) => panic!(rt; "the engine is spent"),
+        Err(Spent) => fail(rt, "the engine is spent"),
     }
 }
 
@@ -51,8 +52,8 @@ fn bumps_often<N: Name, R: Wait + Abort>(
     let mut before: u64 = 0;
     for _ in 0..BUMPS {
         let (ticket, output) = bumps(rt, engine, &mut session, 0);
-        assert!(rt; before < output);
-        assert_eq!(rt; u64::from(ticket.0) + 1, output);
+        holds(rt, before < output);
+        equal(rt, u64::from(ticket.0) + 1, output);
         before = output;
     }
     session
@@ -63,7 +64,7 @@ fn reply_in_turn(rt: &impl Abort, lines: &[Line]) {
     let mut wanted: u64 = 0;
     for line in lines {
         wanted = wanted.saturating_add(1);
-        assert_eq!(rt; line.reply.as_ref().and_then(output_of), Some(wanted));
+        equal(rt, line.reply.as_ref().and_then(output_of), Some(wanted));
     }
 }
 
@@ -92,8 +93,8 @@ fn two_threads_bump<N: Name + Send + Sync, R: Wait + Threads + Abort + Sync>(
     put_back::<N>(rt, &mut sessions, one);
     let closed = closed_of(rt, engine, sessions);
     let bumped = 2 * BUMPS as u64;
-    assert_eq!(rt; closed.records.as_slice(), [bumped].as_slice());
-    assert_eq!(rt; closed.journal.len(), 2 * BUMPS as usize);
+    equal(rt, closed.records.as_slice(), [bumped].as_slice());
+    equal(rt, closed.journal.len(), 2 * BUMPS as usize);
     reply_in_turn(rt, closed.journal.as_slice());
 }
 
@@ -113,7 +114,7 @@ fn helps_in_a_full_queue<N: Name, R: Wait + Abort>(rt: &R, opening: Opening<Plac
     let zero = begins_free(rt, &engine, &mut session, 0, 0);
     begins_blocked(rt, &engine, &mut session, 0, 1);
     finishes(rt, &engine, zero, 1);
-    assert_eq!(rt; bumps(rt, &engine, &mut session, 0), (Ticket(2), 3));
+    equal(rt, bumps(rt, &engine, &mut session, 0), (Ticket(2), 3));
     put_back::<N>(rt, &mut sessions, session);
     closes(rt, engine, sessions, &[3], &[0, 0, 0]);
 }
@@ -130,9 +131,9 @@ fn is_spent<N: Name, R: Wait + Abort>(rt: &R, opening: Opening<Placing>)
 {
     let (engine, mut sessions) = started::<N>(opening);
     let mut session = last_of::<N>(rt, &mut sessions);
-    assert_eq!(rt; bumps(rt, &engine, &mut session, 0), (Ticket(0), 1));
+    equal(rt, bumps(rt, &engine, &mut session, 0), (Ticket(0), 1));
     let call = bump_of(rt, engine.library(), 0);
-    assert!(rt; engine.call(rt, &mut session, &call).is_err());
+    holds(rt, engine.call(rt, &mut session, &call).is_err());
     put_back::<N>(rt, &mut sessions, session);
     closes(rt, engine, sessions, &[1], &[0]);
 }
@@ -213,9 +214,9 @@ fn four_bump_the_hot<N: Name + Send + Sync, R: Wait + Threads + Abort + Sync>(
     );
     let closed = closed_of(rt, engine, sessions);
     let each = u64::from(4 * HOT_BUMPS / HOT);
-    assert_eq!(rt; closed.records.len(), HOT as usize);
+    equal(rt, closed.records.len(), HOT as usize);
     for record in closed.records.as_slice() {
-        assert_eq!(rt; *record, each);
+        equal(rt, *record, each);
     }
 }
 
@@ -256,9 +257,9 @@ fn is_one_waiting<N: Name, R: Wait + Abort>(
             engine.finish(rt, released);
             false
         }
-        Begun::Blocked(_) => panic!(rt; "the call is blocked"),
+        Begun::Blocked(_) => fail(rt, "the call is blocked"),
         Begun::Refused(why) => {
-            assert_eq!(rt; why, BeginRefusal::Busy);
+            equal(rt, why, BeginRefusal::Busy);
             true
         }
     }
@@ -279,7 +280,7 @@ fn waits_until_one_waits<N: Name, R: Wait + Abort>(
             return;
         }
     }
-    panic!(rt; "no call waits")
+    fail(rt, "no call waits")
 }
 
 // A client's bump of record 0 runs, and its pass is kept until the other client's call was seen to wait for a while.
@@ -319,8 +320,8 @@ fn waits_for_the_pass<N: Name, R: Wait + Abort>(
     }
     let mut session = session;
     let (_, output) = bumps(rt, engine, &mut session, 0);
-    assert!(rt; is_let_go.load(Ordering::SeqCst));
-    assert_eq!(rt; output, 2);
+    holds(rt, is_let_go.load(Ordering::SeqCst));
+    equal(rt, output, 2);
 }
 
 fn one_keeps_and_one_waits<N: Name + Send + Sync, R: Wait + Threads + Abort + Sync>(
@@ -347,7 +348,7 @@ fn one_keeps_and_one_waits<N: Name + Send + Sync, R: Wait + Threads + Abort + Sy
         { waits_for_the_pass(rt, engine_now, one, kept, let_go) },
     );
     let closed = closed_of(rt, engine, sessions);
-    assert_eq!(rt; closed.records.as_slice().first().copied(), Some(2));
+    equal(rt, closed.records.as_slice().first().copied(), Some(2));
 }
 
 // A call waits for a pass that another thread keeps, and with which it cannot help.

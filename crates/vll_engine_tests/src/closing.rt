@@ -3,6 +3,7 @@ ghost use Rattle.std.specs.Prelude.{◌≡◌};
 ghost use Rattle.vll_engine.specs.Shown.{name_of};
 ghost use Rattle.vll_sca.specs.Placing.{placing};
 
+use crate::asserts::equal;
 use crate::opening::opening;
 use crate::playing::{
     begins_blocked, begins_free, closes, ends, finishes, is_given, is_not_given, last_of, put_back,
@@ -25,7 +26,7 @@ fn closes_once_nothing_is_left<N: Name, R: Wait + Abort>(rt: &R, opening: Openin
     let (engine, sessions) = stays_open(rt, engine, sessions, 1, 1);
     finishes(rt, &engine, first, 1);
     let (engine, mut sessions) = stays_open(rt, engine, sessions, 0, 1);
-    assert_eq!(rt; sessions.len(), 1);
+    equal(rt, sessions.len(), 1);
     let second = is_given::<N, R>(rt, engine.next_front(rt), 1);
     finishes(rt, &engine, second, 2);
     put_back::<N>(rt, &mut sessions, session);

@@ -3,6 +3,7 @@ ghost use Rattle.std.specs.Prelude.{◌≡◌, ◌≤◌, vec_capacity};
 ghost use Rattle.vll_engine.specs.Shown.{name_of};
 ghost use Rattle.vll_sca.specs.Placing.{placing};
 
+use crate::asserts::{equal, fail, holds};
 use crate::opening::opening;
 use crate::playing::output_of;
 use crate::reopening::{LIMIT, opening_for_two, room_for_lines};
@@ -34,14 +35,17 @@ fn calls_up_to_the_limit_of_two<N: Name, R: Wait + Abort>(
     engine: &Engine<N, Placing>,
     client: &mut Client<N>,
 ) {
-    assert_eq!(rt; bumps(rt, engine, client, 0), Ok((0, 1)));
+    equal(rt, bumps(rt, engine, client, 0), Ok((0, 1)));
     let out_of_range = Err(EngineFault::Call(CallFault::RecordRange));
-    assert_eq!(rt; bumps(rt, engine, client, 1), out_of_range);
+    equal(rt, bumps(rt, engine, client, 1), out_of_range);
     let unknown = client.call(rt, engine, "no procedure", &[]);
-    assert!(rt; unknown.err() == Some(EngineFault::Call(CallFault::UnknownProc)));
-    assert_eq!(rt; bumps(rt, engine, client, 0), Ok((1, 2)));
+    holds(
+        rt,
+        unknown.err() == Some(EngineFault::Call(CallFault::UnknownProc)),
+    );
+    equal(rt, bumps(rt, engine, client, 0), Ok((1, 2)));
     let spent = Err(EngineFault::Refused(BeginRefusal::Spent));
-    assert_eq!(rt; bumps(rt, engine, client, 0), spent);
+    equal(rt, bumps(rt, engine, client, 0), spent);
 }
 
 // One client makes its calls, and the engine closes.
@@ -61,10 +65,10 @@ impl<'a, R: Wait + Abort> Service for OneCallsByName<'a, R> {
         let rt = self.rt;
         match clients.pop() {
             Some(mut client) => calls_up_to_the_limit_of_two(rt, &engine, &mut client),
-            None => panic!(rt; "there is no client"),
+            None => fail(rt, "there is no client"),
         }
         let closed = engine.close(clients.into_sessions())?;
-        assert_eq!(rt; closed.records.as_slice(), [2].as_slice());
+        equal(rt, closed.records.as_slice(), [2].as_slice());
         Ok(())
     }
 }
@@ -117,10 +121,10 @@ fn are_handed_out_and_put_back<N: Name>(
     clients: &mut Clients<N>,
 ) -> Result<(), EngineFault> {
     let taken = clients.take_all(alloc)?;
-    assert_eq!(rt; clients.len(), 0);
+    equal(rt, clients.len(), 0);
     for (number, client) in taken.into_iter().enumerate() {
-        assert!(rt; !clients.are_all());
-        assert_eq!(rt; client.number() as usize, number);
+        holds(rt, !clients.are_all());
+        equal(rt, client.number() as usize, number);
         clients.push(client)?;
     }
     Ok(())
@@ -140,7 +144,7 @@ fn two_call_in_threads<N: Name + Send + Sync, R: Wait + Threads + Abort + Sync>(
     two_threads_bump(rt, &engine, &mut clients)?;
     are_handed_out_and_put_back(rt, alloc, &mut clients)?;
     if !clients.are_all() {
-        panic!(rt; "a client is not there");
+        fail(rt, "a client is not there");
     }
     let next = engine.reopen(alloc, clients.into_sessions(), room)?;
     Ok(next.journal)
@@ -151,6 +155,6 @@ fn clients_call_in_threads_and_are_put_back(rt: HostRuntime) -> Result<(), Fail>
     let opening = opening_for_two(rt.alloc(), [5, 9])?;
     let room = room_for_lines(rt.alloc())?;
     let journal = two_call_in_threads::<Brand, HostRuntime>(&rt, rt.alloc(), opening, room)?;
-    assert_eq!(rt; journal.len(), LIMIT as usize);
+    equal(&rt, journal.len(), LIMIT as usize);
     Ok(())
 }

@@ -4,6 +4,7 @@ ghost use Rattle.vll_engine.specs.Pass.{IsFresh, IsReleased};
 ghost use Rattle.vll_engine.specs.Shown.{name_of};
 ghost use Rattle.vll_sca.specs.Placing.{placing};
 
+use crate::asserts::{equal, fail, holds};
 use crate::holding::begins_under;
 use crate::opening::opening_over;
 use crate::playing::{
@@ -46,7 +47,7 @@ fn is_moved<N: Name, R: Wait + Abort>(rt: &R, engine: &Engine<N, Placing>, pass:
 {
     let released = releases(rt, engine, pass);
     let (_, reply) = engine.finish(rt, released);
-    assert!(rt; matches!(reply, Reply::Aborted(Reason::Moved)));
+    holds(rt, matches!(reply, Reply::Aborted(Reason::Moved)));
 }
 
 // A bump runs while a call is found by its record, which it changes before that call runs.
@@ -93,13 +94,13 @@ fn begins_before_and_after_a_store<N: Name, R: Wait + Abort>(
     match before {
         Ok(pass) => {
             finishes(rt, engine, pass, 0);
-            panic!(rt; "the call before the store is free")
+            fail(rt, "the call before the store is free")
         }
-        Err(ticket) => assert_eq!(rt; ticket, Ticket(1)),
+        Err(ticket) => equal(rt, ticket, Ticket(1)),
     }
     match after {
         Ok(pass) => (pass, bump),
-        Err(_) => panic!(rt; "the call after the store is blocked"),
+        Err(_) => fail(rt, "the call after the store is blocked"),
     }
 }
 

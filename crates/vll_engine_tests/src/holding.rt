@@ -5,6 +5,7 @@ ghost use Rattle.vll_engine.specs.Pass.{IsFresh, IsReleased};
 ghost use Rattle.vll_engine.specs.Shown.{library_of, name_of};
 ghost use Rattle.vll_sca.specs.Placing.{placing};
 
+use crate::asserts::{equal, fail};
 use crate::opening::opening;
 use crate::playing::{
     begins_blocked, begins_free, bump_of, closed_of, closes, ends, finishes, is_given,
@@ -36,7 +37,7 @@ pub(crate) fn begins_under<N: Name, R: Abort>(
     match hold.begin(session, call) {
         Begun::Free(pass) => Ok(pass),
         Begun::Blocked(ticket) => Err(ticket),
-        Begun::Refused(_) => panic!(rt; "the call is refused"),
+        Begun::Refused(_) => fail(rt, "the call is refused"),
     }
 }
 
@@ -62,15 +63,15 @@ fn holds<N: Name, R: Wait + Abort>(
     let told = hold.reply(session, ticket);
     drop(hold);
     is_not_given(rt, engine, found);
-    assert_eq!(rt; ticket, Ticket(0));
-    assert_eq!(rt; output_of(&reply), Some(1));
-    assert_eq!(rt; told.as_ref().and_then(output_of), Some(1));
+    equal(rt, ticket, Ticket(0));
+    equal(rt, output_of(&reply), Some(1));
+    equal(rt, told.as_ref().and_then(output_of), Some(1));
     match begun {
         Ok(pass) => {
             finishes(rt, engine, pass, 0);
-            panic!(rt; "the call is free")
+            fail(rt, "the call is free")
         }
-        Err(ticket) => assert_eq!(rt; ticket, Ticket(2)),
+        Err(ticket) => equal(rt, ticket, Ticket(2)),
     }
     front
 }
@@ -119,7 +120,7 @@ fn begins<N: Name, R: Wait + Abort>(
     let call = bump_of(rt, engine.library(), record);
     match engine.begin(rt, session, &call) {
         Begun::Free(pass) => releases(rt, engine, pass),
-        Begun::Blocked(_) | Begun::Refused(_) => panic!(rt; "the call is not free"),
+        Begun::Blocked(_) | Begun::Refused(_) => fail(rt, "the call is not free"),
     }
 }
 
@@ -145,10 +146,10 @@ fn goes_on<N: Name, R: Wait + Abort>(
     let begun = begins_under(rt, &mut hold, session, &call);
     holders.fetch_sub(1, Ordering::SeqCst);
     drop(hold);
-    assert_eq!(rt; others, 0);
+    equal(rt, others, 0);
     match begun {
         Ok(pass) => releases(rt, engine, pass),
-        Err(_) => panic!(rt; "the next call is blocked"),
+        Err(_) => fail(rt, "the next call is blocked"),
     }
 }
 
@@ -189,13 +190,13 @@ fn are_made_in_turn(rt: &impl Abort, lines: &[Line]) {
         let output = line.reply.as_ref().and_then(output_of);
         if line.client == 0 {
             zero = zero.saturating_add(1);
-            assert_eq!(rt; output, Some(zero));
+            equal(rt, output, Some(zero));
         } else {
             one = one.saturating_add(1);
-            assert_eq!(rt; output, Some(one));
+            equal(rt, output, Some(one));
         }
         if index % 4 == 3 {
-            assert_eq!(rt; zero, one);
+            equal(rt, zero, one);
         }
     }
 }
@@ -231,8 +232,8 @@ fn bumps_by_two_threads<N: Name + Send + Sync, R: Wait + Threads + Abort + Sync>
     put_back::<N>(rt, &mut sessions, one);
     let closed = closed_of(rt, engine, sessions);
     let bumped = 2 * PAIRS as u64;
-    assert_eq!(rt; closed.records.as_slice(), [bumped, bumped].as_slice());
-    assert_eq!(rt; closed.journal.len(), 4 * PAIRS as usize);
+    equal(rt, closed.records.as_slice(), [bumped, bumped].as_slice());
+    equal(rt, closed.journal.len(), 4 * PAIRS as usize);
     are_made_in_turn(rt, closed.journal.as_slice());
 }
 

@@ -2,6 +2,7 @@
 ghost use Rattle.std.specs.Prelude.{◌≤◌, length};
 ghost use Rattle.vll_check.specs.Calls.{IsReady};
 
+use crate::asserts::{equal, holds};
 use crate::playing::output_of;
 use std::process::Abort;
 use std::test::*;
@@ -13,9 +14,9 @@ use vll_record::{Claims, MOST_CLAIMS, Mode};
 // Makes the calls of these lines one at a time. Each line has the reply that its call has then.
 pub(crate) fn judge(rt: &impl Abort, library: &Library, records: &mut [u64], lines: &[Line]) {
     for line in lines {
-        assert!(rt; library.is_ready(&line.call));
+        holds(rt, library.is_ready(&line.call));
         let reply = made(rt, library, records, &line.call);
-        assert_eq!(rt; line.reply.as_ref().map(told), Some(told(&reply)));
+        equal(rt, line.reply.as_ref().map(told), Some(told(&reply)));
     }
 }
 

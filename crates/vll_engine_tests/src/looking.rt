@@ -3,6 +3,7 @@ ghost use Rattle.std.specs.Prelude.{◌≡◌};
 ghost use Rattle.vll_engine.specs.Shown.{name_of};
 ghost use Rattle.vll_sca.specs.Placing.{placing};
 
+use crate::asserts::equal;
 use crate::opening::opening_over;
 use crate::playing::{begins_free, call_of, finishes, last_of, started};
 use std::marker::Brand;
@@ -25,9 +26,9 @@ fn looks<N: Name, R: Wait + Abort>(rt: &R, opening: Opening<Placing>)
     let beside = (engine.look(&read), engine.look(&other));
     finishes(rt, &engine, pass, 1);
     let after = (engine.look(&read), engine.look(&other));
-    assert_eq!(rt; before, (true, true));
-    assert_eq!(rt; beside, (false, true));
-    assert_eq!(rt; after, (true, true));
+    equal(rt, before, (true, true));
+    equal(rt, beside, (false, true));
+    equal(rt, after, (true, true));
 }
 
 #[test]

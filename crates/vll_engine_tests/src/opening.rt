@@ -1,6 +1,7 @@
 // Openings over the test procedures, and what an opening refuses.
 ghost use Rattle.std.specs.Prelude.{◌≡◌, IfOk};
 
+use crate::asserts::equal;
 use std::alloc::Global;
 use std::test::Fail;
 use vll_check::Library;
@@ -78,7 +79,7 @@ fn faults_of_an_opening_come_in_order(rt: HostRuntime) -> Result<(), Fail> {
     ] {
         let config = Config { cap, limit, bits };
         let fault = fault_of(rt.alloc(), records, config)?;
-        assert_eq!(rt; fault, expected);
+        equal(&rt, fault, expected);
     }
     Ok(())
 }

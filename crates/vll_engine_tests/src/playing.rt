@@ -5,6 +5,7 @@ ghost use Rattle.vll_engine.specs.Pass.{IsFresh, IsReleased};
 ghost use Rattle.vll_engine.specs.Shown.{name_of};
 ghost use Rattle.vll_sca.specs.Placing.{placing};
 
+use crate::asserts::{equal, fail, holds};
 use std::process::Abort;
 use std::sync::Wait;
 use std::test::*;
@@ -30,7 +31,7 @@ pub(crate) fn last_of<N: Name>(rt: &impl Abort, sessions: &mut Vec<Session>) -> 
 {
     match sessions.pop() {
         Some(session) => session,
-        None => panic!(rt; "there is no session"),
+        None => fail(rt, "there is no session"),
     }
 }
 
@@ -42,7 +43,7 @@ pub(crate) fn put_back<N: Name>(rt: &impl Abort, sessions: &mut Vec<Session>, se
 {
     match sessions.push(session) {
         Ok(()) => {}
-        Err(_) => panic!(rt; "there is no room for a session"),
+        Err(_) => fail(rt, "there is no room for a session"),
     }
 }
 
@@ -52,7 +53,7 @@ pub(crate) fn call_of(rt: &impl Abort, library: &Library, name: &str, record: u6
 {
     match library.call(name, &[record]) {
         Ok(call) => call,
-        Err(_) => panic!(rt; "there is no {name} of record {record}"),
+        Err(_) => fail(rt, "there is no such call"),
     }
 }
 
@@ -94,11 +95,11 @@ pub(crate) fn call_is_free<N: Name, R: Wait + Abort>(
     let call = call_of(rt, engine.library(), name, record);
     match engine.begin(rt, session, &call) {
         Begun::Free(pass) => {
-            assert_eq!(rt; pass.ticket(), Ticket(ticket));
+            equal(rt, pass.ticket(), Ticket(ticket));
             pass
         }
-        Begun::Blocked(_) => panic!(rt; "the call is blocked"),
-        Begun::Refused(_) => panic!(rt; "the call is refused"),
+        Begun::Blocked(_) => fail(rt, "the call is blocked"),
+        Begun::Refused(_) => fail(rt, "the call is refused"),
     }
 }
 
@@ -132,10 +133,10 @@ pub(crate) fn call_is_blocked<N: Name, R: Wait + Abort>(
     match engine.begin(rt, session, &call) {
         Begun::Free(pass) => {
             finishes(rt, engine, pass, 0);
-            panic!(rt; "the call is free")
+            fail(rt, "the call is free")
         }
-        Begun::Blocked(found) => assert_eq!(rt; found, Ticket(ticket)),
-        Begun::Refused(_) => panic!(rt; "the call is refused"),
+        Begun::Blocked(found) => equal(rt, found, Ticket(ticket)),
+        Begun::Refused(_) => fail(rt, "the call is refused"),
     }
 }
 
@@ -154,10 +155,10 @@ pub(crate) fn begins_refused<N: Name, R: Wait + Abort>(
     match engine.begin(rt, session, &call) {
         Begun::Free(pass) => {
             finishes(rt, engine, pass, 0);
-            panic!(rt; "the call is free")
+            fail(rt, "the call is free")
         }
-        Begun::Blocked(_) => panic!(rt; "the call is blocked"),
-        Begun::Refused(found) => assert_eq!(rt; found, refusal),
+        Begun::Blocked(_) => fail(rt, "the call is blocked"),
+        Begun::Refused(found) => equal(rt, found, refusal),
     }
 }
 
@@ -168,10 +169,10 @@ pub(crate) fn is_given<N: Name, R: Abort>(rt: &R, pass: Option<Pass>, ticket: u3
 {
     match pass {
         Some(pass) => {
-            assert_eq!(rt; pass.ticket(), Ticket(ticket));
+            equal(rt, pass.ticket(), Ticket(ticket));
             pass
         }
-        None => panic!(rt; "there is no pass for ticket {ticket}"),
+        None => fail(rt, "there is no pass"),
     }
 }
 
@@ -186,7 +187,7 @@ pub(crate) fn is_not_given<N: Name, R: Wait + Abort>(
     match pass {
         Some(pass) => {
             finishes(rt, engine, pass, 0);
-            panic!(rt; "there is a pass")
+            fail(rt, "there is a pass")
         }
         None => {}
     }
@@ -203,9 +204,9 @@ pub(crate) fn releases<N: Name, R: Abort>(
 {
     let ticket = pass.ticket();
     let done = engine.execute(pass);
-    assert_eq!(rt; done.ticket(), ticket);
+    equal(rt, done.ticket(), ticket);
     let released = engine.release(done);
-    assert_eq!(rt; released.ticket(), ticket);
+    equal(rt, released.ticket(), ticket);
     released
 }
 
@@ -220,8 +221,8 @@ pub(crate) fn ends<N: Name, R: Wait + Abort>(
 {
     let ticket = released.ticket();
     let (found, reply) = engine.finish(rt, released);
-    assert_eq!(rt; found, ticket);
-    assert_eq!(rt; output_of(&reply), Some(output));
+    equal(rt, found, ticket);
+    equal(rt, output_of(&reply), Some(output));
 }
 
 // A pass is executed, released and finished with one output.
@@ -257,8 +258,8 @@ pub(crate) fn replies<N: Name, R: Wait + Abort>(
     ensures { session.new.table ≡ N.engine.table }
 {
     let reply = engine.reply(rt, session, Ticket(ticket));
-    assert_eq!(rt; reply.is_some(), output.is_some());
-    assert_eq!(rt; reply.as_ref().and_then(output_of), output);
+    equal(rt, reply.is_some(), output.is_some());
+    equal(rt, reply.as_ref().and_then(output_of), output);
 }
 
 // What an engine leaves, which closes.
@@ -271,24 +272,24 @@ pub(crate) fn closed_of<N: Name, R: Abort>(
 {
     match engine.close(sessions) {
         Ok(closed) => closed,
-        Err(_) => panic!(rt; "calls are left"),
+        Err(_) => fail(rt, "calls are left"),
     }
 }
 
 // No claim is left open on so many records.
 fn none_is_open<R: Abort>(rt: &R, pairs: &[u64], records: usize) {
-    assert_eq!(rt; pairs.len(), records);
+    equal(rt, pairs.len(), records);
     for pair in pairs {
-        assert_eq!(rt; *pair, 0);
+        equal(rt, *pair, 0);
     }
 }
 
 // The lines are of these clients, and each has its reply.
 fn are_lines_of<R: Abort>(rt: &R, lines: &[Line], clients: &[u32]) {
-    assert_eq!(rt; lines.len(), clients.len());
+    equal(rt, lines.len(), clients.len());
     for (line, client) in lines.iter().zip(clients) {
-        assert_eq!(rt; line.client, *client);
-        assert!(rt; line.reply.is_some());
+        equal(rt, line.client, *client);
+        holds(rt, line.reply.is_some());
     }
 }
 
@@ -303,7 +304,7 @@ pub(crate) fn closes<N: Name, R: Abort>(
     requires { All (λ s. s.table ≡ N.engine.table) sessions.items }
 {
     let closed = closed_of(rt, engine, sessions);
-    assert_eq!(rt; closed.records.as_slice(), records);
+    equal(rt, closed.records.as_slice(), records);
     none_is_open(rt, closed.pairs.as_slice(), records.len());
     are_lines_of(rt, closed.journal.as_slice(), clients);
 }
@@ -320,10 +321,10 @@ pub(crate) fn stays_open<N: Name, R: Abort>(
     ensures { result.1 ≡ sessions }
 {
     match engine.close(sessions) {
-        Ok(_) => panic!(rt; "no call is left"),
+        Ok(_) => fail(rt, "no call is left"),
         Err(left) => {
-            assert_eq!(rt; left.running, running);
-            assert_eq!(rt; left.waiting, waiting);
+            equal(rt, left.running, running);
+            equal(rt, left.waiting, waiting);
             (left.engine, left.sessions)
         }
     }

@@ -3,6 +3,7 @@ ghost use Rattle.std.specs.Prelude.{◌≡◌, ◌≤◌, All, IfOk, length, vec
 ghost use Rattle.vll_engine.specs.Shown.{name_of};
 ghost use Rattle.vll_sca.specs.Placing.{placing};
 
+use crate::asserts::{equal, fail, holds};
 use crate::judging::judge;
 use crate::playing::{
     begins_blocked, begins_free, call_of, closes, finishes, is_given, last_of, put_back, started,
@@ -59,10 +60,10 @@ fn reopened<N: Name, R: Abort>(
     ensures clients { result.opening.clients ≡ 2 }
     ensures room { LIMIT ≤ vec_capacity result.journal }
 {
-    assert_eq!(rt; sessions.len(), 2);
+    holds(rt, sessions.len() == 2);
     match engine.reopen(alloc, sessions, journal) {
         Ok(reopened) => reopened,
-        Err(_) => panic!(rt; "the engine is not reopened"),
+        Err(_) => fail(rt, "the engine is not reopened"),
     }
 }
 
@@ -83,14 +84,14 @@ fn is_not_reopened<N: Name, R: Abort>(
     ensures sessions { result.1 ≡ sessions }
     ensures journal { result.2 ≡ journal }
 {
-    assert_eq!(rt; sessions.len(), 2);
+    holds(rt, sessions.len() == 2);
     match engine.reopen(alloc, sessions, journal) {
-        Ok(_) => panic!(rt; "no call is left"),
+        Ok(_) => fail(rt, "no call is left"),
         Err(NotReopened { left, journal }) => match left {
-            Ok(_) => panic!(rt; "there is no memory"),
+            Ok(_) => fail(rt, "there is no memory"),
             Err(open) => {
-                assert_eq!(rt; open.running, running);
-                assert_eq!(rt; open.waiting, waiting);
+                equal(rt, open.running, running);
+                equal(rt, open.waiting, waiting);
                 (open.engine, open.sessions, journal)
             }
         },
@@ -132,9 +133,9 @@ fn begins_anew<N: Name, R: Wait + Abort>(rt: &R, opening: Opening<Placing>)
     requires { N.engine ≡ name_of placing opening }
 {
     let (engine, mut sessions) = started::<N>(opening);
-    assert_eq!(rt; sessions.len(), 2);
+    equal(rt, sessions.len(), 2);
     let mut one = last_of::<N>(rt, &mut sessions);
-    assert_eq!(rt; one.client(), 1);
+    equal(rt, one.client(), 1);
     let mut output = 7;
     for ticket in 0..LIMIT {
         let pass = begins_free(rt, &engine, &mut one, 0, ticket);
@@ -155,7 +156,7 @@ fn reopen_hands_all_back_while_calls_are_left(rt: HostRuntime) -> Result<(), Fai
         opening,
         journal,
     );
-    assert_eq!(rt; next.journal.len(), 2);
+    equal(&rt, next.journal.len(), 2);
     begins_anew::<Brand, HostRuntime>(&rt, next.opening);
     Ok(())
 }
@@ -175,11 +176,11 @@ fn makes<N: Name, R: Wait + Abort>(
 {
     let (name, args) = asked;
     let Ok(call) = engine.library().call(name, args) else {
-        panic!(rt; "there is no {name}");
+        fail(rt, "there is no such procedure");
     };
     match engine.call(rt, session, &call) {
         Ok(_) => {}
-        Err(Spent) => panic!(rt; "the engine is spent"),
+        Err(Spent) => fail(rt, "the engine is spent"),
     }
 }
 
@@ -228,10 +229,10 @@ fn next_epoch<R: Wait + Abort>(
     ensures room { LIMIT ≤ vec_capacity result.journal }
 {
     let next = epoch::<Brand, R>(rt, alloc, opening, journal, calls);
-    assert_eq!(rt; next.journal.len(), calls.len());
+    equal(rt, next.journal.len(), calls.len());
     for line in next.journal.iter() {
         if joined.push(*line).is_err() {
-            panic!(rt; "there is no room for a line");
+            fail(rt, "there is no room for a line");
         }
     }
     next
@@ -245,44 +246,48 @@ fn ends_with<N: Name, R: Abort>(rt: &R, opening: Opening<Placing>, records: &[u6
     closes(rt, engine, sessions, records, &[]);
 }
 
+// What the two clients ask for in the first epoch, in the second and in the third.
+const FIRST: [Asked<'static>; 3] = [("bump", &[0]), ("take", &[0, 10]), ("transfer", &[1, 0, 4])];
+
+const SECOND: [Asked<'static>; 4] = [
+    ("take", &[0, 10]),
+    ("via", &[0]),
+    ("sum2", &[0, 1]),
+    ("read", &[1]),
+];
+
+const THIRD: [Asked<'static>; 2] = [("take", &[0, 10]), ("via", &[0])];
+
+// Three epochs, one behind the other: what the next one would begin with.
+fn three_epochs<R: Wait + Abort>(
+    rt: &R,
+    alloc: Global,
+    opening: Opening<Placing>,
+    journal: Vec<Line>,
+    joined: &mut Vec<Line>,
+) -> Opening<Placing>
+    requires limit { opening.config.limit ≡ LIMIT }
+    requires clients { opening.clients ≡ 2 }
+    requires room { LIMIT ≤ vec_capacity journal }
+{
+    let next = next_epoch(rt, alloc, opening, journal, &FIRST, joined);
+    let next = next_epoch(rt, alloc, next.opening, next.journal, &SECOND, joined);
+    let next = next_epoch(rt, alloc, next.opening, next.journal, &THIRD, joined);
+    next.opening
+}
+
 // Each epoch begins with the records that the one before has left: a take that aborts at first, and commits later.
 #[test]
 fn three_epochs_are_one_serial_run(rt: HostRuntime) -> Result<(), Fail> {
     let alloc = rt.alloc();
     let mut joined = Vec::with_capacity(alloc, 9)?;
-    let first = next_epoch(
-        &rt,
-        alloc,
-        opening_for_two(alloc, [5, 9])?,
-        room_for_lines(alloc)?,
-        &[("bump", &[0]), ("take", &[0, 10]), ("transfer", &[1, 0, 4])],
-        &mut joined,
-    );
-    let second = next_epoch(
-        &rt,
-        alloc,
-        first.opening,
-        first.journal,
-        &[
-            ("take", &[0, 10]),
-            ("via", &[0]),
-            ("sum2", &[0, 1]),
-            ("read", &[1]),
-        ],
-        &mut joined,
-    );
-    let third = next_epoch(
-        &rt,
-        alloc,
-        second.opening,
-        second.journal,
-        &[("take", &[0, 10]), ("via", &[0])],
-        &mut joined,
-    );
+    let opening = opening_for_two(alloc, [5, 9])?;
+    let room = room_for_lines(alloc)?;
+    let last = three_epochs(&rt, alloc, opening, room, &mut joined);
     let library = library(alloc, 2)?;
     let mut records = [5, 9];
     judge(&rt, &library, &mut records, joined.as_slice());
-    assert_eq!(rt; joined.len(), 9);
-    ends_with::<Brand, HostRuntime>(&rt, third.opening, &records);
+    equal(&rt, joined.len(), 9);
+    ends_with::<Brand, HostRuntime>(&rt, last, &records);
     Ok(())
 }

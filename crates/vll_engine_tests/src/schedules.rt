@@ -3,6 +3,7 @@ ghost use Rattle.std.specs.Prelude.{◌≡◌};
 ghost use Rattle.vll_engine.specs.Shown.{name_of};
 ghost use Rattle.vll_sca.specs.Placing.{placing};
 
+use crate::asserts::equal;
 use crate::opening::{opening, opening_of};
 use crate::playing::{
     begins_blocked, begins_free, closes, finishes, is_given, is_not_given, last_of, started,
@@ -93,7 +94,7 @@ fn scans_past_the_front<N: Name, R: Wait + Abort>(
             finishes(rt, &engine, two, 2);
         }
     }
-    assert_eq!(rt; ticket, expected);
+    equal(rt, ticket, expected);
     closes(rt, engine, sessions, &[1, 0, 0, 0, 2], &[0, 0, 0]);
 }
 

@@ -3,6 +3,7 @@ ghost use Rattle.std.specs.Prelude.{◌≡◌, ◌<◌, length};
 ghost use Rattle.vll_engine.specs.Shown.{name_of};
 ghost use Rattle.vll_sca.specs.Placing.{placing};
 
+use crate::asserts::{equal, fail};
 use crate::opening::opening;
 use crate::playing::{bump_of, closes, last_of, output_of, put_back, started};
 use crossbeam_channel::{Receiver, Sender, unbounded};
@@ -41,7 +42,7 @@ fn makes_and_tells<N: Name, R: Wait + Abort>(
             output: output_of(&reply).unwrap_or(0),
             news: engine.tell(session),
         },
-        Err(Spent) => panic!(rt; "the engine is spent"),
+        Err(Spent) => fail(rt, "the engine is spent"),
     }
 }
 
@@ -60,7 +61,7 @@ fn hears_and_makes<N: Name, R: Wait + Abort>(
     let call = bump_of(rt, engine.library(), 0);
     match engine.call(rt, session, &call) {
         Ok((ticket, reply)) => (ticket, output_of(&reply).unwrap_or(0)),
-        Err(Spent) => panic!(rt; "the engine is spent"),
+        Err(Spent) => fail(rt, "the engine is spent"),
     }
 }
 
@@ -76,9 +77,9 @@ fn tells<N: Name, R: Wait + Abort>(
 {
     let mut session = session;
     let receipt = makes_and_tells(rt, engine, &mut session);
-    assert_eq!(rt; (receipt.ticket, receipt.output), (Ticket(0), 1));
+    equal(rt, (receipt.ticket, receipt.output), (Ticket(0), 1));
     if to.send(rt, receipt).is_err() {
-        panic!(rt; "nobody hears")
+        fail(rt, "nobody hears")
     }
     session
 }
@@ -95,10 +96,10 @@ fn hears<N: Name, R: Wait + Abort>(
 {
     let mut session = session;
     let Ok(receipt) = from.recv(rt) else {
-        panic!(rt; "there is no news")
+        fail(rt, "there is no news")
     };
     let made = hears_and_makes(rt, engine, &mut session, receipt);
-    assert_eq!(rt; made, (Ticket(1), 2));
+    equal(rt, made, (Ticket(1), 2));
     session
 }
 

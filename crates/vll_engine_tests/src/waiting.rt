@@ -4,6 +4,7 @@ ghost use Rattle.vll_engine.specs.Pass.{IsFresh};
 ghost use Rattle.vll_engine.specs.Shown.{name_of};
 ghost use Rattle.vll_sca.specs.Placing.{placing};
 
+use crate::asserts::equal;
 use crate::opening::opening;
 use crate::playing::{
     begins_blocked, begins_free, closed_of, finishes, is_given, is_not_given, last_of, started,
@@ -101,7 +102,7 @@ fn scans_after_some_are_put_off<N: Name, R: Wait + Abort>(
     finishes_many(rt, &engine, 2, many);
     let closed = closed_of(rt, engine, sessions);
     let value = u64::from(many) + 1;
-    assert_eq!(rt; closed.records.as_slice(), [value, 2].as_slice());
+    equal(rt, closed.records.as_slice(), [value, 2].as_slice());
 }
 
 // While fewer than 64 wait, no scan is put off. Of more each owes one, a finished call pays for 8, and each time that a
@@ -145,7 +146,7 @@ fn scans_twice_in_a_row<N: Name, R: Wait + Abort>(rt: &R, opening: Opening<Placi
     finishes(rt, &engine, zero, 1);
     finishes_many(rt, &engine, 5, 81);
     let closed = closed_of(rt, engine, sessions);
-    assert_eq!(rt; closed.records.as_slice(), [82, 2, 2].as_slice());
+    equal(rt, closed.records.as_slice(), [82, 2, 2].as_slice());
 }
 
 #[test]

@@ -3,6 +3,7 @@ ghost use Rattle.vll_record.specs.Claim.{with_claim};
 ghost use Rattle.vll_proc.specs.Made.{IsCallOf};
 ghost use Rattle.vll_proc.specs.WellFormed.{IsWellFormed};
 
+use crate::asserts::equal;
 use sqlite_items::{Boxed, Items};
 use std::alloc::{AllocError, Global};
 use std::test::Fail;
@@ -87,13 +88,13 @@ fn committed_call_has_its_outputs(rt: HostRuntime) -> Result<(), Fail> {
     let mut frame = Frame::new();
     frame.put(0, u64::MAX - 1);
     let outputs = outputs_of(frame.run(&procedure, &call))?;
-    assert_eq!(rt; outputs.len(), 1);
-    assert_eq!(rt; outputs.get(0), Some(u64::MAX));
-    assert_eq!(rt; outputs.get(1), None);
+    equal(&rt, outputs.len(), 1);
+    equal(&rt, outputs.get(0), Some(u64::MAX));
+    equal(&rt, outputs.get(1), None);
     let mut each = outputs.iter();
-    assert_eq!(rt; each.next().copied(), Some(u64::MAX));
-    assert_eq!(rt; each.next(), None);
-    assert_eq!(rt; frame.get(0), u64::MAX);
+    equal(&rt, each.next().copied(), Some(u64::MAX));
+    equal(&rt, each.next(), None);
+    equal(&rt, frame.get(0), u64::MAX);
     Ok(())
 }
 
@@ -104,7 +105,7 @@ fn aborted_call_has_its_reason(rt: HostRuntime) -> Result<(), Fail> {
     let mut frame = Frame::new();
     frame.put(0, u64::MAX);
     let why = outputs_of(frame.run(&procedure, &call)).err();
-    assert_eq!(rt; why, Some(Reason::Overflow));
-    assert_eq!(rt; frame.get(0), u64::MAX);
+    equal(&rt, why, Some(Reason::Overflow));
+    equal(&rt, frame.get(0), u64::MAX);
     Ok(())
 }

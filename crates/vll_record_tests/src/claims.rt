@@ -1,5 +1,6 @@
 #![tactic(auto, using(vll_record::proofs::WithClaim::lengths))]
 
+use crate::asserts::{equal, holds};
 use vll_record::{Claim, Claims, MOST_CLAIMS, Mode, RecordId};
 
 fn read(id: u32) -> Claim {
@@ -23,11 +24,11 @@ fn claims_stand_in_rising_order(rt: HostRuntime) {
     claims.add(write(0));
     claims.add(read(7));
     claims.add(read(2));
-    assert_eq!(rt; claims.len(), 4);
-    assert_eq!(rt; claims.get(0), Some(write(0)));
-    assert_eq!(rt; claims.get(1), Some(read(2)));
-    assert_eq!(rt; claims.get(2), Some(read(4)));
-    assert_eq!(rt; claims.get(3), Some(read(7)));
+    equal(&rt, claims.len(), 4);
+    equal(&rt, claims.get(0), Some(write(0)));
+    equal(&rt, claims.get(1), Some(read(2)));
+    equal(&rt, claims.get(2), Some(read(4)));
+    equal(&rt, claims.get(3), Some(read(7)));
 }
 
 #[test]
@@ -36,19 +37,19 @@ fn record_read_and_written_is_one_write_claim(rt: HostRuntime) {
     claims.add(read(3));
     claims.add(write(3));
     claims.add(read(3));
-    assert_eq!(rt; claims.len(), 1);
-    assert_eq!(rt; claims.get(0), Some(write(3)));
+    equal(&rt, claims.len(), 1);
+    equal(&rt, claims.get(0), Some(write(3)));
 }
 
 #[test]
 fn no_claim_stands_from_len_on(rt: HostRuntime) {
     let mut claims = Claims::new();
-    assert_eq!(rt; claims.get(0), None);
+    equal(&rt, claims.get(0), None);
     claims.add(write(5));
     claims.add(read(1));
-    assert_eq!(rt; claims.len(), 2);
-    assert_eq!(rt; claims.get(2), None);
-    assert_eq!(rt; claims.get(MOST_CLAIMS), None);
+    equal(&rt, claims.len(), 2);
+    equal(&rt, claims.get(2), None);
+    equal(&rt, claims.get(MOST_CLAIMS), None);
 }
 
 #[test]
@@ -57,10 +58,10 @@ fn iterator_yields_each_claim_once(rt: HostRuntime) {
     claims.add(write(5));
     claims.add(read(1));
     let mut left = claims.iter();
-    assert_eq!(rt; left.next(), Some(read(1)));
-    assert_eq!(rt; left.next(), Some(write(5)));
-    assert_eq!(rt; left.next(), None);
-    assert_eq!(rt; left.next(), None);
+    equal(&rt, left.next(), Some(read(1)));
+    equal(&rt, left.next(), Some(write(5)));
+    equal(&rt, left.next(), None);
+    equal(&rt, left.next(), None);
 }
 
 #[test]
@@ -71,11 +72,11 @@ fn each_place_up_to_the_last_has_its_mode(rt: HostRuntime) {
     }
     claims.add(write(31));
     claims.add(read(0));
-    assert_eq!(rt; claims.len(), MOST_CLAIMS);
-    assert_eq!(rt; claims.get(0), Some(read(0)));
-    assert_eq!(rt; claims.get(30), Some(read(30)));
-    assert_eq!(rt; claims.get(31), Some(write(31)));
-    assert_eq!(rt; claims.get(32), None);
+    equal(&rt, claims.len(), MOST_CLAIMS);
+    equal(&rt, claims.get(0), Some(read(0)));
+    equal(&rt, claims.get(30), Some(read(30)));
+    equal(&rt, claims.get(31), Some(write(31)));
+    equal(&rt, claims.get(32), None);
 }
 
 #[test]
@@ -88,7 +89,7 @@ fn claims_are_equal_where_records_and_modes_are(rt: HostRuntime) {
     stronger.add(write(3));
     let mut more = same;
     more.add(read(4));
-    assert!(rt; claims == same);
-    assert!(rt; claims != stronger);
-    assert!(rt; claims != more);
+    holds(&rt, claims == same);
+    holds(&rt, claims != stronger);
+    holds(&rt, claims != more);
 }

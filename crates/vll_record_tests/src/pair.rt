@@ -1,3 +1,4 @@
+use crate::asserts::{equal, equal_at, holds};
 use vll_record::{Mode, Pair, delta, granted};
 
 // The mode of a request, the pair word before it, and whether it is granted: a read beside reads alone, a write alone.
@@ -16,7 +17,7 @@ const REQUESTS: [(Mode, u64, bool); 9] = [
 #[test]
 fn read_is_granted_beside_reads_alone_and_write_alone(rt: HostRuntime) {
     for (mode, old, answer) in REQUESTS {
-        assert_eq!(rt; granted(mode, old), answer, "after {old}");
+        equal_at(&rt, old, granted(mode, old), answer);
     }
 }
 
@@ -26,23 +27,27 @@ fn requests_of_two_reads_a_write_and_a_read(rt: HostRuntime) {
     let third = second + delta(Mode::Read);
     let fourth = third + delta(Mode::Write);
     let end = fourth + delta(Mode::Read);
-    assert_eq!(rt; [second, third], [1, 2]);
-    assert_eq!(rt; [fourth, end], [4294967298, 4294967299]);
-    assert!(rt; granted(Mode::Read, second));
-    assert!(rt; !granted(Mode::Write, third) && !granted(Mode::Read, fourth));
+    equal(&rt, [second, third], [1, 2]);
+    equal(&rt, [fourth, end], [4294967298, 4294967299]);
+    holds(&rt, granted(Mode::Read, second));
+    holds(
+        &rt,
+        !granted(Mode::Write, third) && !granted(Mode::Read, fourth),
+    );
 }
 
 #[test]
 fn pair_stands_in_its_word(rt: HostRuntime) {
     let pair = Pair { cx: 1, cs: 3 };
-    assert_eq!(rt; pair.word(), 4294967299);
-    assert_eq!(rt; Pair::of(4294967299), pair);
-    assert_eq!(rt; Pair::of(2), Pair { cx: 0, cs: 2 });
-    assert_eq!(rt;
+    equal(&rt, pair.word(), 4294967299);
+    equal(&rt, Pair::of(4294967299), pair);
+    equal(&rt, Pair::of(2), Pair { cx: 0, cs: 2 });
+    equal(
+        &rt,
         Pair::of(u64::MAX),
         Pair {
             cx: u32::MAX,
-            cs: u32::MAX
-        }
+            cs: u32::MAX,
+        },
     );
 }

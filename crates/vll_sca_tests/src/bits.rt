@@ -1,3 +1,4 @@
+use crate::asserts::equal;
 use std::test::Fail;
 use vll_record::Mode::{self, Read, Write};
 use vll_record::{Claim, Claims, RecordId};
@@ -50,13 +51,14 @@ impl Place for Zero {
 
 #[test]
 fn number_of_bits_is_1_to_1048576(rt: HostRuntime) {
-    assert_eq!(rt; Bits::new(rt.alloc(), 0).err(), Some(BitsFault::Size));
-    assert_eq!(rt;
+    equal(&rt, Bits::new(rt.alloc(), 0).err(), Some(BitsFault::Size));
+    equal(
+        &rt,
         Bits::new(rt.alloc(), 1_048_577).err(),
-        Some(BitsFault::Size)
+        Some(BitsFault::Size),
     );
-    assert_eq!(rt; Bits::new(rt.alloc(), 1_048_576).err(), None);
-    assert_eq!(rt; Bits::new(rt.alloc(), 1).err(), None);
+    equal(&rt, Bits::new(rt.alloc(), 1_048_576).err(), None);
+    equal(&rt, Bits::new(rt.alloc(), 1).err(), None);
 }
 
 #[test]
@@ -64,9 +66,13 @@ fn records_collide_modulo_the_number_of_bits(rt: HostRuntime) -> Result<(), Fail
     let entries = [entry(Running, Write, 0), entry(Waiting, Write, 2)];
     let mut two = Bits::new(rt.alloc(), 2)?;
     let mut three = Bits::new(rt.alloc(), 3)?;
-    assert_eq!(rt; two.scan(&Placing::Modulo, &Listed(&entries)), None);
-    assert_eq!(rt; three.scan(&Placing::Modulo, &Listed(&entries)), Some(1));
-    assert_eq!(rt; three.scan(&Zero, &Listed(&entries)), None);
+    equal(&rt, two.scan(&Placing::Modulo, &Listed(&entries)), None);
+    equal(
+        &rt,
+        three.scan(&Placing::Modulo, &Listed(&entries)),
+        Some(1),
+    );
+    equal(&rt, three.scan(&Zero, &Listed(&entries)), None);
     Ok(())
 }
 
@@ -76,10 +82,10 @@ fn reads_and_gone_entries_hold_none_back(rt: HostRuntime) -> Result<(), Fail> {
     let gone = [entry(Gone, Write, 0), entry(Waiting, Write, 0)];
     let mut one = Bits::new(rt.alloc(), 1)?;
     let mut most = Bits::new(rt.alloc(), 1_048_576)?;
-    assert_eq!(rt; one.scan(&Placing::Modulo, &Listed(&reads)), Some(1));
-    assert_eq!(rt; one.scan(&Placing::Modulo, &Listed(&gone)), Some(1));
-    assert_eq!(rt; most.scan(&Zero, &Listed(&reads)), Some(1));
-    assert_eq!(rt; most.scan(&Zero, &Listed(&gone)), Some(1));
+    equal(&rt, one.scan(&Placing::Modulo, &Listed(&reads)), Some(1));
+    equal(&rt, one.scan(&Placing::Modulo, &Listed(&gone)), Some(1));
+    equal(&rt, most.scan(&Zero, &Listed(&reads)), Some(1));
+    equal(&rt, most.scan(&Zero, &Listed(&gone)), Some(1));
     Ok(())
 }
 
@@ -91,8 +97,8 @@ fn waiting_entry_holds_later_ones_back(rt: HostRuntime) -> Result<(), Fail> {
         entry(Waiting, Read, 0),
     ];
     let mut one = Bits::new(rt.alloc(), 1)?;
-    assert_eq!(rt; one.scan(&Placing::Modulo, &Listed(&entries)), None);
-    assert_eq!(rt; one.scan(&Placing::Modulo, &Listed(&[])), None);
+    equal(&rt, one.scan(&Placing::Modulo, &Listed(&entries)), None);
+    equal(&rt, one.scan(&Placing::Modulo, &Listed(&[])), None);
     Ok(())
 }
 
@@ -107,13 +113,26 @@ fn earlier_scan_leaves_nothing(rt: HostRuntime) -> Result<(), Fail> {
     let read_waits = [entry(Waiting, Read, 1)];
     let read_below = [entry(Running, Read, 2), entry(Waiting, Write, 3)];
     let read_above = [entry(Running, Read, 3), entry(Waiting, Write, 2)];
-    assert_eq!(rt;
+    equal(
+        &rt,
         four.scan(&Placing::Modulo, &Listed(&three_entries)),
-        Some(2)
+        Some(2),
     );
-    assert_eq!(rt; four.scan(&Placing::Modulo, &Listed(&read_waits)), Some(0));
-    assert_eq!(rt; four.scan(&Placing::Modulo, &Listed(&read_below)), Some(1));
-    assert_eq!(rt; four.scan(&Placing::Modulo, &Listed(&read_above)), Some(1));
+    equal(
+        &rt,
+        four.scan(&Placing::Modulo, &Listed(&read_waits)),
+        Some(0),
+    );
+    equal(
+        &rt,
+        four.scan(&Placing::Modulo, &Listed(&read_below)),
+        Some(1),
+    );
+    equal(
+        &rt,
+        four.scan(&Placing::Modulo, &Listed(&read_above)),
+        Some(1),
+    );
     Ok(())
 }
 
@@ -127,11 +146,16 @@ fn places_past_the_first_word_are_told_apart(rt: HostRuntime) -> Result<(), Fail
         entry(Waiting, Write, 65),
     ];
     let round_the_end = [entry(Running, Read, 0), entry(Waiting, Write, 130)];
-    assert_eq!(rt; room.scan(&Placing::Modulo, &Listed(&last_twice)), None);
-    assert_eq!(rt;
+    equal(&rt, room.scan(&Placing::Modulo, &Listed(&last_twice)), None);
+    equal(
+        &rt,
         room.scan(&Placing::Modulo, &Listed(&same_bit_of_other_words)),
-        Some(2)
+        Some(2),
     );
-    assert_eq!(rt; room.scan(&Placing::Modulo, &Listed(&round_the_end)), None);
+    equal(
+        &rt,
+        room.scan(&Placing::Modulo, &Listed(&round_the_end)),
+        None,
+    );
     Ok(())
 }

@@ -1,3 +1,4 @@
+use crate::asserts::{equal, holds};
 use std::alloc::{AllocError, Global};
 use std::process::Abort;
 use std::test::Fail;
@@ -23,9 +24,9 @@ fn config_of(alloc: Global, text: &str) -> Result<Config, Fail> {
 
 // What is chosen has these numbers.
 fn check_config(rt: &impl Abort, config: Config, cap: u32, limit: u32, bits: u32) {
-    assert_eq!(rt; config.cap, cap);
-    assert_eq!(rt; config.limit, limit);
-    assert_eq!(rt; config.bits, bits);
+    equal(rt, config.cap, cap);
+    equal(rt, config.limit, limit);
+    equal(rt, config.bits, bits);
 }
 
 #[test]
@@ -62,10 +63,13 @@ fn records_scripts_hash_and_schedule_are_kept(rt: HostRuntime) -> Result<(), Fai
         r#","hash":"spread","schedule":[["enter",1],["claim"]]"#,
     )?;
     let parts = parts(rt.alloc(), text.as_str())?;
-    assert_eq!(rt; parts.records.as_slice(), [5].as_slice());
-    assert_eq!(rt; parts.scripts.len(), 2);
-    assert!(rt; matches!(parts.placing, Placing::Spread));
-    assert!(rt; matches!(parts.schedule.as_slice(), [Event::Enter(1), Event::Claim]));
+    equal(&rt, parts.records.as_slice(), [5].as_slice());
+    equal(&rt, parts.scripts.len(), 2);
+    holds(&rt, matches!(parts.placing, Placing::Spread));
+    holds(
+        &rt,
+        matches!(parts.schedule.as_slice(), [Event::Enter(1), Event::Claim]),
+    );
     Ok(())
 }
 
@@ -89,10 +93,13 @@ fn call_of(alloc: Global, text: &str) -> Result<Call, Fail> {
 #[test]
 fn call_with_an_indirect_key_claims_what_its_other_keys_name(rt: HostRuntime) -> Result<(), Fail> {
     let call = call_of(rt.alloc(), ALIAS)?;
-    assert!(rt; call.found.is_none());
-    assert_eq!(rt; call.claims.len(), 1);
+    holds(&rt, call.found.is_none());
+    equal(&rt, call.claims.len(), 1);
     let claim = call.claims.get(0).ok_or("claim")?;
-    assert!(rt; claim.id == RecordId(1) && matches!(claim.mode, Mode::Read));
-    assert!(rt; call.cells == [0; MOST_CLAIMS]);
+    holds(
+        &rt,
+        claim.id == RecordId(1) && matches!(claim.mode, Mode::Read),
+    );
+    holds(&rt, call.cells == [0; MOST_CLAIMS]);
     Ok(())
 }

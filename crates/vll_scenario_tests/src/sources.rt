@@ -1,3 +1,4 @@
+use crate::asserts::{equal, holds, holds_at};
 use std::io;
 use std::io::Read;
 use std::test::Fail;
@@ -33,8 +34,12 @@ fn source_may_give_a_byte_at_a_time(rt: HostRuntime) -> Result<(), Fail> {
         breaks: false,
     });
     let scenario = read_scenario(rt.alloc(), &mut source)?;
-    assert_eq!(rt; scenario.into_parts().records.as_slice(), [7, 5].as_slice());
-    assert!(rt; !source.has_failed());
+    equal(
+        &rt,
+        scenario.into_parts().records.as_slice(),
+        [7, 5].as_slice(),
+    );
+    holds(&rt, !source.has_failed());
     Ok(())
 }
 
@@ -46,8 +51,8 @@ fn source_that_fails_is_told_before_what_it_gave(rt: HostRuntime) {
             breaks: true,
         });
         let read = read_scenario(rt.alloc(), &mut source);
-        assert!(rt; matches!(read, Err(ScenarioFault::Read)), "{text}");
-        assert!(rt; source.has_failed(), "{text}");
+        holds_at(&rt, text, matches!(read, Err(ScenarioFault::Read)));
+        holds_at(&rt, text, source.has_failed());
     }
 }
 
@@ -55,8 +60,8 @@ fn source_that_fails_is_told_before_what_it_gave(rt: HostRuntime) {
 fn largest_source_is_read_to_its_end(rt: HostRuntime) {
     let mut source = Plain::new(io::repeat(b' ').take(16_777_216));
     let read = read_scenario(rt.alloc(), &mut source);
-    assert!(rt; matches!(read, Err(ScenarioFault::Json)));
+    holds(&rt, matches!(read, Err(ScenarioFault::Json)));
     let mut source = Plain::new(io::repeat(b' ').take(16_777_217));
     let read = read_scenario(rt.alloc(), &mut source);
-    assert!(rt; matches!(read, Err(ScenarioFault::Size)));
+    holds(&rt, matches!(read, Err(ScenarioFault::Size)));
 }

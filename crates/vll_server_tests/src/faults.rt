@@ -1,3 +1,4 @@
+use crate::asserts::equal;
 use std::alloc::{AllocError, Global};
 use std::test::Fail;
 use vll_server::{ReplayFault, ServeFault, WriteFault};
@@ -18,11 +19,11 @@ fn written(alloc: Global, fault: WriteFault) -> Result<String, AllocError> {
 #[test]
 fn fault_of_a_run_is_told_in_its_words(rt: HostRuntime) -> Result<(), Fail> {
     let no_memory = served(rt.alloc(), ServeFault::Run(RunFault::NoMemory))?;
-    assert_eq!(rt; no_memory.as_str(), "no memory");
+    equal(&rt, no_memory.as_str(), "no memory");
     let spawn = served(rt.alloc(), ServeFault::Run(RunFault::Spawn))?;
-    assert_eq!(rt; spawn.as_str(), "spawn");
+    equal(&rt, spawn.as_str(), "spawn");
     let spent = served(rt.alloc(), ServeFault::Run(RunFault::Spent))?;
-    assert_eq!(rt; spent.as_str(), "spent");
+    equal(&rt, spent.as_str(), "spent");
     Ok(())
 }
 
@@ -33,28 +34,28 @@ fn fault_of_serving_is_told(rt: HostRuntime) -> Result<(), Fail> {
         waiting: 23,
     };
     let unfinished = served(rt.alloc(), unfinished)?;
-    assert_eq!(rt; unfinished.as_str(), "unfinished 1 23");
+    equal(&rt, unfinished.as_str(), "unfinished 1 23");
     let no_memory = served(rt.alloc(), ServeFault::NoMemory)?;
-    assert_eq!(rt; no_memory.as_str(), "no memory");
+    equal(&rt, no_memory.as_str(), "no memory");
     let write = served(rt.alloc(), ServeFault::Write)?;
-    assert_eq!(rt; write.as_str(), "write");
+    equal(&rt, write.as_str(), "write");
     Ok(())
 }
 
 #[test]
 fn fault_of_a_replay_is_told(rt: HostRuntime) -> Result<(), Fail> {
     let no_memory = replayed(rt.alloc(), ReplayFault::NoMemory)?;
-    assert_eq!(rt; no_memory.as_str(), "replay: no memory");
+    equal(&rt, no_memory.as_str(), "replay: no memory");
     let write = replayed(rt.alloc(), ReplayFault::Write)?;
-    assert_eq!(rt; write.as_str(), "replay: write");
+    equal(&rt, write.as_str(), "replay: write");
     Ok(())
 }
 
 #[test]
 fn fault_of_a_text_is_told(rt: HostRuntime) -> Result<(), Fail> {
     let no_memory = written(rt.alloc(), WriteFault::NoMemory)?;
-    assert_eq!(rt; no_memory.as_str(), "no memory");
+    equal(&rt, no_memory.as_str(), "no memory");
     let write = written(rt.alloc(), WriteFault::Write)?;
-    assert_eq!(rt; write.as_str(), "write");
+    equal(&rt, write.as_str(), "write");
     Ok(())
 }

@@ -1,3 +1,4 @@
+use crate::asserts::{equal, holds};
 use std::alloc::{AllocError, Global};
 use std::hint;
 use std::sync::Wait;
@@ -103,8 +104,8 @@ impl Gate for Behind {
 fn later_call_is_done_while_the_first_is_held_back(rt: HostRuntime) {
     let gate = Behind::new(1);
     let served = is_served(&rt, rt.alloc(), TWO_CLIENTS, 2, &gate);
-    assert!(rt; served);
-    assert_eq!(rt; gate.met.load(Ordering::SeqCst), 1);
+    holds(&rt, served);
+    equal(&rt, gate.met.load(Ordering::SeqCst), 1);
 }
 
 // A scenario whose first call is on record 0, whichever client's it is. Two clients have nothing but such calls.
@@ -141,8 +142,8 @@ fn scan_goes_by_the_hash_of_the_scenario(rt: HostRuntime) -> Result<(), Fail> {
     let text = on_records_0_and_4(rt.alloc())?;
     let gate = Behind::new(3);
     let served = is_served(&rt, rt.alloc(), text.as_str(), 3, &gate);
-    assert!(rt; served);
-    assert_eq!(rt; gate.met.load(Ordering::SeqCst), 1);
+    holds(&rt, served);
+    equal(&rt, gate.met.load(Ordering::SeqCst), 1);
     Ok(())
 }
 
@@ -188,8 +189,8 @@ impl Together {
 fn six_workers_hold_six_calls_at_one_time(rt: HostRuntime) {
     let gate = Together::new(6, MOST_TURNS);
     let served = is_served(&rt, rt.alloc(), SIX_CLIENTS, 6, &gate);
-    assert!(rt; served);
-    assert_eq!(rt; gate.met.load(Ordering::SeqCst), 1);
+    holds(&rt, served);
+    equal(&rt, gate.met.load(Ordering::SeqCst), 1);
 }
 
 // A worker that begins several calls executes one after the other.
@@ -197,6 +198,6 @@ fn six_workers_hold_six_calls_at_one_time(rt: HostRuntime) {
 fn one_worker_holds_no_two_calls(rt: HostRuntime) {
     let gate = Together::new(2, 100_000);
     let served = is_served(&rt, rt.alloc(), SIX_CLIENTS, 1, &gate);
-    assert!(rt; served);
-    assert_eq!(rt; gate.met.load(Ordering::SeqCst), 0);
+    holds(&rt, served);
+    equal(&rt, gate.met.load(Ordering::SeqCst), 0);
 }

@@ -1,3 +1,4 @@
+use crate::asserts::{holds, holds_at};
 use crate::streams::{Full, Narrow};
 use std::alloc::{AllocError, Global};
 use std::test::Fail;
@@ -67,8 +68,8 @@ fn text_has_a_line_for_each_call_and_each_record(rt: HostRuntime) -> Result<(), 
     let closed = closed(rt.alloc())?;
     let mut narrow = Narrow::new(TEXT, 1_000, Full::Fails, true);
     let answer = written(rt.alloc(), &mut narrow, &closed);
-    assert!(rt; answer == Ok(()));
-    assert!(rt; narrow.lacks(0));
+    holds(&rt, answer == Ok(()));
+    holds(&rt, narrow.lacks(0));
     Ok(())
 }
 
@@ -84,8 +85,8 @@ fn failing_writer_has_taken_a_beginning(rt: HostRuntime) -> Result<(), Fail> {
     ] {
         let mut narrow = Narrow::new(TEXT, room, full, flushes);
         let answer = written(rt.alloc(), &mut narrow, &closed);
-        assert!(rt; answer == Err(WriteFault::Write), "at {room}");
-        assert!(rt; narrow.lacks(lacking), "at {room}");
+        holds_at(&rt, room, answer == Err(WriteFault::Write));
+        holds_at(&rt, room, narrow.lacks(lacking));
     }
     Ok(())
 }
@@ -116,8 +117,8 @@ fn records_and_pair_words_are_told_as_far_as_both_go(rt: HostRuntime) -> Result<
         let closed = without_calls(rt.alloc(), records, pairs)?;
         let mut narrow = Narrow::new("record 0 value 5 pair 0\n", 1_000, Full::Fails, true);
         let answer = written(rt.alloc(), &mut narrow, &closed);
-        assert!(rt; answer == Ok(()));
-        assert!(rt; narrow.lacks(0), "{records} records");
+        holds(&rt, answer == Ok(()));
+        holds_at(&rt, records, narrow.lacks(0));
     }
     Ok(())
 }

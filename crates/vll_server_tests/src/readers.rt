@@ -1,3 +1,4 @@
+use crate::asserts::{equal, holds, holds_at};
 use crate::streams::{Full, Narrow, Slow};
 use crate::texts::TRANSFER;
 use std::alloc::{AllocError, Global};
@@ -42,15 +43,15 @@ fn refused_beginnings(alloc: Global, text: &[u8], breaks: bool, fault: ScenarioF
 fn text_without_its_last_brace_is_no_json(rt: HostRuntime) {
     let text = TRANSFER.as_bytes();
     let refused = refused_beginnings(rt.alloc(), text, false, ScenarioFault::Json);
-    assert_eq!(rt; refused, text.len());
+    equal(&rt, refused, text.len());
 }
 
 #[test]
 fn failure_is_told_first(rt: HostRuntime) {
     let text = TRANSFER.as_bytes();
     let refused = refused_beginnings(rt.alloc(), text, true, ScenarioFault::Read);
-    assert_eq!(rt; refused, text.len());
-    assert!(rt; is_refused(rt.alloc(), text, true, ScenarioFault::Read));
+    equal(&rt, refused, text.len());
+    holds(&rt, is_refused(rt.alloc(), text, true, ScenarioFault::Read));
 }
 
 // The text with a byte that stands in no JSON text, at this place.
@@ -67,7 +68,7 @@ fn text_with_a_byte_255_is_no_json(rt: HostRuntime) -> Result<(), Fail> {
     for place in 0..TRANSFER.len() {
         let text = with_255_at(rt.alloc(), TRANSFER.as_bytes(), place)?;
         let refused = is_refused(rt.alloc(), text.as_slice(), false, ScenarioFault::Json);
-        assert!(rt; refused, "at {place}");
+        holds_at(&rt, place, refused);
     }
     Ok(())
 }
@@ -76,7 +77,7 @@ fn text_with_a_byte_255_is_no_json(rt: HostRuntime) -> Result<(), Fail> {
 fn spaces_without_end_are_too_many_bytes(rt: HostRuntime) {
     let mut reader = Plain::new(io::repeat(b' '));
     let read = read_scenario(rt.alloc(), &mut reader);
-    assert!(rt; matches!(&read, Err(ScenarioFault::Size)));
+    holds(&rt, matches!(&read, Err(ScenarioFault::Size)));
 }
 
 #[test]
@@ -84,5 +85,8 @@ fn replay_of_spaces_without_end_is_too_many_bytes(rt: HostRuntime) {
     let mut reader = Plain::new(io::repeat(b' '));
     let mut writer = Plain::new(Narrow::new("", 0, Full::Fails, false));
     let replayed = replay(rt.alloc(), &mut reader, &mut writer);
-    assert!(rt; replayed == Err(ReplayFault::Scenario(ScenarioFault::Size)));
+    holds(
+        &rt,
+        replayed == Err(ReplayFault::Scenario(ScenarioFault::Size)),
+    );
 }

@@ -1,3 +1,4 @@
+use crate::asserts::{equal, holds};
 use crate::streams::{Full, Narrow, Slow};
 use crate::texts::{BLOCKED, BLOCKED_TEXT, TRANSFER, TRANSFER_TEXT};
 use std::alloc::Global;
@@ -62,46 +63,46 @@ fn replayed_short(alloc: Global, full: Full) -> usize {
 
 #[test]
 fn serve_writes_a_byte_at_a_time_as_far_as_the_writer_takes_it(rt: HostRuntime) {
-    assert_eq!(rt; TRANSFER_TEXT.len(), 109);
-    assert_eq!(rt; served_short(&rt, rt.alloc(), Full::Fails), 109);
-    assert_eq!(rt; served_short(&rt, rt.alloc(), Full::TakesNothing), 109);
+    equal(&rt, TRANSFER_TEXT.len(), 109);
+    equal(&rt, served_short(&rt, rt.alloc(), Full::Fails), 109);
+    equal(&rt, served_short(&rt, rt.alloc(), Full::TakesNothing), 109);
 }
 
 #[test]
 fn serve_is_done_when_there_is_just_room(rt: HostRuntime) {
     let mut narrow = Narrow::new(TRANSFER_TEXT, 109, Full::Fails, true);
     let answer = served(&rt, rt.alloc(), &mut narrow);
-    assert!(rt; answer == Some(Ok(())));
-    assert!(rt; narrow.lacks(0));
+    holds(&rt, answer == Some(Ok(())));
+    holds(&rt, narrow.lacks(0));
 }
 
 #[test]
 fn replay_writes_a_byte_at_a_time_as_far_as_the_writer_takes_it(rt: HostRuntime) {
-    assert_eq!(rt; BLOCKED_TEXT.len(), 324);
-    assert_eq!(rt; replayed_short(rt.alloc(), Full::Fails), 324);
-    assert_eq!(rt; replayed_short(rt.alloc(), Full::TakesNothing), 324);
+    equal(&rt, BLOCKED_TEXT.len(), 324);
+    equal(&rt, replayed_short(rt.alloc(), Full::Fails), 324);
+    equal(&rt, replayed_short(rt.alloc(), Full::TakesNothing), 324);
 }
 
 #[test]
 fn replay_is_done_when_there_is_just_room(rt: HostRuntime) {
     let mut narrow = Narrow::new(BLOCKED_TEXT, 324, Full::Fails, true);
     let answer = replayed(rt.alloc(), &mut narrow);
-    assert!(rt; answer == Ok(()));
-    assert!(rt; narrow.lacks(0));
+    holds(&rt, answer == Ok(()));
+    holds(&rt, narrow.lacks(0));
 }
 
 #[test]
 fn failing_flush_is_told_when_all_is_served(rt: HostRuntime) {
     let mut narrow = Narrow::new(TRANSFER_TEXT, 1_000, Full::Fails, false);
     let answer = served(&rt, rt.alloc(), &mut narrow);
-    assert!(rt; answer == Some(Err(ServeFault::Write)));
-    assert!(rt; narrow.lacks(0));
+    holds(&rt, answer == Some(Err(ServeFault::Write)));
+    holds(&rt, narrow.lacks(0));
 }
 
 #[test]
 fn failing_flush_is_told_when_all_is_replayed(rt: HostRuntime) {
     let mut narrow = Narrow::new(BLOCKED_TEXT, 1_000, Full::Fails, false);
     let answer = replayed(rt.alloc(), &mut narrow);
-    assert!(rt; answer == Err(ReplayFault::Write));
-    assert!(rt; narrow.lacks(0));
+    holds(&rt, answer == Err(ReplayFault::Write));
+    holds(&rt, narrow.lacks(0));
 }

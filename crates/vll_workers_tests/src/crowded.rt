@@ -3,6 +3,7 @@ ghost use Rattle.std.specs.Prelude.{◌≡◌};
 ghost use Rattle.vll_engine.specs.Shown.{name_of};
 ghost use Rattle.vll_sca.specs.Placing.{placing};
 
+use crate::asserts::{equal, fail};
 use crate::opening::opening_of;
 use crate::tokens::{all_bumping, are_home, closed_of, output_of};
 use std::alloc::Global;
@@ -33,12 +34,12 @@ fn all_bump_one_record<N: Name + Send + Sync, R: Wait + Threads + Abort + Sync>(
     let tokens = all_bumping::<N>(rt, alloc, engine.library(), sessions, 1, CALLS)?;
     match run(rt, rt, alloc, &engine, tokens, MOST_WORKERS, &OpenGate) {
         Ok(tokens) => are_home(rt, tokens.as_slice(), CLIENTS as usize, CALLS),
-        Err(_) => panic!(rt; "the run has a fault"),
+        Err(_) => fail(rt, "the run has a fault"),
     }
     let closed = closed_of(rt, engine, Vec::new(alloc));
-    assert_eq!(rt; closed.records.as_slice(), [6_400].as_slice());
-    assert_eq!(rt; closed.pairs.as_slice(), [0].as_slice());
-    assert_eq!(rt; closed.journal.len(), 6_400);
+    equal(rt, closed.records.as_slice(), [6_400].as_slice());
+    equal(rt, closed.pairs.as_slice(), [0].as_slice());
+    equal(rt, closed.journal.len(), 6_400);
     are_numbered(rt, closed.journal.as_slice());
     Ok(())
 }
@@ -46,7 +47,7 @@ fn all_bump_one_record<N: Name + Send + Sync, R: Wait + Threads + Abort + Sync>(
 // The reply of each ticket is one more than the ticket.
 fn are_numbered(rt: &impl Abort, journal: &[Line]) {
     for (ticket, line) in journal.iter().enumerate() {
-        assert_eq!(rt; output_of(&line.reply), Some(ticket as u64 + 1));
+        equal(rt, output_of(&line.reply), Some(ticket as u64 + 1));
     }
 }
 

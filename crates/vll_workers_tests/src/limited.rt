@@ -3,6 +3,7 @@ ghost use Rattle.std.specs.Prelude.{◌≡◌};
 ghost use Rattle.vll_engine.specs.Shown.{name_of};
 ghost use Rattle.vll_sca.specs.Placing.{placing};
 
+use crate::asserts::{equal, fail, holds};
 use crate::gates::{Crowd, Meeting};
 use crate::opening::opening;
 use crate::tokens::{all_bumping, are_counted, are_home, closes};
@@ -29,7 +30,7 @@ fn counts_with_one_start<N: Name + Send + Sync, R: Wait + Threads + Abort + Sync
     let tokens = all_bumping::<N>(rt, alloc, engine.library(), sessions, 1, 1_000)?;
     match run_limited(rt, rt, alloc, &engine, tokens, 8, 1, &OpenGate) {
         Ok(tokens) => are_counted(rt, alloc, engine, tokens, 4, 1_000),
-        Err(_) => panic!(rt; "the run has a fault"),
+        Err(_) => fail(rt, "the run has a fault"),
     }
 }
 
@@ -50,11 +51,11 @@ fn is_refused<N: Name + Send + Sync, R: Wait + Threads + Abort + Sync>(
     let (engine, sessions) = opening.start::<N>();
     let tokens = all_bumping::<N>(rt, alloc, engine.library(), sessions, 1, 1_000)?;
     match run_limited(rt, rt, alloc, &engine, tokens, 8, 0, &OpenGate) {
-        Ok(_) => panic!(rt; "the run is well"),
+        Ok(_) => fail(rt, "the run is well"),
         Err(RunError { fault, mut tokens }) => {
-            assert_eq!(rt; fault, RunFault::Spawn);
+            equal(rt, fault, RunFault::Spawn);
             for token in tokens.as_slice() {
-                assert_eq!(rt; token.script().len(), 1_000);
+                equal(rt, token.script().len(), 1_000);
             }
             tokens.reverse();
             are_home(rt, tokens.as_slice(), 4, 0);
@@ -81,8 +82,8 @@ fn has_none<N: Name + Send + Sync, R: Wait + Threads + Abort + Sync>(
     let (engine, _) = opening.start::<N>();
     let tokens = Vec::new(alloc);
     match run_limited(rt, rt, alloc, &engine, tokens, 8, 0, &OpenGate) {
-        Ok(tokens) => assert!(rt; tokens.is_empty()),
-        Err(_) => panic!(rt; "the run has a fault"),
+        Ok(tokens) => holds(rt, tokens.is_empty()),
+        Err(_) => fail(rt, "the run has a fault"),
     }
     closes(rt, engine, Vec::new(alloc), &[0], &[]);
 }
@@ -108,7 +109,7 @@ fn runs_under<N: Name + Send + Sync, R: Wait + Threads + Abort + Sync, G: Gate +
     let tokens = all_bumping::<N>(rt, alloc, engine.library(), sessions, 8, 1)?;
     match run_limited(rt, rt, alloc, &engine, tokens, 8, 1, gate) {
         Ok(tokens) => are_home(rt, tokens.as_slice(), usize::from(clients), 1),
-        Err(_) => panic!(rt; "the run has a fault"),
+        Err(_) => fail(rt, "the run has a fault"),
     }
     Ok(())
 }
@@ -119,8 +120,8 @@ fn calling_thread_works_beside_the_one_that_is_started(rt: HostRuntime) -> Resul
     let opening = opening(rt.alloc(), 8, 2, 2)?;
     let gate = Meeting::new();
     runs_under::<Brand, HostRuntime, Meeting>(&rt, rt.alloc(), opening, 2, &gate)?;
-    assert_eq!(&rt; gate.has_begun.load(Ordering::SeqCst), 1);
-    assert!(&rt; gate.turns.load(Ordering::SeqCst) < 100_000_000);
+    equal(&rt, gate.has_begun.load(Ordering::SeqCst), 1);
+    holds(&rt, gate.turns.load(Ordering::SeqCst) < 100_000_000);
     Ok(())
 }
 
@@ -137,7 +138,7 @@ fn runs_with_eight<N: Name + Send + Sync, R: Wait + Threads + Abort + Sync, G: G
     let tokens = all_bumping::<N>(rt, alloc, engine.library(), sessions, 8, 1)?;
     match run(rt, rt, alloc, &engine, tokens, 8, gate) {
         Ok(tokens) => are_home(rt, tokens.as_slice(), 8, 1),
-        Err(_) => panic!(rt; "the run has a fault"),
+        Err(_) => fail(rt, "the run has a fault"),
     }
     Ok(())
 }
@@ -147,7 +148,7 @@ fn eight_workers_have_three_calls_at_once(rt: HostRuntime) -> Result<(), Fail> {
     let opening = opening(rt.alloc(), 8, 8, 8)?;
     let gate = Crowd::new();
     runs_with_eight::<Brand, HostRuntime, Crowd>(&rt, rt.alloc(), opening, &gate)?;
-    assert_eq!(&rt; gate.had_three.load(Ordering::SeqCst), 1);
+    equal(&rt, gate.had_three.load(Ordering::SeqCst), 1);
     Ok(())
 }
 
@@ -156,6 +157,6 @@ fn one_start_never_has_three_calls_at_once(rt: HostRuntime) -> Result<(), Fail> 
     let opening = opening(rt.alloc(), 8, 8, 8)?;
     let gate = Crowd::new();
     runs_under::<Brand, HostRuntime, Crowd>(&rt, rt.alloc(), opening, 8, &gate)?;
-    assert_eq!(&rt; gate.had_three.load(Ordering::SeqCst), 0);
+    equal(&rt, gate.had_three.load(Ordering::SeqCst), 0);
     Ok(())
 }

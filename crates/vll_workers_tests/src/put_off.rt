@@ -4,6 +4,7 @@ ghost use Rattle.vll_engine.specs.Pass.{IsFresh};
 ghost use Rattle.vll_engine.specs.Shown.{name_of};
 ghost use Rattle.vll_sca.specs.Placing.{placing};
 
+use crate::asserts::{equal, fail, holds_at};
 use crate::opening::opening_of;
 use crate::runs::{begins, ends, last_of, runs_through, waits};
 use crate::tokens::{all_bumping_of, closed_of, last_and_others};
@@ -42,7 +43,7 @@ fn ends_all<N: Name, R: Wait + Abort>(rt: &R, engine: &Engine<N, Placing>, many:
     for _ in 0..many {
         match engine.next_front(rt) {
             Some(pass) => ends(rt, engine, pass),
-            None => panic!(rt; "the front does not wait"),
+            None => fail(rt, "the front does not wait"),
         }
     }
 }
@@ -144,15 +145,15 @@ fn begins_what_looks_denied<N: Name + Send + Sync, R: Wait + Threads + Abort + S
     let tokens = all_bumping_of::<N>(rt, alloc, library, sessions, 2, u32::from(TIMES))?;
     let kept = begins(rt, &engine, &mut session, 1);
     match run(rt, rt, alloc, &engine, tokens, 1, &OpenGate) {
-        Ok(tokens) => assert_eq!(rt; tokens.len(), 2),
-        Err(_) => panic!(rt; "the run has a fault"),
+        Ok(tokens) => equal(rt, tokens.len(), 2),
+        Err(_) => fail(rt, "the run has a fault"),
     }
     ends(rt, &engine, kept);
     ends_all(rt, &engine, TIMES);
     let closed = closed_of(rt, engine, Vec::new(alloc));
     match closed.journal.iter().position(|line| line.client == 1) {
-        Some(ticket) => assert!(rt; 64 < ticket && ticket < 800, "it has ticket {ticket}"),
-        None => panic!(rt; "it has not begun"),
+        Some(ticket) => holds_at(rt, ticket, 64 < ticket && ticket < 800),
+        None => fail(rt, "it has not begun"),
     }
     Ok(())
 }

@@ -3,6 +3,7 @@ ghost use Rattle.vll_engine.specs.Pass.{IsFresh};
 ghost use Rattle.vll_engine.specs.Shown.{name_of};
 ghost use Rattle.vll_sca.specs.Placing.{placing};
 
+use crate::asserts::{equal, fail, holds};
 use crate::gates::{Meeting, Tally};
 use crate::opening::opening;
 use crate::tokens::{
@@ -36,7 +37,7 @@ fn counts<N: Name + Send + Sync, R: Wait + Threads + Abort + Sync>(
     let tokens = all_bumping::<N>(rt, alloc, engine.library(), sessions, 1, u32::from(times))?;
     match run(rt, rt, alloc, &engine, tokens, workers, &OpenGate) {
         Ok(tokens) => are_counted(rt, alloc, engine, tokens, clients, times),
-        Err(_) => panic!(rt; "the run has a fault"),
+        Err(_) => fail(rt, "the run has a fault"),
     }
 }
 
@@ -65,10 +66,10 @@ fn meet<N: Name + Send + Sync, R: Wait + Threads + Abort + Sync>(
     let gate = Meeting::new();
     match run(rt, rt, alloc, &engine, tokens, 2, &gate) {
         Ok(tokens) => are_home(rt, tokens.as_slice(), 2, 1),
-        Err(_) => panic!(rt; "the run has a fault"),
+        Err(_) => fail(rt, "the run has a fault"),
     }
-    assert_eq!(rt; gate.has_begun.load(Ordering::SeqCst), 1);
-    assert!(rt; gate.turns.load(Ordering::SeqCst) < 100_000_000);
+    equal(rt, gate.has_begun.load(Ordering::SeqCst), 1);
+    holds(rt, gate.turns.load(Ordering::SeqCst) < 100_000_000);
     closes(rt, engine, Vec::new(alloc), &[1, 1], &[1, 1]);
     Ok(())
 }
@@ -90,9 +91,9 @@ fn is_spent<N: Name + Send + Sync, R: Wait + Threads + Abort + Sync>(
     let (engine, sessions) = opening.start::<N>();
     let tokens = all_bumping::<N>(rt, alloc, engine.library(), sessions, 1, 2)?;
     match run(rt, rt, alloc, &engine, tokens, 2, &OpenGate) {
-        Ok(_) => panic!(rt; "the run is well"),
+        Ok(_) => fail(rt, "the run is well"),
         Err(RunError { fault, tokens }) => {
-            assert_eq!(rt; fault, RunFault::Spent);
+            equal(rt, fault, RunFault::Spent);
             are_home(rt, tokens.as_slice(), 1, 1);
         }
     }
@@ -126,9 +127,9 @@ fn enters_up_to_the_limit<N: Name + Send + Sync, R: Wait + Threads + Abort + Syn
     } else {
         None
     };
-    assert_eq!(rt; fault, expected);
+    equal(rt, fault, expected);
     let closed = closed_of(rt, engine, Vec::new(alloc));
-    assert_eq!(rt; closed.journal.len(), entered);
+    equal(rt, closed.journal.len(), entered);
     Ok(())
 }
 
@@ -156,12 +157,12 @@ fn has_none<N: Name + Send + Sync, R: Wait + Threads + Abort + Sync>(
     ends(rt, &engine, zero);
     let tokens = Vec::new(alloc);
     match run(rt, rt, alloc, &engine, tokens, 8, &OpenGate) {
-        Ok(tokens) => assert!(rt; tokens.is_empty()),
-        Err(_) => panic!(rt; "the run has a fault"),
+        Ok(tokens) => holds(rt, tokens.is_empty()),
+        Err(_) => fail(rt, "the run has a fault"),
     }
     match engine.next_front(rt) {
         Some(pass) => ends(rt, &engine, pass),
-        None => panic!(rt; "a worker was there"),
+        None => fail(rt, "a worker was there"),
     }
     closes(rt, engine, Vec::new(alloc), &[2], &[1, 2]);
 }
@@ -187,8 +188,8 @@ pub(crate) fn begins<N: Name, R: Wait + Abort>(
     let call = bump_of(rt, engine.library(), record);
     match engine.begin(rt, session, &call) {
         Begun::Free(pass) => pass,
-        Begun::Blocked(_) => panic!(rt; "the call is blocked"),
-        Begun::Refused(_) => panic!(rt; "the call is refused"),
+        Begun::Blocked(_) => fail(rt, "the call is blocked"),
+        Begun::Refused(_) => fail(rt, "the call is refused"),
     }
 }
 
@@ -207,10 +208,10 @@ pub(crate) fn waits<N: Name, R: Wait + Abort>(
     match engine.begin(rt, session, &call) {
         Begun::Free(pass) => {
             ends(rt, engine, pass);
-            panic!(rt; "the call is free")
+            fail(rt, "the call is free")
         }
-        Begun::Blocked(blocked) => assert_eq!(rt; blocked, ticket),
-        Begun::Refused(_) => panic!(rt; "the call is refused"),
+        Begun::Blocked(blocked) => equal(rt, blocked, ticket),
+        Begun::Refused(_) => fail(rt, "the call is refused"),
     }
 }
 
@@ -230,7 +231,7 @@ pub(crate) fn last_of<N: Name>(rt: &impl Abort, sessions: &mut Vec<Session>) -> 
 {
     match sessions.pop() {
         Some(session) => session,
-        None => panic!(rt; "there is no session"),
+        None => fail(rt, "there is no session"),
     }
 }
 
@@ -254,7 +255,7 @@ fn leaves_a_kept_pass<N: Name + Send + Sync, R: Wait + Threads + Abort + Sync>(
     let ran = runs_through(rt, alloc, &engine, idle, 0, (1, 2));
     let reply = engine.reply(rt, &mut second, Ticket(2));
     ends(rt, &engine, kept);
-    assert_eq!(rt; output_of(&reply), Some(2));
+    equal(rt, output_of(&reply), Some(2));
     closes(rt, engine, Vec::new(alloc), &[1, 2], &[1, 1, 2]);
     ran
 }
@@ -275,15 +276,15 @@ pub(crate) fn runs_through<N: Name + Send + Sync, R: Wait + Threads + Abort + Sy
     let token = bumping::<N>(rt, alloc, engine.library(), session, 1, times)?;
     tokens.push(token)?;
     match run(rt, rt, alloc, engine, tokens, 1, &gate) {
-        Ok(tokens) => assert_eq!(rt; tokens.len(), 1),
-        Err(_) => panic!(rt; "the run has a fault"),
+        Ok(tokens) => equal(rt, tokens.len(), 1),
+        Err(_) => fail(rt, "the run has a fault"),
     }
     let before = gate.before.load(Ordering::SeqCst);
     let tickets = gate.tickets.load(Ordering::SeqCst);
     let after = gate.after.load(Ordering::SeqCst);
     let told = gate.told.load(Ordering::SeqCst);
-    assert_eq!(rt; (before, tickets), executed);
-    assert_eq!(rt; (after, told), executed);
+    equal(rt, (before, tickets), executed);
+    equal(rt, (after, told), executed);
     Ok(())
 }
 

@@ -5,6 +5,7 @@ ghost use Rattle.vll_engine.specs.Shown.{name_of};
 ghost use Rattle.vll_sca.specs.Placing.{placing};
 ghost use Rattle.vll_workers.specs.Tokens.{AreFit, clients_of};
 
+use crate::asserts::{equal, holds};
 use crate::gates::Halt;
 use crate::opening::opening;
 use crate::runs::{begins, ends, waits};
@@ -114,10 +115,10 @@ fn stays_after_an_empty_round<N: Name + Send + Sync, R: Wait + Threads + Abort +
     let tokens = all_bumping_of::<N>(rt, alloc, engine.library(), sessions, 1, 0)?;
     let halt = Halt::new(Ticket(LAST_OF_CHAIN));
     let (is_well, mut session) = runs_beside(rt, alloc, &engine, tokens, session, &halt, &halt);
-    assert!(rt; is_well);
-    assert!(rt; halt.has_come.load(Ordering::SeqCst));
+    holds(rt, is_well);
+    holds(rt, halt.has_come.load(Ordering::SeqCst));
     let reply = engine.reply(rt, &mut session, Ticket(LAST_OF_CHAIN + 1));
-    assert_eq!(rt; output_of(&reply), Some(2));
+    equal(rt, output_of(&reply), Some(2));
     closes(rt, engine, Vec::new(alloc), &[2, 5], &[1, 1, 2, 3, 4, 5, 2]);
     Ok(())
 }

@@ -5,6 +5,7 @@ ghost use Rattle.vll_engine.specs.Shown.{name_of};
 ghost use Rattle.vll_sca.specs.Placing.{placing};
 ghost use Rattle.vll_workers.specs.Tokens.{AreFit, clients_of};
 
+use crate::asserts::{equal, holds};
 use crate::opening::opening_of;
 use crate::runs::{begins, ends, waits};
 use crate::tokens::{all_bumping_of, all_calling, closed_of, last_and_others};
@@ -70,10 +71,13 @@ fn tally_of<N: Name + Send + Sync, R: Wait + Threads + Abort + Sync>(
             tally: Tally::none(),
         }),
     };
-    assert!(rt; run(rt, rt, alloc, engine, tokens, workers, &gate).is_ok());
+    holds(
+        rt,
+        run(rt, rt, alloc, engine, tokens, workers, &gate).is_ok(),
+    );
     let Adding { rt: _, left } = gate;
     let left = left.into_inner();
-    assert_eq!(rt; left.workers, workers + 1);
+    equal(rt, left.workers, workers + 1);
     left.tally
 }
 
@@ -99,7 +103,7 @@ fn tally_of_calls<N: Name + Send + Sync, R: Wait + Threads + Abort + Sync>(
     let tokens = all_calling::<N>(rt, alloc, engine.library(), sessions, name, 1, CALLS)?;
     let tally = tally_of(rt, alloc, &engine, tokens, workers);
     let closed = closed_of(rt, engine, Vec::new(alloc));
-    assert_eq!(rt; closed.journal.len(), (CLIENTS * CALLS) as usize);
+    equal(rt, closed.journal.len(), (CLIENTS * CALLS) as usize);
     Ok(tally)
 }
 
@@ -128,9 +132,13 @@ fn each_call_that_waits_is_started_by_the_front_or_by_the_scan(
 ) -> Result<(), Fail> {
     for workers in [1, 2, 4] {
         let tally = tally_by(&rt, rt.alloc(), true, workers)?;
-        assert!(&rt; tally.blocked > 0);
-        assert_eq!(&rt; Some(tally.blocked), tally.front.checked_add(tally.scan));
-        assert!(&rt; tally.holds > 0);
+        holds(&rt, tally.blocked > 0);
+        equal(
+            &rt,
+            Some(tally.blocked),
+            tally.front.checked_add(tally.scan),
+        );
+        holds(&rt, tally.holds > 0);
     }
     Ok(())
 }
@@ -139,9 +147,9 @@ fn each_call_that_waits_is_started_by_the_front_or_by_the_scan(
 fn calls_without_a_conflict_never_wait(rt: HostRuntime) -> Result<(), Fail> {
     for workers in [1, 2, 4] {
         let tally = tally_by(&rt, rt.alloc(), false, workers)?;
-        assert_eq!(&rt; (tally.blocked, tally.busy), (0, 0));
-        assert_eq!(&rt; (tally.front, tally.scan), (0, 0));
-        assert!(&rt; tally.holds > 0);
+        equal(&rt, (tally.blocked, tally.busy), (0, 0));
+        equal(&rt, (tally.front, tally.scan), (0, 0));
+        holds(&rt, tally.holds > 0);
     }
     Ok(())
 }
@@ -164,8 +172,8 @@ fn is_refused_once<N: Name + Send + Sync, R: Wait + Threads + Abort + Sync>(
     ends(rt, &engine, other);
     let tally = tally_of(rt, alloc, &engine, tokens, 1);
     ends(rt, &engine, kept);
-    assert_eq!(rt; (tally.blocked, tally.busy), (0, 1));
-    assert_eq!(rt; (tally.front, tally.scan), (0, 1));
+    equal(rt, (tally.blocked, tally.busy), (0, 1));
+    equal(rt, (tally.front, tally.scan), (0, 1));
     Ok(())
 }
 

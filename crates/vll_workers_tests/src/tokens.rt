@@ -6,6 +6,7 @@ ghost use Rattle.vll_counters.specs.Shown.{AreNewSessions};
 ghost use Rattle.vll_engine.specs.Shown.{library_of};
 ghost use Rattle.vll_workers.specs.Tokens.{AreFit, IsFit, clients_of};
 
+use crate::asserts::{equal, fail};
 use std::alloc::Global;
 use std::process::Abort;
 use std::test::*;
@@ -22,7 +23,7 @@ pub(crate) fn call_of(rt: &impl Abort, library: &Library, name: &str, record: u6
 {
     match library.call(name, &[record]) {
         Ok(call) => call,
-        Err(_) => panic!(rt; "there is no {name} of record {record}"),
+        Err(_) => fail(rt, "there is no such call"),
     }
 }
 
@@ -100,7 +101,7 @@ pub(crate) fn last_and_others<N: Name>(
     let mut sessions = sessions;
     match sessions.pop() {
         Some(session) => (session, sessions),
-        None => panic!(rt; "there is no session"),
+        None => fail(rt, "there is no session"),
     }
 }
 
@@ -168,10 +169,10 @@ pub(crate) fn all_calling<N: Name>(
 
 // The tokens are of clients 0, 1 and so on, and so many calls of each have entered.
 pub(crate) fn are_home(rt: &impl Abort, tokens: &[Token], clients: usize, next: u32) {
-    assert_eq!(rt; tokens.len(), clients);
+    equal(rt, tokens.len(), clients);
     for (client, token) in tokens.iter().enumerate() {
-        assert_eq!(rt; token.client() as usize, client);
-        assert_eq!(rt; token.next(), next);
+        equal(rt, token.client() as usize, client);
+        equal(rt, token.next(), next);
     }
 }
 
@@ -206,22 +207,22 @@ pub(crate) fn closed_of<N: Name>(
 {
     match engine.close(sessions) {
         Ok(closed) => closed,
-        Err(_) => panic!(rt; "calls are left"),
+        Err(_) => fail(rt, "calls are left"),
     }
 }
 
 // No claim is left open.
 fn none_is_open(rt: &impl Abort, pairs: &[u64]) {
     for pair in pairs {
-        assert_eq!(rt; *pair, 0);
+        equal(rt, *pair, 0);
     }
 }
 
 // The lines have these outputs, in order.
 fn have_outputs(rt: &impl Abort, lines: &[Line], outputs: &[u64]) {
-    assert_eq!(rt; lines.len(), outputs.len());
+    equal(rt, lines.len(), outputs.len());
     for (line, output) in lines.iter().zip(outputs) {
-        assert_eq!(rt; output_of(&line.reply), Some(*output));
+        equal(rt, output_of(&line.reply), Some(*output));
     }
 }
 
@@ -236,7 +237,7 @@ pub(crate) fn closes<N: Name>(
     requires { All (λ s. s.table ≡ N.engine.table) sessions.items }
 {
     let closed = closed_of(rt, engine, sessions);
-    assert_eq!(rt; closed.records.as_slice(), records);
+    equal(rt, closed.records.as_slice(), records);
     none_is_open(rt, closed.pairs.as_slice());
     have_outputs(rt, closed.journal.as_slice(), outputs);
 }

@@ -5,6 +5,7 @@ ghost use Rattle.vll_engine.specs.Shown.{name_of};
 ghost use Rattle.vll_sca.specs.Placing.{placing};
 ghost use Rattle.vll_workers.specs.Tokens.{AreFit, clients_of};
 
+use crate::asserts::{equal, fail, holds};
 use crate::opening::opening;
 use crate::runs::ends;
 use crate::tokens::{all_bumping_of, call_of, closed_of, last_and_others};
@@ -66,10 +67,10 @@ impl<N: Name> Asker<N> {
         match engine.begin(rt, &mut self.session, &via) {
             Begun::Free(pass) => {
                 ends(rt, engine, pass);
-                panic!(rt; "the call is free")
+                fail(rt, "the call is free")
             }
             Begun::Blocked(_) => {}
-            Begun::Refused(_) => panic!(rt; "the call is refused"),
+            Begun::Refused(_) => fail(rt, "the call is refused"),
         }
     }
 }
@@ -176,7 +177,7 @@ fn watches<R: Abort>(rt: &R, has_ended: &AtomicBool) {
         }
         yield_now();
     }
-    panic!(rt; "the run does not end")
+    fail(rt, "the run does not end")
 }
 
 // A run that is watched is well.
@@ -207,7 +208,7 @@ fn runs_to_its_end<N: Name + Send + Sync, R: Wait + Threads + Abort + Sync, G: G
         },
         move || watches(rt, ended),
     );
-    assert!(rt; is_well);
+    holds(rt, is_well);
 }
 
 // How many calls each of four clients makes.
@@ -259,12 +260,12 @@ fn is_told_once<N: Name + Send + Sync, R: Wait + Threads + Abort + Sync>(
     let tokens = all_bumping_of::<N>(rt, alloc, engine.library(), sessions, records, CALLS)?;
     let notes = Notes::new(alloc, session, 4 * CALLS)?;
     let notes = runs_asking(rt, alloc, &engine, &engine, tokens, workers, notes);
-    assert!(rt; !notes.has_stray);
+    holds(rt, !notes.has_stray);
     for told in notes.told.as_slice() {
-        assert_eq!(rt; *told, ONCE);
+        equal(rt, *told, ONCE);
     }
     let closed = closed_of(rt, engine, Vec::new(alloc));
-    assert_eq!(rt; closed.journal.len(), 4 * CALLS as usize);
+    equal(rt, closed.journal.len(), 4 * CALLS as usize);
     Ok(())
 }
 
@@ -338,9 +339,9 @@ fn finds_the_value_before<N: Name + Send + Sync, R: Wait + Threads + Abort + Syn
     let tokens = all_bumping_of::<N>(rt, alloc, engine.library(), sessions, 2, 1)?;
     let mut asker = runs_finding(rt, alloc, &engine, &engine, tokens, session);
     let reply = asker.reply(rt, &engine, Ticket(1));
-    assert!(rt; matches!(reply, Some(Reply::Aborted(Reason::Moved))));
+    holds(rt, matches!(reply, Some(Reply::Aborted(Reason::Moved))));
     let closed = closed_of(rt, engine, Vec::new(alloc));
-    assert_eq!(rt; closed.records.as_slice(), [1, 0].as_slice());
+    equal(rt, closed.records.as_slice(), [1, 0].as_slice());
     Ok(())
 }
 

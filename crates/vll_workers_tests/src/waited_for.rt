@@ -3,6 +3,7 @@ ghost use Rattle.std.specs.Prelude.{◌≡◌};
 ghost use Rattle.vll_engine.specs.Shown.{name_of};
 ghost use Rattle.vll_sca.specs.Placing.{placing};
 
+use crate::asserts::{fail, holds};
 use crate::gates::Patient;
 use crate::opening::opening;
 use crate::tokens::{all_calling, are_home};
@@ -36,9 +37,9 @@ fn gets_all_others<N: Name + Send + Sync, R: Wait + Threads + Abort + Sync>(
     let gate = Patient::new(AWAITED);
     match run(rt, rt, alloc, &engine, tokens, 2, &gate) {
         Ok(tokens) => are_home(rt, tokens.as_slice(), 4, READS),
-        Err(_) => panic!(rt; "the run has a fault"),
+        Err(_) => fail(rt, "the run has a fault"),
     }
-    assert!(rt; gate.is_met.load(Ordering::SeqCst));
+    holds(rt, gate.is_met.load(Ordering::SeqCst));
     Ok(())
 }
 

@@ -1,6 +1,7 @@
 // What is done to a queue in tests, and what has to come of it.
 use self::Act::{Busy, Counts, Line, Lines, Spent, Standing, Steps};
 use self::Step::{Blocked, Finish, Free, Front, Scan};
+use crate::asserts::{equal, equal_at};
 use std::process::Abort;
 use vll_core::{Config, OpenFault, Queue, Ticket};
 use vll_proc::{Call, MOST_ARGS, Reason, Reply};
@@ -96,7 +97,7 @@ fn answer(queue: &mut Queue<Placing>, step: Step) -> Option<u32> {
 
 pub(super) fn play(rt: &impl Abort, queue: &mut Queue<Placing>, steps: &[(Step, Option<u32>)]) {
     for (step, ticket) in steps {
-        assert_eq!(rt; answer(queue, *step), *ticket, "{step:?}");
+        equal_at(rt, *step, answer(queue, *step), *ticket);
     }
 }
 
@@ -112,12 +113,12 @@ fn counts(queue: &Queue<Placing>) -> (u32, u32) {
 pub(super) fn perform(rt: &impl Abort, queue: &mut Queue<Placing>, act: Act) {
     match act {
         Steps(steps) => play(rt, queue, steps),
-        Counts(running, waiting) => assert_eq!(rt; counts(queue), (running, waiting)),
-        Spent(spent) => assert_eq!(rt; queue.is_spent(), spent),
-        Busy(busy) => assert_eq!(rt; queue.is_busy(), busy),
-        Standing(ticket, status) => assert_eq!(rt; queue.status(Ticket(ticket)), status),
-        Line(ticket, kept) => assert_eq!(rt; line(queue, ticket), kept),
-        Lines(count) => assert_eq!(rt; queue.journal().len(), count),
+        Counts(running, waiting) => equal(rt, counts(queue), (running, waiting)),
+        Spent(spent) => equal(rt, queue.is_spent(), spent),
+        Busy(busy) => equal(rt, queue.is_busy(), busy),
+        Standing(ticket, status) => equal(rt, queue.status(Ticket(ticket)), status),
+        Line(ticket, kept) => equal(rt, line(queue, ticket), kept),
+        Lines(count) => equal(rt, queue.journal().len(), count),
     }
 }
 
