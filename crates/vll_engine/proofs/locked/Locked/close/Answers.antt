@@ -1,4 +1,4 @@
-use Rattle.std.proofs.Common.{◌≡◌, ℕ, ◌+◌, ◌*◌, ◌≤◌, List, length, vec_capacity, ap, arith, subst, sym, ◌∙◌}
+use Rattle.std.proofs.Common.{◌≡◌, ℕ, ◌+◌, ◌*◌, ◌≤◌, List, length, vec_capacity, ap, arith, rules, subst, sym, ◌∙◌}
 use Rattle.vll_core.specs.declared.line.Line.{Line}
 use Rattle.vll_core.specs.Queue.{lines}
 use Rattle.vll_core.specs.State.{Base}
@@ -32,3 +32,6 @@ returns-clause-ended g c =
 
 pub returns-clause-sessions : goal.returns-clause-sessions
 returns-clause-sessions g c = have_calls_of c.args.sessions.items c.self.inside.seat.lines (lines c.self.inside.queue) (sym c.self.invariant.lines_are) c.visit_all.ensures.sessions
+
+pub returns-then-running-gt0-clause-running : goal.returns-then-running-gt0-clause-running
+returns-then-running-gt0-clause-running g c = search rules
