@@ -48,6 +48,7 @@ pub mod Waking
 pub mod Admitting
 pub mod RunningCalls
 pub mod RunningWorks
+pub mod NextClaims
 pub mod Ending
 pub mod Releasing
 pub mod Loading

@@ -1,6 +1,7 @@
 pub mod State
 pub mod Machine
 pub mod Moves
+pub mod Next
 pub mod Drain
 pub mod Laws
 pub mod Faults

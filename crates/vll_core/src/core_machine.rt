@@ -4,6 +4,7 @@ ghost use Rattle.vll_core.specs.Faults.{Refuses, open_fault};
 ghost use Rattle.vll_core.specs.Journal.{journal_of};
 ghost use Rattle.vll_core.specs.Machine.{entered, running_count, step, told, waiting};
 ghost use Rattle.vll_core.specs.Moves.{IsReached, hand, move};
+ghost use Rattle.vll_core.specs.Next.{claim_of, line_of_turn};
 ghost use Rattle.vll_core.specs.Shown.{AreWords, after, begun, library_of, opening_of};
 ghost use Rattle.vll_core.specs.State.{Entered};
 
@@ -18,6 +19,7 @@ use std::alloc::Global;
 use std::marker::Model;
 use vll_check::Library;
 use vll_proc::Call;
+use vll_record::Claim;
 use vll_sca::{Place, Status};
 
 mod drain;
@@ -105,6 +107,21 @@ impl<H: Place> Core<H> {
         ensures { result ≡ option_map (λ (e : Entered). e.status) (slice_get self.now.state.entries ticket) }
     {
         self.machine.state(ticket)
+    }
+
+    /// The claim that an event would be of, if it were made now: the next one that the call of the open turn requests,
+    /// or that a running call loads, stores or releases. `None` if there is none, and for any other event.
+    pub fn claim_of(&self, event: Event) -> Option<Claim>
+        ensures { result ≡ claim_of self.now.state event }
+    {
+        self.machine.claim_of(event)
+    }
+
+    /// The line that the call of the open turn gets as it enters, if a turn is open.
+    pub fn line_of_turn(&self) -> Option<Line>
+        ensures { result ≡ option_map line_of_turn self.now.state.turn }
+    {
+        self.machine.line_of_turn()
     }
 
     /// How many entered calls wait. It looks at no entry.

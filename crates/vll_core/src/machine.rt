@@ -26,6 +26,7 @@ use vll_check::Library;
 use vll_proc::Call;
 use vll_sca::{Place, Status};
 
+mod aims;
 mod ending;
 mod enter;
 mod running;
