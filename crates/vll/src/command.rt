@@ -99,46 +99,59 @@ pub(crate) fn action_of(alloc: Global, words: &[String]) -> Result<Action, Fault
 }
 
 fn matches_of<'a>(alloc: Global, words: &'a [String]) -> Result<ArgMatches<'a>, Error> {
-    let run = Command::new(alloc, "run")
-        .about("Runs the scenario on standard input and prints its outcome")
-        .after_help(RUN_EXAMPLES)
-        .arg(number::<MOST_WORKERS>(alloc, "workers", WORKERS).default_value("4"))?
-        .arg(number::<MOST_WAITING>(alloc, "cap", CAP))?
-        .arg(number::<MOST_BITS>(alloc, "bits", BITS))?;
-    let replay = Command::new(alloc, "replay")
-        .about(
-            "Takes the steps of the schedule of the scenario on standard input, and prints what each answers",
-        )
-        .after_help(REPLAY_EXAMPLE);
-    let explain = Command::new(alloc, "explain")
-        .about("Explains why the scenario on standard input is refused, or tells what it has")
-        .after_help(EXPLAIN_EXAMPLE);
     Command::new(alloc, "vll")
         .about("Runs the calls of a scenario as transactions")
         .version(VERSION)
         .after_help(EXAMPLES)
         .subcommand_required(true)
-        .subcommand(run)?
-        .subcommand(replay)?
-        .subcommand(explain)?
+        .subcommand(run_command(alloc)?)?
+        .subcommand(replay_command(alloc))?
+        .subcommand(explain_command(alloc))?
         .subcommand(draw_command(alloc)?)?
         .try_get_matches_from(words)
 }
 
+fn run_command<'a>(alloc: Global) -> Result<Command<'a>, AllocError> {
+    Command::new(alloc, "run")
+        .about("Runs the scenario on standard input and prints its outcome")
+        .after_help(RUN_EXAMPLES)
+        .arg(number::<MOST_WORKERS>(alloc, "workers", WORKERS).default_value("4"))?
+        .arg(number::<MOST_WAITING>(alloc, "cap", CAP))?
+        .arg(number::<MOST_BITS>(alloc, "bits", BITS))
+}
+
+fn replay_command<'a>(alloc: Global) -> Command<'a> {
+    Command::new(alloc, "replay")
+        .about(
+            "Takes the steps of the schedule of the scenario on standard input, and prints what each answers",
+        )
+        .after_help(REPLAY_EXAMPLE)
+}
+
+fn explain_command<'a>(alloc: Global) -> Command<'a> {
+    Command::new(alloc, "explain")
+        .about("Explains why the scenario on standard input is refused, or tells what it has")
+        .after_help(EXPLAIN_EXAMPLE)
+}
+
 fn draw_command<'a>(alloc: Global) -> Result<Command<'a>, AllocError> {
-    let from = Arg::new(alloc, "from")
-        .long("from")
-        .value_name("N")
-        .value_parser(value_parser!(u32).range(0..=i64::from(MOST_EVENTS as u32)))
-        .default_value("0")
-        .help(FROM);
     Command::new(alloc, "draw")
         .about(
             "Writes a page that draws the replay of the schedule of the scenario on standard input",
         )
         .after_help(DRAW_EXAMPLES)
-        .arg(from)?
+        .arg(from_option(alloc))?
         .arg(number::<MOST_COLUMNS>(alloc, "count", COUNT).default_value("360"))
+}
+
+// The option `--from`.
+fn from_option<'a>(alloc: Global) -> Arg<'a> {
+    Arg::new(alloc, "from")
+        .long("from")
+        .value_name("N")
+        .value_parser(value_parser!(u32).range(0..=i64::from(MOST_EVENTS as u32)))
+        .default_value("0")
+        .help(FROM)
 }
 
 // The option `--NAME`, which takes a whole number from 1 to `MOST`.

@@ -5,8 +5,8 @@ use Rattle.std.specs.Fmt.{decimal}
 use Rattle.std.specs.Str.Lines.{lines}
 use Rattle.vll_scenario.specs.Setup.{Setup}
 use Rattle.vll_scenario.specs.Reading.{IsRead}
-use Rattle.vll_server.specs.Replay.{text_of_setup}
-use Rattle.vll_server.specs.Text.{Text}
+use Rattle.vll_replay.specs.Replay.{text_of_setup}
+use Rattle.vll_replay.specs.Text.{Text}
 
 -- the item of a line, with the line's number from 0
 abbrev pub item : ℕ × Text → Text

@@ -1,35 +1,29 @@
 //! A scenario in, and the page of its replay out.
-ghost use Rattle.std.specs.Prelude.{◌≡◌, ◌↔◌, ◌++◌, false, true, Err, IfOk, OnOk, string_bytes};
+ghost use Rattle.std.specs.Prelude.{◌≡◌, ◌↔◌, false, true, Err, IfOk, OnOk, string_bytes};
 ghost use Rattle.std.specs.Io.KnownBytes.{Appends};
-ghost use Rattle.std.specs.List.{enumerate_from, flat_map};
-ghost use Rattle.vll_sca.specs.Placing.{placing};
-ghost use Rattle.vll_core.specs.Machine.{answers, run};
-ghost use Rattle.vll_core.specs.Shown.{opening_of};
 ghost use Rattle.vll_scenario.specs.Streams.{AppendsBeginning};
 ghost use Rattle.vll_scenario.specs.declared.fault.ScenarioFault.{ScenarioFault};
 ghost use Rattle.vll_scenario.specs.declared.fault.ScenarioFault.TheVariants.{Read};
 ghost use Rattle.vll_scenario.specs.Reading.{IsRead};
-ghost use Rattle.vll_server.specs.Replay.{Replays, text_of_setup};
-ghost use Rattle.vll_server.specs.ReplayText.{event_line};
+ghost use Rattle.vll_core.specs.Machine.{opened};
+ghost use Rattle.vll_replay.specs.Replay.{Replays, opening_for, text_of_setup};
+ghost use Rattle.vll_replay.specs.Steps.{steps};
 ghost use Rattle.vll_draw.specs.Page.{Draws, Lists};
+ghost use Rattle.vll_draw.specs.Taped.{HasTaped};
 ghost use Rattle.vll_draw.specs.declared.fault.DrawFault.TheVariants as fault;
 
-use crate::band::{Band, push_band};
 use crate::fault::DrawFault;
-use crate::markup::BAND;
-use crate::page::{Counts, push_head, push_heading, with_list};
-use crate::scene::{Scene, Standing};
-use crate::tape::{Phase, Tape};
+use crate::page::with_list;
+use crate::tape::Tape;
 use crate::window::Window;
 use std::alloc::{AllocError, Global};
-use vll_core::{Core, Event};
-use vll_record::MOST_CLAIMS;
+use vll_core::Core;
+use vll_picture::{Counts, Scene, push_bands, push_head, push_heading};
+use vll_replay::text_of_replay;
 use vll_sca::Placing;
-use vll_server::{
-    Scenario, Sink, Source, core_of, push_event_line, push_state, read_scenario, write_text,
-};
+use vll_scenario::{Scenario, Sink, Source, read_scenario, write_text};
 
-/// Reads a scenario, replays its schedule as `replay` of `vll_server` does, and writes an HTML page. Its drawings show
+/// Reads a scenario, replays its schedule as `replay` of `vll_replay` does, and writes an HTML page. Its drawings show
 /// the events of the window, and below them stands a list of the lines of the replay's text, all of them.
 ///
 /// The page is made whole before its first byte is written. After `Scenario` and `NoMemory` nothing has been
@@ -63,118 +57,66 @@ pub fn draw<S: Source, W: Sink>(
 fn page_of(alloc: Global, scenario: Scenario, window: Window) -> Result<String, AllocError>
     ensures { IfOk result (λ page. Lists (string_bytes page) (text_of_setup scenario)) }
 {
-    let mut tape = Tape::new(alloc, window);
-    let (text, core) = text_of_replay(alloc, scenario, &mut tape)?;
-    let drawn = drawings_of(alloc, core, tape, text.as_str())?;
+    let first = window.from as usize;
+    let Taped { text, core, tape } = watched(alloc, scenario, window)?;
+    let drawn = drawings_of(alloc, core, tape, first)?;
     with_list(drawn, text.as_str())
 }
 
-// The text of a scenario's replay, and the machine as it stands at its end. The tape gets what the drawing needs.
-fn text_of_replay(
-    alloc: Global,
-    scenario: Scenario,
-    tape: &mut Tape,
-) -> Result<(String, Core<Placing>), AllocError>
-    ensures { IfOk result (λ made. string_bytes made.0 ≡ text_of_setup scenario) }
-{
-    let (core, schedule) = core_of(alloc, scenario)?;
-    let mut core = core;
-    let mut text = String::new(alloc);
-    push_event_lines(&mut text, &mut core, schedule.as_slice(), tape)?;
-    push_state(&mut text, &core)?;
-    Ok((text, core))
+// A replay with what the drawing needs of it.
+#[derive(Drop)]
+struct Taped {
+    text: String,
+    core: Core<Placing>,
+    tape: Tape,
 }
 
-// Makes the events one after the other, appends a line for each, and keeps what the drawing needs.
-fn push_event_lines(
-    text: &mut String,
-    core: &mut Core<Placing>,
-    schedule: &[Event],
-    tape: &mut Tape,
-) -> Result<(), AllocError>
-    ensures text { OnOk result (string_bytes text.new ≡ string_bytes text.old
-        ++ flat_map event_line (enumerate_from 0 (answers (opening_of placing core.old) core.old.state schedule.now))) }
-    ensures core { OnOk result (core.new ≡ record core.old { state = run (opening_of placing core.old) core.old.state schedule.now }) }
+// The text of a scenario's replay, the machine as it stands at its end, and what was kept of the events that are drawn.
+fn watched(alloc: Global, scenario: Scenario, window: Window) -> Result<Taped, AllocError>
+    ensures text { IfOk result (λ made. string_bytes made.text ≡ text_of_setup scenario) }
+    ensures tape { IfOk result (λ made. HasTaped (opening_for scenario).base window
+        (steps (opening_for scenario) (opened scenario.scripts) scenario.schedule) made.tape) }
 {
-    for (index, event) in schedule.iter().enumerate() {
-        tape.look(core)?;
-        let told = core.step(*event);
-        push_event_line(text, index, &told)?;
-        tape.note(core, *event, &told)?;
-    }
-    Ok(())
+    let mut tape = Tape::new(alloc, window);
+    let (text, core) = text_of_replay(alloc, scenario, &mut tape)?;
+    Ok(Taped { text, core, tape })
 }
 
-// The page up to its list.
+// The page up to its list. The first event that is drawn has this number.
 fn drawings_of(
     alloc: Global,
     core: Core<Placing>,
     tape: Tape,
-    text: &str,
+    first: usize,
 ) -> Result<String, AllocError> {
-    let mut core = core;
-    let mut page = String::new(alloc);
-    let first = tape.first();
-    let events = tape.events;
-    let Tape {
-        columns,
-        words,
-        phases,
-        ..
-    } = tape;
     let counts = Counts {
         calls: core.journal().len(),
         records: core.words().len() / 2,
-        events,
+        events: tape.events,
         first,
-        drawn: columns.len(),
+        drawn: tape.columns.len(),
     };
-    push_head(&mut page, counts)?;
-    close_turn(&mut core);
+    let coming = core.line_of_turn();
     let (machine, library) = core.into_parts();
-    let lines = text
-        .lines()
-        .skip(first)
-        .take(columns.len())
-        .collect::<Vec<&str>>(alloc)?;
+    let (_, mut journal) = machine.into_parts();
+    if let Some(line) = coming {
+        journal.push(line)?;
+    }
+    let Tape {
+        columns,
+        standing,
+        ..
+    } = tape;
     let scene = Scene {
+        alloc,
         first,
         columns: columns.as_slice(),
-        lines: lines.as_slice(),
-        journal: machine.journal(),
+        journal: journal.as_slice(),
         library: &library,
     };
-    push_bands(alloc, &mut page, &scene, Standing { words, phases })?;
+    let mut page = String::new(alloc);
+    push_head(&mut page, counts)?;
+    push_bands(&mut page, &scene, standing)?;
     push_heading(&mut page)?;
     Ok(page)
-}
-
-// Lets the call whose turn is open enter, so that its claims are known.
-fn close_turn(core: &mut Core<Placing>) {
-    for _ in 0..MOST_CLAIMS {
-        let _ = core.step(Event::Claim);
-    }
-    let _ = core.step(Event::Admit);
-}
-
-// Appends the drawings, band by band, from what stood before the first event on.
-fn push_bands(
-    alloc: Global,
-    page: &mut String,
-    scene: &Scene<'_>,
-    before: Standing,
-) -> Result<(), AllocError> {
-    let mut standing = before;
-    for _ in standing.phases.len()..scene.journal.len() {
-        standing.phases.push(Phase::Outside)?;
-    }
-    let mut start: usize = 0;
-    for columns in scene.columns.chunks(BAND) {
-        push_band(alloc, page, scene, &standing, Band { start, columns })?;
-        for column in columns {
-            standing.pass(scene, column);
-        }
-        start = start.saturating_add(columns.len());
-    }
-    Ok(())
 }

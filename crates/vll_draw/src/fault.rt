@@ -1,5 +1,5 @@
 use thiserror::Error;
-use vll_server::ScenarioFault;
+use vll_scenario::ScenarioFault;
 
 /// Why a page was not written whole.
 #[derive(Clone, Copy, PartialEq, Eq, Debug, Error)]

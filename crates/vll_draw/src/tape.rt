@@ -1,253 +1,235 @@
 //! What is kept of a replay while it runs, for the drawing: the events of the window, and what stood before them.
+ghost use Rattle.std.specs.Prelude.{◌≡◌, ◌<◌, [], List, IfOk, IfSome, OnOk, length, slice_index};
+ghost use Rattle.vll_core.specs.State.{Base};
+ghost use Rattle.vll_core.specs.Shown.{AreWords};
+ghost use Rattle.vll_core.specs.Next.{claim_of};
+ghost use Rattle.vll_replay.specs.Steps.{Step};
+ghost use Rattle.vll_picture.specs.Columns.{AreWordsOf, IsColumn, ticket_in, ticket_seen};
+ghost use Rattle.vll_draw.specs.Taped.{HasTaped, StandsBefore};
+ghost use Rattle.vll_draw.specs.declared.window.Window.{Window};
+
 use crate::window::Window;
 use std::alloc::{AllocError, Global};
 use vll_core::{Core, Event, Refusal, Seen, Ticket};
-use vll_record::{Claim, Claims, Mode, value_word};
+use vll_picture::{Column, Phase, RecordWords, Standing};
+use vll_proc::Reply;
+use vll_record::{Claim, RecordId, pair_word, value_word};
+use vll_replay::Observer;
 use vll_sca::{Placing, Status};
-
-/// Where a call is on its way.
-#[derive(Clone, Copy, PartialEq, Eq, Debug)]
-pub(crate) enum Phase {
-    /// It has not entered.
-    Outside,
-    /// Its turn is open.
-    Turn,
-    Waiting,
-    Running,
-    Gone,
-}
-
-/// What an event was answered, as far as it is drawn.
-#[derive(Clone, Copy, PartialEq, Eq, Debug)]
-pub(crate) enum Answer {
-    /// The turn of a call is open.
-    Opened,
-    /// The pair word before the request, and whether it was granted.
-    Claimed { old: u64, granted: bool },
-    Free,
-    Blocked,
-    Run,
-    /// The pair word before the release.
-    Released(u64),
-    Replied,
-    /// Another answer, or a refusal.
-    Other,
-}
-
-/// An event of the window, and what came of it.
-#[derive(Clone, Copy)]
-pub(crate) struct Column {
-    pub(crate) event: Event,
-    pub(crate) answer: Answer,
-    /// The ticket of the call that the event was of, or that the call of the open turn gets. None if it was refused,
-    /// or was of no call that has entered.
-    pub(crate) ticket: Option<usize>,
-    /// Which of the call's claims it was of, in their order; of a store, which of those for writing.
-    pub(crate) step: usize,
-    /// Of a store, the record's value after it.
-    pub(crate) value: u64,
-}
-
-// How many loads, stores and releases an entered call has made.
-#[derive(Clone, Copy)]
-struct Steps {
-    loads: usize,
-    stores: usize,
-    releases: usize,
-}
 
 /// What was kept.
 #[derive(Drop)]
 pub(crate) struct Tape {
-    window: Window,
+    alloc: Global,
     /// How many events there were so far.
     pub(crate) events: usize,
+    /// How many are still to come before those that are drawn.
+    pub(crate) ahead: u32,
+    /// How many are drawn at most.
+    pub(crate) most: u32,
     pub(crate) columns: Vec<Column>,
-    /// The words of the machine before the window, and where each entered call was.
-    pub(crate) words: Vec<u64>,
-    pub(crate) phases: Vec<Phase>,
-    // By ticket.
-    steps: Vec<Steps>,
-    // How many claims of the open turn were requested.
-    requested: usize,
+    /// The words of the machine before the first event that is drawn, and where each entered call was.
+    pub(crate) standing: Standing,
+    /// The claim that the event to come is of.
+    pub(crate) claim: Option<Claim>,
 }
 
 impl Tape {
-    pub(crate) fn new(alloc: Global, window: Window) -> Tape {
+    pub(crate) fn new(alloc: Global, window: Window) -> Tape
+        ensures { (b : Base) → HasTaped b window [] result }
+    {
         Tape {
-            window,
+            alloc,
             events: 0,
+            ahead: window.from,
+            most: window.count.get(),
             columns: Vec::new(alloc),
-            words: Vec::new(alloc),
-            phases: Vec::new(alloc),
-            steps: Vec::new(alloc),
-            requested: 0,
+            standing: Standing {
+                words: Vec::new(alloc),
+                phases: Vec::new(alloc),
+            },
+            claim: None,
         }
     }
 
-    /// The number of the first event that is drawn.
-    pub(crate) fn first(&self) -> usize {
-        self.window.from as usize
-    }
-
-    /// Looks at the machine before an event.
-    pub(crate) fn look(&mut self, core: &Core<Placing>) -> Result<(), AllocError> {
-        if self.events == self.first() {
-            self.words.extend_from_slice(core.words())?;
-            for ticket in 0..core.journal().len() {
-                self.phases
-                    .push(phase_of(core.state(Ticket(ticket as u32))))?;
-            }
+    // Keeps what stands before an event, if that is the first one that is drawn.
+    fn stand(&mut self, core: &Core<Placing>) -> Result<(), AllocError>
+        ensures stands { OnOk result ((w : Window) (past : List Step) → HasTaped core.now.base w past self.old
+            → HasTaped core.now.base w past self.new × StandsBefore core.now.base w past core.now.state self.new) }
+        ensures claim { OnOk result (self.new.claim ≡ self.old.claim) }
+    {
+        if self.ahead > 0 {
+            return Ok(());
         }
+        if !self.columns.is_empty() {
+            return Ok(());
+        }
+        self.standing = standing_of(self.alloc, core)?;
+        Ok(())
+    }
+}
+
+impl Observer for Tape {
+    ghost use Rattle.vll_draw.specs.Taped.{HasTaped, Tapes};
+    ghost use Rattle.vll_draw.specs.declared.window.Window.{Window};
+
+    ghost Task = { Window };
+
+    ghost saw = { λ w o past tape. HasTaped o.base w past tape };
+
+    ghost looks = { λ w o past s event tape. Tapes o.base w past s event tape };
+
+    fn before(&mut self, core: &Core<Placing>, event: &Event) -> Result<(), AllocError> {
+        self.stand(core)?;
+        self.claim = core.claim_of(*event);
         Ok(())
     }
 
-    /// Notes an event, and what the machine that has made it answered.
-    pub(crate) fn note(
+    fn after(
         &mut self,
         core: &Core<Placing>,
-        event: Event,
+        event: &Event,
         told: &Result<Seen, Refusal>,
     ) -> Result<(), AllocError> {
-        let column = self.column_of(core, event, told)?;
-        let index = self.events;
-        self.events = index.saturating_add(1);
-        let last = self
-            .first()
-            .saturating_add(self.window.count.get() as usize);
-        if self.first() <= index && index < last {
-            self.columns.push(column)?;
+        self.events = self.events.saturating_add(1);
+        if self.ahead > 0 {
+            self.ahead -= 1;
+            return Ok(());
         }
+        if self.columns.len() >= self.most as usize {
+            return Ok(());
+        }
+        let column = column_of(core, event, told, self.claim);
+        // The check wants each type named here that a column holds.
+        let _named: Option<Reply> = None;
+        self.columns.push(column)?;
         Ok(())
     }
-
-    // What an event is drawn by. Its step is counted.
-    fn column_of(
-        &mut self,
-        core: &Core<Placing>,
-        event: Event,
-        told: &Result<Seen, Refusal>,
-    ) -> Result<Column, AllocError> {
-        let (ticket, step) = match told {
-            Ok(seen) => (ticket_of(core, event, seen), self.count(event, seen)?),
-            Err(_) => (None, 0),
-        };
-        Ok(Column {
-            event,
-            answer: answer_of(told),
-            ticket,
-            step,
-            value: value_after(core, event, step),
-        })
-    }
-
-    // Counts an event that was not refused as a step of its call, and tells which one of its kind it is, from 0.
-    fn count(&mut self, event: Event, seen: &Seen) -> Result<usize, AllocError> {
-        match (event, seen) {
-            (_, Seen::Opened) => self.requested = 0,
-            (_, Seen::Claimed { .. }) => return Ok(counted(&mut self.requested)),
-            (_, Seen::Free(_) | Seen::Blocked(_)) => self.steps.push(Steps::none())?,
-            (Event::Load(ticket) | Event::Store(ticket) | Event::Release(ticket), _) => {
-                if let Some(steps) = self.steps.get_mut(ticket.0 as usize) {
-                    return Ok(steps.count(event));
-                }
-            }
-            _ => {}
-        }
-        Ok(0)
-    }
 }
 
-impl Steps {
-    fn none() -> Steps {
-        Steps {
-            loads: 0,
-            stores: 0,
-            releases: 0,
-        }
-    }
-
-    fn count(&mut self, event: Event) -> usize {
-        match event {
-            Event::Load(_) => counted(&mut self.loads),
-            Event::Store(_) => counted(&mut self.stores),
-            Event::Release(_) => counted(&mut self.releases),
-            _ => 0,
-        }
-    }
-}
-
-fn answer_of(told: &Result<Seen, Refusal>) -> Answer {
+// The column of an event that the machine has made, with this claim if it was not refused.
+fn column_of(
+    core: &Core<Placing>,
+    event: &Event,
+    told: &Result<Seen, Refusal>,
+    claim: Option<Claim>,
+) -> Column
+    ensures { (s : Step) → event.now ≡ s.event → told.now ≡ s.answer → core.now.state ≡ s.after
+        → claim ≡ claim_of s.before s.event → IsColumn core.now.base s result }
+{
     match told {
-        Ok(Seen::Opened) => Answer::Opened,
-        Ok(Seen::Claimed { old, granted }) => Answer::Claimed {
-            old: *old,
-            granted: *granted,
-        },
-        Ok(Seen::Free(_)) => Answer::Free,
-        Ok(Seen::Blocked(_)) => Answer::Blocked,
-        Ok(Seen::Run(_)) => Answer::Run,
-        Ok(Seen::Released(old)) => Answer::Released(*old),
-        Ok(Seen::Replied(_)) => Answer::Replied,
-        Ok(Seen::Found(_) | Seen::Loaded(_) | Seen::Stored) | Err(_) => Answer::Other,
+        Ok(seen) => column_with(core, event, told, ticket_of(core, event, seen), claim),
+        Err(_) => column_with(core, event, told, None, None),
     }
 }
 
-// The count, which is one more afterwards.
-fn counted(count: &mut usize) -> usize {
-    let before = *count;
-    *count = before.saturating_add(1);
-    before
-}
-
-// The ticket of the call that an event was of.
-fn ticket_of(core: &Core<Placing>, event: Event, seen: &Seen) -> Option<usize> {
-    match (event, seen) {
-        (_, Seen::Found(_)) => None,
-        (_, Seen::Opened | Seen::Claimed { .. }) => Some(core.journal().len()),
-        (_, Seen::Free(ticket) | Seen::Blocked(ticket) | Seen::Run(ticket)) => {
-            Some(ticket.0 as usize)
-        }
-        (
-            Event::Load(ticket)
-            | Event::Store(ticket)
-            | Event::Release(ticket)
-            | Event::Finish(ticket),
-            _,
-        ) => { Some(ticket.0 as usize) }
-        _ => None,
+fn column_with(
+    core: &Core<Placing>,
+    event: &Event,
+    told: &Result<Seen, Refusal>,
+    ticket: Option<usize>,
+    claim: Option<Claim>,
+) -> Column
+    ensures event { result.event ≡ event.now }
+    ensures answer { result.answer ≡ told.now }
+    ensures ticket { result.ticket ≡ ticket }
+    ensures claim { result.claim ≡ claim }
+    ensures words { IfSome claim (λ k. k.id < length core.now.base.records → AreWordsOf core.now.base core.now.state k.id result.words) }
+{
+    let words = words_of(core, &claim);
+    Column {
+        event: *event,
+        answer: *told,
+        ticket,
+        claim,
+        words,
     }
 }
 
-// What the record holds that a call's store of this number has stored, and 0 for another event.
-fn value_after(core: &Core<Placing>, event: Event, number: usize) -> u64 {
-    let Event::Store(ticket) = event else {
-        return 0;
-    };
-    let Some(line) = core.journal().get(ticket.0 as usize) else {
-        return 0;
-    };
-    let Some(claim) = written(&line.call.claims, number) else {
-        return 0;
-    };
-    core.words().get(value_word(claim.id)).copied().unwrap_or(0)
-}
-
-/// The claim with this number, from 0, among those for writing.
-pub(crate) fn written(claims: &Claims, number: usize) -> Option<Claim> {
-    let mut left = number;
-    for claim in claims.iter() {
-        if claim.mode == Mode::Write {
-            if left == 0 {
-                return Some(claim);
-            }
-            left -= 1;
-        }
+// What a claim's record has.
+fn words_of(core: &Core<Placing>, claim: &Option<Claim>) -> RecordWords
+    ensures { IfSome claim.now (λ k. k.id < length core.now.base.records → AreWordsOf core.now.base core.now.state k.id result) }
+{
+    match claim {
+        Some(claim) => record_words(core, claim.id),
+        None => RecordWords { value: 0, pair: 0 },
     }
-    None
 }
 
-// Where an entered call is.
+// What a record has.
+fn record_words(core: &Core<Placing>, id: RecordId) -> RecordWords
+    ensures { id < length core.now.base.records → AreWordsOf core.now.base core.now.state id result }
+{
+    let words = core.words();
+    RecordWords {
+        value: word_at(words, value_word(id)),
+        pair: word_at(words, pair_word(id)),
+    }
+}
+
+fn word_at(words: &[u64], index: usize) -> u64
+    ensures { index < length words.now → result ≡ slice_index words.now index }
+{
+    if index < words.len() { words[index] } else { 0 }
+}
+
+// The ticket of the call that an event was of, by what it saw.
+fn ticket_of(core: &Core<Placing>, event: &Event, seen: &Seen) -> Option<usize>
+    ensures { result ≡ ticket_seen (length core.now.state.entries) event.now seen.now }
+{
+    match seen {
+        Seen::Opened => Some(next_ticket(core)),
+        Seen::Claimed { .. } => Some(next_ticket(core)),
+        Seen::Free(ticket) | Seen::Blocked(ticket) | Seen::Run(ticket) => Some(ticket.0 as usize),
+        Seen::Found(_) | Seen::Loaded(_) | Seen::Stored | Seen::Released(_) | Seen::Replied(_) =>
+            ticket_in(event),
+    }
+}
+
+// The ticket that the next call gets.
+fn next_ticket(core: &Core<Placing>) -> usize
+    ensures { result ≡ length core.now.state.entries }
+{
+    core.journal().len()
+}
+
+// The ticket that an event names.
+fn ticket_in(event: &Event) -> Option<usize>
+    ensures { result ≡ ticket_in event.now }
+{
+    match event {
+        Event::Load(ticket)
+        | Event::Store(ticket)
+        | Event::Release(ticket)
+        | Event::Finish(ticket) => Some(ticket.0 as usize),
+        Event::Find(_)
+        | Event::Enter(_)
+        | Event::Claim
+        | Event::Admit
+        | Event::Front
+        | Event::Scan => None,
+    }
+}
+
+// The machine's words, and where each entered call is.
+fn standing_of(alloc: Global, core: &Core<Placing>) -> Result<Standing, AllocError>
+    ensures { IfOk result (λ standing. AreWords core.now.base core.now.state standing.words.items) }
+{
+    let mut words = Vec::new(alloc);
+    words.extend_from_slice(core.words())?;
+    let phases = phases_of(alloc, core)?;
+    Ok(Standing { words, phases })
+}
+
+// Where each entered call is.
+fn phases_of(alloc: Global, core: &Core<Placing>) -> Result<Vec<Phase>, AllocError> {
+    let mut phases = Vec::new(alloc);
+    for ticket in 0..core.journal().len() {
+        phases.push(phase_of(core.state(Ticket(ticket as u32))))?;
+    }
+    Ok(phases)
+}
+
 fn phase_of(status: Option<Status>) -> Phase {
     match status {
         Some(Status::Waiting) => Phase::Waiting,

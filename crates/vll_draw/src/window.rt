@@ -1,6 +1,6 @@
 ghost use Rattle.std.specs.Prelude.{◌≤◌};
 
-use vll_server::UpTo;
+use vll_replay::UpTo;
 
 /// How many events a page draws at most.
 pub const MOST_COLUMNS: u32 = 3600;

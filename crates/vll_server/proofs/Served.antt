@@ -17,7 +17,8 @@ use Rattle.vll_workers.specs.Merge.{IsMerge}
 use Rattle.vll_scenario.specs.Setup.{Setup}
 use Rattle.vll_server.specs.declared.fault.ServeFault.{ServeFault}
 use Rattle.vll_server.specs.Serve.{IsServed, base_of}
-use Rattle.vll_server.specs.Text.{answer_text, closed_text, line_words, outcome_text, serial_text}
+use Rattle.vll_replay.specs.Text.{outcome_text}
+use Rattle.vll_server.specs.Text.{answer_text, closed_text, line_words, serial_text}
 
 -- the lines from one on tell the replies of the serial run
 lines_tell : (procs : List Proc) (calls : List Made) (records : List ℕ) (k : ℕ) (lines : List Line) → ((t : ℕ) (l : Line) → slice_get lines t ≡ Some l → l.reply ≡ answer procs calls records (k + t))

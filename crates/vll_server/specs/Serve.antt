@@ -8,7 +8,8 @@ use Rattle.vll_engine.specs.declared.closed.Closed.{Closed}
 use Rattle.vll_engine.specs.Found.{AreFoundThere}
 use Rattle.vll_workers.specs.Merge.{IsMerge}
 use Rattle.vll_scenario.specs.Setup.{Setup, catalog_of}
-use Rattle.vll_server.specs.Text.{Text, closed_text}
+use Rattle.vll_replay.specs.Text.{Text}
+use Rattle.vll_server.specs.Text.{closed_text}
 
 -- the procedures and the records of a scenario
 abbrev pub base_of : Setup → Base

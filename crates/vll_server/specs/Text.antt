@@ -1,34 +1,18 @@
 -- The text of an outcome.
-use Rattle.std.specs.Prelude.{ℕ, List, [], ◌∷◌, ◌++◌, map, replicate, length, Option, Some, None, codes}
-use Rattle.std.specs.List.{flat_map, enumerate_from, zip}
-use Rattle.std.specs.Fmt.{decimal}
+use Rattle.std.specs.Prelude.{ℕ, List, [], map, replicate, length, Option, Some, None}
+use Rattle.std.specs.List.{enumerate_from, zip}
 use Rattle.vll_proc.specs.declared.call.Reply.{Reply}
 use Rattle.vll_proc.specs.declared.syntax.Proc.{Proc}
 use Rattle.vll_proc.specs.Serial.{Made, answer, end}
 use Rattle.vll_proc.specs.Text.{reply_text}
 use Rattle.vll_core.specs.declared.line.Line.{Line}
 use Rattle.vll_engine.specs.declared.closed.Closed.{Closed}
-
--- a text as the list of its bytes
-abbrev pub Text : Type 0
-Text = List ℕ
+use Rattle.vll_replay.specs.Text.{Text, outcome_text}
 
 -- a reply, or nothing where there is none
 abbrev pub answer_text : Option Reply → Text
 answer_text None = []
 answer_text (Some r) = reply_text r
-
--- the line of a call, with its ticket, its client and its words
-abbrev pub call_line : ℕ × (ℕ × Text) → Text
-call_line (t, (client, words)) = codes "call " ++ decimal t ++ codes " client " ++ decimal client ++ 32 ∷ words ++ 10 ∷ []
-
--- the line of a record, with its number, its value and its pair word
-abbrev pub record_line : ℕ × (ℕ × ℕ) → Text
-record_line (r, (value, pair)) = codes "record " ++ decimal r ++ codes " value " ++ decimal value ++ codes " pair " ++ decimal pair ++ 10 ∷ []
-
--- a line for each call, with its client and its words, and one for each record, with its value and its pair word
-abbrev pub outcome_text : List (ℕ × Text) → List (ℕ × ℕ) → Text
-outcome_text calls records = flat_map call_line (enumerate_from 0 calls) ++ flat_map record_line (enumerate_from 0 records)
 
 -- a line of the journal as a client and words
 abbrev pub line_words : Line → ℕ × Text

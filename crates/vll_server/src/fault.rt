@@ -1,6 +1,5 @@
 use std::alloc::AllocError;
 use thiserror::Error;
-use vll_scenario::ScenarioFault;
 use vll_workers::RunFault;
 
 /// Why a scenario was not served. After `Write` a beginning of the outcome has been written, and after any other
@@ -30,18 +29,4 @@ impl From<AllocError> for ServeFault {
     fn from(_: AllocError) -> ServeFault {
         ServeFault::NoMemory
     }
-}
-
-/// Why a replay was not written whole.
-#[derive(Clone, Copy, PartialEq, Eq, Debug, Error)]
-pub enum ReplayFault {
-    /// There is no scenario to replay. Nothing has been written.
-    #[error("scenario: {0}")]
-    Scenario(ScenarioFault),
-    /// Memory was wanting after the scenario was read. Nothing has been written.
-    #[error("replay: no memory")]
-    NoMemory,
-    /// The text was not written whole.
-    #[error("replay: write")]
-    Write,
 }

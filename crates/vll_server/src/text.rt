@@ -1,12 +1,14 @@
 ghost use Rattle.std.specs.Prelude.{◌≡◌, ◌++◌, ◌∷◌, [], IfOk, OnOk, map, string_bytes};
 ghost use Rattle.std.specs.List.{enumerate_from, flat_map, zip};
-ghost use Rattle.vll_server.specs.Text.{call_line, closed_text, line_words, record_line};
+ghost use Rattle.vll_replay.specs.Text.{call_line, record_line};
+ghost use Rattle.vll_server.specs.Text.{closed_text, line_words};
 
 pub(crate) mod outcome;
 
 use std::alloc::{AllocError, Global};
 use vll_core::Line;
 use vll_engine::Closed;
+use vll_replay::push_record_line;
 
 // Each of these appends one part of the outcome. After an error a beginning of that part may be there.
 
@@ -30,18 +32,6 @@ fn push_call_lines(text: &mut String, journal: &[Line]) -> Result<(), AllocError
         push_call_line(text, ticket, line)?;
     }
     Ok(())
-}
-
-pub(crate) fn push_record_line(
-    text: &mut String,
-    index: usize,
-    value: u64,
-    pair: u64,
-) -> Result<(), AllocError>
-    ensures { OnOk result (string_bytes text.new
-        ≡ string_bytes text.old ++ record_line (index, (value, pair))) }
-{
-    writeln!(text, "record {index} value {value} pair {pair}")
 }
 
 fn push_record_lines(text: &mut String, records: &[u64], pairs: &[u64]) -> Result<(), AllocError>

@@ -5,9 +5,9 @@ use Rattle.vll_explain.specs.Told.{Explains}
 use Rattle.vll_scenario.specs.Setup.{Setup}
 use Rattle.vll_server.specs.Options.{with_options}
 use Rattle.vll_scenario.specs.Reading.{IsRead}
-use Rattle.vll_server.specs.Replay.{Replays}
+use Rattle.vll_replay.specs.Replay.{Replays}
 use Rattle.vll_server.specs.Serve.{Serves}
-use Rattle.vll_server.specs.Text.{Text}
+use Rattle.vll_replay.specs.Text.{Text}
 use Rattle.vll_server.specs.declared.options.RunOptions.{RunOptions}
 use Rattle.vll.specs.declared.command.Action.{Action}
 use Rattle.vll.specs.declared.command.Action.TheVariants as action

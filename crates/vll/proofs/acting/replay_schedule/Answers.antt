@@ -1,7 +1,7 @@
 use Rattle.std.proofs.Common.{◌≡◌, ◌∙◌, Err, ap, refl}
 use Rattle.vll_scenario.specs.declared.fault.ScenarioFault.{ScenarioFault}
-use Rattle.vll_server.specs.declared.fault.ReplayFault.{ReplayFault}
-use Rattle.vll_server.specs.declared.fault.ReplayFault.TheVariants as fault
+use Rattle.vll_replay.specs.declared.fault.ReplayFault.{ReplayFault}
+use Rattle.vll_replay.specs.declared.fault.ReplayFault.TheVariants as fault
 use Rattle.vll.proofs.acting.replay_schedule.Goals as goal
 
 -- what each fault but `Write` says

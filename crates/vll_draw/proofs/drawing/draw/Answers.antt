@@ -5,7 +5,7 @@ use Rattle.std.proofs.lemmas.Result.{on_ok_weaker}
 use Rattle.vll_scenario.specs.Streams.{AppendsBeginning}
 use Rattle.vll_scenario.specs.Reading.{IsRead}
 use Rattle.vll_scenario.proofs.Results.{ok_before}
-use Rattle.vll_server.specs.Replay.{text_of_setup}
+use Rattle.vll_replay.specs.Replay.{text_of_setup}
 use Rattle.vll_draw.specs.Page.{Lists}
 use Rattle.vll_draw.proofs.drawing.draw.Goals as goal
 

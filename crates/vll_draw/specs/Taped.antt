@@ -1,0 +1,31 @@
+-- What a tape has kept of the steps that it was shown.
+use Rattle.std.specs.Prelude.{◌≡◌, ◌-◌, ◌≤◌, List, [], ◌∷◌, length}
+use Rattle.vll_core.specs.declared.event.Event.{Event}
+use Rattle.vll_core.specs.State.{Base, State}
+use Rattle.vll_core.specs.Shown.{AreWords}
+use Rattle.vll_core.specs.Next.{claim_of}
+use Rattle.vll_replay.specs.Steps.{Step}
+use Rattle.vll_picture.specs.Columns.{AreColumns, window}
+use Rattle.vll_draw.specs.declared.window.Window.{Window}
+use Rattle.vll_draw.specs.declared.tape.Tape.{Tape}
+
+-- the steps that are drawn
+abbrev pub drawn : Window → List Step → List Step
+drawn w past = window w.from w.count past
+
+-- a column for each step that is drawn, and the words before the first of these
+pub record HasTaped (b : Base) (w : Window) (past : List Step) (t : Tape) : Type 0 where
+  pub ahead : t.ahead ≡ w.from - length past
+  pub most : t.most ≡ w.count
+  pub columns : AreColumns b (drawn w past) t.columns.items
+  pub standing : (s : Step) (more : List Step) → drawn w past ≡ s ∷ more → AreWords b s.before t.standing.words.items
+
+-- if the step to come is the first one that is drawn, the words before it were kept
+abbrev pub StandsBefore : Base → Window → List Step → State → Tape → Type 0
+StandsBefore b w past s t = w.from ≤ length past → drawn w past ≡ [] → AreWords b s t.standing.words.items
+
+-- beside these, what the machine has shown before an event
+pub record Tapes (b : Base) (w : Window) (past : List Step) (s : State) (e : Event) (t : Tape) : Type 0 where
+  pub taped : HasTaped b w past t
+  pub claim : t.claim ≡ claim_of s e
+  pub before : StandsBefore b w past s t

@@ -1,0 +1,217 @@
+//! The lane of a record: its value and its two counters over time.
+use crate::band::Band;
+use crate::column::RecordWords;
+use crate::markup::{
+    Area, LABELS, STEP, close_mark, left_of, open_mark, push_area, push_escaped, push_words,
+};
+use crate::scene::{Scene, Standing, id_of};
+use std::alloc::{AllocError, Global};
+
+// How high a row is, and the lane of its three rows.
+const ROW: usize = 19;
+
+const LANE: usize = 62;
+
+// How wide a digit is at most, and the least that is between two numbers.
+const DIGIT: usize = 6;
+
+// What a row of the lane shows.
+#[derive(Clone, Copy)]
+enum Row {
+    Value,
+    Writing,
+    Reading,
+}
+
+impl Row {
+    fn number(self, shown: RecordWords) -> u64 {
+        match self {
+            Row::Value => shown.value,
+            Row::Writing => u64::from(shown.counters().cx),
+            Row::Reading => u64::from(shown.counters().cs),
+        }
+    }
+
+    fn class(self) -> &'static str {
+        match self {
+            Row::Value => "value",
+            Row::Writing => "write",
+            Row::Reading => "read",
+        }
+    }
+
+    fn name(self) -> &'static str {
+        match self {
+            Row::Value => "value",
+            Row::Writing => "CX",
+            Row::Reading => "CS",
+        }
+    }
+
+    // How high a number stands in the row; counters over four are as high as four.
+    fn height(self, number: u64) -> usize {
+        match (self, number) {
+            (Row::Value, _) => ROW - 3,
+            (_, 0) => 0,
+            (_, 1) => 4,
+            (_, 2) => 8,
+            (_, 3) => 12,
+            _ => ROW - 3,
+        }
+    }
+}
+
+/// Appends the lane of a record, and tells where the next lane begins.
+pub(crate) fn push_record(
+    body: &mut String,
+    scene: &Scene<'_>,
+    standing: &Standing,
+    band: Band<'_>,
+    record: usize,
+    top: usize,
+) -> Result<usize, AllocError> {
+    let base = top.saturating_add(14);
+    write!(
+        body,
+        "<text class=\"name\" x=\"4\" y=\"{base}\">record {record}</text>\n"
+    )?;
+    let mut next = top;
+    for row in [Row::Value, Row::Writing, Row::Reading] {
+        let base = next.saturating_add(14);
+        push_words(body, "soft end", LABELS - 5, base, row.name())?;
+        let lane = Lane {
+            record,
+            row,
+            top: next,
+        };
+        let before = standing.record(id_of(record));
+        push_row(body, scene, band, before, lane)?;
+        next = next.saturating_add(ROW);
+    }
+    Ok(top.saturating_add(LANE))
+}
+
+// A row of a record's lane.
+#[derive(Clone, Copy)]
+struct Lane {
+    record: usize,
+    row: Row,
+    top: usize,
+}
+
+// Columns in which a number stays as it is. If it is new, the event of the first one has made it.
+#[derive(Clone, Copy)]
+struct Stretch {
+    since: usize,
+    end: usize,
+    number: u64,
+    is_new: bool,
+}
+
+impl Stretch {
+    // How wide it is.
+    fn width(self) -> usize {
+        self.end.saturating_sub(self.since).saturating_mul(STEP)
+    }
+}
+
+// Appends a row, from what stands before the band on.
+fn push_row(
+    body: &mut String,
+    scene: &Scene<'_>,
+    band: Band<'_>,
+    before: RecordWords,
+    lane: Lane,
+) -> Result<(), AllocError> {
+    let mut shown = before;
+    let mut since: usize = 0;
+    let mut is_new = false;
+    let id = id_of(lane.record);
+    for (index, column) in band.columns.iter().enumerate() {
+        let after = match column.claim {
+            Some(claim) if claim.id == id => column.words,
+            _ => shown,
+        };
+        if lane.row.number(after) != lane.row.number(shown) {
+            let stretch = Stretch {
+                since,
+                end: index,
+                number: lane.row.number(shown),
+                is_new,
+            };
+            push_stretch(body, scene, band, lane, stretch)?;
+            since = index;
+            is_new = true;
+        }
+        shown = after;
+    }
+    let stretch = Stretch {
+        since,
+        end: band.len(),
+        number: lane.row.number(shown),
+        is_new,
+    };
+    push_stretch(body, scene, band, lane, stretch)
+}
+
+// Appends the columns in which a number stays as it is.
+fn push_stretch(
+    body: &mut String,
+    scene: &Scene<'_>,
+    band: Band<'_>,
+    lane: Lane,
+    stretch: Stretch,
+) -> Result<(), AllocError> {
+    if stretch.width() == 0 {
+        return Ok(());
+    }
+    let height = lane.row.height(stretch.number);
+    let area = Area {
+        left: left_of(stretch.since),
+        top: lane.top.saturating_add(ROW - 1).saturating_sub(height),
+        width: stretch.width(),
+        height,
+    };
+    push_area(body, lane.row.class(), area)?;
+    match band.columns.get(stretch.since) {
+        Some(column) if stretch.is_new => {
+            let number = scene.number(band.start.saturating_add(stretch.since));
+            open_mark(body, number, column)?;
+            push_number(scene.alloc, body, lane, stretch)?;
+            push_cell(body, lane, stretch)?;
+            close_mark(body)
+        }
+        _ => push_number(scene.alloc, body, lane, stretch),
+    }
+}
+
+// Appends the cell of the event that has made a number.
+fn push_cell(body: &mut String, lane: Lane, stretch: Stretch) -> Result<(), AllocError> {
+    let cell = Area {
+        left: left_of(stretch.since),
+        top: lane.top,
+        width: STEP,
+        height: ROW,
+    };
+    push_area(body, "cell", cell)
+}
+
+// Appends the number of a stretch, as many digits of it as there is room for.
+fn push_number(
+    alloc: Global,
+    body: &mut String,
+    lane: Lane,
+    stretch: Stretch,
+) -> Result<(), AllocError> {
+    let number = stretch.number;
+    let height = lane.row.height(number);
+    // A low bar has its number above it, and a high one in it.
+    let above = if height > 8 { 3 } else { height };
+    let base = lane.top.saturating_add(ROW - 3).saturating_sub(above);
+    let left = left_of(stretch.since).saturating_add(3);
+    let most = (stretch.width() / DIGIT).max(2).saturating_sub(1);
+    let digits = format!(in alloc; "{number}")?;
+    write!(body, "<text x=\"{left}\" y=\"{base}\">")?;
+    push_escaped(body, digits.as_str(), most)?;
+    body.push_str("</text>")
+}

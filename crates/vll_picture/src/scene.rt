@@ -1,0 +1,120 @@
+//! What is drawn: the events of the window, and the calls that they were of.
+use crate::band::{Band, push_band};
+use crate::column::{Column, RecordWords};
+use crate::markup::BAND;
+use std::alloc::{AllocError, Global};
+use vll_check::Library;
+use vll_core::{Line, Seen};
+use vll_record::{RecordId, pair_word, value_word};
+
+/// The record with this number.
+pub(crate) fn id_of(record: usize) -> RecordId {
+    RecordId(u32::try_from(record).unwrap_or(u32::MAX))
+}
+
+/// The number of a record.
+pub(crate) fn number_of(id: RecordId) -> usize {
+    id.0 as usize
+}
+
+/// Where a call is on its way.
+#[derive(Clone, Copy, PartialEq, Eq, Debug)]
+pub enum Phase {
+    /// It has not entered.
+    Outside,
+    /// Its turn is open.
+    Turn,
+    Waiting,
+    Running,
+    Gone,
+}
+
+/// What is drawn.
+#[derive(Clone, Copy)]
+pub struct Scene<'a> {
+    /// What the drawing takes memory from.
+    pub alloc: Global,
+    /// The number of the first event.
+    pub first: usize,
+    pub columns: &'a [Column],
+    /// All calls that have entered, and behind them the one whose turn is open.
+    pub journal: &'a [Line],
+    pub library: &'a Library,
+}
+
+impl Scene<'_> {
+    /// The number of the event in a column.
+    pub(crate) fn number(&self, index: usize) -> usize {
+        self.first.saturating_add(index)
+    }
+}
+
+/// The words of the machine, and where each call is, at some time.
+#[derive(Drop)]
+pub struct Standing {
+    pub words: Vec<u64>,
+    pub phases: Vec<Phase>,
+}
+
+impl Standing {
+    pub(crate) fn phase(&self, ticket: usize) -> Phase {
+        self.phases.get(ticket).copied().unwrap_or(Phase::Outside)
+    }
+
+    /// What a record has.
+    pub(crate) fn record(&self, id: RecordId) -> RecordWords {
+        let value = self.words.get(value_word(id)).copied().unwrap_or(0);
+        let pair = self.words.get(pair_word(id)).copied().unwrap_or(0);
+        RecordWords { value, pair }
+    }
+
+    // Goes past an event.
+    fn pass(&mut self, column: &Column) {
+        if let Some(claim) = column.claim {
+            if let Some(word) = self.words.get_mut(value_word(claim.id)) {
+                *word = column.words.value;
+            }
+            if let Some(word) = self.words.get_mut(pair_word(claim.id)) {
+                *word = column.words.pair;
+            }
+        }
+        if let (Some(ticket), Some(phase)) = (column.ticket, phase_after(column)) {
+            if let Some(stands) = self.phases.get_mut(ticket) {
+                *stands = phase;
+            }
+        }
+    }
+}
+
+/// Where a call is after an event of it, if that changes it.
+pub(crate) fn phase_after(column: &Column) -> Option<Phase> {
+    match &column.answer {
+        Ok(Seen::Opened) => Some(Phase::Turn),
+        Ok(Seen::Blocked(_)) => Some(Phase::Waiting),
+        Ok(Seen::Free(_) | Seen::Run(_)) => Some(Phase::Running),
+        Ok(Seen::Replied(_)) => Some(Phase::Gone),
+        _ => None,
+    }
+}
+
+/// Appends the drawings, band by band, from what stood before the first event on. After `AllocError` a beginning of them
+/// may be there.
+pub fn push_bands(
+    page: &mut String,
+    scene: &Scene<'_>,
+    before: Standing,
+) -> Result<(), AllocError> {
+    let mut standing = before;
+    for _ in standing.phases.len()..scene.journal.len() {
+        standing.phases.push(Phase::Outside)?;
+    }
+    let mut start: usize = 0;
+    for columns in scene.columns.chunks(BAND) {
+        push_band(page, scene, &standing, Band { start, columns })?;
+        for column in columns {
+            standing.pass(column);
+        }
+        start = start.saturating_add(columns.len());
+    }
+    Ok(())
+}

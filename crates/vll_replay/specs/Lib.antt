@@ -1,0 +1,5 @@
+pub mod Text
+pub mod ReplayText
+pub mod Replay
+pub mod Steps
+pub mod Private

@@ -1,0 +1,2 @@
+-- What private contracts and what types keep cite: no contract of an exported item does.
+pub mod ReplayText
