@@ -10,3 +10,4 @@ pub mod Answering
 pub mod Written
 pub mod Results
 mod Rows
+pub mod Ways

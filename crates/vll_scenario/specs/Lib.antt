@@ -3,6 +3,8 @@ pub mod Syntax
 pub mod Schedule
 pub mod Shape
 pub mod Setup
+pub mod Pieces
+pub mod Ways
 pub mod Scenario
 pub mod Reading
 pub mod Line

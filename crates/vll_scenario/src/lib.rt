@@ -3,6 +3,7 @@
 
 mod fault;
 mod limits;
+mod piece;
 mod plain;
 mod reading;
 mod scenario;
@@ -11,9 +12,11 @@ mod writing;
 
 pub use fault::{Part, ScenarioFault, Spot};
 pub use limits::{MOST_BYTES, MOST_CLIENTS, MOST_EVENTS, MOST_PROCS};
+pub use piece::{Kind, Step};
 pub use plain::Plain;
 pub use reading::bytes::{ReadFault, read_bytes};
 pub use reading::read_scenario;
+pub use reading::way::{Found, Way, way_to_fault};
 pub use scenario::{Scenario, ScenarioParts};
 pub use stream::{Sink, Source};
 pub use vll_check::{CallFault, CheckFault};

@@ -16,6 +16,7 @@ mod setup;
 mod shape;
 mod syntax;
 mod tree;
+pub(crate) mod way;
 
 use crate::fault::ScenarioFault;
 use crate::limits::MOST_BYTES;

@@ -20,10 +20,10 @@ use vll_proc::{Edition, Proc, Text};
 use vll_sca::Placing;
 
 // The members that a scenario has to have.
-const MUST_NAMES: [&str; 4] = ["version", "records", "procs", "clients"];
+pub(crate) const MUST_NAMES: [&str; 4] = ["version", "records", "procs", "clients"];
 
 // The members that it may have.
-const MAY_NAMES: [&str; 9] = [
+pub(crate) const MAY_NAMES: [&str; 9] = [
     "version", "records", "procs", "clients", "cap", "bits", "limit", "hash", "schedule",
 ];
 

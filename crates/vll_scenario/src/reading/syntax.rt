@@ -5,8 +5,8 @@ ghost use Rattle.vll_scenario.specs.Syntax.{both_of, index_at, key_at, key_of, m
 ghost use Rattle.vll_scenario.specs.Private.Reading.{Gives};
 ghost use Rattle.vll_scenario.specs.declared.reading.tree.Misread.TheVariants as Misread;
 
-mod expression;
-mod statement;
+pub(crate) mod expression;
+pub(crate) mod statement;
 
 use crate::reading::members::{has_exactly, member};
 use crate::reading::tree::{Misread, Reads, u32_of};
@@ -73,7 +73,7 @@ fn declared(mode: &str, place: &str, value: &Value) -> Result<KeyDecl, Misread>
     Ok(KeyDecl { mode, at })
 }
 
-fn mode_of(word: &str) -> Result<Mode, Misread>
+pub fn mode_of(word: &str) -> Result<Mode, Misread>
     ensures { Gives result (mode_at word.now) }
 {
     match word {
@@ -96,7 +96,7 @@ fn place_of(word: &str, value: &Value) -> Result<KeyAt, Misread>
 }
 
 // The index of an argument, a key or a local, or a count of arguments or of turns.
-fn index_of(value: &Value) -> Result<u8, Misread>
+pub fn index_of(value: &Value) -> Result<u8, Misread>
     ensures { Gives result (index_at (view value.now)) }
 {
     match value.as_u64() {

@@ -10,7 +10,7 @@ use sqlite_items::Boxed;
 use std::alloc::Global;
 use vll_proc::Expr;
 
-pub(super) fn expr_of(alloc: Global, value: &Value) -> Result<Expr, Misread>
+pub fn expr_of(alloc: Global, value: &Value) -> Result<Expr, Misread>
     ensures { Gives result (expr_at (view value.now)) }
 {
     match value {

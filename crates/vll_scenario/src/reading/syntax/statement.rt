@@ -13,11 +13,7 @@ use vll_proc::{Edition, Expr, Stmt};
 
 // The statements of a list.
 #[cycle(statements)]
-pub(super) fn stmts_of(
-    alloc: Global,
-    edition: Edition,
-    value: &Value,
-) -> Result<Items<Stmt>, Misread>
+pub fn stmts_of(alloc: Global, edition: Edition, value: &Value) -> Result<Items<Stmt>, Misread>
     ensures { Gives result (stmts_at edition (view value.now)) }
 {
     match value {
@@ -38,7 +34,7 @@ fn each_stmt_of(alloc: Global, edition: Edition, list: &[Value]) -> Result<Items
 }
 
 #[cycle(statements)]
-fn stmt_of(alloc: Global, edition: Edition, value: &Value) -> Result<Stmt, Misread>
+pub fn stmt_of(alloc: Global, edition: Edition, value: &Value) -> Result<Stmt, Misread>
     ensures { Gives result (stmt_at edition (view value.now)) }
 {
     match value {
@@ -112,7 +108,7 @@ fn let_or_set(alloc: Global, word: &str, index: &Value, value: &Value) -> Result
 }
 
 // The code of an abort.
-fn code_of(value: &Value) -> Result<u16, Misread>
+pub fn code_of(value: &Value) -> Result<u16, Misread>
     ensures { Gives result (code_at (view value.now)) }
 {
     match value.as_u64() {
