@@ -1,16 +1,19 @@
 -- How what is answered for bytes in memory is answered for the reader that gave them.
-use Rattle.std.proofs.Common.{◌≡◌, inl, inr, refl, subst, IfOk, ℕ, List, Option, Some, Result, Ok, Err}
+use Rattle.std.proofs.Common.{◌≡◌, ◌≤◌, ◌⊎◌, inl, inr, refl, sym, subst, IfOk, ℕ, List, length, Option, Some, None, Result, Ok, Err}
 use Rattle.serde_json.specs.Data.{Data}
+use Rattle.vll_scenario.specs.declared.limits.TheConstants.{MOST_BYTES}
 use Rattle.vll_scenario.specs.Bytes.{ReadsAll, ReadsTooMany, fault_of}
-use Rattle.vll_scenario.specs.Reading.{IsRead, Reads, Tells}
-use Rattle.vll_scenario.specs.Scenario.{scenario_at}
+use Rattle.vll_scenario.specs.Reading.{IsRead, IsScenarioOf, Reads, Tells}
+use Rattle.vll_scenario.specs.Scenario.{IsTree, scenario_at}
 use Rattle.vll_scenario.specs.Setup.{Setup}
 use Rattle.vll_scenario.specs.declared.fault.ScenarioFault.{ScenarioFault}
 use Rattle.vll_scenario.specs.declared.fault.ScenarioFault.TheVariants as fault
 use Rattle.vll_scenario.specs.declared.reading.bytes.ReadFault.{ReadFault}
 use Rattle.vll_scenario.specs.declared.reading.bytes.ReadFault.TheVariants as bytes
 use Rattle.vll_scenario.proofs.Answering.{reads_tell}
-use Rattle.vll_explain.specs.Told.{Explains, IsTold, fault_in}
+use Rattle.vll_explain.specs.Told.{Explains, IsExplained, IsTold, IsToldOf, fault_in}
+
+-- ---- bytes that were read to their end
 
 held_reads : {A : Type 0} (of : Option Data → Result A ScenarioFault) (old new : Option (List ℕ)) (bytes : List ℕ) (r : Result A ScenarioFault) → ReadsAll old new bytes → Tells of (Some bytes) r → Reads of old new r
 held_reads of old new bytes (Ok a) all told = (bytes, (all.0, inr all.1), told)
@@ -23,22 +26,33 @@ held_reads of old new bytes (Err (fault.Call c i f)) all told = (bytes, (all.0, 
 held_reads of old new bytes (Err fault.Size) all told = (bytes, (all.0, inr all.1), told)
 held_reads of old new bytes (Err fault.NameTwice) all told = (bytes, (all.0, inr all.1), told)
 
--- what is answered for all bytes that a reader gave is what it is read as
-held_is_read : (old new : Option (List ℕ)) (bytes : List ℕ) (r : Result Setup ScenarioFault) → ReadsAll old new bytes → Tells scenario_at (Some bytes) r → IsRead old new r
-held_is_read old new bytes r all told =
-    let reads = held_reads scenario_at old new bytes r all told in
-    (reads, reads_tell scenario_at old new r reads)
+-- what is told of bytes is told as far as the reader tells them
+held_tells : {A : Type 0} (of : Option Data → Result A ScenarioFault) (old new : Option (List ℕ)) (bytes : List ℕ) (r : Result A ScenarioFault) → ReadsAll old new bytes → Tells of (Some bytes) r → Tells of old r
+held_tells of old new bytes r all told = reads_tell of old new r (held_reads of old new bytes r all told)
+
+held_told : (old new : Option (List ℕ)) (bytes : List ℕ) (read : Result Setup ScenarioFault) (text : List ℕ) → ReadsAll old new bytes → IsTold (Some bytes) read text → IsTold old read text
+held_told old new bytes (Ok setup) text all told = told
+held_told old new bytes (Err fault.Read) text all told = told
+held_told old new bytes (Err fault.NoMemory) text all told = told
+held_told old new bytes (Err fault.Json) text all told = told
+held_told old new bytes (Err (fault.Shape s)) text all (tree, (is_tree, has_fault), told) = (tree, (held_tells _ old new bytes (Ok tree) all is_tree, has_fault), told)
+held_told old new bytes (Err (fault.Check i f)) text all told = told
+held_told old new bytes (Err (fault.Call c i f)) text all told = told
+held_told old new bytes (Err fault.Size) text all told = told
+held_told old new bytes (Err fault.NameTwice) text all told = told
 
 -- so an explanation of those bytes is one of what was read
 pub held_explains : {T E : Type 0} (fault_of : T → Option ScenarioFault) (text_of : T → List ℕ) (r : Result T E) (old new : Option (List ℕ)) (bytes held : List ℕ) → ReadsAll old new bytes → held ≡ bytes
-    → IfOk r (λ made. (read : Result Setup ScenarioFault) × Tells scenario_at (Some held) read × (fault_in read ≡ fault_of made) × IsTold read (text_of made))
+    → IfOk r (λ made. (read : Result Setup ScenarioFault) × Tells scenario_at (Some held) read × (fault_in read ≡ fault_of made) × IsTold (Some held) read (text_of made))
     → IfOk r (λ made. Explains old new (fault_of made) (λ text. text ≡ text_of made))
 held_explains fault_of text_of (Ok made) old new bytes held all same (read, tells, fault, told) =
-    let is_read = held_is_read old new bytes read all (subst (λ b. Tells scenario_at (Some b) read) same tells) in
-    record { read = read; is_read = is_read; is_fault = fault; text = text_of made; told = told; holds = refl }
+    let known = subst (λ b. ReadsAll old new b) (sym same) all in
+    let is_read : IsRead old new read = (held_reads scenario_at old new held read known tells, held_tells scenario_at old new held read known tells) in
+    record { read = read; is_read = is_read; is_fault = fault; text = text_of made; told = held_told old new held read (text_of made) known told; holds = refl }
 held_explains fault_of text_of (Err e) old new bytes held all same told = tt
 
--- what is answered where the bytes were not read to their end
+-- ---- bytes that were not read to their end
+
 pub unread : (old new : Option (List ℕ)) (why : ReadFault) → (why ≡ bytes.Size → ReadsTooMany old new) → IsRead old new (Err (fault_of why))
 unread old new bytes.Read many = (tt, tt)
 unread old new bytes.NoMemory many = (tt, tt)
@@ -46,3 +60,44 @@ unread old new bytes.Size many =
     let known = many refl in
     let reads : Reads scenario_at old new (Err fault.Size) = (known.0, (known.1, inl known.2), inl (known.2.0, refl)) in
     (reads, reads_tell scenario_at old new (Err fault.Size) reads)
+
+pub unread_told : (old : Option (List ℕ)) (why : ReadFault) (text : List ℕ) → IsExplained (fault_of why) text → IsTold old (Err (fault_of why)) text
+unread_told old bytes.Read text told = told
+unread_told old bytes.NoMemory text told = told
+unread_told old bytes.Size text told = told
+
+-- ---- the tree of bytes
+
+pub tree_tells : (bytes : List ℕ) (tree : Data) (r : Result Setup ScenarioFault) → length bytes ≤ MOST_BYTES → IsTree bytes (Some tree) → IsScenarioOf tree r → Tells scenario_at (Some bytes) r
+tree_tells bytes tree (Ok setup) few is_tree is = inr (few, (Some tree, is_tree, is))
+tree_tells bytes tree (Err fault.Read) few is_tree is = tt
+tree_tells bytes tree (Err fault.NoMemory) few is_tree is = tt
+tree_tells bytes tree (Err fault.Json) few is_tree is = inr (few, (Some tree, is_tree, is))
+tree_tells bytes tree (Err (fault.Shape s)) few is_tree is = inr (few, (Some tree, is_tree, is))
+tree_tells bytes tree (Err (fault.Check i f)) few is_tree is = inr (few, (Some tree, is_tree, is))
+tree_tells bytes tree (Err (fault.Call c i f)) few is_tree is = inr (few, (Some tree, is_tree, is))
+tree_tells bytes tree (Err fault.Size) few is_tree is = inr (few, (Some tree, is_tree, is))
+tree_tells bytes tree (Err fault.NameTwice) few is_tree is = inr (few, (Some tree, is_tree, is))
+
+tree_told : (bytes : List ℕ) (tree : Data) (why : ScenarioFault) (text : List ℕ) → length bytes ≤ MOST_BYTES → IsTree bytes (Some tree) → IsScenarioOf tree (Err why) → IsToldOf tree why text → IsTold (Some bytes) (Err why) text
+tree_told bytes tree fault.Read text few is_tree is told = told
+tree_told bytes tree fault.NoMemory text few is_tree is told = told
+tree_told bytes tree fault.Json text few is_tree is told = told
+tree_told bytes tree (fault.Shape s) text few is_tree is told = (tree, (inr (few, (Some tree, is_tree, refl)), is), told)
+tree_told bytes tree (fault.Check i f) text few is_tree is told = told
+tree_told bytes tree (fault.Call c i f) text few is_tree is told = told
+tree_told bytes tree fault.Size text few is_tree is told = told
+tree_told bytes tree fault.NameTwice text few is_tree is told = told
+
+-- what is read and told of a fault that lies in the tree of bytes
+pub tree_explains : (bytes : List ℕ) (tree : Data) (why : ScenarioFault) (text : List ℕ) → length bytes ≤ MOST_BYTES → IsTree bytes (Some tree) → IsScenarioOf tree (Err why) → IsToldOf tree why text
+    → (read : Result Setup ScenarioFault) × Tells scenario_at (Some bytes) read × (fault_in read ≡ Some why) × IsTold (Some bytes) read text
+tree_explains bytes tree why text few is_tree is told = (Err why, tree_tells bytes tree (Err why) few is_tree is, refl, tree_told bytes tree why text few is_tree is told)
+
+-- what is read and told of bytes that have no tree
+pub treeless_explains : (bytes : List ℕ) (why : ScenarioFault) (text : List ℕ) → length bytes ≤ MOST_BYTES → ((why ≡ fault.Json) × IsTree bytes None) ⊎ (why ≡ fault.NoMemory) → IsExplained why text
+    → (read : Result Setup ScenarioFault) × Tells scenario_at (Some bytes) read × (fault_in read ≡ Some why) × IsTold (Some bytes) read text
+treeless_explains bytes why text few (inl (json, is_tree)) told =
+    subst (λ f. IsExplained f text → (read : Result Setup ScenarioFault) × Tells scenario_at (Some bytes) read × (fault_in read ≡ Some f) × IsTold (Some bytes) read text) (sym json) (λ of_json. (Err fault.Json, inr (few, (None, is_tree, refl)), refl, of_json)) told
+treeless_explains bytes why text few (inr memory) told =
+    subst (λ f. IsExplained f text → (read : Result Setup ScenarioFault) × Tells scenario_at (Some bytes) read × (fault_in read ≡ Some f) × IsTold (Some bytes) read text) (sym memory) (λ of_memory. (Err fault.NoMemory, tt, refl, of_memory)) told

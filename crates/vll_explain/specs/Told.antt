@@ -1,14 +1,51 @@
 -- What is told of a scenario that was read.
-use Rattle.std.specs.Prelude.{◌≡◌, ℕ, List, ◌++◌, Option, Some, None, Result, Ok, Err, codes}
+use Rattle.std.specs.Prelude.{◌≡◌, ℕ, List, [], ◌∷◌, ◌++◌, Option, Some, None, Result, Ok, Err, codes}
+use Rattle.serde_json.specs.Data.{Data}
 use Rattle.vll_scenario.specs.declared.fault.ScenarioFault.{ScenarioFault}
+use Rattle.vll_scenario.specs.declared.fault.ScenarioFault.TheVariants as fault
+use Rattle.vll_scenario.specs.declared.piece.Step.{Step}
 use Rattle.vll_scenario.specs.Line.{fault_words}
-use Rattle.vll_scenario.specs.Reading.{IsRead}
+use Rattle.vll_scenario.specs.Reading.{IsRead, Tells}
+use Rattle.vll_scenario.specs.Scenario.{scenario_at, tree_or_json}
 use Rattle.vll_scenario.specs.Setup.{Setup}
+use Rattle.vll_scenario.specs.Ways.{LeadsToFault, step_words, words_of}
 
--- the line of the fault and then an explanation, or `ok` and then what the scenario has
-abbrev pub IsTold : Result Setup ScenarioFault → List ℕ → Type 0
-IsTold (Err why) text = (rest : List ℕ) × (text ≡ codes "vll: scenario: " ++ fault_words why ++ codes "\nat: " ++ rest)
-IsTold (Ok setup) text = (rest : List ℕ) × (text ≡ codes "ok\n" ++ rest)
+-- the line of a fault
+abbrev pub line_of : ScenarioFault → List ℕ
+line_of why = codes "vll: scenario: " ++ fault_words why ++ codes "\n"
+
+-- what is told of a way: its steps, and behind the second one what is shown of the name of the item to which it leads
+abbrev pub way_words : List ℕ → List Step → List ℕ
+way_words shown [] = codes "the scenario"
+way_words shown (part ∷ []) = step_words part
+way_words shown (part ∷ item ∷ steps) = step_words part ++ step_words item ++ shown ++ words_of steps
+
+-- the line of a fault, and then an explanation
+abbrev pub IsExplained : ScenarioFault → List ℕ → Type 0
+IsExplained why text = (rest : List ℕ) × (text ≡ line_of why ++ codes "at: " ++ rest)
+
+-- the line of a fault, then the way to the piece whose shape is at fault, and then why
+pub record IsLocated (tree : Data) (why : ScenarioFault) (text : List ℕ) : Type 0 where
+  pub way : List Step
+  pub leads : LeadsToFault tree way
+  pub shown : List ℕ
+  pub rest : List ℕ
+  pub is : text ≡ line_of why ++ codes "at: " ++ way_words shown way ++ codes "\nwhy: " ++ rest
+
+-- what is told of a fault that lies in a tree
+abbrev pub IsToldOf : Data → ScenarioFault → List ℕ → Type 0
+IsToldOf tree (fault.Shape spot) text = IsLocated tree (fault.Shape spot) text
+IsToldOf tree why text = IsExplained why text
+
+-- the tree of bytes, as far as they are known, has this fault
+abbrev pub HasFault : Option (List ℕ) → Data → ScenarioFault → Type 0
+HasFault known tree why = Tells tree_or_json known (Ok tree) × (scenario_at (Some tree) ≡ Err why)
+
+-- what is told of the scenario that known bytes are: the fault, and where in their tree it lies; or `ok`, and then what the scenario has
+abbrev pub IsTold : Option (List ℕ) → Result Setup ScenarioFault → List ℕ → Type 0
+IsTold known (Err (fault.Shape spot)) text = (tree : Data) × HasFault known tree (fault.Shape spot) × IsToldOf tree (fault.Shape spot) text
+IsTold known (Err why) text = IsExplained why text
+IsTold known (Ok setup) text = (rest : List ℕ) × (text ≡ codes "ok\n" ++ rest)
 
 -- the fault, if there is one
 abbrev pub fault_in : Result Setup ScenarioFault → Option ScenarioFault
@@ -21,5 +58,5 @@ pub record Explains (old new : Option (List ℕ)) (fault : Option ScenarioFault)
   pub is_read : IsRead old new read
   pub is_fault : fault_in read ≡ fault
   pub text : List ℕ
-  pub told : IsTold read text
+  pub told : IsTold old read text
   pub holds : Holds text

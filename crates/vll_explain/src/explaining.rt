@@ -1,5 +1,5 @@
 //! The text about a scenario, and the writing of it.
-ghost use Rattle.std.specs.Prelude.{◌≡◌, ◌↔◌, false, true, Some, Ok, Err, Option, Result, IfOk, IfErr, string_bytes};
+ghost use Rattle.std.specs.Prelude.{◌≡◌, ◌≤◌, ◌↔◌, false, true, Some, None, Ok, Err, Option, Result, IfOk, IfErr, length, string_bytes};
 ghost use Rattle.std.specs.Io.KnownBytes.{Appends};
 ghost use Rattle.vll_scenario.specs.Reading.{Tells};
 ghost use Rattle.vll_scenario.specs.Scenario.{scenario_at};
@@ -7,14 +7,18 @@ ghost use Rattle.vll_scenario.specs.Setup.{Setup};
 ghost use Rattle.vll_scenario.specs.Streams.{AppendsBeginning};
 ghost use Rattle.vll_scenario.specs.declared.fault.ScenarioFault.{ScenarioFault};
 ghost use Rattle.vll_scenario.specs.declared.fault.ScenarioFault.TheVariants.{Read};
-ghost use Rattle.vll_explain.specs.Told.{Explains, IsTold, fault_in};
+ghost use Rattle.serde_json.specs.View.{view};
+ghost use Rattle.vll_explain.specs.Told.{Explains, IsExplained, IsLocated, IsTold, IsToldOf, fault_in};
 
-use crate::held::Held;
-use crate::looking::explanation_of;
+use crate::looking::{explanation_of, unread_explanation};
+use crate::shape::shape_why;
 use crate::summary::summary_of;
+use crate::way::{push_way, shown_name};
+use serde_json::Value;
 use std::alloc::{AllocError, Global};
 use vll_scenario::{
-    Scenario, ScenarioFault, Sink, Source, WriteFault, read_bytes, read_scenario, write_text,
+    MOST_BYTES, Reading, Scenario, ScenarioFault, Sink, Source, Way, WriteFault, read_bytes,
+    reading_of, way_to_fault, write_text,
 };
 
 /// Reads a scenario as `read_scenario` does, and writes what is to be told of it: if it is refused, the line of its
@@ -60,7 +64,7 @@ fn explained<S: Source>(
         Ok(bytes) => explained_of(alloc, bytes.as_slice()),
         Err(why) => {
             let why = ScenarioFault::from(why);
-            let text = text_of_fault(alloc, why, &[]).map_err(|_| WriteFault::NoMemory)?;
+            let text = text_of_unread(alloc, why, &[]).map_err(|_| WriteFault::NoMemory)?;
             Ok((Some(why), text))
         }
     }
@@ -68,33 +72,71 @@ fn explained<S: Source>(
 
 // The same of bytes that were read to their end.
 fn explained_of(alloc: Global, bytes: &[u8]) -> Result<(Option<ScenarioFault>, String), WriteFault>
+    requires { length bytes.now ≤ MOST_BYTES }
     ensures told { IfOk result (λ made. (read : Result Setup ScenarioFault) × Tells scenario_at (Some bytes.now) read
-        × (fault_in read ≡ made.0) × IsTold read (string_bytes made.1)) }
+        × (fault_in read ≡ made.0) × IsTold (Some bytes.now) read (string_bytes made.1)) }
     ensures read { IfOk result (λ made. ¬ (made.0 ≡ Some Read)) }
     ensures fault { IfErr result (λ fault. fault ≡ WriteFault.NoMemory) }
 {
-    match read_scenario(alloc, &mut Held(bytes)) {
-        Ok(scenario) => {
-            let text = text_of_scenario(alloc, scenario).map_err(|_| WriteFault::NoMemory)?;
-            Ok((None, text))
-        }
+    match reading_of(alloc, bytes) {
+        Ok(Reading { tree, scenario }) => match scenario {
+            Ok(scenario) => {
+                let text = text_of_scenario(alloc, scenario).map_err(|_| WriteFault::NoMemory)?;
+                Ok((None, text))
+            }
+            Err(why) => {
+                let text = text_of_fault(alloc, why, &tree).map_err(|_| WriteFault::NoMemory)?;
+                Ok((Some(why), text))
+            }
+        },
         Err(why) => {
-            let text = text_of_fault(alloc, why, bytes).map_err(|_| WriteFault::NoMemory)?;
+            let text = text_of_unread(alloc, why, bytes).map_err(|_| WriteFault::NoMemory)?;
             Ok((Some(why), text))
         }
     }
 }
 
-// The line of a fault, and an explanation. Of a scenario that was not read to its end there are no bytes.
-fn text_of_fault(alloc: Global, why: ScenarioFault, bytes: &[u8]) -> Result<String, AllocError>
-    ensures { IfOk result (λ text. IsTold (Err why) (string_bytes text)) }
+// The line of a fault, and an explanation, if there is no JSON tree. Of what was not read to its end there are no bytes.
+fn text_of_unread(alloc: Global, why: ScenarioFault, bytes: &[u8]) -> Result<String, AllocError>
+    ensures { IfOk result (λ text. IsExplained why (string_bytes text)) }
 {
-    let explanation = explanation_of(alloc, why, bytes)?;
+    let explanation = unread_explanation(alloc, why, bytes)?;
+    explained_by(alloc, why, explanation.as_str())
+}
+
+// The line of a fault that lies in a JSON tree, and an explanation.
+fn text_of_fault(alloc: Global, why: ScenarioFault, tree: &Value) -> Result<String, AllocError>
+    ensures { IfOk result (λ text. IsToldOf (view tree.now) why (string_bytes text)) }
+{
+    match why {
+        ScenarioFault::Shape(_) => text_of_shape(alloc, why, tree),
+        _ => {
+            let explanation = explanation_of(alloc, why, tree)?;
+            explained_by(alloc, why, explanation.as_str())
+        }
+    }
+}
+
+fn explained_by(alloc: Global, why: ScenarioFault, explanation: &str) -> Result<String, AllocError>
+    ensures { IfOk result (λ text. IsExplained why (string_bytes text)) }
+{
     format!(in alloc; "vll: scenario: {why}\nat: {explanation}")
 }
 
+// The line of a fault, the way to the piece whose shape is at fault, and what is wrong with it.
+fn text_of_shape(alloc: Global, why: ScenarioFault, tree: &Value) -> Result<String, AllocError>
+    ensures { IfOk result (λ text. IsLocated (view tree.now) why (string_bytes text)) }
+{
+    let Way { steps, piece } = way_to_fault(alloc, tree)?;
+    let shown = shown_name(alloc, tree, steps.as_slice())?;
+    let mut place = String::new(alloc);
+    push_way(&mut place, steps.as_slice(), shown.as_str())?;
+    let reason = shape_why(alloc, tree, piece)?;
+    format!(in alloc; "vll: scenario: {why}\nat: {place}\nwhy: {reason}\n")
+}
+
 fn text_of_scenario(alloc: Global, scenario: Scenario) -> Result<String, AllocError>
-    ensures { IfOk result (λ text. IsTold (Ok scenario) (string_bytes text)) }
+    ensures { IfOk result (λ text. IsTold None (Ok scenario) (string_bytes text)) }
 {
     let summary = summary_of(alloc, scenario)?;
     format!(in alloc; "ok\n{summary}")

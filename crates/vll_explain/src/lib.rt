@@ -4,14 +4,16 @@
 mod asked;
 mod check;
 mod explaining;
-mod held;
+mod forms;
 mod json_place;
 mod looking;
+mod members;
 mod mistake;
 mod names;
 mod shape;
 mod shown;
 mod size;
 mod summary;
+mod way;
 
 pub use explaining::explain;

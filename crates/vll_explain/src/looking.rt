@@ -4,12 +4,11 @@ use crate::check::{Declared, check_mistake};
 use crate::json_place::json_explanation;
 use crate::mistake::Mistake;
 use crate::names::name_twice;
-use crate::shape::{list_name, shape_mistake};
 use crate::shown::Quoted;
 use crate::size::size_mistake;
 use serde_json::Value;
 use std::alloc::{AllocError, Global};
-use vll_scenario::{CallFault, CheckFault, MOST_BYTES, Part, ScenarioFault, Spot};
+use vll_scenario::{CallFault, CheckFault, MOST_BYTES, ScenarioFault};
 
 const UNREADABLE: &str = "standard input\nwhy: it cannot be read; give it a file or a pipe\n";
 
@@ -19,30 +18,42 @@ const TOO_LITTLE_MEMORY: &str =
 const UNKNOWN: &str =
     "\nwhy: a second look has not found it; docs/SCENARIO.md tells what this line means\n";
 
-// Where the mistake is that this fault tells of, and what is wrong there.
-pub(crate) fn explanation_of(
+// Where the mistake is that tells of bytes which were not read to their end, or are no JSON text, and what is wrong there.
+pub(crate) fn unread_explanation(
     alloc: Global,
     why: ScenarioFault,
     bytes: &[u8],
 ) -> Result<String, AllocError> {
     match why {
         ScenarioFault::Read => String::from_str(alloc, UNREADABLE),
-        ScenarioFault::NoMemory => String::from_str(alloc, TOO_LITTLE_MEMORY),
         ScenarioFault::Json => json_explanation(alloc, bytes),
-        ScenarioFault::Size if bytes.is_empty() => {
+        ScenarioFault::Size => {
             format!(in alloc; "standard input\nwhy: there are more than {MOST_BYTES} bytes\n")
         }
-        _ => in_tree(alloc, why, bytes),
+        _ => String::from_str(alloc, TOO_LITTLE_MEMORY),
     }
 }
 
-// The same of a fault that lies in the JSON tree.
-fn in_tree(alloc: Global, why: ScenarioFault, bytes: &[u8]) -> Result<String, AllocError> {
+// Where the mistake is in a JSON tree that this fault tells of, and what is wrong there.
+pub(crate) fn explanation_of(
+    alloc: Global,
+    why: ScenarioFault,
+    tree: &Value,
+) -> Result<String, AllocError> {
     let mut text = String::new(alloc);
-    match Value::from_slice(alloc, bytes) {
-        Ok(tree) => push_place(&mut text, alloc, &tree, why)?,
-        Err(error) if error.is_memory() => return Err(AllocError),
-        Err(_) => push_unknown(&mut text, "the scenario")?,
+    match why {
+        ScenarioFault::Check { index, fault } => push_check(&mut text, alloc, tree, index, fault)?,
+        ScenarioFault::Call {
+            client,
+            index,
+            fault,
+        } => push_call(&mut text, alloc, tree, client, index, fault)?,
+        ScenarioFault::NameTwice => push_name_twice(&mut text, alloc, tree)?,
+        ScenarioFault::Size => {
+            text.push_str("the scenario")?;
+            push_mistake(&mut text, size_mistake(alloc, tree)?)?;
+        }
+        _ => text.push_str(TOO_LITTLE_MEMORY)?,
     }
     Ok(text)
 }
@@ -51,51 +62,12 @@ fn push_unknown(text: &mut String, place: &str) -> Result<(), AllocError> {
     write!(text, "{place}{UNKNOWN}")
 }
 
-fn push_place(
-    text: &mut String,
-    alloc: Global,
-    tree: &Value,
-    why: ScenarioFault,
-) -> Result<(), AllocError> {
-    match why {
-        ScenarioFault::Shape(spot) => push_shape(text, alloc, tree, spot),
-        ScenarioFault::Check { index, fault } => push_check(text, alloc, tree, index, fault),
-        ScenarioFault::Call {
-            client,
-            index,
-            fault,
-        } => push_call(text, alloc, tree, client, index, fault),
-        ScenarioFault::NameTwice => push_name_twice(text, alloc, tree),
-        _ => {
-            text.push_str("the scenario")?;
-            push_mistake(text, size_mistake(alloc, tree)?)
-        }
-    }
-}
-
 // Appends the way to a mistake behind where it begins, and what is wrong there.
 fn push_mistake(text: &mut String, found: Option<Mistake>) -> Result<(), AllocError> {
     match found {
         Some(mistake) => mistake.tell(text),
         None => text.push_str(UNKNOWN),
     }
-}
-
-fn push_shape(
-    text: &mut String,
-    alloc: Global,
-    tree: &Value,
-    spot: Spot,
-) -> Result<(), AllocError> {
-    let Spot { part, index } = spot;
-    match list_name(part) {
-        Some(name) if tree.get(name).is_some_and(Value::is_array) => {
-            push_item(text, name, items_of(tree.get(name)), index)?;
-        }
-        _ if part == Part::Top => text.push_str("the scenario")?,
-        _ => write!(text, "{part}")?,
-    }
-    push_mistake(text, shape_mistake(alloc, tree, spot)?)
 }
 
 // Appends an item of a list by its index, with its name if it has one.

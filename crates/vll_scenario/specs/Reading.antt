@@ -1,5 +1,5 @@
 -- What is answered for the bytes that a reader gives.
-use Rattle.std.specs.Prelude.{◌≡◌, ◌<◌, ◌≤◌, ◌⊎◌, ℕ, List, length, Option, IfSome, Result, Err}
+use Rattle.std.specs.Prelude.{◌≡◌, ◌<◌, ◌≤◌, ◌⊎◌, ℕ, List, length, Option, Some, IfSome, Result, Err}
 use Rattle.std.specs.Io.KnownBytes.{Consumes, IsAtEnd}
 use Rattle.serde_json.specs.Data.{Data}
 use Rattle.vll_scenario.specs.declared.fault.ScenarioFault.{ScenarioFault}
@@ -34,3 +34,8 @@ Tells of known result = IfSome known (λ bytes. IsAnswerBy of bytes result)
 -- the scenario, or the fault, is that of the bytes that were read
 abbrev pub IsRead : Option (List ℕ) → Option (List ℕ) → Result Setup ScenarioFault → Type 0
 IsRead old new result = Reads scenario_at old new result × Tells scenario_at old result
+
+-- what is answered is the scenario of a tree, or its fault, unless memory ran out
+abbrev pub IsScenarioOf : Data → Result Setup ScenarioFault → Type 0
+IsScenarioOf tree (Err fault.NoMemory) = Unit {0}
+IsScenarioOf tree result = scenario_at (Some tree) ≡ result

@@ -3,7 +3,7 @@ ghost use Rattle.std.specs.Prelude.{◌≡◌, ◌≤◌, ◌↔◌, ◌⊎◌, 
 ghost use Rattle.serde_json.specs.View.{view};
 ghost use Rattle.vll_scenario.specs.Private.Longest.{longest_list};
 ghost use Rattle.vll_scenario.specs.Scenario.{IsTree, parts_at, scenario_at, tree_or_json};
-ghost use Rattle.vll_scenario.specs.Reading.{Reads, Tells};
+ghost use Rattle.vll_scenario.specs.Reading.{IsScenarioOf, Reads, Tells};
 ghost use Rattle.vll_scenario.specs.Private.Reading.{data_of};
 ghost use Rattle.vll_scenario.specs.declared.fault.ScenarioFault.TheVariants as ScenarioFault;
 
@@ -42,6 +42,37 @@ pub fn read_scenario<S: Source>(alloc: Global, reader: &mut S) -> Result<Scenari
     ensures failed { (result ≡ Err ScenarioFault.Read) ↔ (S.failed reader.new ≡ true) }
 {
     let parts = read_parts(alloc, reader)?;
+    setup_of(alloc, parts)
+}
+
+/// What bytes were read as: their JSON tree, and the scenario that it is, or why it is none.
+#[derive(Drop)]
+pub struct Reading {
+    pub tree: Value,
+    pub scenario: Result<Scenario, ScenarioFault>,
+}
+
+/// The JSON tree and the scenario of at most `MOST_BYTES` bytes. Both come at once, so that whoever explains a fault has
+/// the tree in which it lies. An `Err` is `Json` if the bytes are no JSON text, or `NoMemory`, which can also come as
+/// the fault of a scenario.
+pub fn reading_of(alloc: Global, bytes: &[u8]) -> Result<Reading, ScenarioFault>
+    requires { length bytes.now ≤ MOST_BYTES }
+    ensures tree { IfOk result (λ r. IsTree bytes.now (Some (view r.tree))) }
+    ensures scenario { IfOk result (λ r. IsScenarioOf (view r.tree) r.scenario) }
+    ensures err { IfErr result (λ e. ((e ≡ ScenarioFault.Json) × IsTree bytes.now None)
+        ⊎ (e ≡ ScenarioFault.NoMemory)) }
+{
+    let tree = tree_of(alloc, bytes)?;
+    let scenario = scenario_of(alloc, &tree);
+    Ok(Reading { tree, scenario })
+}
+
+// The scenario of a JSON tree.
+fn scenario_of(alloc: Global, tree: &Value) -> Result<Scenario, ScenarioFault>
+    requires { longest_list (view tree.now) ≤ MOST_BYTES }
+    ensures { IsScenarioOf (view tree.now) result }
+{
+    let parts = shape_of(alloc, tree)?;
     setup_of(alloc, parts)
 }
 

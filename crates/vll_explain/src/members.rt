@@ -1,4 +1,3 @@
-use crate::mistake::{Found, wrong};
 use crate::shown::{Quoted, Shown};
 use serde_json::Value;
 use std::alloc::{AllocError, Global};
@@ -6,33 +5,36 @@ use std::alloc::{AllocError, Global};
 // How many unknown members are told.
 const MOST_TOLD: usize = 4;
 
-// The mistake in the members of what has to be an object with the first members and none but these and the second ones.
-pub(crate) fn member_mistake(alloc: Global, value: &Value, must: &[&str], may: &[&str]) -> Found {
+// What is wrong with what has to be an object with the first members and none but these and the second ones.
+pub(crate) fn member_why(
+    alloc: Global,
+    value: &Value,
+    must: &[&str],
+    may: &[&str],
+) -> Result<String, AllocError> {
+    let mut why = String::new(alloc);
     if !value.is_object() {
         let shown = Shown(value);
-        let mut why = format!(in alloc;
+        write!(
+            why,
             "{shown} is no object; there has to be one with the members "
         )?;
         push_names(&mut why, must)?;
-        return wrong(alloc, why);
+        return Ok(why);
     }
-    let mut why = String::new(alloc);
     push_missing(&mut why, value, must)?;
     push_unknown(&mut why, value, must, may)?;
-    if why.is_empty() {
-        return Ok(None);
-    }
     why.push_str("; the members are ")?;
     push_names(&mut why, must)?;
     if !may.is_empty() {
         why.push_str(", and if wanted ")?;
         push_names(&mut why, may)?;
     }
-    wrong(alloc, why)
+    Ok(why)
 }
 
 // Appends names, with commas between them.
-pub(crate) fn push_names(text: &mut String, names: &[&str]) -> Result<(), AllocError> {
+fn push_names(text: &mut String, names: &[&str]) -> Result<(), AllocError> {
     for (i, name) in names.iter().enumerate() {
         let comma = if i == 0 { "" } else { ", " };
         write!(text, "{comma}{name}")?;

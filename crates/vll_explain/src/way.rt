@@ -1,0 +1,51 @@
+//! The way to a piece, in words.
+ghost use Rattle.std.specs.Prelude.{◌≡◌, ◌++◌, OnOk, string_bytes};
+ghost use Rattle.vll_explain.specs.Told.{way_words};
+ghost use Rattle.vll_scenario.specs.Ways.{words_of};
+
+use crate::asked::items_of;
+use crate::shown::Quoted;
+use serde_json::Value;
+use std::alloc::{AllocError, Global};
+use vll_scenario::Step;
+
+// Appends what is told of the steps from a scenario; behind the second one stands what is shown of its name.
+pub(crate) fn push_way(text: &mut String, steps: &[Step], shown: &str) -> Result<(), AllocError>
+    ensures { OnOk result (string_bytes text.new ≡ string_bytes text.old ++ way_words shown.now steps.now) }
+{
+    match steps {
+        [] => text.push_str("the scenario"),
+        [part] => write!(text, "{part}"),
+        [part, item, rest @ ..] => {
+            write!(text, "{part}{item}{shown}")?;
+            push_steps(text, rest)
+        }
+    }
+}
+
+// Appends what is told of some steps.
+fn push_steps(text: &mut String, steps: &[Step]) -> Result<(), AllocError>
+    ensures { OnOk result (string_bytes text.new ≡ string_bytes text.old ++ words_of steps.now) }
+{
+    if let [step, steps @ ..] = steps {
+        write!(text, "{step}")?;
+        push_steps(text, steps)?;
+    }
+    Ok(())
+}
+
+// What is shown of the name of the procedure into which steps lead, nothing if they lead into none or it has no name.
+pub(crate) fn shown_name(
+    alloc: Global,
+    tree: &Value,
+    steps: &[Step],
+) -> Result<String, AllocError> {
+    if let [Step::Procs, Step::Item(index), ..] = steps
+        && let Some(procedure) = items_of(tree.get("procs")).get(*index)
+        && let Some(name) = procedure.get("name").and_then(Value::as_str)
+    {
+        let name = Quoted(name);
+        return format!(in alloc; " ({name})");
+    }
+    Ok(String::new(alloc))
+}
