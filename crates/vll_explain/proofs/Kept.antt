@@ -1,16 +1,18 @@
 -- How what is answered for bytes in memory is answered for the reader that gave them.
-use Rattle.std.proofs.Common.{◌≡◌, ◌≤◌, ◌⊎◌, inl, inr, refl, sym, subst, IfOk, ℕ, List, length, Option, Some, None, Result, Ok, Err}
+use Rattle.std.proofs.Common.{◌≡◌, ◌≤◌, ◌⊎◌, inl, inr, refl, sym, subst, IfOk, ℕ, List, length, Option, Some, None, Result, Ok, Err, ap}
 use Rattle.serde_json.specs.Data.{Data}
 use Rattle.vll_scenario.specs.declared.limits.TheConstants.{MOST_BYTES}
 use Rattle.vll_scenario.specs.Bytes.{ReadsAll, ReadsTooMany, fault_of}
 use Rattle.vll_scenario.specs.Reading.{IsRead, IsScenarioOf, Reads, Tells}
-use Rattle.vll_scenario.specs.Scenario.{IsTree, scenario_at}
+use Rattle.vll_scenario.specs.Scenario.{IsTree, scenario_at, setup_of}
+use Rattle.vll_scenario.specs.Shape.{◌>>=◌, shape_of}
+use Rattle.vll_scenario.specs.declared.reading.shape.Parts.{Parts}
 use Rattle.vll_scenario.specs.Setup.{Setup}
 use Rattle.vll_scenario.specs.declared.fault.ScenarioFault.{ScenarioFault}
 use Rattle.vll_scenario.specs.declared.fault.ScenarioFault.TheVariants as fault
 use Rattle.vll_scenario.specs.declared.reading.bytes.ReadFault.{ReadFault}
 use Rattle.vll_scenario.specs.declared.reading.bytes.ReadFault.TheVariants as bytes
-use Rattle.vll_scenario.proofs.Answering.{reads_tell}
+use Rattle.vll_scenario.proofs.Answering.{reads_tell, setup_reads_nothing, shape_reads_nothing}
 use Rattle.vll_explain.specs.Told.{Explains, IsExplained, IsTold, IsToldOf, fault_in}
 
 -- ---- bytes that were read to their end
@@ -53,7 +55,7 @@ held_explains fault_of text_of (Err e) old new bytes held all same told = tt
 
 -- ---- bytes that were not read to their end
 
-pub unread : (old new : Option (List ℕ)) (why : ReadFault) → (why ≡ bytes.Size → ReadsTooMany old new) → IsRead old new (Err (fault_of why))
+unread : (old new : Option (List ℕ)) (why : ReadFault) → (why ≡ bytes.Size → ReadsTooMany old new) → IsRead old new (Err (fault_of why))
 unread old new bytes.Read many = (tt, tt)
 unread old new bytes.NoMemory many = (tt, tt)
 unread old new bytes.Size many =
@@ -61,10 +63,17 @@ unread old new bytes.Size many =
     let reads : Reads scenario_at old new (Err fault.Size) = (known.0, (known.1, inl known.2), inl (known.2.0, refl)) in
     (reads, reads_tell scenario_at old new (Err fault.Size) reads)
 
-pub unread_told : (old : Option (List ℕ)) (why : ReadFault) (text : List ℕ) → IsExplained (fault_of why) text → IsTold old (Err (fault_of why)) text
+unread_told : (old : Option (List ℕ)) (why : ReadFault) (text : List ℕ) → IsExplained (fault_of why) text → IsTold old (Err (fault_of why)) text
 unread_told old bytes.Read text told = told
 unread_told old bytes.NoMemory text told = told
 unread_told old bytes.Size text told = told
+
+-- what is told of bytes that were not read to their end
+pub unread_explains : (old new : Option (List ℕ)) (read : ReadFault) (why : ScenarioFault) (text : List ℕ) → why ≡ fault_of read → (read ≡ bytes.Size → ReadsTooMany old new) → IsExplained why text → Explains old new (Some why) (λ t. t ≡ text)
+unread_explains old new read why text is many told =
+    let explained = subst (λ f. IsExplained f text) is told in
+    subst (λ f. Explains old new (Some f) (λ t. t ≡ text)) (sym is)
+    (record { read = Err (fault_of read); is_read = unread old new read many; is_fault = refl; text = text; told = unread_told old read text explained; holds = refl })
 
 -- ---- the tree of bytes
 
@@ -101,3 +110,14 @@ treeless_explains bytes why text few (inl (json, is_tree)) told =
     subst (λ f. IsExplained f text → (read : Result Setup ScenarioFault) × Tells scenario_at (Some bytes) read × (fault_in read ≡ Some f) × IsTold (Some bytes) read text) (sym json) (λ of_json. (Err fault.Json, inr (few, (None, is_tree, refl)), refl, of_json)) told
 treeless_explains bytes why text few (inr memory) told =
     subst (λ f. IsExplained f text → (read : Result Setup ScenarioFault) × Tells scenario_at (Some bytes) read × (fault_in read ≡ Some f) × IsTold (Some bytes) read text) (sym memory) (λ of_memory. (Err fault.NoMemory, tt, refl, of_memory)) told
+
+-- ---- the fault of a tree is none of the reader's
+
+never_read : (r : Result Parts ScenarioFault) → (r ≡ Err fault.Read → ⊥) → (r >>= setup_of) ≡ Err fault.Read → ⊥
+never_read (Ok parts) none is = setup_reads_nothing (Err fault.Read) parts is refl
+never_read (Err why) none is = let same : why ≡ fault.Read = cc in none (ap Err same)
+
+pub reads_not : (tree : Data) (r : Result Setup ScenarioFault) (why : ScenarioFault) → IsScenarioOf tree r → r ≡ Err why → Some why ≡ Some fault.Read → ⊥
+reads_not tree r why told is read =
+    let same : r ≡ Err fault.Read = cc in
+    never_read (shape_of tree) (λ e. shape_reads_nothing (Err fault.Read) tree e refl) (subst (IsScenarioOf tree) same told)

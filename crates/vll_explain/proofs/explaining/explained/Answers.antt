@@ -1,8 +1,7 @@
-use Rattle.std.proofs.Common.{ap, refl, subst, sym, Err, IfOk, string_bytes}
-use Rattle.vll_scenario.specs.Reading.{IsRead}
+use Rattle.std.proofs.Common.{ap, subst, Err, IfOk, string_bytes}
 use Rattle.vll_scenario.proofs.Results.{ok_before}
-use Rattle.vll_explain.specs.Told.{IsTold}
-use Rattle.vll_explain.proofs.Kept.{held_explains, unread}
+use Rattle.vll_explain.specs.Told.{IsExplained}
+use Rattle.vll_explain.proofs.Kept.{held_explains, unread_explains}
 use Rattle.vll_explain.proofs.explaining.explained.Goals as goal
 
 -- what is told of the bytes in memory is told of what was read
@@ -14,7 +13,7 @@ returns-in-Ok-clause-told g c =
 pub returns-in_ok-text-in-Err-clause-told : goal.returns-in_ok-text-in-Err-clause-told
 returns-in_ok-text-in-Err-clause-told g c =
     let why = c.from-why.result in
-    let is_read = subst (λ f. IsRead (g.S.Source.remaining c.args.reader.now) (g.S.Source.remaining c.read_bytes.new.source) (Err f)) (sym c.from-why.ensures) (unread _ _ c.in-Err.why (λ size. c.in-Err.ensures.size (ap Err size))) in
-    let was = ok_before c.text_of_fault.result c.map_err.result _ c.in_ok-text-in-Err.text c.map_err.ensures.cases c.map_err.ensures.variant c.in_ok-text-in-Err.was in
-    let told = subst (λ r. IfOk r (λ text. IsTold (Err why) (string_bytes text))) was c.text_of_fault.ensures in
-    record { read = Err why; is_read = is_read; is_fault = refl; text = string_bytes c.in_ok-text-in-Err.text; told = told; holds = refl }
+    let text = c.in_ok-text-in-Err.text in
+    let was = ok_before c.text_of_unread.result c.map_err.result _ text c.map_err.ensures.cases c.map_err.ensures.variant c.in_ok-text-in-Err.was in
+    let told = subst (λ r. IfOk r (λ text. IsExplained why (string_bytes text))) was c.text_of_unread.ensures in
+    unread_explains (g.S.Source.remaining c.args.reader.now) (g.S.Source.remaining c.read_bytes.new.source) c.in-Err.why why (string_bytes text) c.from-why.ensures (λ size. c.in-Err.ensures.size (ap Err size)) told
