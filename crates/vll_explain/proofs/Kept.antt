@@ -13,7 +13,7 @@ use Rattle.vll_scenario.specs.declared.fault.ScenarioFault.TheVariants as fault
 use Rattle.vll_scenario.specs.declared.reading.bytes.ReadFault.{ReadFault}
 use Rattle.vll_scenario.specs.declared.reading.bytes.ReadFault.TheVariants as bytes
 use Rattle.vll_scenario.proofs.Answering.{reads_tell, setup_reads_nothing, shape_reads_nothing}
-use Rattle.vll_explain.specs.Told.{Explains, IsExplained, IsTold, IsToldOf, fault_in}
+use Rattle.vll_explain.specs.Told.{Explains, IsBegun, IsTold, IsToldOf, fault_in}
 
 -- ---- bytes that were read to their end
 
@@ -38,10 +38,10 @@ held_told old new bytes (Err fault.Read) text all told = told
 held_told old new bytes (Err fault.NoMemory) text all told = told
 held_told old new bytes (Err fault.Json) text all told = told
 held_told old new bytes (Err (fault.Shape s)) text all (tree, (is_tree, has_fault), told) = (tree, (held_tells _ old new bytes (Ok tree) all is_tree, has_fault), told)
-held_told old new bytes (Err (fault.Check i f)) text all told = told
-held_told old new bytes (Err (fault.Call c i f)) text all told = told
+held_told old new bytes (Err (fault.Check i f)) text all (tree, (is_tree, has_fault), told) = (tree, (held_tells _ old new bytes (Ok tree) all is_tree, has_fault), told)
+held_told old new bytes (Err (fault.Call c i f)) text all (tree, (is_tree, has_fault), told) = (tree, (held_tells _ old new bytes (Ok tree) all is_tree, has_fault), told)
 held_told old new bytes (Err fault.Size) text all told = told
-held_told old new bytes (Err fault.NameTwice) text all told = told
+held_told old new bytes (Err fault.NameTwice) text all (tree, (is_tree, has_fault), told) = (tree, (held_tells _ old new bytes (Ok tree) all is_tree, has_fault), told)
 
 -- so an explanation of those bytes is one of what was read
 pub held_explains : {T E : Type 0} (fault_of : T → Option ScenarioFault) (text_of : T → List ℕ) (r : Result T E) (old new : Option (List ℕ)) (bytes held : List ℕ) → ReadsAll old new bytes → held ≡ bytes
@@ -63,15 +63,15 @@ unread old new bytes.Size many =
     let reads : Reads scenario_at old new (Err fault.Size) = (known.0, (known.1, inl known.2), inl (known.2.0, refl)) in
     (reads, reads_tell scenario_at old new (Err fault.Size) reads)
 
-unread_told : (old : Option (List ℕ)) (why : ReadFault) (text : List ℕ) → IsExplained (fault_of why) text → IsTold old (Err (fault_of why)) text
+unread_told : (old : Option (List ℕ)) (why : ReadFault) (text : List ℕ) → IsBegun (fault_of why) text → IsTold old (Err (fault_of why)) text
 unread_told old bytes.Read text told = told
 unread_told old bytes.NoMemory text told = told
 unread_told old bytes.Size text told = told
 
 -- what is told of bytes that were not read to their end
-pub unread_explains : (old new : Option (List ℕ)) (read : ReadFault) (why : ScenarioFault) (text : List ℕ) → why ≡ fault_of read → (read ≡ bytes.Size → ReadsTooMany old new) → IsExplained why text → Explains old new (Some why) (λ t. t ≡ text)
+pub unread_explains : (old new : Option (List ℕ)) (read : ReadFault) (why : ScenarioFault) (text : List ℕ) → why ≡ fault_of read → (read ≡ bytes.Size → ReadsTooMany old new) → IsBegun why text → Explains old new (Some why) (λ t. t ≡ text)
 unread_explains old new read why text is many told =
-    let explained = subst (λ f. IsExplained f text) is told in
+    let explained = subst (λ f. IsBegun f text) is told in
     subst (λ f. Explains old new (Some f) (λ t. t ≡ text)) (sym is)
     (record { read = Err (fault_of read); is_read = unread old new read many; is_fault = refl; text = text; told = unread_told old read text explained; holds = refl })
 
@@ -93,10 +93,10 @@ tree_told bytes tree fault.Read text few is_tree is told = told
 tree_told bytes tree fault.NoMemory text few is_tree is told = told
 tree_told bytes tree fault.Json text few is_tree is told = told
 tree_told bytes tree (fault.Shape s) text few is_tree is told = (tree, (inr (few, (Some tree, is_tree, refl)), is), told)
-tree_told bytes tree (fault.Check i f) text few is_tree is told = told
-tree_told bytes tree (fault.Call c i f) text few is_tree is told = told
+tree_told bytes tree (fault.Check i f) text few is_tree is told = (tree, (inr (few, (Some tree, is_tree, refl)), is), told)
+tree_told bytes tree (fault.Call c i f) text few is_tree is told = (tree, (inr (few, (Some tree, is_tree, refl)), is), told)
 tree_told bytes tree fault.Size text few is_tree is told = told
-tree_told bytes tree fault.NameTwice text few is_tree is told = told
+tree_told bytes tree fault.NameTwice text few is_tree is told = (tree, (inr (few, (Some tree, is_tree, refl)), is), told)
 
 -- what is read and told of a fault that lies in the tree of bytes
 pub tree_explains : (bytes : List ℕ) (tree : Data) (why : ScenarioFault) (text : List ℕ) → length bytes ≤ MOST_BYTES → IsTree bytes (Some tree) → IsScenarioOf tree (Err why) → IsToldOf tree why text
@@ -104,12 +104,12 @@ pub tree_explains : (bytes : List ℕ) (tree : Data) (why : ScenarioFault) (text
 tree_explains bytes tree why text few is_tree is told = (Err why, tree_tells bytes tree (Err why) few is_tree is, refl, tree_told bytes tree why text few is_tree is told)
 
 -- what is read and told of bytes that have no tree
-pub treeless_explains : (bytes : List ℕ) (why : ScenarioFault) (text : List ℕ) → length bytes ≤ MOST_BYTES → ((why ≡ fault.Json) × IsTree bytes None) ⊎ (why ≡ fault.NoMemory) → IsExplained why text
+pub treeless_explains : (bytes : List ℕ) (why : ScenarioFault) (text : List ℕ) → length bytes ≤ MOST_BYTES → ((why ≡ fault.Json) × IsTree bytes None) ⊎ (why ≡ fault.NoMemory) → IsBegun why text
     → (read : Result Setup ScenarioFault) × Tells scenario_at (Some bytes) read × (fault_in read ≡ Some why) × IsTold (Some bytes) read text
 treeless_explains bytes why text few (inl (json, is_tree)) told =
-    subst (λ f. IsExplained f text → (read : Result Setup ScenarioFault) × Tells scenario_at (Some bytes) read × (fault_in read ≡ Some f) × IsTold (Some bytes) read text) (sym json) (λ of_json. (Err fault.Json, inr (few, (None, is_tree, refl)), refl, of_json)) told
+    subst (λ f. IsBegun f text → (read : Result Setup ScenarioFault) × Tells scenario_at (Some bytes) read × (fault_in read ≡ Some f) × IsTold (Some bytes) read text) (sym json) (λ of_json. (Err fault.Json, inr (few, (None, is_tree, refl)), refl, of_json)) told
 treeless_explains bytes why text few (inr memory) told =
-    subst (λ f. IsExplained f text → (read : Result Setup ScenarioFault) × Tells scenario_at (Some bytes) read × (fault_in read ≡ Some f) × IsTold (Some bytes) read text) (sym memory) (λ of_memory. (Err fault.NoMemory, tt, refl, of_memory)) told
+    subst (λ f. IsBegun f text → (read : Result Setup ScenarioFault) × Tells scenario_at (Some bytes) read × (fault_in read ≡ Some f) × IsTold (Some bytes) read text) (sym memory) (λ of_memory. (Err fault.NoMemory, tt, refl, of_memory)) told
 
 -- ---- the fault of a tree is none of the reader's
 

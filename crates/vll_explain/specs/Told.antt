@@ -1,5 +1,6 @@
 -- What is told of a scenario that was read.
 use Rattle.std.specs.Prelude.{◌≡◌, ℕ, List, [], ◌∷◌, ◌++◌, Option, Some, None, Result, Ok, Err, codes}
+use Rattle.std.specs.Fmt.{decimal}
 use Rattle.serde_json.specs.Data.{Data}
 use Rattle.vll_scenario.specs.declared.fault.ScenarioFault.{ScenarioFault}
 use Rattle.vll_scenario.specs.declared.fault.ScenarioFault.TheVariants as fault
@@ -21,8 +22,19 @@ way_words shown (part ∷ []) = step_words part
 way_words shown (part ∷ item ∷ steps) = step_words part ++ step_words item ++ shown ++ words_of steps
 
 -- the line of a fault, and then an explanation
-abbrev pub IsExplained : ScenarioFault → List ℕ → Type 0
-IsExplained why text = (rest : List ℕ) × (text ≡ line_of why ++ codes "at: " ++ rest)
+abbrev pub IsBegun : ScenarioFault → List ℕ → Type 0
+IsBegun why text = (rest : List ℕ) × (text ≡ line_of why ++ codes "at: " ++ rest)
+
+-- the same of one that names a place first
+abbrev pub IsAt : ScenarioFault → List ℕ → List ℕ → Type 0
+IsAt why place text = (rest : List ℕ) × (text ≡ line_of why ++ codes "at: " ++ place ++ rest)
+
+-- what is told of a procedure by its index, and of a call by its client and its index
+abbrev pub procedure_words : ℕ → List ℕ
+procedure_words index = codes "procs " ++ decimal index
+
+abbrev pub call_words : ℕ → ℕ → List ℕ
+call_words client index = codes "clients " ++ decimal client ++ codes ", call " ++ decimal index
 
 -- the line of a fault, then the way to the piece whose shape is at fault, and then why
 pub record IsLocated (tree : Data) (why : ScenarioFault) (text : List ℕ) : Type 0 where
@@ -32,10 +44,12 @@ pub record IsLocated (tree : Data) (why : ScenarioFault) (text : List ℕ) : Typ
   pub rest : List ℕ
   pub is : text ≡ line_of why ++ codes "at: " ++ way_words shown way ++ codes "\nwhy: " ++ rest
 
--- what is told of a fault that lies in a tree
+-- what is told of a fault that lies in a tree: of the shape the piece at fault, and else the procedure or the call of which it tells
 abbrev pub IsToldOf : Data → ScenarioFault → List ℕ → Type 0
 IsToldOf tree (fault.Shape spot) text = IsLocated tree (fault.Shape spot) text
-IsToldOf tree why text = IsExplained why text
+IsToldOf tree (fault.Check index why) text = IsAt (fault.Check index why) (procedure_words index) text
+IsToldOf tree (fault.Call client index why) text = IsAt (fault.Call client index why) (call_words client index) text
+IsToldOf tree why text = IsBegun why text
 
 -- the tree of bytes, as far as they are known, has this fault
 abbrev pub HasFault : Option (List ℕ) → Data → ScenarioFault → Type 0
@@ -43,8 +57,11 @@ HasFault known tree why = Tells tree_or_json known (Ok tree) × (scenario_at (So
 
 -- what is told of the scenario that known bytes are: the fault, and where in their tree it lies; or `ok`, and then what the scenario has
 abbrev pub IsTold : Option (List ℕ) → Result Setup ScenarioFault → List ℕ → Type 0
-IsTold known (Err (fault.Shape spot)) text = (tree : Data) × HasFault known tree (fault.Shape spot) × IsToldOf tree (fault.Shape spot) text
-IsTold known (Err why) text = IsExplained why text
+IsTold known (Err fault.Read) text = IsBegun fault.Read text
+IsTold known (Err fault.NoMemory) text = IsBegun fault.NoMemory text
+IsTold known (Err fault.Json) text = IsBegun fault.Json text
+IsTold known (Err fault.Size) text = IsBegun fault.Size text
+IsTold known (Err why) text = (tree : Data) × HasFault known tree why × IsToldOf tree why text
 IsTold known (Ok setup) text = (rest : List ℕ) × (text ≡ codes "ok\n" ++ rest)
 
 -- the fault, if there is one

@@ -6,19 +6,19 @@ ghost use Rattle.vll_scenario.specs.Scenario.{scenario_at};
 ghost use Rattle.vll_scenario.specs.Setup.{Setup};
 ghost use Rattle.vll_scenario.specs.Streams.{AppendsBeginning};
 ghost use Rattle.vll_scenario.specs.declared.fault.ScenarioFault.{ScenarioFault};
-ghost use Rattle.vll_scenario.specs.declared.fault.ScenarioFault.TheVariants.{Read};
+ghost use Rattle.vll_scenario.specs.declared.fault.ScenarioFault.TheVariants.{Call, Check, Read};
 ghost use Rattle.serde_json.specs.View.{view};
-ghost use Rattle.vll_explain.specs.Told.{Explains, IsExplained, IsLocated, IsTold, IsToldOf, fault_in};
+ghost use Rattle.vll_explain.specs.Told.{Explains, IsAt, IsBegun, IsLocated, IsTold, IsToldOf, call_words, fault_in, procedure_words};
 
-use crate::looking::{explanation_of, unread_explanation};
+use crate::looking::{call_explanation, check_explanation, explanation_of, unread_explanation};
 use crate::shape::shape_why;
 use crate::summary::summary_of;
 use crate::way::{push_way, shown_name};
 use serde_json::Value;
 use std::alloc::{AllocError, Global};
 use vll_scenario::{
-    MOST_BYTES, Reading, Scenario, ScenarioFault, Sink, Source, Way, WriteFault, read_bytes,
-    reading_of, way_to_fault, write_text,
+    CallFault, CheckFault, MOST_BYTES, Reading, Scenario, ScenarioFault, Sink, Source, Way,
+    WriteFault, read_bytes, reading_of, way_to_fault, write_text,
 };
 
 /// Reads a scenario as `read_scenario` does, and writes what is to be told of it: if it is refused, the line of its
@@ -98,10 +98,10 @@ fn explained_of(alloc: Global, bytes: &[u8]) -> Result<(Option<ScenarioFault>, S
 
 // The line of a fault, and an explanation, if there is no JSON tree. Of what was not read to its end there are no bytes.
 fn text_of_unread(alloc: Global, why: ScenarioFault, bytes: &[u8]) -> Result<String, AllocError>
-    ensures { IfOk result (λ text. IsExplained why (string_bytes text)) }
+    ensures { IfOk result (λ text. IsBegun why (string_bytes text)) }
 {
     let explanation = unread_explanation(alloc, why, bytes)?;
-    explained_by(alloc, why, explanation.as_str())
+    begun_with(alloc, why, explanation.as_str())
 }
 
 // The line of a fault that lies in a JSON tree, and an explanation.
@@ -110,17 +110,56 @@ fn text_of_fault(alloc: Global, why: ScenarioFault, tree: &Value) -> Result<Stri
 {
     match why {
         ScenarioFault::Shape(_) => text_of_shape(alloc, why, tree),
+        ScenarioFault::Check { index, fault } => text_of_check(alloc, tree, index, fault),
+        ScenarioFault::Call {
+            client,
+            index,
+            fault,
+        } => text_of_call(alloc, tree, client, index, fault),
         _ => {
             let explanation = explanation_of(alloc, why, tree)?;
-            explained_by(alloc, why, explanation.as_str())
+            begun_with(alloc, why, explanation.as_str())
         }
     }
 }
 
-fn explained_by(alloc: Global, why: ScenarioFault, explanation: &str) -> Result<String, AllocError>
-    ensures { IfOk result (λ text. IsExplained why (string_bytes text)) }
+fn begun_with(alloc: Global, why: ScenarioFault, explanation: &str) -> Result<String, AllocError>
+    ensures { IfOk result (λ text. IsBegun why (string_bytes text)) }
 {
     format!(in alloc; "vll: scenario: {why}\nat: {explanation}")
+}
+
+// The line of a procedure's fault, the procedure, and an explanation.
+fn text_of_check(
+    alloc: Global,
+    tree: &Value,
+    index: u32,
+    fault: CheckFault,
+) -> Result<String, AllocError>
+    ensures { IfOk result (λ text. IsAt (Check index fault) (procedure_words index) (string_bytes text)) }
+{
+    let why = ScenarioFault::Check { index, fault };
+    let explanation = check_explanation(alloc, tree, index, fault)?;
+    format!(in alloc; "vll: scenario: {why}\nat: procs {index}{explanation}")
+}
+
+// The line of a call's fault, the call, and an explanation.
+fn text_of_call(
+    alloc: Global,
+    tree: &Value,
+    client: u32,
+    index: u32,
+    fault: CallFault,
+) -> Result<String, AllocError>
+    ensures { IfOk result (λ text. IsAt (Call client index fault) (call_words client index) (string_bytes text)) }
+{
+    let why = ScenarioFault::Call {
+        client,
+        index,
+        fault,
+    };
+    let explanation = call_explanation(alloc, tree, client, index, fault)?;
+    format!(in alloc; "vll: scenario: {why}\nat: clients {client}, call {index}{explanation}")
 }
 
 // The line of a fault, the way to the piece whose shape is at fault, and what is wrong with it.

@@ -1,4 +1,4 @@
-//! The explanation of a fault: a second look at the bytes finds the place.
+//! The explanation of a fault that is none of the shape.
 use crate::asked::{call_mistake, items_of};
 use crate::check::{Declared, check_mistake};
 use crate::json_place::json_explanation;
@@ -34,7 +34,7 @@ pub(crate) fn unread_explanation(
     }
 }
 
-// Where the mistake is in a JSON tree that this fault tells of, and what is wrong there.
+// Where the mistake is in a JSON tree whose sizes or names are at fault, and what is wrong there.
 pub(crate) fn explanation_of(
     alloc: Global,
     why: ScenarioFault,
@@ -42,12 +42,6 @@ pub(crate) fn explanation_of(
 ) -> Result<String, AllocError> {
     let mut text = String::new(alloc);
     match why {
-        ScenarioFault::Check { index, fault } => push_check(&mut text, alloc, tree, index, fault)?,
-        ScenarioFault::Call {
-            client,
-            index,
-            fault,
-        } => push_call(&mut text, alloc, tree, client, index, fault)?,
         ScenarioFault::NameTwice => push_name_twice(&mut text, alloc, tree)?,
         ScenarioFault::Size => {
             text.push_str("the scenario")?;
@@ -70,14 +64,9 @@ fn push_mistake(text: &mut String, found: Option<Mistake>) -> Result<(), AllocEr
     }
 }
 
-// Appends an item of a list by its index, with its name if it has one.
-fn push_item(text: &mut String, list: &str, items: &[Value], index: u32) -> Result<(), AllocError> {
-    write!(text, "{list} {index}")?;
-    let item = items.get(index as usize);
-    match item
-        .and_then(|item| item.get("name"))
-        .and_then(Value::as_str)
-    {
+// Appends the name of a procedure or of a call's procedure, if it has one.
+fn push_name(text: &mut String, named: Option<&Value>) -> Result<(), AllocError> {
+    match named.and_then(Value::as_str) {
         Some(name) => {
             let name = Quoted(name);
             write!(text, " ({name})")
@@ -86,22 +75,23 @@ fn push_item(text: &mut String, list: &str, items: &[Value], index: u32) -> Resu
     }
 }
 
-fn push_check(
-    text: &mut String,
+// Where in a procedure the mistake is, behind its index, and what is wrong there.
+pub(crate) fn check_explanation(
     alloc: Global,
     tree: &Value,
     index: u32,
     fault: CheckFault,
-) -> Result<(), AllocError> {
-    let procs = items_of(tree.get("procs"));
-    push_item(text, "procs", procs, index)?;
-    let procedure = procs.get(index as usize);
+) -> Result<String, AllocError> {
+    let mut text = String::new(alloc);
+    let procedure = items_of(tree.get("procs")).get(index as usize);
     let Some((procedure, body)) = procedure.and_then(|procedure| Some((
         procedure,
         procedure.get("body")?,
     ))) else {
-        return text.push_str(UNKNOWN);
+        text.push_str(UNKNOWN)?;
+        return Ok(text);
     };
+    push_name(&mut text, procedure.get("name"))?;
     let declared = Declared {
         args: number_of(procedure, "args"),
         keys: items_of(procedure.get("keys")),
@@ -109,31 +99,31 @@ fn push_check(
         records: items_of(tree.get("records")).len(),
         version: number_of(tree, "version"),
     };
-    push_mistake(text, check_mistake(alloc, &declared, fault)?)
+    push_mistake(&mut text, check_mistake(alloc, &declared, fault)?)?;
+    Ok(text)
 }
 
 fn number_of(value: &Value, name: &str) -> u64 {
     value.get(name).and_then(Value::as_u64).unwrap_or(0)
 }
 
-fn push_call(
-    text: &mut String,
+// Where in a call the mistake is, behind its client and its index, and what is wrong there.
+pub(crate) fn call_explanation(
     alloc: Global,
     tree: &Value,
     client: u32,
     index: u32,
     fault: CallFault,
-) -> Result<(), AllocError> {
-    write!(text, "clients {client}, call {index}")?;
+) -> Result<String, AllocError> {
+    let mut text = String::new(alloc);
     let script = items_of(items_of(tree.get("clients")).get(client as usize));
     let Some(asked) = script.get(index as usize) else {
-        return text.push_str(UNKNOWN);
+        text.push_str(UNKNOWN)?;
+        return Ok(text);
     };
-    if let Some(name) = asked.get("proc").and_then(Value::as_str) {
-        let name = Quoted(name);
-        write!(text, " ({name})")?;
-    }
-    push_mistake(text, call_mistake(alloc, tree, asked, fault)?)
+    push_name(&mut text, asked.get("proc"))?;
+    push_mistake(&mut text, call_mistake(alloc, tree, asked, fault)?)?;
+    Ok(text)
 }
 
 fn push_name_twice(text: &mut String, alloc: Global, tree: &Value) -> Result<(), AllocError> {

@@ -26,11 +26,6 @@ pub(crate) fn wrong(alloc: Global, why: String) -> Found {
     }))
 }
 
-// The same, said without a value.
-pub(crate) fn wrong_as(alloc: Global, why: &str) -> Found {
-    wrong(alloc, String::from_str(alloc, why)?)
-}
-
 // What was found in a piece that has this name, as seen from the piece around it.
 pub(crate) fn inside(found: Option<Mistake>, name: &'static str) -> Found {
     with_step(found, Step { name, index: None })

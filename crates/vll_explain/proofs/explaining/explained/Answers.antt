@@ -1,6 +1,6 @@
 use Rattle.std.proofs.Common.{ap, subst, Err, IfOk, string_bytes}
 use Rattle.vll_scenario.proofs.Results.{ok_before}
-use Rattle.vll_explain.specs.Told.{IsExplained}
+use Rattle.vll_explain.specs.Told.{IsBegun}
 use Rattle.vll_explain.proofs.Kept.{held_explains, unread_explains}
 use Rattle.vll_explain.proofs.explaining.explained.Goals as goal
 
@@ -15,5 +15,5 @@ returns-in_ok-text-in-Err-clause-told g c =
     let why = c.from-why.result in
     let text = c.in_ok-text-in-Err.text in
     let was = ok_before c.text_of_unread.result c.map_err.result _ text c.map_err.ensures.cases c.map_err.ensures.variant c.in_ok-text-in-Err.was in
-    let told = subst (λ r. IfOk r (λ text. IsExplained why (string_bytes text))) was c.text_of_unread.ensures in
+    let told = subst (λ r. IfOk r (λ text. IsBegun why (string_bytes text))) was c.text_of_unread.ensures in
     unread_explains (g.S.Source.remaining c.args.reader.now) (g.S.Source.remaining c.read_bytes.new.source) c.in-Err.why why (string_bytes text) c.from-why.ensures (λ size. c.in-Err.ensures.size (ap Err size)) told

@@ -2,7 +2,7 @@ use Rattle.std.proofs.Common.{refl, Ok, None, string_bytes, subst, IfOk}
 use Rattle.serde_json.specs.View.{view}
 use Rattle.vll_scenario.specs.Reading.{IsScenarioOf}
 use Rattle.vll_scenario.proofs.Results.{ok_before}
-use Rattle.vll_explain.specs.Told.{IsExplained, IsTold, IsToldOf}
+use Rattle.vll_explain.specs.Told.{IsBegun, IsTold, IsToldOf}
 use Rattle.vll_explain.proofs.Kept.{reads_not, tree_explains, tree_tells, treeless_explains}
 use Rattle.vll_explain.proofs.explaining.explained_of.Goals as goal
 
@@ -36,5 +36,5 @@ returns-clause-told c =
     let why = c.in-Err.why in
     let text = c.in_ok-text-in-Err.text in
     let was = ok_before c.text_of_unread.result c.map_err-in-Err.result _ text c.map_err-in-Err.ensures.cases c.map_err-in-Err.ensures.variant c.in_ok-text-in-Err.was in
-    let told = subst (λ r. IfOk r (λ text. IsExplained why (string_bytes text))) was c.text_of_unread.ensures in
+    let told = subst (λ r. IfOk r (λ text. IsBegun why (string_bytes text))) was c.text_of_unread.ensures in
     treeless_explains c.args.bytes.now why (string_bytes text) c.requires c.in-Err.ensures.err told
