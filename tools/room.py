@@ -17,7 +17,8 @@ from jobs import BYTES_OF_A_CHECK, first_number, memory_of
 TOP = Path(__file__).resolve().parent.parent
 GB = 1_000_000_000
 
-# What a run from nothing has been seen to write: in out/ of all crates, and among the temporary files at one time.
+# Room for a run from nothing, with a margin: on the disk of the checkout, where what `rt ci` keeps beside the kit mostly
+# lies too (1.1 GB were seen), and for the copies, among the temporary files, in which edits are tried.
 BYTES_OF_OUT = 4 * GB
 BYTES_OF_COPIES = 3 * GB
 # `rt ci` keeps nothing of what passed on a disk with less left than this, and its program is not built on a full one.
