@@ -29,9 +29,14 @@ REFUSED = [
 ACCEPTED = [['run', '--'], ['run', '--workers', '+3'], ['run', '--bits=0001048576', '--'], ['replay', '--'],
             ['explain', '--'], ['draw', '--'], ['draw', '--from', '0'], ['draw', '--count=3600', '--from=1048576']]
 
-# In place of rt: it notes how it was called, and prints as `rt try` and `rt run` do.
+# In place of rt: it notes how it was called, and prints as `rt try`, `rt run` and `rt lib` do.
 RT = '''#!/usr/bin/env bash
-[[ $1 != lib ]] || { pwd >>"$ROOM/beside"; ls >"$ROOM/copied"; cp ../../crates.txt "$ROOM/listed"; exit 0; }
+if [[ $1 == lib ]]; then
+  pwd >>"$ROOM/libraries"
+  [[ $PWD == "$ROOM"/* ]] || { ls >"$ROOM/copied"; cp ../../crates.txt "$ROOM/listed"; }
+  printf 'so far: 3 of 9 functions checked; the verdict comes last\\n'
+  [[ ! -e $ROOM/unproved ]]; exit
+fi
 printf '%s\\n' "$PWD" "$@" >"$ROOM/words"
 cat >"$ROOM/input"
 [[ -f /dev/stdin ]] || printf 'no file\\n' >"$ROOM/no_file"
@@ -64,7 +69,7 @@ class WithStandIn(unittest.TestCase):
         (self.room / 'tools/jobs.py').write_text('print(2)\n')
         for part in 'src', 'must-fail', 'out':
             (self.room / 'crates/vll_draw' / part).mkdir(parents=True)
-        self.list_crates('vll_deep:', 'vll_draw:', 'vll: vll_draw vll_deep', 'vll_other: vll_draw')
+        self.list_crates('vll_draw:', 'vll_deep:', 'vll: vll_draw vll_deep', 'vll_other: vll_draw')
 
     def answer(self, printed, status, last=None):
         """What the stand-in prints, and the status of the program that it ran."""
@@ -98,6 +103,12 @@ class WithStandIn(unittest.TestCase):
         path = f'{self.room / "bin"}:{os.environ["PATH"]}'
         env = {**os.environ, 'PATH': path, 'ROOM': str(self.room)}
         return subprocess.run([self.room / 'vll', *words], input=given, capture_output=True, env=env, check=False)
+
+    def libraries(self):
+        """The folders in which a library was proved, those here and those elsewhere."""
+        folders = list(map(Path, (self.room / 'libraries').read_text().splitlines()))
+        here = [folder for folder in folders if self.room in folder.parents]
+        return here, [folder for folder in folders if folder not in here]
 
     def words(self):
         return (self.room / 'words').read_text().splitlines()[1:]
@@ -216,29 +227,38 @@ class WithStandIn(unittest.TestCase):
                 shutil.rmtree(self.room / 'crates/vll/out')
 
     def test_it_tells_how_far_the_proofs_are(self):
-        (self.room / 'said').write_text('')
-        self.answer(b'', 0, 'so far: 0 of 5 functions checked; the verdict comes last\nfn vll_deep::a::b: proved\n'
-                            'crate vll_deep: modules loaded=1 checked=5\n'
-                            'so far: 3 of 9 functions checked; the verdict comes last\n')
         said = self.vll('run').stderr.decode()
         for part in 'this proves 3 crates', 'proving vll_deep\n', \
-                'vll_deep is proved: 1 of 3 crates, after 0 minutes', \
-                '3 of 9 functions checked; 1 of 3 crates are proved':
+                'vll_deep: 3 of 9 functions checked; 0 of 3 crates are proved', \
+                'vll_deep is proved: 1 of 3 crates, after 0 minutes', 'proving vll\n', \
+                'vll is proved: 3 of 3 crates, after 0 minutes':
             self.assertIn(part, said)
 
-    def test_what_stands_beside_the_engine_is_proved_in_a_copy_meanwhile(self):
+    def test_a_library_that_is_not_proved_is_status_3(self):
+        (self.room / 'unproved').touch()
+        ran = self.vll('run')
+        self.assertEqual((ran.returncode, ran.stdout), (3, b''))
+        self.assertIn(b'proving: vll_deep\nso far: 3 of 9', ran.stderr)
+        self.assertEqual(len(self.libraries()[0]), 1)
+        self.assertFalse((self.room / 'words').exists())
+
+    def test_each_library_is_proved_after_those_below_it(self):
         self.assertTrue(self.is_built_for('run'))
-        self.assertFalse((self.room / 'beside').exists())
+        here, elsewhere = self.libraries()
+        self.assertEqual([folder.name for folder in here], ['vll_deep', 'vll_part'])
+        self.assertEqual(elsewhere, [])
+
+    def test_what_stands_beside_the_engine_is_proved_in_a_copy_meanwhile(self):
         self.let_two_checks_fit()
         self.assertTrue(self.is_built_for('run'))
-        folder = Path((self.room / 'beside').read_text().strip())
-        self.assertEqual(folder.parts[-2:], ('crates', 'vll_draw'))
-        self.assertFalse(str(folder).startswith(str(self.room)))
+        here, elsewhere = self.libraries()
+        self.assertEqual([folder.name for folder in here], ['vll_deep', 'vll_draw'])
+        self.assertEqual([folder.parts[-2:] for folder in elsewhere], [('crates', 'vll_draw')])
         self.assertEqual((self.room / 'copied').read_text().split(), ['src'])
         listed = [line.split(':')[0] for line in (self.room / 'listed').read_text().splitlines()]
         self.assertIn('vll_draw', listed)
         self.assertNotIn('vll_other', listed)
-        self.assertFalse(folder.exists())
+        self.assertFalse(elsewhere[0].exists())
 
     def test_words_of_use_have_the_program_built(self):
         for words in ('run',), ('replay',), ('explain',), ('run', '--workers', '3', '--cap=4', '--bits', '5'):
