@@ -9,7 +9,7 @@ use crate::relay::relay;
 use std::alloc::Global;
 use std::marker::Brand;
 use std::sync::Wait;
-use vll_core::Config;
+use vll_core::{Config, Ticket};
 use vll_engine::{Begun, Client, Clients, Engine, EngineFault, Name, Opening, Pass, Service};
 use vll_proc::{Reply, invariants_carry_over};
 use vll_sca::Placing;
@@ -48,23 +48,49 @@ impl<'a, R: Wait + Print> Service for Bank<'a, R> {
     ) -> Result<(), EngineFault>
         requires procedures { N.engine.base.procs ≡ procedures }
     {
-        let rt = self.rt;
-        let (Some(mut other), Some(mut first)) = (clients.pop(), clients.pop()) else {
-            return Ok(());
-        };
-        for amount in [30, 500] {
-            let (_, reply) = first.call(rt, &engine, "transfer", &[0, 1, amount])?;
-            println!(rt; "the transfer {reply}")?;
-        }
-        meet(rt, &engine, &mut first, &mut other)?;
-        let (told, behind) = relay(rt, &engine, &mut first, &mut other)?;
-        println!(rt; "call {} comes behind call {}", behind.0, told.0)?;
+        make_calls(self.rt, &engine, &mut clients)?;
         let accounts = close(engine, clients)?;
-        for (account, value) in accounts.as_slice().iter().enumerate() {
-            println!(rt; "account {account} holds {value}")?;
-        }
-        Ok(())
+        print_accounts(self.rt, accounts.as_slice())
     }
+}
+
+// The calls of both clients.
+fn make_calls<N: Name, R: Wait + Print>(
+    rt: &R,
+    engine: &Engine<N, Placing>,
+    clients: &mut Clients<N>,
+) -> Result<(), EngineFault> {
+    let (Some(mut other), Some(mut first)) = (clients.pop(), clients.pop()) else {
+        return Ok(());
+    };
+    transfer_twice(rt, engine, &mut first)?;
+    meet(rt, engine, &mut first, &mut other)?;
+    print_order(rt, relay(rt, engine, &mut first, &mut other)?)
+}
+
+// One client's calls, of which the account is too low for the second.
+fn transfer_twice<N: Name, R: Wait + Print>(
+    rt: &R,
+    engine: &Engine<N, Placing>,
+    client: &mut Client<N>,
+) -> Result<(), EngineFault> {
+    for amount in [30, 500] {
+        let (_, reply) = client.call(rt, engine, "transfer", &[0, 1, amount])?;
+        println!(rt; "the transfer {reply}")?;
+    }
+    Ok(())
+}
+
+fn print_order(rt: &impl Print, (told, behind): (Ticket, Ticket)) -> Result<(), EngineFault> {
+    println!(rt; "call {} comes behind call {}", behind.0, told.0)?;
+    Ok(())
+}
+
+fn print_accounts(rt: &impl Print, accounts: &[u64]) -> Result<(), EngineFault> {
+    for (account, value) in accounts.iter().enumerate() {
+        println!(rt; "account {account} holds {value}")?;
+    }
+    Ok(())
 }
 
 // What the accounts hold at the end: in total as much as at the opening. Each call of the bank keeps the total, and
