@@ -5,9 +5,23 @@ import re
 
 from workloads import WORDS
 
+# What vll_bench prints first, and the first line of a file of figures.
+PRINTED = ['scenario', 'way', 'threads', 'nanoseconds', 'calls', 'fewest', 'most']
 HEAD = ['scenario', 'way', 'threads', 'nanoseconds', 'commit', 'processor', 'date']
 TEAMS = [('serial', 1), *((way, threads) for way in ('mutex', 'locks', 'call', 'engine') for threads in (1, 2, 4))]
 SWEEP_TEAMS = [('mutex', 1), ('mutex', 4), ('locks', 1), ('locks', 4), *(('engine', n) for n in (1, 2, 3, 4))]
+
+
+def with_origin(printed, origin, scenario=None):
+    """What vll_bench printed, as lines of a file of figures: with the commit, the processor and the date, and with this
+    name of the scenario, if there is one."""
+    rows = list(csv.reader(io.StringIO(printed)))
+    if not rows or rows[0] != PRINTED:
+        raise ValueError(f'the first line is not {",".join(PRINTED)}')
+    lines = io.StringIO()
+    csv.writer(lines, lineterminator='\n').writerows(
+        [row[0] if scenario is None else scenario, *row[1:4], *origin] for row in rows[1:])
+    return lines.getvalue()
 
 
 def read(text):

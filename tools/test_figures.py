@@ -75,6 +75,14 @@ class Figures(unittest.TestCase):
         with self.assertRaisesRegex(ValueError, 'has 2 rows of: bodies'):
             figures.with_rows(before + before, read)
 
+    def test_what_is_printed_becomes_lines_of_a_file(self):
+        printed = 'scenario,way,threads,nanoseconds,calls,fewest,most\n10,call,4,20,8,7,8\n'
+        origin = 'abc', 'a, b', '2026-01-02'
+        self.assertEqual(figures.with_origin(printed, origin), '10,call,4,20,abc,"a, b",2026-01-02\n')
+        self.assertEqual(figures.with_origin(printed, origin, 'low'), 'low,call,4,20,abc,"a, b",2026-01-02\n')
+        with self.assertRaisesRegex(ValueError, 'the first line'):
+            figures.with_origin('10,call,4,20,8,7,8\n', origin)
+
     def test_wrong_files_are_refused(self):
         line = 'transfers,call,4,20,abc,one,2026-01-02\n'
         for text, why in {'': 'the first line', 'a,b\n': 'the first line', HEAD + 'a,b\n': 'line 2 has 2 fields',

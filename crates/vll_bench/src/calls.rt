@@ -15,15 +15,52 @@ use std::time::{Clock, Instant};
 use vll_engine::{Engine, Name, Opening, Spent};
 use vll_proc::Call;
 use vll_sca::Placing;
+use vll_workers::Tally;
 
-/// Times the calls by so many threads, in an engine of this name.
-pub(crate) fn time_calls<N: Name + Send + Sync, R: Threads + Wait + Clock + Sync>(
+/// How a thread makes the calls of a client.
+pub(crate) trait Manner {
+    /// Makes them, and adds to the tally what the thread did, where it is counted.
+    fn make_script<N: Name>(
+        rt: &impl Wait,
+        engine: &Engine<N, Placing>,
+        caller: Caller<N>,
+        tally: &mut Tally,
+    ) -> Result<(), Fault>;
+}
+
+/// By the engine's own call. Nothing is counted.
+#[derive(Drop)]
+pub(crate) struct ByCall;
+
+impl Manner for ByCall {
+    fn make_script<N: Name>(
+        rt: &impl Wait,
+        engine: &Engine<N, Placing>,
+        caller: Caller<N>,
+        _tally: &mut Tally,
+    ) -> Result<(), Fault> {
+        let Caller { mut client, script } = caller;
+        for call in &script {
+            if let Err(Spent) = client.make(rt, engine, call) {
+                return Err(Fault::Refused);
+            }
+        }
+        Ok(())
+    }
+}
+
+/// Times the calls by so many threads, in an engine of this name, and tells what the threads did.
+pub(crate) fn time_calls<
+    N: Name + Send + Sync,
+    R: Threads + Wait + Clock + Sync,
+    M: Manner + Send + Sync,
+>(
     rt: &R,
     alloc: Global,
     opening: Opening<Placing>,
     scripts: Vec<Vec<Call>>,
     threads: usize,
-) -> Result<Timed, Fault>
+) -> Result<(Timed, Tally), Fault>
     requires some { 0 < threads }
     requires named { N.engine ≡ name_of placing opening }
     requires fits { All (λ script. All (Fits (library_of N.engine)) script.items) scripts.items }
@@ -35,47 +72,34 @@ pub(crate) fn time_calls<N: Name + Send + Sync, R: Threads + Wait + Clock + Sync
         rt,
         alloc,
         threads,
-        &|_| { make_share(rt, &engine, &callers) },
+        &|_| { make_share::<N, M>(rt, &engine, &callers) },
     )?;
     let time = start.elapsed(rt)?;
+    let mut tally = Tally::none();
     for made in shares.iter() {
-        (*made)?;
+        tally = tally.with((*made)?);
     }
     match engine.close(Vec::new(alloc)) {
-        Ok(closed) => Ok(Timed {
-            time,
-            count: count_of(closed.journal.as_slice()),
-        }),
+        Ok(closed) => {
+            let count = count_of(closed.journal.as_slice());
+            Ok((Timed { time, count }, tally))
+        }
         Err(_) => Err(Fault::Unfinished),
     }
 }
 
 // Makes the calls of the next client, and of the one that is next then, until none is left.
-fn make_share<N: Name>(
+fn make_share<N: Name, M: Manner>(
     rt: &impl Wait,
     engine: &Engine<N, Placing>,
     callers: &Mutex<Vec<Caller<N>>>,
-) -> Result<(), Fault> {
+) -> Result<Tally, Fault> {
+    let mut tally = Tally::none();
     for _ in rt.forever() {
         let Some(caller) = callers.lock(rt).pop() else {
-            return Ok(());
+            return Ok(tally);
         };
-        make_script(rt, engine, caller)?;
+        M::make_script(rt, engine, caller, &mut tally)?;
     }
-    Ok(())
-}
-
-// Makes the calls of a client.
-fn make_script<N: Name>(
-    rt: &impl Wait,
-    engine: &Engine<N, Placing>,
-    caller: Caller<N>,
-) -> Result<(), Fault> {
-    let Caller { mut client, script } = caller;
-    for call in &script {
-        if let Err(Spent) = client.make(rt, engine, call) {
-            return Err(Fault::Refused);
-        }
-    }
-    Ok(())
+    Ok(tally)
 }

@@ -1,21 +1,17 @@
-//! The calls of scripts in the engine, with no worker, as `calls` makes them, but by the parts of `Engine::call`, so
-//! that what the threads do can be counted.
-ghost use Rattle.std.specs.Prelude.{◌≡◌, ◌<◌, All};
+//! The calls of a client by the parts of `Engine::call`, so that what the thread does can be counted.
+ghost use Rattle.std.specs.Prelude.{◌≡◌};
 ghost use Rattle.vll_check.specs.Calls.{Fits};
 ghost use Rattle.vll_engine.specs.Pass.{IsFresh};
-ghost use Rattle.vll_engine.specs.Shown.{library_of, name_of};
-ghost use Rattle.vll_sca.specs.Placing.{placing};
+ghost use Rattle.vll_engine.specs.Shown.{library_of};
 
-use crate::caller::{Caller, callers};
+use crate::caller::Caller;
+use crate::calls::Manner;
 use crate::fault::Fault;
-use crate::runs::count_of;
-use crate::timed::Count;
-use std::alloc::Global;
 use std::hint::spin_loop;
-use std::sync::{Mutex, Wait};
-use std::thread::{Threads, map_indices, yield_now};
+use std::sync::Wait;
+use std::thread::yield_now;
 use vll_core::Ticket;
-use vll_engine::{BeginRefusal, Begun, Engine, Hold, Name, Opening, Pass, Session};
+use vll_engine::{BeginRefusal, Begun, Engine, Hold, Name, Pass, Session};
 use vll_proc::Call;
 use vll_sca::Placing;
 use vll_workers::Tally;
@@ -28,65 +24,24 @@ const LONGEST_PAUSE: u32 = 1_024;
 
 const TURNS_A_YIELD: u32 = 64;
 
-/// Makes the calls by so many threads, in an engine of this name. What came of them, and what the threads did.
-pub(crate) fn count_calls<N: Name + Send + Sync, R: Threads + Wait + Sync>(
-    rt: &R,
-    alloc: Global,
-    opening: Opening<Placing>,
-    scripts: Vec<Vec<Call>>,
-    threads: usize,
-) -> Result<(Count, Tally), Fault>
-    requires some { 0 < threads }
-    requires named { N.engine ≡ name_of placing opening }
-    requires fits { All (λ script. All (Fits (library_of N.engine)) script.items) scripts.items }
-{
-    let (engine, clients) = opening.start_clients::<N>();
-    let callers = Mutex::new(callers(alloc, clients, scripts)?);
-    let shares = map_indices(
-        rt,
-        alloc,
-        threads,
-        &|_| { make_share(rt, &engine, &callers) },
-    )?;
-    let mut tally = Tally::none();
-    for made in shares.iter() {
-        tally = tally.with((*made)?);
-    }
-    match engine.close(Vec::new(alloc)) {
-        Ok(closed) => Ok((count_of(closed.journal.as_slice()), tally)),
-        Err(_) => Err(Fault::Unfinished),
-    }
-}
+/// By the parts of `Engine::call`, which are counted.
+#[derive(Drop)]
+pub(crate) struct ByParts;
 
-// Makes the calls of the next client, and of the one that is next then, until none is left.
-fn make_share<N: Name>(
-    rt: &impl Wait,
-    engine: &Engine<N, Placing>,
-    callers: &Mutex<Vec<Caller<N>>>,
-) -> Result<Tally, Fault> {
-    let mut tally = Tally::none();
-    for _ in rt.forever() {
-        let Some(caller) = callers.lock(rt).pop() else {
-            return Ok(tally);
-        };
-        make_script(rt, engine, caller, &mut tally)?;
+impl Manner for ByParts {
+    fn make_script<N: Name>(
+        rt: &impl Wait,
+        engine: &Engine<N, Placing>,
+        caller: Caller<N>,
+        tally: &mut Tally,
+    ) -> Result<(), Fault> {
+        let Caller { client, script } = caller;
+        let mut session = client.into_session();
+        for call in &script {
+            make(rt, engine, &mut session, call, tally)?;
+        }
+        Ok(())
     }
-    Ok(tally)
-}
-
-// Makes the calls of a client.
-fn make_script<N: Name>(
-    rt: &impl Wait,
-    engine: &Engine<N, Placing>,
-    caller: Caller<N>,
-    tally: &mut Tally,
-) -> Result<(), Fault> {
-    let Caller { client, script } = caller;
-    let mut session = client.into_session();
-    for call in &script {
-        make(rt, engine, &mut session, call, tally)?;
-    }
-    Ok(())
 }
 
 // Makes a call, from its entry to its reply.

@@ -3,7 +3,8 @@ ghost use Rattle.std.specs.Prelude.{◌≤◌};
 ghost use Rattle.vll_workers.specs.declared.running.TheConstants.{MOST_WORKERS};
 
 use crate::adding::Adding;
-use crate::counted::count_calls;
+use crate::calls::time_calls;
+use crate::counted::ByParts;
 use crate::fault::Fault;
 use crate::runs;
 use crate::timed::Count;
@@ -28,9 +29,7 @@ pub(crate) fn count_ways<R: Threads + Wait + Clock + Input + Print + AllocGlobal
     let mut bytes = Vec::new(rt.alloc());
     rt.reader().read_to_end(&mut bytes)?;
     let bytes = bytes.as_slice();
-    println!(rt;
-        "way     threads    calls  committed  aborted    moved  blocked     busy    front     scan    holds    rests"
-    )?;
+    println!(rt; "way,threads,calls,committed,aborted,moved,blocked,busy,front,scan,holds,rests")?;
     for threads in THREADS {
         let (count, tally) = count_once(rt, bytes, threads)?;
         print_line(rt, Way::Call.name(), threads, count, tally)?;
@@ -43,7 +42,7 @@ pub(crate) fn count_ways<R: Threads + Wait + Clock + Input + Print + AllocGlobal
 }
 
 // Makes the calls by so many threads, on a scenario that is read anew.
-fn count_once<R: Threads + Wait + AllocGlobal + Sync>(
+fn count_once<R: Threads + Wait + Clock + AllocGlobal + Sync>(
     rt: &R,
     bytes: &[u8],
     threads: u32,
@@ -52,7 +51,14 @@ fn count_once<R: Threads + Wait + AllocGlobal + Sync>(
 {
     let scenario = read_scenario(rt.alloc(), &mut Plain::new(bytes))?;
     let (opening, scripts) = opening(rt.alloc(), scenario)?;
-    count_calls::<Brand, R>(rt, rt.alloc(), opening, scripts, threads as usize)
+    let (timed, tally) = time_calls::<Brand, R, ByParts>(
+        rt,
+        rt.alloc(),
+        opening,
+        scripts,
+        threads as usize,
+    )?;
+    Ok((timed.count, tally))
 }
 
 // Has the calls made by so many workers, on a scenario that is read anew.
@@ -78,18 +84,18 @@ fn print_line(
     count: Count,
     tally: Tally,
 ) -> Result<(), Fault> {
-    print!(rt;
-        "{:<8}{:>7}{:>9}{:>11}{:>9}{:>9}",
-        name,
-        threads,
+    println!(rt;
+        "{name},{threads},{},{},{},{},{},{},{},{},{},{}",
         count.calls,
         count.committed,
         count.aborted(),
-        count.moved
-    )?;
-    println!(rt;
-        "{:>9}{:>9}{:>9}{:>9}{:>9}{:>9}",
-        tally.blocked, tally.busy, tally.front, tally.scan, tally.holds, tally.rests
+        count.moved,
+        tally.blocked,
+        tally.busy,
+        tally.front,
+        tally.scan,
+        tally.holds,
+        tally.rests
     )?;
     Ok(())
 }

@@ -1,49 +1,60 @@
-//! The calls of scripts without the engine, with one lock a record: a call takes those of its records in rising order,
-//! and its body runs while it has them all.
-ghost use Rattle.std.specs.Prelude.{◌<◌, ◌≤◌, ℕ, All, length};
+//! Calls without the engine, with one lock a record: a call takes those of its records in rising order, and its body runs
+//! while it has them all.
+ghost use Rattle.std.specs.Prelude.{◌≡◌, ◌≤◌, ℕ, IfOk, length};
 ghost use Rattle.vll_check.specs.Calls.{Fits, IsReady};
 ghost use Rattle.vll_proc.specs.Made.{IsCallOf};
 ghost use Rattle.vll_proc.specs.WellFormed.{IsWellFormed};
 
 use crate::fault::Fault;
-use crate::timed::{Count, Timed};
+use crate::shares::Maker;
 use std::alloc::{AllocError, Global};
-use std::sync::atomic::{AtomicUsize, Ordering};
 use std::sync::{Mutex, Wait};
-use std::thread::{Threads, map_indices};
-use std::time::{Clock, Instant};
 use vll_check::Library;
 use vll_proc::{Call, Frame, Proc, Reply};
 use vll_record::{Claim, MOST_CLAIMS, Mode, RecordId};
 
-/// Times the calls by so many threads, each of which takes one script after the other.
-pub(crate) fn time_locks<R: Threads + Wait + Clock + Sync>(
-    rt: &R,
-    alloc: Global,
-    library: &Library,
-    records: &[u64],
-    scripts: &[Vec<Call>],
-    threads: usize,
-) -> Result<Timed, Fault>
-    requires some { 0 < threads }
-    requires fits { All (λ script. All (Fits library.now) script.items) scripts.now }
-{
-    let records = locked(alloc, records)?;
-    let records = records.as_slice();
-    let next = AtomicUsize::new(0);
-    let start = Instant::now(rt)?;
-    let counts = map_indices(
-        rt,
-        alloc,
-        threads,
-        &|_| { make_share(rt, library, records, scripts, &next) },
-    )?;
-    let time = start.elapsed(rt)?;
-    let mut count = Count::none();
-    for made in counts.iter() {
-        count = count.with((*made)?);
+/// Makes calls on records that each have a lock of their own.
+#[derive(Drop)]
+pub(crate) struct ByLocks<'a, R: Wait> {
+    rt: &'a R,
+    library: &'a Library,
+    records: Vec<Mutex<u64>>,
+}
+
+impl<'a, R: Wait> ByLocks<'a, R> {
+    /// The maker of the library's calls on these records.
+    pub(crate) fn new(
+        rt: &'a R,
+        alloc: Global,
+        library: &'a Library,
+        records: &[u64],
+    ) -> Result<ByLocks<'a, R>, AllocError>
+        ensures { IfOk result (λ m. m.library.now ≡ library.now) }
+    {
+        let records = locked(alloc, records)?;
+        Ok(ByLocks {
+            rt,
+            library,
+            records,
+        })
     }
-    Ok(Timed { time, count })
+}
+
+impl<R: Wait> Maker for ByLocks<'_, R> {
+    ghost library = { λ m. m.library.now };
+
+    // It first finds the record of the call's indirect key if it has one.
+    fn make(&self, call: &Call) -> Result<bool, Fault>
+        requires { Fits self.now.library.now call.now }
+    {
+        let records = self.records.as_slice();
+        let Some(source) = self.library.source(call) else {
+            return make_ready(self.rt, self.library, records, call);
+        };
+        let value = *lock_of(records, source)?.lock(self.rt);
+        let call = self.library.with_found(call, value);
+        make_ready(self.rt, self.library, records, &call)
+    }
 }
 
 // Each record behind a lock of its own.
@@ -53,59 +64,6 @@ fn locked(alloc: Global, records: &[u64]) -> Result<Vec<Mutex<u64>>, AllocError>
         list.push(Mutex::new(*value))?;
     }
     Ok(list)
-}
-
-// Makes the calls of the next script, and of the one that is next then, until none is left.
-fn make_share(
-    rt: &impl Wait,
-    library: &Library,
-    records: &[Mutex<u64>],
-    scripts: &[Vec<Call>],
-    next: &AtomicUsize,
-) -> Result<Count, Fault>
-    requires { All (λ script. All (Fits library.now) script.items) scripts.now }
-{
-    let mut count = Count::none();
-    for _ in 0..scripts.len() {
-        let Some(script) = scripts.get(next.fetch_add(1, Ordering::SeqCst)) else {
-            break;
-        };
-        count = count.with(make_script(rt, library, records, script.as_slice())?);
-    }
-    Ok(count)
-}
-
-// Makes the calls of a script.
-fn make_script(
-    rt: &impl Wait,
-    library: &Library,
-    records: &[Mutex<u64>],
-    script: &[Call],
-) -> Result<Count, Fault>
-    requires { All (Fits library.now) script.now }
-{
-    let mut count = Count::none();
-    for call in script {
-        count = count.with_call(make(rt, library, records, call)?);
-    }
-    Ok(count)
-}
-
-// Makes a call, which first finds the record of its indirect key if it has one. Returns whether it committed.
-fn make(
-    rt: &impl Wait,
-    library: &Library,
-    records: &[Mutex<u64>],
-    call: &Call,
-) -> Result<bool, Fault>
-    requires { Fits library.now call.now }
-{
-    let Some(source) = library.source(call) else {
-        return make_ready(rt, library, records, call);
-    };
-    let value = *lock_of(records, source)?.lock(rt);
-    let call = library.with_found(call, value);
-    make_ready(rt, library, records, &call)
 }
 
 // The lock of a record.

@@ -12,7 +12,6 @@ mod counts;
 mod engine;
 mod events;
 mod fault;
-mod figures;
 mod locks;
 mod plain;
 mod rows;
@@ -20,6 +19,7 @@ mod runs;
 mod scans;
 mod setup;
 mod shapes;
+mod shares;
 mod sweep;
 mod task;
 mod timed;
@@ -27,7 +27,7 @@ mod ways;
 mod workload;
 
 use crate::bodies::measure_bodies;
-use crate::compare::{compare_as_figures, compare_ways};
+use crate::compare::compare_ways;
 use crate::counts::count_ways;
 use crate::engine::measure_engine;
 use crate::events::measure_events;
@@ -44,9 +44,8 @@ const USAGE: &str = "usage: vll_bench events
        vll_bench scan
        vll_bench bodies
        vll_bench compare < scenario
-       vll_bench compare --csv SCENARIO COMMIT PROCESSOR DATE < scenario
        vll_bench counts < scenario
-       vll_bench sweep COMMIT PROCESSOR DATE
+       vll_bench sweep
        vll_bench WORKERS ROUNDS < scenario
 
 events   what an event of the machine costs, on one thread
@@ -55,14 +54,13 @@ scan     what a scan of the queue costs that finds no call, on one thread
 bodies   what a body costs, a run and a node, on one thread
 compare  what a call of the scenario costs without the engine, one after the
          other, behind one lock and with one lock a record, and in the engine,
-         by its own call and by workers
---csv    prints lines of comma-separated values: SCENARIO, the way, its
-         threads, the nanoseconds, and the last three words as they are
+         by its own call and by workers: lines of comma-separated values, whose
+         names are in the first line
 counts   what became of the scenario's calls in the engine, by its own call and
-         by workers, and what the threads did that made them
+         by workers, and what the threads did that made them: such lines
 sweep    what a call with ten claims costs while one of them is among 10,000 hot
-         records, or fewer, down to one; lines as of --csv, with the number of
-         hot records as their SCENARIO
+         records, or fewer, down to one: lines as those of compare, with the
+         number of hot records as their scenario
 WORKERS  runs the scenario by so many worker threads, 1 to 64, as often as
 ROUNDS   says, and prints the nanoseconds of each run, a line each";
 
@@ -74,9 +72,8 @@ fn main(rt: HostRuntime) -> Result<(), Fault> {
         Task::Scan => measure_scans(&rt),
         Task::Bodies => measure_bodies(&rt),
         Task::Compare => compare_ways(&rt),
-        Task::Figures(scenario, origin) => compare_as_figures(&rt, scenario, origin),
         Task::Counts => count_ways(&rt),
-        Task::Sweep(origin) => sweep(&rt, origin),
+        Task::Sweep => sweep(&rt),
         Task::Runs { workers, rounds } if 1 <= workers && workers <= MOST_WORKERS => {
             measure_runs(&rt, workers, rounds)
         }

@@ -1,14 +1,12 @@
-//! The calls of scripts without the engine, on plain records: one after the other on one thread, or by several threads
-//! with one lock around each whole call.
-ghost use Rattle.std.specs.Prelude.{◌<◌, ◌≤◌, All, length};
+//! Calls without the engine, on plain records: one after the other on one thread, or with one lock around each whole
+//! call.
+ghost use Rattle.std.specs.Prelude.{◌≡◌, ◌≤◌, All, length};
 ghost use Rattle.vll_check.specs.Calls.{Fits, IsReady};
 
 use crate::fault::Fault;
+use crate::shares::Maker;
 use crate::timed::{Count, Timed};
-use std::alloc::Global;
-use std::sync::atomic::{AtomicUsize, Ordering};
 use std::sync::{Mutex, Wait};
-use std::thread::{Threads, map_indices};
 use std::time::{Clock, Instant};
 use vll_check::Library;
 use vll_proc::{Call, Frame, Reply};
@@ -32,71 +30,36 @@ pub(crate) fn time_serial(
     Ok(Timed { time, count })
 }
 
-/// Times the calls by so many threads, each of which takes one script after the other, with one lock around each whole
-/// call.
-pub(crate) fn time_mutex<R: Threads + Wait + Clock + Sync>(
-    rt: &R,
-    alloc: Global,
-    library: &Library,
-    records: Vec<u64>,
-    scripts: &[Vec<Call>],
-    threads: usize,
-) -> Result<Timed, Fault>
-    requires some { 0 < threads }
-    requires fits { All (λ script. All (Fits library.now) script.items) scripts.now }
-{
-    let records = Mutex::new(records);
-    let next = AtomicUsize::new(0);
-    let start = Instant::now(rt)?;
-    let counts = map_indices(
-        rt,
-        alloc,
-        threads,
-        &|_| { make_share(rt, library, &records, scripts, &next) },
-    )?;
-    let time = start.elapsed(rt)?;
-    let mut count = Count::none();
-    for made in counts.iter() {
-        count = count.with((*made)?);
-    }
-    Ok(Timed { time, count })
+/// Makes calls on plain records, with one lock around each whole call.
+#[derive(Drop)]
+pub(crate) struct ByMutex<'a, R: Wait> {
+    rt: &'a R,
+    library: &'a Library,
+    records: Mutex<Vec<u64>>,
 }
 
-// Makes the calls of the next script, and of the one that is next then, until none is left.
-fn make_share(
-    rt: &impl Wait,
-    library: &Library,
-    records: &Mutex<Vec<u64>>,
-    scripts: &[Vec<Call>],
-    next: &AtomicUsize,
-) -> Result<Count, Fault>
-    requires { All (λ script. All (Fits library.now) script.items) scripts.now }
-{
-    let mut count = Count::none();
-    for _ in 0..scripts.len() {
-        let Some(script) = scripts.get(next.fetch_add(1, Ordering::SeqCst)) else {
-            break;
-        };
-        count = count.with(make_script_by_lock(rt, library, records, script.as_slice())?);
+impl<'a, R: Wait> ByMutex<'a, R> {
+    /// The maker of the library's calls on these records.
+    pub(crate) fn new(rt: &'a R, library: &'a Library, records: Vec<u64>) -> ByMutex<'a, R>
+        ensures { result.library.now ≡ library.now }
+    {
+        ByMutex {
+            rt,
+            library,
+            records: Mutex::new(records),
+        }
     }
-    Ok(count)
 }
 
-// Makes the calls of a script, each under the lock.
-fn make_script_by_lock(
-    rt: &impl Wait,
-    library: &Library,
-    records: &Mutex<Vec<u64>>,
-    script: &[Call],
-) -> Result<Count, Fault>
-    requires { All (Fits library.now) script.now }
-{
-    let mut count = Count::none();
-    for call in script {
-        let mut records = records.lock(rt);
-        count = count.with_call(make(library, records.as_mut_slice(), call)?);
+impl<R: Wait> Maker for ByMutex<'_, R> {
+    ghost library = { λ m. m.library.now };
+
+    fn make(&self, call: &Call) -> Result<bool, Fault>
+        requires { Fits self.now.library.now call.now }
+    {
+        let mut records = self.records.lock(self.rt);
+        make(self.library, records.as_mut_slice(), call)
     }
-    Ok(count)
 }
 
 // Makes the calls of a script.

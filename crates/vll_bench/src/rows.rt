@@ -1,38 +1,40 @@
+//! Ways of making the calls of a scenario in turn, and a line of comma-separated values for each.
 use crate::fault::Fault;
 use crate::timed::{Count, Timed};
-use crate::ways::Team;
+use crate::ways::Way;
 use std::alloc::{AllocError, Global};
 use std::sync::Wait;
 use std::thread::Threads;
 use std::time::Clock;
 use vll_server::{Plain, ScenarioParts, read_scenario};
 
-/// How often each team makes the calls. The median counts.
-pub(crate) const ROUNDS: u32 = 7;
+/// The names of the values of a line: what was measured, the way and its threads, the nanoseconds a call of the median
+/// round, how many calls a round makes, and the fewest and the most that committed in a round.
+pub(crate) const HEAD: &str = "scenario,way,threads,nanoseconds,calls,fewest,most";
 
-/// A team, and what its rounds took.
+/// A way, and the numbers of threads that it is measured with.
+pub(crate) type Teams = (Way, &'static [u32]);
+
+// How often the calls are made in each way.
+const ROUNDS: u32 = 7;
+
+// A way with its number of threads, and what its rounds took.
 #[derive(Drop)]
-pub(crate) struct Row {
-    pub team: Team,
-    pub rounds: Vec<Timed>,
+struct Row {
+    way: Way,
+    threads: u32,
+    rounds: Vec<Timed>,
 }
 
-impl Row {
-    /// The round with the median of the nanoseconds a call, if there was a round. It sorts the rounds.
-    pub(crate) fn median(&mut self) -> Option<Timed> {
-        self.rounds
-            .sort_unstable_by_key(|timed| timed.nanos_a_call());
-        self.rounds.get(self.rounds.len() / 2).copied()
-    }
-}
-
-/// Makes the calls of a scenario, a JSON text, by each team in turn, again and again. It fails if teams made other
-/// numbers of calls, or committed other numbers of calls that have one order.
-pub(crate) fn measure<R: Threads + Wait + Clock + AllocGlobal + Sync>(
+/// Makes the calls of a scenario, a JSON text, in each way in turn, again and again, and prints a line for each, which
+/// begins with this name. Reading the scenario, opening the engine and closing it are not timed. It fails if other
+/// numbers of calls were made, or other numbers committed of calls that have one order.
+pub(crate) fn measure_ways<R: Threads + Wait + Clock + Print + AllocGlobal + Sync>(
     rt: &R,
+    name: &str,
     bytes: &[u8],
-    teams: &[Team],
-) -> Result<Vec<Row>, Fault> {
+    teams: &[Teams],
+) -> Result<(), Fault> {
     let ordered = has_one_order(rt.alloc(), bytes)?;
     let mut rows = rows(rt.alloc(), teams)?;
     for _ in 0..ROUNDS {
@@ -41,7 +43,10 @@ pub(crate) fn measure<R: Threads + Wait + Clock + AllocGlobal + Sync>(
     if !agree(rows.as_slice(), ordered) {
         return Err(Fault::Counts);
     }
-    Ok(rows)
+    for row in rows.as_mut_slice() {
+        print_row(rt, name, row)?;
+    }
+    Ok(())
 }
 
 // Whether the calls can be made in one order alone, as one client has them all.
@@ -51,33 +56,35 @@ fn has_one_order(alloc: Global, bytes: &[u8]) -> Result<bool, Fault> {
     Ok(busy <= 1)
 }
 
-// A row for each team.
-fn rows(alloc: Global, teams: &[Team]) -> Result<Vec<Row>, AllocError> {
-    let mut rows = Vec::with_capacity(alloc, teams.len())?;
-    for team in teams {
-        let rounds = Vec::with_capacity(alloc, ROUNDS as usize)?;
-        rows.push(Row {
-            team: *team,
-            rounds,
-        })?;
+// A row for each number of threads of each way.
+fn rows(alloc: Global, teams: &[Teams]) -> Result<Vec<Row>, AllocError> {
+    let mut rows = Vec::new(alloc);
+    for (way, counts) in teams {
+        for threads in *counts {
+            rows.push(Row {
+                way: *way,
+                threads: *threads,
+                rounds: Vec::new(alloc),
+            })?;
+        }
     }
     Ok(rows)
 }
 
-// Times each team once.
+// Makes the calls once in each way.
 fn time_each<R: Threads + Wait + Clock + AllocGlobal + Sync>(
     rt: &R,
     bytes: &[u8],
     rows: &mut [Row],
 ) -> Result<(), Fault> {
     for row in rows {
-        let timed = row.team.time(rt, bytes)?;
+        let timed = row.way.time(rt, bytes, row.threads)?;
         row.rounds.push(timed)?;
     }
     Ok(())
 }
 
-// Whether each round of each team made as many calls, and committed as many if they have one order.
+// Whether each round of each row made as many calls, and committed as many if they have one order.
 fn agree(rows: &[Row], ordered: bool) -> bool {
     let Some(expected) = first_count(rows) else {
         return true;
@@ -90,7 +97,29 @@ fn agree(rows: &[Row], ordered: bool) -> bool {
     })
 }
 
-// The count of the first round of the first team.
+// The count of the first round of the first row.
 fn first_count(rows: &[Row]) -> Option<Count> {
     Some(rows.first()?.rounds.first()?.count)
+}
+
+// Prints the line of a row. It sorts the rounds.
+fn print_row(rt: &impl Print, name: &str, row: &mut Row) -> Result<(), Fault> {
+    row.rounds
+        .sort_unstable_by_key(|timed| timed.nanos_a_call());
+    let rounds = row.rounds.as_slice();
+    let Some(median) = rounds.get(rounds.len() / 2) else {
+        return Ok(());
+    };
+    let fewest = rounds.iter().map(|timed| timed.count.committed).min();
+    let most = rounds.iter().map(|timed| timed.count.committed).max();
+    println!(rt;
+        "{name},{},{},{},{},{},{}",
+        row.way.name(),
+        row.threads,
+        median.nanos_a_call(),
+        median.count.calls,
+        fewest.unwrap_or(0),
+        most.unwrap_or(0)
+    )?;
+    Ok(())
 }

@@ -1,12 +1,10 @@
 //! The ways of making the calls of a scenario, with the engine and without it.
-ghost use Rattle.std.specs.Prelude.{◌≤◌};
-ghost use Rattle.vll_workers.specs.declared.running.TheConstants.{MOST_WORKERS};
-
-use crate::calls::time_calls;
+use crate::calls::{ByCall, time_calls};
 use crate::fault::Fault;
-use crate::locks::time_locks;
-use crate::plain::{time_mutex, time_serial};
+use crate::locks::ByLocks;
+use crate::plain::{ByMutex, time_serial};
 use crate::runs;
+use crate::shares::time_shares;
 use crate::timed::Timed;
 use std::marker::Brand;
 use std::sync::Wait;
@@ -44,33 +42,27 @@ impl Way {
     }
 }
 
-/// A way of making calls, with its number of threads.
-#[derive(Clone, Copy)]
-pub(crate) struct Team {
-    pub way: Way,
-    pub threads: u32,
-    ghost some: { 1 ≤ threads },
-    ghost few: { threads ≤ MOST_WORKERS },
-}
-
-impl Team {
-    /// Times the calls once, on a scenario that is read anew. Reading it, opening the engine and closing it are not
-    /// timed.
+impl Way {
+    /// Times the calls once by so many threads, from 1 to `MOST_WORKERS`, on a scenario that is read anew. Reading it,
+    /// opening the engine and closing it are not timed.
     pub(crate) fn time<R: Threads + Wait + Clock + AllocGlobal + Sync>(
         self,
         rt: &R,
         bytes: &[u8],
+        threads: u32,
     ) -> Result<Timed, Fault> {
         let alloc = rt.alloc();
+        let workers = threads.max(1).min(MOST_WORKERS);
+        let threads = workers as usize;
         let scenario = read_scenario(alloc, &mut Plain::new(bytes))?;
-        if let Way::Engine = self.way {
+        if let Way::Engine = self {
             let (opening, scripts) = opening(alloc, scenario)?;
-            let workers = self.threads;
             return runs::time_of::<Brand, R, _>(rt, alloc, opening, scripts, workers, &OpenGate);
         }
-        if let Way::Call = self.way {
+        if let Way::Call = self {
             let (opening, scripts) = opening(alloc, scenario)?;
-            return time_calls::<Brand, R>(rt, alloc, opening, scripts, self.threads as usize);
+            let (timed, _) = time_calls::<Brand, R, ByCall>(rt, alloc, opening, scripts, threads)?;
+            return Ok(timed);
         }
         let ScenarioParts {
             mut records,
@@ -79,13 +71,14 @@ impl Team {
             ..
         } = scenario.into_parts();
         let scripts = scripts.as_slice();
-        if let Way::Serial = self.way {
+        if let Way::Serial = self {
             return time_serial(rt, &library, records.as_mut_slice(), scripts);
         }
-        let threads = self.threads as usize;
-        if let Way::Locks = self.way {
-            return time_locks(rt, alloc, &library, records.as_slice(), scripts, threads);
+        if let Way::Locks = self {
+            let maker = ByLocks::new(rt, alloc, &library, records.as_slice())?;
+            return time_shares(rt, alloc, &maker, scripts, threads);
         }
-        time_mutex(rt, alloc, &library, records, scripts, threads)
+        let maker = ByMutex::new(rt, &library, records);
+        time_shares(rt, alloc, &maker, scripts, threads)
     }
 }

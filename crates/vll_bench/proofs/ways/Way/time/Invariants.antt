@@ -1,6 +1,6 @@
 use Rattle.vll_sca.specs.Placing.{placing}
 use Rattle.vll_engine.specs.Shown.{name_of}
-use Rattle.vll_bench.proofs.ways.Team.time.Given as goal
+use Rattle.vll_bench.proofs.ways.Way.time.Given as goal
 
 abbrev pub ghosts-time_of : goal.ghosts-time_of
 ghosts-time_of g a = record { engine = name_of placing a.opening }

@@ -2,7 +2,7 @@
 use Rattle.std.proofs.Common.{All, sym, subst}
 use Rattle.vll_check.specs.Calls.{Fits}
 use Rattle.vll_engine.specs.Shown.{library_of}
-use Rattle.vll_bench.proofs.calls.make_script.Goals as goal
+use Rattle.vll_bench.proofs.calls.ByCallManner.make_script.Goals as goal
 
 pub make-requires-clause-fits : goal.make-requires-clause-fits
 make-requires-clause-fits g c κs within =

@@ -1,0 +1,24 @@
+-- The scenario's library makes each call of each script.
+use Rattle.std.proofs.Common.{All, List, sym, subst}
+use Rattle.std.specs.Global.{Vec}
+use Rattle.vll_proc.specs.declared.call.Call.{Call}
+use Rattle.vll_check.specs.Calls.{Fits}
+use Rattle.vll_check.specs.Catalog.{Catalog}
+use Rattle.vll_bench.proofs.ways.Way.time.Goals as goal
+
+abbrev AllFit : Catalog → List (Vec Call) → Type 0
+AllFit library = All (λ (s : Vec Call). All (Fits library) s.items)
+
+pub time_serial-requires : goal.time_serial-requires
+time_serial-requires g c =
+    subst (AllFit c.into_parts-records.result.library) (sym c.as_slice-scripts.ensures.value) c.into_parts-records.ensures.fits
+
+pub time_shares-requires-clause-fits : goal.time_shares-requires-clause-fits
+time_shares-requires-clause-fits g c κs within =
+    let fit = subst (AllFit c.into_parts-records.result.library) (sym c.as_slice-scripts.ensures.value) c.into_parts-records.ensures.fits in
+    subst (λ (l : Catalog). AllFit l c.as_slice-scripts.result.now) (sym c.in_ok-maker.ensures) fit
+
+pub time_shares-requires-2-clause-fits : goal.time_shares-requires-2-clause-fits
+time_shares-requires-2-clause-fits g c κs within =
+    let fit = subst (AllFit c.into_parts-records.result.library) (sym c.as_slice-scripts.ensures.value) c.into_parts-records.ensures.fits in
+    subst (λ (l : Catalog). AllFit l c.as_slice-scripts.result.now) (sym c.new-maker.ensures) fit
