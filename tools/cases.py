@@ -1,6 +1,6 @@
 """Reads the cases of scenarios/ and examples/: what each gives to the program, and what has to be printed.
 
-scenarios/README.md says how a case is written. Most are files of one name; others are rows of a table.
+scenarios/README.md says how a case is written: in a file of its own, in files of one name, or as a row of a table.
 """
 import re
 import shlex
@@ -12,6 +12,9 @@ TOP = Path(__file__).resolve().parent.parent
 FOLDERS = ('scenarios', 'examples')
 # What a name ends in, and whether a script of that name and '.sh' may stand in its place.
 SUFFIXES = {'.json': True, '.out': True, '.judge': False, '.args': False}
+# A case in a file of its own: the command, the scenario, this line, and what is printed.
+WHOLE = '.case'
+BAR = re.compile(rb'^----( judged)?\n', re.MULTILINE)
 # A cell that begins with this names a file beside the table, and JUDGED stands for an outcome that is judged.
 NAMES_FILE = '@'
 JUDGED = '@judge'
@@ -105,7 +108,9 @@ class Reader:
         parts = {}
         for path in files:
             name, suffix = split(path)
-            if suffix:
+            if path.suffix == WHOLE:
+                self.try_to(self.read_whole, path)
+            elif suffix:
                 parts.setdefault(path.with_name(name), set()).add(path)
             elif path.suffix != '.tsv' and path.name != 'README.md':
                 self.faults.append(f'{self.place(path)} is no part of a case')
@@ -129,6 +134,20 @@ class Reader:
             self.cases.append(read(*given))
         except Unreadable as why:
             self.faults.append(str(why))
+
+    def read_whole(self, path):
+        """Reads the case that a file has."""
+        here = self.place(path)
+        command, _, rest = path.read_bytes().partition(b'\n')
+        parts = BAR.split(rest)
+        if not command.startswith(b'vll ') or len(parts) != 3 or not parts[1] and not parts[2]:
+            raise Unreadable(f'{here} lacks a command, a line ---- after the scenario, or what is printed')
+        text, judged, printed = parts
+        try:
+            words = [word.encode() for word in shlex.split(command.decode())[1:]]
+        except ValueError as error:
+            raise Unreadable(f'{here}: {error}') from error
+        return Case(path.stem, here, words, text, printed or None, bool(judged))
 
     def read_files(self, path):
         """Reads the case whose files begin with this path."""

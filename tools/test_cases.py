@@ -38,6 +38,8 @@ FILES = {
     'scenarios/run/clients.judge': '',
     'scenarios/run/made.json.sh': "printf '%s\\n' a b c\n",
     'scenarios/run/made.out.sh': 'echo a; echo b; echo c\n',
+    'scenarios/run/whole.case': "vll run --cap '3 4'\n{}\n----\n{}\n",
+    'scenarios/run/whole_judged.case': f'vll run\n{BUMPS}---- judged\n{LAWFUL}',
     'scenarios/format/table.tsv': '\n'.join([
         '# a comment, and an empty line', '',
         'one_line\trun\tvll: scenario: json\tvll: scenario: json',
@@ -57,7 +59,7 @@ FILES = {
     'examples/README.md': 'no case',
 }
 NAMES = ['01_both', 'again', 'clients', 'failed', 'first', 'judged', 'made', 'no_words', 'one_line', 'raw', 'steps',
-         'two_lines', 'words']
+         'two_lines', 'whole', 'whole_judged', 'words']
 
 # A program that prints what it reads with a line end behind it, and ends with the status that goes with that. What it
 # explains is that a text is no JSON text.
@@ -84,16 +86,18 @@ WRONG = {
     'status of a replay': ('exit 1 ;;', 'exit 2 ;;', ['failed']),
     'status of what is run': (
         'exit 0\n', 'exit 1\n',
-        ['01_both', 'again', 'clients', 'first', 'judged', 'made', 'raw', 'steps', 'two_lines']),
+        ['01_both', 'again', 'clients', 'first', 'judged', 'made', 'raw', 'steps', 'two_lines', 'whole',
+                         'whole_judged']),
     'no line end': (
         "printf '%s\\n'", "printf '%s'",
-        ['01_both', 'again', 'clients', 'failed', 'first', 'judged', 'made', 'one_line', 'raw', 'steps', 'two_lines']),
+        ['01_both', 'again', 'clients', 'failed', 'first', 'judged', 'made', 'one_line', 'raw', 'steps', 'two_lines',
+         'whole', 'whole_judged']),
     'a word on standard error': (
         "case $text in\n  'vll: scenario", "case $text in\n  *0' opened') echo x >&2 ;; 'vll: scenario", ['steps']),
     'reads before it refuses': ("''", "'') read line; echo 'vll: command line'; exit 2 ;;\n  ''", ['no_words']),
     'another status of a refused command line': ("echo 'vll: command line'; exit 2", "echo 'vll: command line'; exit 1",
                                                  ['no_words', 'words']),
-    'an unlawful outcome': ('committed 7', 'committed 6', ['01_both', 'clients', 'judged']),
+    'an unlawful outcome': ('committed 7', 'committed 6', ['01_both', 'clients', 'judged', 'whole_judged']),
     'no options': ('text=$(cat)', '[ "$2" = --workers ] && exit 1; text=$(cat)', ['clients']),
     'nothing is explained': ('[ "$*" = explain ]', 'false', ['one_line']),
     'another place is explained': ('at: byte 0', 'at: procs 0', ['one_line']),
@@ -136,7 +140,12 @@ class Reading(Room):
         self.assertEqual(bytes_of(by_name['raw'].text), b'no end')
         self.assertEqual(by_name['raw'].wanted(), b'no end\n')
         self.assertEqual(bytes_of(by_name['made'].text), b'a\nb\nc\n')
-        self.assertEqual([name for name in NAMES if by_name[name].is_judged], ['01_both', 'clients', 'judged'])
+        self.assertEqual((words['whole'], words['whole_judged']), ([b'run', b'--cap', b'3 4'], [b'run']))
+        self.assertEqual((by_name['whole'].text, by_name['whole'].wanted()), (b'{}\n', b'{}\n'))
+        self.assertEqual(bytes_of(by_name['whole_judged'].text), BUMPS.encode())
+        self.assertEqual(by_name['whole_judged'].wanted(), LAWFUL.encode())
+        self.assertEqual([name for name in NAMES if by_name[name].is_judged],
+                         ['01_both', 'clients', 'judged', 'whole_judged'])
 
     def test_status_follows_from_what_is_printed(self):
         for printed, status in [
@@ -150,6 +159,11 @@ class Reading(Room):
     def test_what_is_no_case_is_told(self):
         for files, fault in [
                 ({'scenarios/a.json': ''}, 'there is neither scenarios/a.out nor scenarios/a.judge'),
+                ({'scenarios/a.case': 'run\n{}\n----\nx\n'}, 'scenarios/a.case lacks a command, a line ---- after the scenario, or what is printed'),
+                ({'scenarios/a.case': 'vll run\n{}\nx\n'}, 'scenarios/a.case lacks a command, a line ---- after the scenario, or what is printed'),
+                ({'scenarios/a.case': 'vll run\n{}\n----\n'}, 'scenarios/a.case lacks a command, a line ---- after the scenario, or what is printed'),
+                ({'scenarios/a.case': 'vll run\n{}\n----\nx\n----\n'}, 'scenarios/a.case lacks a command, a line ---- after the scenario, or what is printed'),
+                ({'scenarios/a.case': "vll run '\n{}\n----\nx\n"}, 'scenarios/a.case: No closing quotation'),
                 ({'scenarios/a.out': ''}, 'there is no scenarios/a.json'),
                 ({'scenarios/a.args': 'run\n'}, 'there is no scenarios/a.json'),
                 ({'examples/a.txt': ''}, 'examples/a.txt is no part of a case'),
@@ -185,7 +199,7 @@ class Running(Room):
 
     def test_right_program_passes(self):
         self.keep(FILES)
-        self.assertEqual(self.said_of(RIGHT), (0, ['scenarios: 13 passed, 0 failed']))
+        self.assertEqual(self.said_of(RIGHT), (0, ['scenarios: 15 passed, 0 failed']))
         self.assertEqual(self.said_of(RIGHT, 'raw', 'clients'), (0, ['scenarios: 2 passed, 0 failed']))
 
     def test_wrong_programs_fail(self):
@@ -202,7 +216,7 @@ class Running(Room):
     def test_unlawful_outcome_in_a_file_fails(self):
         self.keep({**FILES, 'examples/01_both.out': UNLAWFUL})
         status, lines = self.said_of(RIGHT)
-        self.assertEqual((status, lines[-1]), (1, 'scenarios: 12 passed, 1 failed'))
+        self.assertEqual((status, lines[-1]), (1, 'scenarios: 14 passed, 1 failed'))
         self.assertTrue(lines[0].startswith('scenario 01_both FAILED: its .out is no lawful outcome; '), lines)
 
     def test_what_is_not_there_fails(self):
@@ -210,7 +224,7 @@ class Running(Room):
         self.keep({**FILES, 'scenarios/alone.json': ''})
         self.assertEqual(self.said_of(RIGHT), (1, [
             'scenarios FAILED: there is neither scenarios/alone.out nor scenarios/alone.judge',
-            'scenarios: 13 passed, 1 failed']))
+            'scenarios: 15 passed, 1 failed']))
         self.assertEqual(self.said_of(RIGHT, 'first', 'nobody'), (1, [
             'scenario nobody FAILED: there is none of this name', 'scenarios: 1 passed, 1 failed']))
 
