@@ -4,8 +4,9 @@
     python3 tools/gate_times.py FILE rt ci
 
 The output and the status are the command's. To the file goes a table of processor minutes, a line for each crate: for
-its proof, for its tests' proof, for what its must-fail edits begin from, for these edits, and in all. The sum is the
-last line. In kits that keep what they proved before, that takes nothing; `rt ci --anew` does all.
+its proof, for its tests' proof, for what its must-fail edits begin from, for these edits, and in all; then the sum, and
+the edits that took most, in processor seconds. What was proved or refused before, and kept, takes nothing;
+`rt ci --anew` does all.
 
 The minutes are those of the prover's processes that run below this command, looked at several times a second.
 """
@@ -17,22 +18,25 @@ from collections import defaultdict
 from pathlib import Path
 
 KINDS = 'proof', 'tests', 'seed', 'edits'
+MOST_EDITS = 10
 SECONDS_BETWEEN = 0.2
 TICKS = os.sysconf('SC_CLK_TCK')
 
 
 def work_of(words, folder):
-    """Whose work the prover does that was called with these words in this folder: the crate, and one of KINDS. None for
-    others. Proofs and tests are checked where the crate lies, in crates/NAME, and an edit in a copy of it elsewhere."""
+    """Whose work the prover does that was called with these words in this folder: the crate, one of KINDS, and of an edit
+    its number, if that is told. None for others. Proofs and tests are checked where the crate lies, in crates/NAME, and
+    an edit in a copy of it elsewhere, over a folder that has its number."""
     if len(words) < 2 or not words[0].endswith('/rattle') or '--crate-name' not in words[:-1]:
         return None
     crate = words[words.index('--crate-name') + 1]
     if '--test' in words:
-        return crate, 'tests'
+        return crate, 'tests', None
     if folder.endswith(f'/crates/{crate}'):
-        return crate, 'proof'
+        return crate, 'proof', None
     over = words[words.index('--incremental') + 1] if '--incremental' in words[:-1] else ''
-    return crate, 'seed' if over.endswith('/seed') else 'edits'
+    name = over.rpartition('/')[2]
+    return (crate, 'seed', None) if name == 'seed' else (crate, 'edits', int(name) if name.isdigit() else None)
 
 
 class Times:
@@ -71,9 +75,27 @@ class Times:
     def by_crate(self):
         """The seconds of each kind, by crate."""
         found = defaultdict(lambda: dict.fromkeys(KINDS, 0.0))
-        for (crate, kind), seconds in self.seen.values():
+        for (crate, kind, _), seconds in self.seen.values():
             found[crate][kind] += seconds
         return found
+
+    def by_edit(self):
+        """The seconds of each edit whose number was told, by its crate and number."""
+        found = defaultdict(float)
+        for (crate, _, number), seconds in self.seen.values():
+            if number is not None:
+                found[crate, number] += seconds
+        return found
+
+
+def dearest(by_edit, top=Path('.')):
+    """A line for each of the edits that took most, the dearest first: as rt does, they are counted by their names."""
+    lines = []
+    for (crate, number), seconds in sorted(by_edit.items(), key=lambda it: -it[1])[:MOST_EDITS]:
+        names = sorted(path.stem for path in (top / 'crates' / crate / 'must-fail').glob('*.edit'))
+        if number < len(names):
+            lines.append(f'{seconds:6.0f} s of a processor: edit {crate} {names[number]}')
+    return lines
 
 
 def table(by_crate):
@@ -105,7 +127,7 @@ def main(words):
     status = command.wait()
     ended.set()
     watching.join()
-    Path(file).write_text('\n'.join(table(times.by_crate())) + '\n')
+    Path(file).write_text('\n'.join([*table(times.by_crate()), *dearest(times.by_edit())]) + '\n')
     return status
 
 

@@ -17,12 +17,12 @@ COPY = '/room/rt-edit-7-x'
 class GateTimes(unittest.TestCase):
 
     def test_work_is_told_by_the_words(self):
-        for folder, over, kind in ((COPY, ['--incremental', '/room/rt-edits-7-x/seed'], 'seed'),
-                                   (COPY, ['--incremental', '/room/rt-edits-7-x/12'], 'edits'),
-                                   (COPY, [], 'edits'), (CRATE, [], 'proof'),
-                                   (CRATE, ['--incremental', 'out/incremental'], 'proof')):
-            self.assertEqual(gate_times.work_of([*CHECK, *over], folder), ('low', kind))
-        self.assertEqual(gate_times.work_of([*CHECK, '--test'], CRATE), ('low', 'tests'))
+        for folder, over, *work in ((COPY, ['--incremental', '/room/rt-edits-7-x/seed'], 'seed', None),
+                                    (COPY, ['--incremental', '/room/rt-edits-7-x/12'], 'edits', 12),
+                                    (COPY, [], 'edits', None), (CRATE, [], 'proof', None),
+                                    (CRATE, ['--incremental', 'out/incremental'], 'proof', None)):
+            self.assertEqual(gate_times.work_of([*CHECK, *over], folder), ('low', *work))
+        self.assertEqual(gate_times.work_of([*CHECK, '--test'], CRATE), ('low', 'tests', None))
         for words in [''], ['/bin/sh', '-c', 'rattle'], CHECK[:1], CHECK[:3], [CHECK[0], '--version']:
             self.assertIsNone(gate_times.work_of(words, CRATE))
 
@@ -52,6 +52,19 @@ class GateTimes(unittest.TestCase):
         process(13, 10, 2, *CHECK, '--test')
         times.look()
         self.assertEqual(times.by_crate(), {'low': {'proof': 12.0, 'tests': 4.0, 'seed': 0.0, 'edits': 0.0}})
+        self.assertEqual(times.by_edit(), {})
+
+    def test_dearest_edits_are_named(self):
+        times = gate_times.Times(1)
+        times.seen = {1: (('low', 'edits', 0), 3.0), 2: (('low', 'edits', 1), 4.0), 3: (('low', 'edits', 0), 2.0),
+                      4: (('low', 'edits', None), 9.0), 5: (('low', 'edits', 2), 1.0), 6: (('low', 'seed', None), 9.0)}
+        with tempfile.TemporaryDirectory() as room:
+            folder = Path(room, 'crates/low/must-fail')
+            folder.mkdir(parents=True)
+            for name in 'b_bug.edit', 'a_bug.edit', 'README.md':
+                (folder / name).touch()
+            self.assertEqual(gate_times.dearest(times.by_edit(), Path(room)),
+                             ['     5 s of a processor: edit low a_bug', '     4 s of a processor: edit low b_bug'])
 
     def test_largest_crate_comes_first_and_the_sum_last(self):
         lines = gate_times.table({'low': {'proof': 60, 'tests': 0, 'seed': 0, 'edits': 30},
