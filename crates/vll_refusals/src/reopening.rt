@@ -1,5 +1,5 @@
 //! An engine that goes on from its records.
-ghost use Rattle.std.specs.Prelude.{◌≡◌};
+ghost use Rattle.std.specs.Prelude.{◌≡◌, ◌≤◌, IfOk, OnOk, length, vec_capacity};
 
 use crate::answer::Answer;
 use crate::runs::{CALLS, CLIENTS, counts_up, four_clients, holds};
@@ -65,25 +65,32 @@ impl<'a, R: Print + Wait> Service for Reopening<'a, R> {
     ) -> Result<Answer, Unready>
         requires limit { N.engine.config.limit ≡ CALLS }
     {
-        let client = clients.pop().ok_or(Unready)?;
-        clients.push(make_calls(self.rt, &engine, client)?)?;
-        if !clients.are_all() {
-            return Err(Unready);
-        }
-        let mut journal = Vec::with_capacity(self.alloc, CALLS as usize)?;
-        journal.push(marked(&engine)?)?;
+        make_all(self.rt, &engine, &mut clients)?;
+        let journal = list_with_a_line(self.alloc, &engine)?;
         begin(self.rt)?;
         let reopened = engine.reopen(self.alloc, clients.into_sessions(), journal);
         end(self.rt)?;
-        match reopened {
-            Ok(next) => Ok(of_next(next)),
-            Err(NotReopened { left, journal }) => Ok(match left {
-                Ok(closed) => {
-                    Answer::NoMemory.only_if(is_closed(&closed) && is_marked(journal.as_slice()))
-                }
-                Err(_) => Answer::Wrong,
-            }),
-        }
+        Ok(match reopened {
+            Ok(next) => of_next(next),
+            Err(refused) => of_refused(&refused),
+        })
+    }
+}
+
+// One client makes its calls, and all clients are back.
+fn make_all<N: Name>(
+    rt: &impl Wait,
+    engine: &Engine<N, Placing>,
+    clients: &mut Clients<N>,
+) -> Result<(), Unready>
+    ensures { OnOk result (length clients.new ≡ N.engine.clients) }
+{
+    let client = clients.pop().ok_or(Unready)?;
+    clients.push(make_calls(rt, engine, client)?)?;
+    if clients.are_all() {
+        Ok(())
+    } else {
+        Err(Unready)
     }
 }
 
@@ -100,7 +107,18 @@ fn make_calls<N: Name>(
     Ok(client)
 }
 
-// A line of no client of the engine.
+// A list that has room for all calls, and a line of no client of the engine.
+fn list_with_a_line<N: Name>(
+    alloc: Global,
+    engine: &Engine<N, Placing>,
+) -> Result<Vec<Line>, Unready>
+    ensures { IfOk result (λ journal. CALLS ≤ vec_capacity journal) }
+{
+    let mut journal = Vec::with_capacity(alloc, CALLS as usize)?;
+    journal.push(marked(engine)?)?;
+    Ok(journal)
+}
+
 fn marked<N: Name>(engine: &Engine<N, Placing>) -> Result<Line, Unready> {
     Ok(Line {
         call: engine.library().call("bump", &[0])?,
@@ -120,6 +138,17 @@ fn is_marked(journal: &[Line]) -> bool {
 // Whether all calls are in the journal, and their record is handed back.
 fn is_closed(closed: &Closed) -> bool {
     counts_up(closed.journal.as_slice(), CALLS as usize) && holds(closed, u64::from(CALLS))
+}
+
+// What is answered of an engine that was not reopened: it is closed, and the list is handed back.
+fn of_refused<N: Name>(refused: &NotReopened<N, Placing>) -> Answer {
+    match &refused.left {
+        Ok(closed) => {
+            let is_back = is_marked(refused.journal.as_slice());
+            Answer::NoMemory.only_if(is_closed(closed) && is_back)
+        }
+        Err(_) => Answer::Wrong,
+    }
 }
 
 // What is answered of an engine that goes on: the next one has the record, and has taken no call yet.
