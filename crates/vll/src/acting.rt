@@ -1,4 +1,4 @@
-//! What the program does as it is asked, over any reader and writer. `main` hands in standard input and output.
+//! The actions of the program, over any reader and writer. `main` passes standard input and output.
 ghost use Rattle.std.specs.Prelude.{◌≡◌, ◌<◌, ◌+◌, ◌↔◌, ℕ, false, true, Err, None, OnOk, Some};
 ghost use Rattle.std.specs.Io.KnownBytes.{Appends};
 ghost use Rattle.vll_scenario.specs.Streams.{AppendsBeginning};
@@ -28,7 +28,7 @@ use vll_explain::explain;
 use vll_server::{RunOptions, Sink, Source, read_scenario, replay, serve_as};
 use vll_workers::OpenGate;
 
-// Does what is asked for. A text that is to be told is printed, and neither is read nor written.
+// Performs `action`. The text of a `Tell` is printed, and neither `reader` nor `writer` is used.
 pub(crate) fn act<R: Print + Eprint + AllocGlobal + Threads + Wait + Sync, S: Source, W: Sink>(
     rt: &R,
     action: Action,
@@ -53,7 +53,7 @@ pub(crate) fn act<R: Print + Eprint + AllocGlobal + Threads + Wait + Sync, S: So
     }
 }
 
-// Reads a scenario, has it run as the options say, and writes the text of the outcome.
+// Reads a scenario, runs it with these options, and writes the text of the outcome.
 fn run<R: Threads + Wait + Sync, S: Source, W: Sink>(
     rt: &R,
     alloc: Global,
@@ -109,7 +109,7 @@ fn replay_schedule<S: Source, W: Sink>(
     }
 }
 
-// Reads a scenario, and writes its fault with an explanation, or what it has.
+// Reads a scenario, and writes its fault with an explanation, or what the scenario has.
 fn explain_fault<S: Source, W: Sink>(
     alloc: Global,
     reader: &mut S,

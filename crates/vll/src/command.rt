@@ -17,17 +17,17 @@ use vll_workers::MOST_WORKERS;
 pub(crate) enum Action {
     /// To print this text: the help or the version.
     Tell(Error),
-    /// To run the scenario that stands on standard input, in this way.
+    /// To run the scenario on standard input with these options.
     Run(RunOptions),
-    /// To replay the schedule of the scenario that stands on standard input.
+    /// To replay the schedule of the scenario on standard input.
     Replay,
-    /// To explain why the scenario that stands on standard input is refused, or to tell what it has.
+    /// To explain why the scenario on standard input is refused, or to report what it has.
     Explain,
-    /// To draw these events of its replay.
+    /// To draw these events of the replay of the scenario on standard input.
     Draw(Window),
 }
 
-// CHANGELOG.md tells what came with it.
+// CHANGELOG.md lists what is new in it.
 const VERSION: &str = "0.9.0";
 
 const EXAMPLES: &str = "Examples:
@@ -79,9 +79,9 @@ const CAP: &str = "Calls that may wait at a time, 1 to 65536 [default: the scena
 
 const BITS: &str = "Places of the contention analysis, 1 to 1048576 [default: the scenario's bits]";
 
-/// Reads the command line, whose first word is the program's name. Words that are neither `run` with its
-/// options, `replay`, `explain`, or `draw` with its own, nor ask for help or the version are `Fault::CommandLine`, and
-/// so is want of memory.
+/// Reads the command line, whose first word is the program's name. The other words have to be `run` with its options,
+/// `replay`, `explain`, or `draw` with its options, or ask for help or the version; any others are
+/// `Fault::CommandLine`, and so is running out of memory.
 pub(crate) fn action_of(alloc: Global, words: &[String]) -> Result<Action, Fault> {
     match matches_of(alloc, words) {
         Ok(matches) => match matches.subcommand() {
@@ -163,7 +163,7 @@ fn number<'a, const MOST: u32>(alloc: Global, name: &'a str, help: &'a str) -> A
         .help(help)
 }
 
-// What the options of `run` say.
+// The values of the options of `run`.
 fn options_of(matches: &ArgMatches<'_>) -> Result<RunOptions, Fault>
     ensures workers { IfOk result (λ o. Gives (one_text (found_of matches.now) (codes "workers")) (Some o.workers)) }
     ensures cap { IfOk result (λ o. Gives (one_text (found_of matches.now) (codes "cap")) o.cap) }
@@ -175,7 +175,7 @@ fn options_of(matches: &ArgMatches<'_>) -> Result<RunOptions, Fault>
     Ok(RunOptions { workers, cap, bits })
 }
 
-// What the options of `draw` say.
+// The values of the options of `draw`.
 fn window_of(matches: &ArgMatches<'_>) -> Result<Window, Fault>
     ensures from { IfOk result (λ w. Gives (one_text (found_of matches.now) (codes "from")) (Some w.from)) }
     ensures count { IfOk result (λ w. Gives (one_text (found_of matches.now) (codes "count")) (Some w.count)) }
@@ -185,14 +185,14 @@ fn window_of(matches: &ArgMatches<'_>) -> Result<Window, Fault>
     Ok(Window { from, count })
 }
 
-// The number that an option gives which may be 0, if it is there.
+// The number of an option that may be 0, if the option is given.
 fn whole_of(matches: &ArgMatches<'_>, name: &str) -> Option<u32>
     ensures { Gives (one_text (found_of matches.now) name.now) result }
 {
     matches.get_one(name)
 }
 
-// The number that an option gives, if it is there.
+// The number of an option, if the option is given.
 fn number_of<const MOST: u32>(
     matches: &ArgMatches<'_>,
     name: &str,

@@ -7,7 +7,7 @@ use vll_server::{ReplayFault, ScenarioFault, ServeFault, WriteFault};
 /// Why the program ended without an outcome. Its text is the line that is printed.
 #[derive(Clone, Copy, Debug, PartialEq, Eq, Error)]
 pub(crate) enum Fault {
-    /// The program does not take these words, or there was no memory to read them.
+    /// The program does not accept these words, or memory ran out while they were read.
     #[error("vll: command line")]
     CommandLine,
     #[error("vll: scenario: {0}")]
@@ -26,7 +26,7 @@ pub(crate) enum Fault {
 }
 
 impl Fault {
-    /// The program's exit status: 2 if what was given is refused, and 1 if the run or the replay failed.
+    /// Returns the program's exit status: 2 if what it was given is refused, and 1 if the run or the replay failed.
     pub(crate) fn status(&self) -> u8
         ensures { 0 < result }
     {

@@ -1,5 +1,5 @@
 //! The program `vll`: reads a scenario from standard input, runs it, replays its schedule, draws the replay or explains
-//! its fault, and writes what came of it.
+//! its fault, and writes the result.
 #![tactic(auto)]
 
 ghost use Rattle.std.specs.Prelude.{◌≡◌, ◌↔◌, IsOk};
@@ -24,7 +24,7 @@ fn main(rt: HostRuntime) -> ExitCode {
     if let Err(fault) = &done
         && !matches!(fault, Fault::Explained(_))
     {
-        // If standard output itself has failed, the status alone tells of the fault.
+        // If standard output itself has failed, only the status reports the fault.
         let _ = println!(rt; "{fault}");
     }
     exit_code(&done)
@@ -51,7 +51,7 @@ fn work<R: Env + Input + Print + Eprint + AllocGlobal + Threads + Wait + Sync>(
     act(rt, action, &mut reader, &mut writer)
 }
 
-// The words of the command line. One that is no text is an error.
+// The words of the command line. One that is not text is an error.
 fn words_of(rt: &(impl Env + AllocGlobal)) -> io::Result<Vec<String>> {
     Ok(env::args(rt)?.collect(rt.alloc())?)
 }

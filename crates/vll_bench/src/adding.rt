@@ -10,7 +10,7 @@ pub(crate) struct Adding<'a, R: Wait> {
 }
 
 impl<'a, R: Wait> Adding<'a, R> {
-    /// No worker has left yet.
+    /// Makes the gate, with no worker left yet.
     pub(crate) fn new(rt: &'a R) -> Adding<'a, R> {
         Adding {
             rt,
@@ -18,7 +18,7 @@ impl<'a, R: Wait> Adding<'a, R> {
         }
     }
 
-    /// What the workers did that have left.
+    /// Returns what the workers that have left did.
     pub(crate) fn into_tally(self) -> Tally {
         let Adding { rt: _, tally } = self;
         tally.into_inner()

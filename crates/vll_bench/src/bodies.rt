@@ -82,7 +82,7 @@ const RUNS: u32 = 200_000;
 // How often each is measured. The fastest counts, since other work disturbs the others.
 const REPEATS: u32 = 5;
 
-/// Prints what bodies cost, and before the smallest one what a native closure costs that does the same.
+/// Prints the costs of bodies, and before the smallest one that of a native closure that does the same.
 pub(crate) fn measure_bodies(rt: &(impl CpuClock + Print + AllocGlobal)) -> Result<(), Fault> {
     let bump = |frame: &mut Frame| match frame.get(0).checked_add(1) {
         Some(sum) => {
@@ -92,7 +92,8 @@ pub(crate) fn measure_bodies(rt: &(impl CpuClock + Print + AllocGlobal)) -> Resu
         None => false,
     };
     let idle = |_: &mut Frame| true;
-    // Only the clock tells which of the two is timed, so that the compiler cannot put either in place of the call.
+    // Which of the two is timed depends on the clock alone, so that the compiler cannot inline either in place of the
+    // call.
     let nanos = if rt.thread_cpu_time()?.is_zero() {
         time_of_native(rt, &idle)?
     } else {
@@ -105,7 +106,7 @@ pub(crate) fn measure_bodies(rt: &(impl CpuClock + Print + AllocGlobal)) -> Resu
     Ok(())
 }
 
-// Prints what a body costs.
+// Prints the cost of a body.
 fn measure(rt: &(impl CpuClock + Print + AllocGlobal), shape: Shape) -> Result<(), Fault> {
     let library = library(rt.alloc(), shape)?;
     let call = library.with_found(&library.call("body", &[])?, 0);
@@ -117,7 +118,7 @@ fn measure(rt: &(impl CpuClock + Print + AllocGlobal), shape: Shape) -> Result<(
     print(rt, shape.name(), shape.nodes(), nanos, runs)
 }
 
-// Prints the nanoseconds a run and a node, to a tenth.
+// Prints the nanoseconds per run and per node, to a tenth.
 fn print(rt: &impl Print, name: &str, nodes: u32, nanos: u64, runs: u32) -> Result<(), Fault> {
     let runs = u64::from(runs.max(1));
     let run = nanos.saturating_mul(10) / runs;
@@ -132,7 +133,7 @@ fn print(rt: &impl Print, name: &str, nodes: u32, nanos: u64, runs: u32) -> Resu
     Ok(())
 }
 
-// The nanoseconds of processor time that so many runs of a body take.
+// Returns the nanoseconds of processor time that `runs` runs of a body take.
 fn time_of(rt: &impl CpuClock, procedure: &Proc, call: &Call, runs: u32) -> Result<u64, Fault>
     requires formed { IsWellFormed procedure.now }
     requires made { (n : ℕ) × IsCallOf n procedure.now call.now }
@@ -150,7 +151,7 @@ fn time_of(rt: &impl CpuClock, procedure: &Proc, call: &Call, runs: u32) -> Resu
     Ok(fastest)
 }
 
-// The same of `RUNS` calls of a closure.
+// As `time_of`, for `RUNS` calls of a closure.
 #[inline(never)]
 fn time_of_native(rt: &impl CpuClock, native: &dyn Fn(&mut Frame) -> bool) -> Result<u64, Fault>
     requires { IsAlwaysCallable native.now }
@@ -170,7 +171,7 @@ fn time_of_native(rt: &impl CpuClock, native: &dyn Fn(&mut Frame) -> bool) -> Re
     Ok(fastest)
 }
 
-// The cells, of which the first holds the record's value.
+// The cells, with the record's value in the first.
 fn opened() -> Frame {
     let mut frame = Frame::new();
     frame.put(0, VALUE);

@@ -27,7 +27,7 @@ impl<N: Name> Model for Caller<N> {
     ghost invariant = { λ c. All (Fits (library_of N.engine)) c.script.items };
 }
 
-/// A client for each script.
+/// Makes a caller for each script.
 pub(crate) fn callers<N: Name>(
     alloc: Global,
     clients: Clients<N>,

@@ -1,4 +1,4 @@
-//! The calls of scripts in the engine, with no worker: each thread makes the calls of one client after the other's.
+//! The calls of scripts in the engine, without workers: each thread makes the calls of one client after another.
 ghost use Rattle.std.specs.Prelude.{◌≡◌, ◌<◌, All};
 ghost use Rattle.vll_check.specs.Calls.{Fits};
 ghost use Rattle.vll_engine.specs.Shown.{library_of, name_of};
@@ -19,7 +19,7 @@ use vll_workers::Tally;
 
 /// How a thread makes the calls of a client.
 pub(crate) trait Manner {
-    /// Makes them, and adds to the tally what the thread did, where it is counted.
+    /// Makes them, and adds to the tally what the thread did, if that is counted.
     fn make_script<N: Name>(
         rt: &impl Wait,
         engine: &Engine<N, Placing>,
@@ -28,7 +28,7 @@ pub(crate) trait Manner {
     ) -> Result<(), Fault>;
 }
 
-/// By the engine's own call. Nothing is counted.
+/// Makes calls with the engine's own call. Nothing is counted.
 #[derive(Drop)]
 pub(crate) struct ByCall;
 
@@ -49,7 +49,7 @@ impl Manner for ByCall {
     }
 }
 
-/// Times the calls by so many threads, in an engine of this name, and tells what the threads did.
+/// Times the calls made by `threads` threads in an engine of this name, and returns what the threads did.
 pub(crate) fn time_calls<
     N: Name + Send + Sync,
     R: Threads + Wait + Clock + Sync,
@@ -88,7 +88,7 @@ pub(crate) fn time_calls<
     }
 }
 
-// Makes the calls of the next client, and of the one that is next then, until none is left.
+// Makes the calls of one client after another, until none is left.
 fn make_share<N: Name, M: Manner>(
     rt: &impl Wait,
     engine: &Engine<N, Placing>,

@@ -1,4 +1,4 @@
-//! The calls of one scenario made in several ways in turn, with the engine and without it.
+//! The calls of one scenario, made in several ways in turn, with the engine and without it.
 use crate::fault::Fault;
 use crate::rows::{HEAD, Teams, measure_ways};
 use crate::ways::Way;
@@ -15,8 +15,8 @@ const TEAMS: [Teams; 5] = [
     (Way::Engine, &[1, 2, 4]),
 ];
 
-/// Makes the calls of the scenario on standard input in each way in turn, again and again, and prints what a call
-/// takes in each.
+/// Makes the calls of the scenario on standard input in each way in turn, repeatedly, and prints the time of a call in
+/// each.
 pub(crate) fn compare_ways<R: Threads + Wait + Clock + Input + Print + AllocGlobal + Sync>(
     rt: &R,
 ) -> Result<(), Fault> {

@@ -1,10 +1,11 @@
 //! The scenarios of the sweep, as JSON: calls with ten claims each, one of which is for a hot record.
 use std::alloc::{AllocError, Global};
 
-// How many records may be written. So many come first, and the hot ones before all.
+// How many records may be written. They come first, and the hot ones first of all.
 const WRITTEN: u64 = 65_408;
 
-// How many procedures there are. Each reads two records of its own behind the others, which no call writes.
+// How many procedures there are. Each reads two records of its own after those that may be written, which no call
+// writes.
 const PROCEDURES: u64 = 64;
 
 const CLIENTS: u32 = 256;
@@ -20,7 +21,7 @@ const BODY: &str = r#""body":[
  ["set",3,["add",["key",3],1]],["set",4,["add",["key",4],1]],["set",5,["add",["key",5],1]],
  ["set",6,["add",["key",6],1]],["set",7,["add",["key",7],["key",9]]],["reply",["key",0]]]"#;
 
-/// A scenario with so many hot records, from 1 to 10,000. At most 8 calls wait.
+/// Makes a scenario with `hot` hot records, from 1 to 10,000. At most 8 calls wait.
 pub(crate) fn contention(alloc: Global, hot: u64) -> Result<String, AllocError> {
     let mut text = String::from_str(alloc, r#"{"version":1,"cap":8,"records":[0"#)?;
     push_records(&mut text)?;
@@ -32,7 +33,7 @@ pub(crate) fn contention(alloc: Global, hot: u64) -> Result<String, AllocError> 
     Ok(text)
 }
 
-// The records behind the first one.
+// Adds the records after the first one.
 fn push_records(text: &mut String) -> Result<(), AllocError> {
     for _ in 1..WRITTEN {
         text.push_str(",0")?;
@@ -58,7 +59,7 @@ fn push_procedures(text: &mut String) -> Result<(), AllocError> {
     Ok(())
 }
 
-// The clients, each with its calls.
+// Adds the clients, each with its calls.
 fn push_clients(text: &mut String, hot: u64) -> Result<(), AllocError> {
     let mut draw = Draw(hot);
     for client in 0..CLIENTS {
@@ -73,7 +74,7 @@ fn push_clients(text: &mut String, hot: u64) -> Result<(), AllocError> {
     Ok(())
 }
 
-// A call on one hot record and seven others. If two of these are one record it is claimed once.
+// Adds a call on one hot record and seven others. If two of these are the same record, it is claimed once.
 fn push_call(text: &mut String, draw: &mut Draw, hot: u64) -> Result<(), AllocError> {
     let procedure = draw.below(PROCEDURES);
     let record = draw.below(hot);
@@ -89,12 +90,12 @@ fn comma_before(is_first: bool) -> &'static str {
     if is_first { "" } else { "," }
 }
 
-// Numbers as if drawn at random, the same ones each time: Knuth's linear congruence.
+// Pseudorandom numbers, the same ones each time: Knuth's linear congruential generator.
 #[derive(Drop)]
 struct Draw(u64);
 
 impl Draw {
-    // A number below a bound, from 1.
+    // Draws a number below `bound`, which is at least 1.
     fn below(&mut self, bound: u64) -> u64 {
         self.0 = self
             .0

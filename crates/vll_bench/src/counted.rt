@@ -1,4 +1,4 @@
-//! The calls of a client by the parts of `Engine::call`, so that what the thread does can be counted.
+//! The calls of a client, made by the parts of `Engine::call`, so that what the thread does can be counted.
 ghost use Rattle.std.specs.Prelude.{◌≡◌};
 ghost use Rattle.vll_check.specs.Calls.{Fits};
 ghost use Rattle.vll_engine.specs.Pass.{IsFresh};
@@ -16,15 +16,15 @@ use vll_proc::Call;
 use vll_sca::Placing;
 use vll_workers::Tally;
 
-// The first pause of a thread that finds nothing to do, the longest, and after how many turns it lets others run: as
-// `Engine::call` pauses.
+// The first pause of a thread that finds nothing to do, the longest, and after how many turns it lets others run: these
+// are the pauses of `Engine::call`.
 const FIRST_PAUSE: u32 = 32;
 
 const LONGEST_PAUSE: u32 = 1_024;
 
 const TURNS_A_YIELD: u32 = 64;
 
-/// By the parts of `Engine::call`, which are counted.
+/// Makes calls by the parts of `Engine::call`, which are counted.
 #[derive(Drop)]
 pub(crate) struct ByParts;
 
@@ -65,7 +65,8 @@ fn make<N: Name>(
     unreachable!()
 }
 
-// The same, unless as many calls wait as the cap: then this thread helps once. Whether the call was made.
+// As `make`, unless the number of waiting calls is at the cap: then this thread helps once. Returns whether the call
+// was made.
 fn try_make<N: Name>(
     rt: &impl Wait,
     engine: &Engine<N, Placing>,
@@ -118,7 +119,7 @@ fn make_free<N: Name>(
     await_reply(rt, engine, hold, session, ticket, tally);
 }
 
-// Waits for the reply of a ticket, and helps meanwhile.
+// Waits for the reply of a ticket, and helps in the meantime.
 fn await_reply<'a, N: Name>(
     rt: &impl Wait,
     engine: &'a Engine<N, Placing>,
@@ -141,7 +142,7 @@ fn await_reply<'a, N: Name>(
     unreachable!()
 }
 
-// Brings a call to its end that may run, if there is one, and else rests. The lock is let go meanwhile.
+// Brings a call that may run to its end, if there is one, and otherwise rests. The lock is released meanwhile.
 fn help<'a, N: Name>(
     rt: &impl Wait,
     engine: &'a Engine<N, Placing>,
@@ -194,7 +195,7 @@ fn take_hold<'a, N: Name>(
     engine.hold(rt)
 }
 
-// Waits for so many turns.
+// Waits for `turns` turns.
 fn rest(turns: u32) {
     for turn in 0..turns {
         if turn % TURNS_A_YIELD == TURNS_A_YIELD - 1 {

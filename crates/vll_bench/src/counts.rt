@@ -1,4 +1,4 @@
-//! What became of the calls of a scenario in the engine, and what the threads did that made them.
+//! The outcomes of the calls of a scenario in the engine, and what the threads that made them did.
 ghost use Rattle.std.specs.Prelude.{◌≤◌};
 ghost use Rattle.vll_workers.specs.declared.running.TheConstants.{MOST_WORKERS};
 
@@ -22,7 +22,7 @@ use vll_workers::{MOST_WORKERS, Tally};
 const THREADS: [u32; 3] = [1, 2, 4];
 
 /// Makes the calls of the scenario on standard input once by the steps of `Engine::call` and once by workers, for each
-/// number of threads, and prints what became of them.
+/// number of threads, and prints their outcomes.
 pub(crate) fn count_ways<R: Threads + Wait + Clock + Input + Print + AllocGlobal + Sync>(
     rt: &R,
 ) -> Result<(), Fault> {
@@ -41,7 +41,7 @@ pub(crate) fn count_ways<R: Threads + Wait + Clock + Input + Print + AllocGlobal
     Ok(())
 }
 
-// Makes the calls by so many threads, on a scenario that is read anew.
+// Makes the calls with `threads` threads, on a scenario that is read anew.
 fn count_once<R: Threads + Wait + Clock + AllocGlobal + Sync>(
     rt: &R,
     bytes: &[u8],
@@ -61,7 +61,7 @@ fn count_once<R: Threads + Wait + Clock + AllocGlobal + Sync>(
     Ok((timed.count, tally))
 }
 
-// Has the calls made by so many workers, on a scenario that is read anew.
+// Makes the calls with `workers` workers, on a scenario that is read anew.
 fn count_run<R: Threads + Wait + Clock + AllocGlobal + Sync>(
     rt: &R,
     bytes: &[u8],
@@ -76,7 +76,7 @@ fn count_run<R: Threads + Wait + Clock + AllocGlobal + Sync>(
     Ok((timed.count, adding.into_tally()))
 }
 
-// Prints the line of so many threads.
+// Prints the line for this number of threads.
 fn print_line(
     rt: &impl Print,
     name: &'static str,

@@ -14,14 +14,14 @@ use vll_engine::{Begun, Client, Engine, Name, Opening, Spent};
 use vll_proc::Call;
 use vll_sca::Placing;
 
-// How many calls are made one after the other.
+// How many calls are made, one after the other.
 const CALLS: u32 = MOST_CALLS;
 
 // How often they are made. The fastest counts, since other work disturbs the others.
 const REPEATS: u32 = 5;
 
-/// Prints how many nanoseconds of processor time a bump takes from `begin` to `finish`, and how many by the engine's
-/// own call, when one thread makes one call after the other.
+/// Prints how many nanoseconds of processor time a bump takes from `begin` to `finish`, and how many with the engine's
+/// own call, if one thread makes one call after the other.
 pub(crate) fn measure_engine<R: Wait + CpuClock + Print + AllocGlobal>(
     rt: &R,
 ) -> Result<(), Fault> {
@@ -34,7 +34,7 @@ pub(crate) fn measure_engine<R: Wait + CpuClock + Print + AllocGlobal>(
     Ok(())
 }
 
-// The nanoseconds a call of the fastest time, by the engine's own call or by hand.
+// Returns the nanoseconds per call in the fastest round, with the engine's own call or by hand.
 fn fastest<R: Wait + CpuClock + AllocGlobal>(rt: &R, is_call: bool) -> Result<u128, Fault> {
     let mut fastest = u128::MAX;
     for _ in 0..REPEATS {
@@ -44,7 +44,7 @@ fn fastest<R: Wait + CpuClock + AllocGlobal>(rt: &R, is_call: bool) -> Result<u1
     Ok(fastest / u128::from(CALLS))
 }
 
-// The time that the calls take in an engine of this name.
+// Returns the time that the calls take in an engine of this name.
 fn time_of<N: Name, R: Wait + CpuClock>(
     rt: &R,
     opening: Opening<Placing>,
@@ -68,7 +68,7 @@ fn time_of<N: Name, R: Wait + CpuClock>(
     Ok(rt.thread_cpu_time()?.saturating_sub(start))
 }
 
-// A call, from begin to finish.
+// Makes a call, from begin to finish.
 fn cycle<N: Name>(
     rt: &impl Wait,
     engine: &Engine<N, Placing>,
@@ -87,7 +87,7 @@ fn cycle<N: Name>(
     }
 }
 
-// A call by the engine's own call.
+// Makes a call with the engine's own call.
 fn whole<N: Name>(
     rt: &impl Wait,
     engine: &Engine<N, Placing>,

@@ -3,13 +3,13 @@ use crate::setup;
 use crate::workload::{Workload, enter_all, run_all};
 use std::time::CpuClock;
 
-// How many calls are made. What an event costs should be the same for all of them.
+// How many calls are made. The cost of an event should be the same for all of these numbers.
 const COUNTS: [u32; 3] = [1_024, 8_192, 65_536];
 
 // How often each is measured. The fastest counts, since other work disturbs the others.
 const REPEATS: u32 = 5;
 
-/// Prints what an event of the machine costs, as the calls, the entries in the queue and the records grow.
+/// Prints the cost of an event of the machine, as the numbers of calls, of entries in the queue and of records grow.
 pub(crate) fn measure_events(rt: &(impl CpuClock + Print + AllocGlobal)) -> Result<(), Fault> {
     for workload in Workload::ALL {
         for calls in COUNTS {

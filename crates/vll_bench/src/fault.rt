@@ -14,7 +14,7 @@ pub(crate) enum Fault {
     Call(CallFault),
     Open(OpenFault),
     Event(Refusal),
-    /// A call was blocked or refused, or did not run, although it is alone.
+    /// A call was blocked or refused, or did not run, although it was alone.
     Refused,
     Scenario(ScenarioFault),
     Run(RunFault),
@@ -24,7 +24,7 @@ pub(crate) enum Fault {
     Found,
     /// A call claims a record that is not there.
     NoRecord,
-    /// Ways of making the same calls made or committed other numbers of them.
+    /// Different ways of making the same calls made or committed different numbers of them.
     Counts,
 }
 

@@ -1,5 +1,5 @@
-//! Calls without the engine, with one lock a record: a call takes those of its records in rising order, and its body runs
-//! while it has them all.
+//! Calls without the engine, with one lock per record: a call takes those of its records in ascending order, and its
+//! body runs while it holds them all.
 ghost use Rattle.std.specs.Prelude.{◌≡◌, ◌≤◌, ℕ, IfOk, length};
 ghost use Rattle.vll_check.specs.Calls.{Fits, IsReady};
 ghost use Rattle.vll_proc.specs.Made.{IsCallOf};
@@ -13,7 +13,7 @@ use vll_check::Library;
 use vll_proc::{Call, Frame, Proc, Reply};
 use vll_record::{Claim, MOST_CLAIMS, Mode, RecordId};
 
-/// Makes calls on records that each have a lock of their own.
+/// Makes calls on records, each of which has a lock of its own.
 #[derive(Drop)]
 pub(crate) struct ByLocks<'a, R: Wait> {
     rt: &'a R,
@@ -22,7 +22,7 @@ pub(crate) struct ByLocks<'a, R: Wait> {
 }
 
 impl<'a, R: Wait> ByLocks<'a, R> {
-    /// The maker of the library's calls on these records.
+    /// Returns the maker of the library's calls on these records.
     pub(crate) fn new(
         rt: &'a R,
         alloc: Global,
@@ -43,7 +43,7 @@ impl<'a, R: Wait> ByLocks<'a, R> {
 impl<R: Wait> Maker for ByLocks<'_, R> {
     ghost library = { λ m. m.library.now };
 
-    // It first finds the record of the call's indirect key if it has one.
+    // First finds the record of the call's indirect key, if it has one.
     fn make(&self, call: &Call) -> Result<bool, Fault>
         requires { Fits self.now.library.now call.now }
     {
@@ -57,7 +57,7 @@ impl<R: Wait> Maker for ByLocks<'_, R> {
     }
 }
 
-// Each record behind a lock of its own.
+// Puts each record behind a lock of its own.
 fn locked(alloc: Global, records: &[u64]) -> Result<Vec<Mutex<u64>>, AllocError> {
     let mut list = Vec::new(alloc);
     for value in records {
@@ -85,8 +85,8 @@ fn make_ready(
     make_from(rt, procedure, records, call, &mut frame, 0)
 }
 
-// Takes the locks of a call's records from a cell on, makes the call, and stores what it writes into these records.
-// Returns whether it committed. A lock is let go once its record is stored.
+// Takes the locks of a call's records from `cell` on, makes the call, and stores what it writes into these records.
+// Returns whether it committed. A lock is released once its record is stored.
 fn make_from(
     rt: &impl Wait,
     procedure: &Proc,

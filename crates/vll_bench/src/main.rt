@@ -1,4 +1,4 @@
-//! Measures the machine, the engine, bodies and whole runs. What it measures is printed, and nothing rests on it.
+//! Measures the machine, the engine, bodies and whole runs. The measurements are printed, and nothing depends on them.
 #![tactic(auto)]
 
 mod adding;

@@ -12,7 +12,7 @@ use vll_check::Library;
 use vll_proc::{Call, Frame, Reply};
 use vll_record::{Claims, MOST_CLAIMS, Mode};
 
-/// Times the calls on one thread without a lock, a script after the other.
+/// Times the calls on one thread without a lock, one script after the other.
 pub(crate) fn time_serial(
     rt: &impl Clock,
     library: &Library,
@@ -39,7 +39,7 @@ pub(crate) struct ByMutex<'a, R: Wait> {
 }
 
 impl<'a, R: Wait> ByMutex<'a, R> {
-    /// The maker of the library's calls on these records.
+    /// Returns the maker of the library's calls on these records.
     pub(crate) fn new(rt: &'a R, library: &'a Library, records: Vec<u64>) -> ByMutex<'a, R>
         ensures { result.library.now ≡ library.now }
     {
@@ -102,7 +102,7 @@ fn make_ready(library: &Library, records: &mut [u64], call: &Call) -> Result<boo
     }
 }
 
-// A frame with the value of each claimed record in the claim's cell.
+// Loads the value of each claimed record into the claim's cell of a new frame.
 fn load_all(records: &[u64], claims: &Claims) -> Result<Frame, Fault>
     requires { length claims.now ≤ MOST_CLAIMS }
 {

@@ -8,8 +8,8 @@ use std::thread::Threads;
 use std::time::Clock;
 use vll_server::{Plain, ScenarioParts, read_scenario};
 
-/// The names of the values of a line: what was measured, the way and its threads, the nanoseconds a call of the median
-/// round, how many calls a round makes, and the fewest and the most that committed in a round.
+/// The names of the values of a line: what was measured, the way and its threads, the nanoseconds per call of the
+/// median round, how many calls a round makes, and the fewest and the most that committed in a round.
 pub(crate) const HEAD: &str = "scenario,way,threads,nanoseconds,calls,fewest,most";
 
 /// A way, and the numbers of threads that it is measured with.
@@ -18,7 +18,7 @@ pub(crate) type Teams = (Way, &'static [u32]);
 // How often the calls are made in each way.
 const ROUNDS: u32 = 7;
 
-// A way with its number of threads, and what its rounds took.
+// A way with its number of threads, and the times of its rounds.
 #[derive(Drop)]
 struct Row {
     way: Way,
@@ -26,9 +26,9 @@ struct Row {
     rounds: Vec<Timed>,
 }
 
-/// Makes the calls of a scenario, a JSON text, in each way in turn, again and again, and prints a line for each, which
-/// begins with this name. Reading the scenario, opening the engine and closing it are not timed. It fails if other
-/// numbers of calls were made, or other numbers committed of calls that have one order.
+/// Makes the calls of a scenario, a JSON text, in each way in turn, repeatedly, and prints a line for each way, which
+/// begins with `name`. Reading the scenario, opening the engine and closing it are not timed. It fails if the numbers
+/// of calls made differ, or, if the calls have one order, the numbers that committed.
 pub(crate) fn measure_ways<R: Threads + Wait + Clock + Print + AllocGlobal + Sync>(
     rt: &R,
     name: &str,
@@ -49,14 +49,14 @@ pub(crate) fn measure_ways<R: Threads + Wait + Clock + Print + AllocGlobal + Syn
     Ok(())
 }
 
-// Whether the calls can be made in one order alone, as one client has them all.
+// Whether the calls can be made in only one order, since one client has them all.
 fn has_one_order(alloc: Global, bytes: &[u8]) -> Result<bool, Fault> {
     let ScenarioParts { scripts, .. } = read_scenario(alloc, &mut Plain::new(bytes))?.into_parts();
     let busy = scripts.iter().filter(|script| !script.is_empty()).count();
     Ok(busy <= 1)
 }
 
-// A row for each number of threads of each way.
+// Makes a row for each number of threads of each way.
 fn rows(alloc: Global, teams: &[Teams]) -> Result<Vec<Row>, AllocError> {
     let mut rows = Vec::new(alloc);
     for (way, counts) in teams {
@@ -84,7 +84,7 @@ fn time_each<R: Threads + Wait + Clock + AllocGlobal + Sync>(
     Ok(())
 }
 
-// Whether each round of each row made as many calls, and committed as many if they have one order.
+// Whether each round of each row made the same number of calls, and committed the same number if they have one order.
 fn agree(rows: &[Row], ordered: bool) -> bool {
     let Some(expected) = first_count(rows) else {
         return true;

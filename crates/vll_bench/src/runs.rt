@@ -18,8 +18,8 @@ use vll_scripts::{opening, tokens};
 use vll_server::{Line, MOST_CLIENTS, Plain, read_scenario};
 use vll_workers::{Gate, MOST_WORKERS, OpenGate, RunError, run};
 
-/// Runs the scenario on standard input by so many worker threads, as often as `rounds` says, and prints how many
-/// nanoseconds each run takes, without its reading and without what follows it.
+/// Runs the scenario on standard input `rounds` times with `workers` worker threads, and prints how many nanoseconds
+/// each run takes, without reading the scenario and without what follows the run.
 pub(crate) fn measure_runs<R: Threads + Wait + Clock + Input + Print + AllocGlobal + Sync>(
     rt: &R,
     workers: u32,
@@ -72,7 +72,7 @@ pub(crate) fn time_of<N: Name + Send + Sync, R: Threads + Wait + Clock + Sync, G
     }
 }
 
-/// How many calls a journal has, and what became of them.
+/// Counts the calls of a journal and their outcomes.
 pub(crate) fn count_of(journal: &[Line]) -> Count {
     let mut count = Count::none();
     for line in journal {

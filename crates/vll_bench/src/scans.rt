@@ -6,13 +6,13 @@ use vll_proc::{Call, MOST_ARGS, Reason, Reply};
 use vll_record::{Claim, Claims, MOST_CLAIMS, Mode, RecordId};
 use vll_sca::{MOST_BITS, Placing, Status};
 
-// How many calls wait behind as many that run. Tickets are left for the calls that come and go.
+// How many calls wait behind the same number that run. This leaves tickets for the calls that come and go.
 const WAITING: [u32; 4] = [1_000, 4_000, 16_000, 32_000];
 
 // How many calls are gone between the front and the ten that wait.
 const GONE: [u32; 3] = [0, 1_000, 60_000];
 
-// How many bits records share.
+// The number of bits that the records share.
 const BITS: [u32; 3] = [64, 4_096, MOST_BITS];
 
 // How often each is measured. The fastest counts, since other work disturbs the others.
@@ -27,8 +27,8 @@ const SCANS: u32 = 1_000;
 // The record of the calls that come and go. No other call claims it.
 const OTHER: u32 = 65_535;
 
-/// Prints what a scan of the queue costs that finds no call. Before each one a call comes and goes, since the queue
-/// would else answer by the scan before; this is in the time.
+/// Prints the cost of a scan of the queue that finds no call. Before each one a call comes and goes, since the queue
+/// would otherwise answer from the previous scan; this is included in the time.
 pub(crate) fn measure_scans(rt: &(impl CpuClock + Print + AllocGlobal)) -> Result<(), Fault> {
     for waiting in WAITING {
         let mut queue = crowd(rt.alloc(), waiting)?;
@@ -48,8 +48,8 @@ pub(crate) fn measure_scans(rt: &(impl CpuClock + Print + AllocGlobal)) -> Resul
     Ok(())
 }
 
-// The nanoseconds of processor time that a scan takes, which walks over so many entries and finds no call, and the call
-// that comes and goes before it.
+// Returns the nanoseconds of processor time of a scan that walks over `entries` entries and finds no call, and of the
+// call that comes and goes before it.
 fn time_of_scan(
     rt: &impl CpuClock,
     queue: &mut Queue<Placing>,
@@ -72,7 +72,8 @@ fn time_of_scan(
     Ok(fastest / u128::from(scans.max(1)))
 }
 
-// A queue in which so many calls run, each on a record of its own, and as many wait for the last of these records.
+// Makes a queue in which `waiting` calls run, each on a record of its own, and as many wait for the last of these
+// records.
 fn crowd(alloc: Global, waiting: u32) -> Result<Queue<Placing>, Fault> {
     let mut queue = queue(alloc, 65_536)?;
     for record in 0..waiting {
@@ -84,7 +85,7 @@ fn crowd(alloc: Global, waiting: u32) -> Result<Queue<Placing>, Fault> {
     Ok(queue)
 }
 
-// A queue whose front runs, so many calls behind it are gone, and then ten wait for the front's record.
+// Makes a queue whose front runs, after which `gone` calls are gone, and then ten wait for the front's record.
 fn behind_front(alloc: Global, gone: u32, bits: u32) -> Result<Queue<Placing>, Fault> {
     let mut queue = queue(alloc, bits)?;
     enter(&mut queue, 0, true)?;
@@ -107,7 +108,7 @@ fn queue(alloc: Global, bits: u32) -> Result<Queue<Placing>, Fault> {
     Ok(Queue::open(alloc, config, Placing::Modulo)?)
 }
 
-// A call that writes one record enters.
+// Enters a call that writes one record.
 fn enter(queue: &mut Queue<Placing>, record: u32, free: bool) -> Result<Ticket, Fault> {
     if queue.is_spent() || queue.is_busy() {
         return Err(Fault::Refused);
@@ -128,7 +129,7 @@ fn enter(queue: &mut Queue<Placing>, record: u32, free: bool) -> Result<Ticket, 
     Ok(queue.admit(0, &call, free))
 }
 
-// A running call is gone.
+// Removes a running call.
 fn finish(queue: &mut Queue<Placing>, ticket: Ticket) -> Result<(), Fault> {
     match queue.status(ticket) {
         Some(Status::Running) => {

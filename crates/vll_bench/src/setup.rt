@@ -1,4 +1,4 @@
-//! The machine and the engine that bumps are timed on.
+//! The machine and the engine on which bumps are timed.
 use crate::fault::Fault;
 use std::alloc::{AllocError, Global};
 use vll_core::Core;
@@ -6,14 +6,15 @@ use vll_engine::Opening;
 use vll_sca::Placing;
 use vll_server::{Plain, Scenario, ScenarioFault, ScenarioParts, read_scenario};
 
-// A procedure that adds 1 to the record that the argument names, and replies the sum, up to the list of the records.
+// A scenario up to its list of records: its procedure adds 1 to the record that the argument names, and replies the
+// sum.
 const BUMP: &str = r#"{"version":1,"cap":65536,
  "procs":[{"name":"bump","args":1,"keys":[["write","arg",0]],
    "body":[["set",0,["add",["key",0],1]],["reply",["key",0]]]}],
  "records":["#;
 
-/// A machine over so many records that hold 0, with one client whose script has so many calls, from 1: the first bumps
-/// record 0, the next one record 1, and so on, and all that are left the last record.
+/// Makes a machine over `records` records that hold 0, with one client whose script has `calls` calls, at least 1: the
+/// first bumps record 0, the next one record 1, and so on, and all that are left the last record.
 pub(crate) fn core(alloc: Global, records: u32, calls: u32) -> Result<Core<Placing>, Fault> {
     let ScenarioParts {
         records,
@@ -26,13 +27,14 @@ pub(crate) fn core(alloc: Global, records: u32, calls: u32) -> Result<Core<Placi
     Ok(Core::open(alloc, records, library, scripts, config, placing)?)
 }
 
-/// An engine over so many records that hold 0, with one client, for so many bumps, from 1.
+/// Opens an engine over `records` records that hold 0, with one client, for `calls` bumps, at least 1.
 pub(crate) fn opening(alloc: Global, records: u32, calls: u32) -> Result<Opening<Placing>, Fault> {
     let (opening, _) = vll_scripts::opening(alloc, scenario(alloc, records, calls)?)?;
     Ok(opening)
 }
 
-// So many records that hold 0, and one client with so many bumps, of one record after the other, and then of the last.
+// Makes `records` records that hold 0, and one client with `calls` bumps, of one record after the other, and then of
+// the last.
 fn scenario(alloc: Global, records: u32, calls: u32) -> Result<Scenario, ScenarioFault> {
     let mut text = String::from_str(alloc, BUMP)?;
     push_records(&mut text, records)?;
@@ -42,7 +44,7 @@ fn scenario(alloc: Global, records: u32, calls: u32) -> Result<Scenario, Scenari
     read_scenario(alloc, &mut Plain::new(text.as_bytes()))
 }
 
-// So many records, at least 1.
+// Adds `records` records, at least 1.
 fn push_records(text: &mut String, records: u32) -> Result<(), AllocError> {
     text.push_str("0")?;
     for _ in 1..records {
@@ -51,7 +53,7 @@ fn push_records(text: &mut String, records: u32) -> Result<(), AllocError> {
     Ok(())
 }
 
-// So many bumps, at least 1, of which none bumps a record behind the last.
+// Adds `calls` bumps, at least 1, none of which bumps a record after `last`.
 fn push_bumps(text: &mut String, calls: u32, last: u32) -> Result<(), AllocError> {
     text.push_str(r#"{"proc":"bump","args":[0]}"#)?;
     for i in 1..calls {

@@ -1,28 +1,28 @@
 //! The bodies that are measured, as JSON.
 use std::alloc::{AllocError, Global};
 
-// How many operators stand one within the other, and how many `if`s.
+// How deep operators are nested, and how deep `if`s are.
 const DEEP: u32 = 30;
 
 /// A body over one record, key 0.
 #[derive(Clone, Copy)]
 pub(crate) enum Shape {
-    /// A name, and so many copies of a statement of so many nodes.
+    /// A name, a number of copies, and the number of nodes and the text of the statement that is copied.
     Same(&'static str, u32, u32, &'static str),
-    /// So many copies of a statement in which operators or `if`s stand one within the other.
+    /// `copies` copies of a statement in which operators or `if`s are nested.
     Nested {
         name: &'static str,
         copies: u32,
         first: &'static str,
-        /// What opens each of them.
+        /// The text that opens each of them.
         opening: &'static str,
-        /// What stands in the innermost one.
+        /// The text inside the innermost one.
         inner: &'static str,
-        /// What closes each of them.
+        /// The text that closes each of them.
         closing: &'static str,
         last: &'static str,
     },
-    /// So many nodes, an even number from 6: differences of a greater and a lesser number.
+    /// This many nodes, an even number from 6: differences of a greater and a lesser number.
     Mixed(u32),
 }
 
@@ -68,7 +68,7 @@ impl Shape {
     }
 }
 
-// So many copies of a statement, at least 1.
+// Adds `copies` copies of a statement, at least 1.
 fn push_copies(text: &mut String, copies: u32, statement: &str) -> Result<(), AllocError> {
     text.push_str(statement)?;
     for _ in 1..copies {
@@ -78,7 +78,7 @@ fn push_copies(text: &mut String, copies: u32, statement: &str) -> Result<(), Al
     Ok(())
 }
 
-// A difference is the greater of local 0 and 1000, less the lesser of it and 7: 7 nodes.
+// A difference is the greater of local 0 and 1000, minus the lesser of local 0 and 7: 7 nodes.
 fn push_mixed(text: &mut String, nodes: u32) -> Result<(), AllocError> {
     let between = nodes.saturating_sub(6);
     text.push_str(r#"["let",0,["key",0]],"#)?;
@@ -91,7 +91,7 @@ fn push_mixed(text: &mut String, nodes: u32) -> Result<(), AllocError> {
     text.push_str(r#"["set",0,["local",0]],["reply",["local",0]]"#)
 }
 
-// Adds a piece so many times.
+// Adds a piece `times` times.
 fn push_times(text: &mut String, times: u32, piece: &str) -> Result<(), AllocError> {
     for _ in 0..times {
         text.push_str(piece)?;

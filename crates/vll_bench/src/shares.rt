@@ -10,7 +10,7 @@ use std::thread::{Threads, map_indices};
 use std::time::{Clock, Instant};
 use vll_proc::Call;
 
-/// What makes the calls of a library.
+/// A way of making the calls of a library.
 pub(crate) trait Maker {
     ghost use Rattle.vll_check.specs.Catalog.{Catalog};
 
@@ -21,7 +21,7 @@ pub(crate) trait Maker {
         requires { Fits (library self.now) call.now };
 }
 
-/// Times the calls by so many threads.
+/// Times the calls made by `threads` threads.
 pub(crate) fn time_shares<R: Threads + Clock + Sync, M: Maker + Sync>(
     rt: &R,
     alloc: Global,
@@ -48,7 +48,7 @@ pub(crate) fn time_shares<R: Threads + Clock + Sync, M: Maker + Sync>(
     Ok(Timed { time, count })
 }
 
-// Makes the calls of the next script, and of the one that is next then, until none is left.
+// Makes the calls of one script after another, until none is left.
 fn make_share<M: Maker>(
     maker: &M,
     scripts: &[Vec<Call>],

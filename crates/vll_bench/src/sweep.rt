@@ -1,4 +1,4 @@
-//! What a call costs as fewer and fewer records are hot.
+//! The cost of a call as fewer and fewer records are hot.
 use crate::contention::contention;
 use crate::fault::Fault;
 use crate::rows::{HEAD, Teams, measure_ways};
@@ -16,8 +16,8 @@ const TEAMS: [Teams; 3] = [
     (Way::Engine, &[1, 2, 3, 4]),
 ];
 
-/// Makes the calls of a scenario for each number of hot records, by the mutex, by locks and by 1 to 4 workers, and
-/// prints what a call takes, in lines that begin with the number of hot records.
+/// Makes the calls of a scenario for each number of hot records, with the mutex, with locks and with 1 to 4 workers,
+/// and prints the time of a call, in lines that begin with the number of hot records.
 pub(crate) fn sweep<R: Threads + Wait + Clock + Print + AllocGlobal + Sync>(
     rt: &R,
 ) -> Result<(), Fault> {

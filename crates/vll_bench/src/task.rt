@@ -13,7 +13,7 @@ pub(crate) enum Task {
     Runs { workers: u32, rounds: u32 },
 }
 
-/// The words of the command line, whose first is the program's name. Words that it does not know ask for the usage.
+/// Reads the words of the command line, the first of which is the program's name. Unknown words ask for the usage.
 pub(crate) fn task_of(words: &[String]) -> Task {
     match words {
         [_, word] => task_of_word(word.as_str()),

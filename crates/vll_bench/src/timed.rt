@@ -19,7 +19,7 @@ impl Count {
         }
     }
 
-    /// These calls and one more.
+    /// Adds one call.
     pub(crate) fn with_call(self, committed: bool) -> Count {
         Count {
             calls: self.calls.saturating_add(1),
@@ -28,7 +28,7 @@ impl Count {
         }
     }
 
-    /// These calls and one more, with this reply.
+    /// Adds one call, with this reply.
     pub(crate) fn with_reply(self, reply: &Option<Reply>) -> Count {
         let is_moved = matches!(reply, Some(Reply::Aborted(Reason::Moved)));
         Count {
@@ -37,7 +37,7 @@ impl Count {
         }
     }
 
-    /// These calls and the others.
+    /// Adds the calls of `others`.
     pub(crate) fn with(self, others: Count) -> Count {
         Count {
             calls: self.calls.saturating_add(others.calls),
@@ -46,7 +46,7 @@ impl Count {
         }
     }
 
-    /// How many calls were aborted, for whatever reason.
+    /// How many calls were aborted, for any reason.
     pub(crate) fn aborted(self) -> u64 {
         self.calls.saturating_sub(self.committed)
     }
@@ -60,7 +60,7 @@ pub(crate) struct Timed {
 }
 
 impl Timed {
-    /// The nanoseconds a call.
+    /// The nanoseconds per call.
     pub(crate) fn nanos_a_call(&self) -> u128 {
         self.time.as_nanos() / u128::from(self.count.calls.max(1))
     }

@@ -23,7 +23,7 @@ pub(crate) enum Way {
     Mutex,
     /// On plain records, each with a lock of its own.
     Locks,
-    /// In the engine, each thread by `Engine::call`, with no worker.
+    /// In the engine, without workers: each thread uses `Engine::call`.
     Call,
     /// By the engine's workers.
     Engine,
@@ -43,8 +43,8 @@ impl Way {
 }
 
 impl Way {
-    /// Times the calls once by so many threads, from 1 to `MOST_WORKERS`, on a scenario that is read anew. Reading it,
-    /// opening the engine and closing it are not timed.
+    /// Times the calls once, made by `threads` threads, from 1 to `MOST_WORKERS`, on a scenario that is read anew.
+    /// Reading it, opening the engine and closing it are not timed.
     pub(crate) fn time<R: Threads + Wait + Clock + AllocGlobal + Sync>(
         self,
         rt: &R,

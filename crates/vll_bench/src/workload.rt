@@ -9,7 +9,7 @@ pub(crate) enum Workload {
     OneRecord,
     /// Each call bumps a record of its own, and they run in order of entry.
     OwnRecords,
-    /// Each call bumps a record of its own, and they run in falling order.
+    /// Each call bumps a record of its own, and they run in reverse order of entry.
     OwnRecordsBackwards,
 }
 
@@ -36,7 +36,7 @@ impl Workload {
         }
     }
 
-    /// How many events so many calls take: 3 to enter, 4 to run, and 1 more if a call waits.
+    /// The number of events of `calls` calls: 3 to enter, 4 to run, and 1 more for each call that waits.
     pub(crate) fn events(self, calls: u32) -> u64 {
         let calls = u64::from(calls);
         match self {
@@ -46,7 +46,7 @@ impl Workload {
     }
 }
 
-/// Enters so many calls of client 0.
+/// Enters `calls` calls of client 0.
 pub(crate) fn enter_all(core: &mut Core<Placing>, calls: u32) -> Result<(), Fault> {
     for _ in 0..calls {
         take(core, Event::Enter(0))?;
@@ -56,7 +56,7 @@ pub(crate) fn enter_all(core: &mut Core<Placing>, calls: u32) -> Result<(), Faul
     Ok(())
 }
 
-/// Runs so many entered calls, one at a time.
+/// Runs `calls` entered calls, one at a time.
 pub(crate) fn run_all(
     core: &mut Core<Placing>,
     workload: Workload,

@@ -69,7 +69,7 @@ number_from-none n name (q ∷ ps) none =
     ap (λ (b : Bool). if b then Some n else number_from (suc n) name ps) (none 0 q (omega arith))
     ∙ number_from-none (suc n) name ps (λ i p lt. none (suc i) p (omega (arith, lt)))
 
--- where no name is doubled, the number of a procedure's name is its own
+-- if no name occurs twice, the number of a procedure's name is its own
 pub number_named-distinct : (ps : List Proc) (k : ℕ) (p : Proc) → has_name_twice ps ≡ false → slice_get ps k ≡ Some p → number_named p.name ps ≡ Some k
 number_named-distinct ps k p once at =
     let own : get_or ps k p ≡ p = get_or_from_slice_get ps k p p at in

@@ -23,7 +23,7 @@ use Rattle.vll_check.proofs.Indexed.{entry_at}
 length-numbered : (es : List Entry) → length (numbered es) ≡ length es
 length-numbered es = length-map es (λ (e : Entry). (get_or es e.place e).procedure)
 
--- the entry at a number says where its procedure stands
+-- the entry at a number has the index of its procedure
 pub numbered_at : (es : List Entry) → IsIndexed es → (k : ℕ) (d : Entry) (p : Proc) → k < length es → get_or (numbered es) (get_or es k d).number p ≡ (get_or es k d).procedure
 numbered_at es indexed k d p lt =
     let n = (get_or es k d).number in

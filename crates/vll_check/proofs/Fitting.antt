@@ -80,7 +80,7 @@ length-asked_by-le n args found (k ∷ keys) =
     let one = asking-le k.mode (record_named n args found k.at) (asked_by n args found keys) in
     omega arith
 
--- the claims that arguments in range place are of the records
+-- claims named by arguments in range are on existing records
 claims_within : (n : ℕ) (p : Proc) (args : List ℕ) (found : Option ℕ) → check_fault n p ≡ None → list_all (place_is_there n args) p.keys ≡ true → IfSome found (λ _. 0 < n) → All (λ (d : Claim). d.id < n) (claims_of (asked n p args found))
 claims_within n p args found checks given some =
     let there = (passed_all n p checks).1 in
@@ -163,7 +163,7 @@ fits_found c call fits = by_number (number_named fits.0 c.procs) refl fits.2
         let number = made_number c.records k p fits.1 call made in
         (p, ap (slice_get c.procs) number ∙ stands.found, (fits.1, ap (λ m. call_to c.records m (Some p) fits.1) number ∙ made))
 
--- a call that is made for the procedure with its number is one that the library makes, where no name is doubled
+-- a call that is made for the procedure with its number is one that the library makes, if no name occurs twice
 pub found_fits : (c : Catalog) (call : Call) (p : Proc) (args : List ℕ) → has_name_twice c.procs ≡ false → slice_get c.procs call.number ≡ Some p → call_to c.records call.number (Some p) args ≡ Ok call
     → Fits c call
 found_fits c call p args once found made =
@@ -181,7 +181,7 @@ fits_iff_made c call p once found = (
       (f.2.0, ap (λ q. call_to c.records call.number (Some q) f.2.0) (sym same) ∙ f.2.1),
 )
 
--- the key position that a well-formed procedure's indirect key names is there, and names its record by itself
+-- the key position that a well-formed procedure's indirect key names exists, and names its record directly
 pub source_there : (p : Proc) (i : ℕ) → formed.has_earlier_sources p ≡ true → source_of p.keys ≡ Some i → (k : KeyDecl) × (slice_get p.keys i ≡ Some k) × (formed.is_direct (Some k) ≡ true)
 source_there p i sources is = from 0 p.keys sources is
   where
@@ -202,7 +202,7 @@ source_there p i sources is = from 0 p.keys sources is
     from place [] h e = absurd (none-some i e)
     from place (k ∷ ks) h e = let both = both_true _ _ h in here k.at k.mode place (source_of ks) both.0 e (λ later. from (suc place) ks both.1 later)
 
--- a key position that names its record by itself, by arguments in range, names one of the records
+-- a key position that names its record directly, by arguments in range, names one of the records
 direct_named : (records : ℕ) (args : List ℕ) (declared : ℕ) (at : KeyAt) (mode : Mode) → formed.is_direct (Some (record { mode = mode; at = at })) ≡ true → formed.argument_is_declared declared (record { mode = mode; at = at }) ≡ true
     → formed.record_is_there records (record { mode = mode; at = at }) ≡ true → place_is_there records args (record { mode = mode; at = at }) ≡ true → declared ≡ length args
     → (r : ℕ) × (record_named records args None at ≡ Some r) × (r < records)

@@ -80,7 +80,7 @@ HaveNumbers-sorted es fs gs numbers moved =
           (cases_order j k);
     }
 
--- each number stands somewhere
+-- each number is that of some entry
 number_found : (es fs gs : List Entry) → AreNumbered es fs → IsPermutation fs gs → (n : ℕ) (d : Entry) → n < length es → (k : ℕ) × (k < length gs) × ((get_or gs k d).number ≡ n)
 number_found es fs gs numbers moved n d lt =
     let x = get_or fs n d in
@@ -101,7 +101,7 @@ procedure_found es fs gs numbers moved k d lt =
 number_kept : (gs hs : List Entry) → ArePlaced gs hs → (k : ℕ) (d : Entry) → k < length gs → (get_or hs k d).number ≡ (get_or gs k d).number
 number_kept gs hs placed k d lt = ap number_of (placed.kept k d lt)
 
--- the place that the entry at a number says
+-- the place that the entry at a number has
 place_found : (es fs gs hs : List Entry) → AreNumbered es fs → IsPermutation fs gs → ArePlaced gs hs → (n : ℕ) (d : Entry) → n < length es → (k : ℕ) × (k < length gs) × ((get_or gs k d).number ≡ n) × ((get_or hs n d).place ≡ k)
 place_found es fs gs hs numbers moved placed n d lt =
     let found = number_found es fs gs numbers moved n d lt in
@@ -131,7 +131,7 @@ IsIndexed-placed es fs gs hs numbers moved placed =
           ap (λ (m : ℕ). (get_or hs m d).place) (number_kept gs hs placed k d in_gs) ∙ placed.each k d in_gs;
     }
 
--- the procedures by their numbers are those that were handed in
+-- the procedures in the order of their numbers are those that were given
 pub numbered_placed : (es fs gs hs : List Entry) → AreNumbered es fs → IsPermutation fs gs → ArePlaced gs hs → numbered hs ≡ map procedure_of es
 numbered_placed es fs gs hs numbers moved placed =
     let long = lengths es fs gs hs numbers moved placed in

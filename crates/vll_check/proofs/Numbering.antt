@@ -47,7 +47,7 @@ pub number_read : (es fs : List Entry) (i n : ℕ) (x : Entry) → i < length es
 number_read es fs i n x within is kept d =
     sym (is ∙ ap (λ (e : Entry). e.number) (kept i x within) ∙ ap (λ (e : Entry). e.number) (get_or_default es i x d within))
 
--- a loop's step, which says where the number n of the entry at i stands
+-- a loop's step, which sets the place at the number n of the entry at i to i
 pub places_more : (es fs : List Entry) (i n : ℕ) (x y : Entry) → HaveNumbers es → i < length es → length fs ≡ length es
     → ((d : Entry) → (get_or es i d).number ≡ n) → y ≡ with_place (get_or fs n x) i
     → ((k : ℕ) (d : Entry) → k < i → (get_or fs (get_or es k d).number d).place ≡ k)

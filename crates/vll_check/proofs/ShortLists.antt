@@ -36,7 +36,7 @@ laid-next n xs i y within room is =
     let more : take (i + 1) xs ≡ take i xs ++ y ∷ [] = ap (λ m. take m xs) (add-one i) ∙ take-suc xs i 0 within ∙ ap (λ z. take i xs ++ z ∷ []) (sym is) in
     ap (λ m. set (laid n 0 (take i xs)) m y) (sym whole) ∙ laid-push n 0 y (take i xs) (omega arith) ∙ ap (laid n 0) (sym more)
 
--- the same of the items under f
+-- as `laid-next`, for the items under f
 pub laid-mapped : {A : Type 0} (f : A → ℕ) (n : ℕ) (xs : List A) (i : ℕ) (d : A) (y : ℕ) → i < length xs → i < n → y ≡ f (get_or xs i d) → set (laid n 0 (map f (take i xs))) i y ≡ laid n 0 (map f (take (i + 1) xs))
 laid-mapped f n xs i d y within room is =
     let whole : length (map f (take i xs)) ≡ i = length-map (take i xs) f ∙ length-take-le i xs (omega arith) in

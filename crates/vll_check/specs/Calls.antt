@@ -1,4 +1,4 @@
--- The call that is made of a name and arguments, or the lowest fault that stands.
+-- The call that is made from a name and arguments, or the lowest fault that applies.
 use Rattle.std.specs.Prelude.{◌≡◌, ℕ, ◌<◌, Bool, true, ◌==◌, nat_lt, List, [], ◌∷◌, map, length, Option, Some, None, slice_get, slice_index, is_some, take, Result, Ok, Err, All, if◌then◌else◌}
 use Rattle.std.specs.List.{list_all}
 use Rattle.vll_record.specs.declared.claim.Claim.{Claim}
@@ -15,11 +15,11 @@ use Rattle.vll_check.specs.Catalog.{Catalog}
 use Rattle.vll_check.specs.Faults.{check_fault}
 use Rattle.vll_check.specs.Names.{number_named}
 
--- an argument that places a key is below the number of records
+-- an argument that names a key's record is below the number of records
 abbrev pub place_is_there : ℕ → List ℕ → KeyDecl → Bool
 place_is_there records args k = elim k.at [ at.Fixed r ↦ true | at.Arg i ↦ nat_lt (slice_index args i) records | at.Through i ↦ true ]
 
--- the call of a procedure, with nothing found, or the lowest fault that stands
+-- the call of a procedure, with nothing found, or the lowest fault that applies
 abbrev pub call_to : ℕ → ℕ → Option Proc → List ℕ → Result Call CallFault
 call_to records n None args = Err UnknownProc
 call_to records n (Some p) args =
@@ -30,15 +30,15 @@ abbrev pub call_numbered : ℕ → List Proc → Option ℕ → List ℕ → Res
 call_numbered records procs None args = Err UnknownProc
 call_numbered records procs (Some n) args = call_to records n (slice_get procs n) args
 
--- the call of the procedure with a name, or the lowest fault that stands
+-- the call of the procedure with a name, or the lowest fault that applies
 abbrev pub call_made : Catalog → List ℕ → List ℕ → Result Call CallFault
 call_made c name args = call_numbered c.records c.procs (number_named name c.procs) args
 
--- the call is one that the library makes, of some name and some arguments
+-- the call is one that the library makes, from some name and some arguments
 abbrev pub Fits : Catalog → Call → Type 0
 Fits c call = (name : List ℕ) × (args : List ℕ) × (call_made c name args ≡ Ok call)
 
--- the key position at a place, if there is a place
+-- the key position at an index, if there is an index
 abbrev pub key_at : List KeyDecl → Option ℕ → Option KeyDecl
 key_at keys None = None
 key_at keys (Some i) = slice_get keys i
@@ -53,7 +53,7 @@ abbrev pub source_by : ℕ → Option Proc → Call → Option ℕ
 source_by records None call = None
 source_by records (Some p) call = named_by records call (key_at p.keys (source_of p.keys))
 
--- the same of a call that the library makes
+-- as `source_by`, for a call that the library makes
 abbrev pub source : Catalog → Call → Option ℕ
 source c call = source_by c.records (slice_get c.procs call.number) call
 
@@ -62,7 +62,7 @@ abbrev pub found_by : ℕ → Option Proc → Call → ℕ → Call
 found_by records None call v = call
 found_by records (Some p) call v = if is_some (source_of p.keys) then call_of records call.number p (take call.arg_count call.args) (Some v) else call
 
--- the same of a call that the library makes: then it claims the record that the value leads to
+-- as `found_by`, for a call that the library makes: then it claims the record that the value leads to
 abbrev pub with_found : Catalog → Call → ℕ → Call
 with_found c call v = found_by c.records (slice_get c.procs call.number) call v
 
@@ -70,7 +70,7 @@ with_found c call v = found_by c.records (slice_get c.procs call.number) call v
 abbrev pub bare : Call → Call
 bare call = record call { found = None; claims = []; cells = [] }
 
--- the same of each call of a list
+-- as `bare`, for each call of a list
 abbrev pub bares : List Call → List Call
 bares calls = map bare calls
 
@@ -85,7 +85,7 @@ AreFound c (call ∷ calls) (x ∷ xs) = ((v : ℕ) × (x ≡ with_found c call 
 abbrev pub IsReady : Catalog → Call → Type 0
 IsReady c call = (made : Call) × (v : ℕ) × (Fits c made × (call ≡ with_found c made v))
 
--- the call is made of some arguments for a procedure that passed the tests, on records that are there
+-- the call is made from some arguments for a procedure that passed the tests, on existing records
 pub record CallsProcedure (c : Catalog) (call : Call) : Type 0 where
   pub procedure : Proc
   pub found : slice_get c.procs call.number ≡ Some procedure

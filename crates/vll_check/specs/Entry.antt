@@ -1,4 +1,4 @@
--- A checked procedure, and what a library keeps beside it.
+-- A checked procedure, and what a library keeps with it.
 use Rattle.std.specs.Prelude.{ℕ}
 use Rattle.vll_proc.specs.declared.syntax.Proc.{Proc}
 

@@ -6,7 +6,7 @@ use Rattle.vll_proc.specs.WellFormed.{has_few_args, has_few_keys, has_declared_k
 use Rattle.vll_check.specs.declared.fault.CheckFault.{CheckFault}
 use Rattle.vll_check.specs.declared.fault.CheckFault.TheVariants.{TooManyArgs, TooManyKeys, KeyArg, FixedRecord, UnknownKey, NotWritable, UnknownArg, UnknownLocal, UnsetLocal, TooManyReplies, TooDeep, TooLong, ThroughKey, TwoThrough, Turns, TooMuchWork}
 
--- the fault of a test that fails, or what comes behind it
+-- the fault of a test that fails, or else the outcome of the tests after it
 abbrev pub fault_unless : Bool → CheckFault → Option CheckFault → Option CheckFault
 fault_unless true fault behind = behind
 fault_unless false fault behind = Some fault
@@ -28,7 +28,7 @@ name_fault p =
     (fault_unless (has_known_locals p) UnknownLocal
     (fault_unless (reads_set_locals p) UnsetLocal None))))
 
--- the first fault in how long and how deep the body of a procedure is
+-- the first fault in the length and depth of the body of a procedure
 abbrev pub size_fault : Proc → Option CheckFault
 size_fault p =
     fault_unless (has_few_replies p) TooManyReplies
@@ -43,11 +43,11 @@ form_fault p =
     (fault_unless (has_few_turns p) Turns
     (fault_unless (is_light p) TooMuchWork None)))
 
--- the fault of the lowest of the sixteen tests that a procedure fails for so many records, if it fails one
+-- the fault of the lowest of the sixteen tests that a procedure fails for `records` records, if it fails one
 abbrev pub check_fault : ℕ → Proc → Option CheckFault
 check_fault records p = option_or (declared_fault records p) (option_or (name_fault p) (option_or (size_fault p) (form_fault p)))
 
--- the fault that an answer tells
+-- the fault that an answer reports
 abbrev pub fault_in : {A : Type 0} → Result A CheckFault → Option CheckFault
 fault_in (Ok made) = None
 fault_in (Err fault) = Some fault

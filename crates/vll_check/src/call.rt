@@ -1,4 +1,4 @@
-//! The call of one procedure, or why there is none, with what it finds, and whether a call is one.
+//! Calls of one procedure: making one or reporting why not, adding the value found, and recognizing one.
 ghost use Rattle.std.specs.Prelude.{◌≡◌, ◌↔◌, ◌<◌, ℕ, List, Some, None, Ok, IsTrue, IfSome};
 ghost use Rattle.std.specs.List.{list_all};
 ghost use Rattle.vll_proc.specs.declared.call.Call.{Call};
@@ -12,7 +12,7 @@ use crate::making::{Naming, call_of, record_of};
 use vll_proc::{Call, KeyAt, KeyDecl, Proc};
 use vll_record::RecordId;
 
-// The call of a procedure, or the lowest fault that stands.
+// The call of a procedure, or the lowest fault that applies.
 pub(crate) fn call_to(
     records: u32,
     number: u32,
@@ -36,7 +36,7 @@ pub(crate) fn call_to(
     Ok(call_of(number, procedure, naming))
 }
 
-// Each argument that places a key is below the number of records.
+// Whether each argument that names a key's record is below the number of records.
 fn places_are_there(procedure: &Proc, args: &[u64], records: u32) -> bool
     ensures { result ≡ list_all (place_is_there records args.now) procedure.now.keys }
 {
@@ -44,7 +44,7 @@ fn places_are_there(procedure: &Proc, args: &[u64], records: u32) -> bool
     keys.iter().all(|key| place_is_there(key, args, records))
 }
 
-// An argument that places a key is below the number of records.
+// Whether the argument that names a key's record, if one does, is below the number of records.
 fn place_is_there(key: &KeyDecl, args: &[u64], records: u32) -> bool
     ensures { result ≡ place_is_there records args.now key.now }
 {
@@ -54,7 +54,7 @@ fn place_is_there(key: &KeyDecl, args: &[u64], records: u32) -> bool
     }
 }
 
-// Whether a call is the one that is made of its own arguments for this procedure.
+// Whether a call is the one that is made from its own arguments for this procedure.
 pub(crate) fn is_made_for(records: u32, procedure: &Proc, call: &Call) -> bool
     requires { check_fault records procedure.now ≡ None }
     ensures { IsTrue result ↔ IsMadeFor records procedure.now call.now }
@@ -68,8 +68,8 @@ pub(crate) fn is_made_for(records: u32, procedure: &Proc, call: &Call) -> bool
     }
 }
 
-// The record by whose value a call of this procedure finds the record of its indirect key, if that value's key position
-// stands at this place.
+// The record by whose value a call of this procedure finds the record of its indirect key. `place` is the index of the
+// key position that names it.
 pub(crate) fn source_for(records: u32, procedure: &Proc, place: u8, call: &Call) -> Option<RecordId>
     requires place { source_of procedure.now.keys ≡ Some place }
     requires checked { check_fault records procedure.now ≡ None }
@@ -86,7 +86,7 @@ pub(crate) fn source_for(records: u32, procedure: &Proc, place: u8, call: &Call)
     Some(RecordId(record_of(key, naming)?))
 }
 
-// A call of this procedure with a value found, if it has an indirect key.
+// A call of this procedure with a value found if it has an indirect key, or else unchanged.
 pub(crate) fn found_for(records: u32, procedure: &Proc, call: &Call, value: u64) -> Call
     requires checked { check_fault records procedure.now ≡ None }
     requires made { IsMadeFor records procedure.now call.now }

@@ -10,8 +10,8 @@ use vll_proc::Proc;
 pub struct Checked {
     pub(crate) procedure: Proc,
     pub(crate) records: u32,
-    // A library keeps its list in the order of the names. Beside the procedure stand its number, and the
-    // place of the procedure whose number is this place.
+    // A library keeps its list sorted by name. Each entry also has its procedure's number, and the index
+    // of the procedure whose number is this entry's index.
     pub(crate) number: u32,
     pub(crate) place: u32,
     // The key position by whose record's value another one's record is found, so that no call has to look for it.
@@ -36,7 +36,7 @@ impl Model for Checked {
 }
 
 impl Checked {
-    /// The procedure that was checked. It passes every test for `records`.
+    /// Returns the procedure that was checked. It passes every test for `records`.
     pub fn proc(&self) -> &Proc
         ensures procedure { result.now ≡ self.now.procedure }
         ensures passed { check_fault self.now.records self.now.procedure ≡ None }
@@ -51,7 +51,7 @@ impl Checked {
         self.source
     }
 
-    /// The number of records for which it was checked.
+    /// Returns the number of records for which it was checked.
     pub fn records(&self) -> u32
         ensures { result ≡ self.now.records }
     {
@@ -72,14 +72,14 @@ impl Checked {
         self.number
     }
 
-    /// Where the procedure stands whose number is the place of this one.
+    /// The index of the procedure whose number is this entry's index.
     pub(crate) fn place(&self) -> u32
         ensures { result ≡ self.now.place }
     {
         self.place
     }
 
-    /// Gives the procedure its number. Nothing else changes.
+    /// Sets the procedure's number. Nothing else changes.
     pub(crate) fn set_number(&mut self, number: u32)
         ensures set { self.new ≡ record self.old { number = number } }
         ensures passed { check_fault self.old.records self.old.procedure ≡ None }
@@ -87,7 +87,7 @@ impl Checked {
         self.number = number;
     }
 
-    /// Says where the procedure stands whose number is the place of this one. Nothing else changes.
+    /// Sets the index of the procedure whose number is this entry's index. Nothing else changes.
     pub(crate) fn set_place(&mut self, place: u32)
         ensures { self.new ≡ record self.old { place = place } }
     {

@@ -18,8 +18,8 @@ use vll_record::MOST_CLAIMS;
 
 /// Tests whether a procedure is well-formed for a number of records.
 ///
-/// It consumes the procedure: an `Ok` gives it back, checked, and an `Err` drops it. The tests run in
-/// the order of their numbers, so an `Err` is the lowest number whose test fails. It takes no memory.
+/// It consumes the procedure: an `Ok` returns it, checked, and an `Err` drops it. The tests run in the
+/// order of their numbers, so an `Err` is the lowest number whose test fails. It allocates no memory.
 pub fn check(procedure: Proc, records: u32) -> Result<Checked, CheckFault>
     ensures ok { IfOk result (λ c. (c.procedure ≡ procedure) × (c.records ≡ records)) }
     ensures answer { check_fault records procedure ≡ fault_in result }
@@ -55,7 +55,7 @@ fn fault_of(procedure: &Proc, records: u32) -> Option<CheckFault>
     fault_of_forms(procedure)
 }
 
-// The first test of what the procedure declares that it fails.
+// The first failed test of what the procedure declares.
 fn fault_of_declared(procedure: &Proc, records: u32) -> Option<CheckFault>
     ensures fault { result ≡ declared_fault records procedure.now }
     ensures few { result ≡ None → length procedure.now.keys ≤ MOST_CLAIMS }
@@ -75,7 +75,7 @@ fn fault_of_declared(procedure: &Proc, records: u32) -> Option<CheckFault>
     None
 }
 
-// The first test of what its body names that it fails.
+// The first failed test of what the procedure's body names.
 fn fault_of_names(procedure: &Proc) -> Option<CheckFault>
     ensures { result ≡ name_fault procedure.now }
 {
@@ -97,7 +97,7 @@ fn fault_of_names(procedure: &Proc) -> Option<CheckFault>
     None
 }
 
-// The first test of how long and how deep its body is that it fails.
+// The first failed test of the length and depth of the procedure's body.
 fn fault_of_size(procedure: &Proc) -> Option<CheckFault>
     ensures { result ≡ size_fault procedure.now }
 {
@@ -113,7 +113,7 @@ fn fault_of_size(procedure: &Proc) -> Option<CheckFault>
     None
 }
 
-// The first test of its indirect keys, and of what its body repeats, that it fails.
+// The first failed test of the procedure's indirect keys and of what its body repeats.
 fn fault_of_forms(procedure: &Proc) -> Option<CheckFault>
     requires { length procedure.now.keys ≤ MOST_CLAIMS }
     ensures { result ≡ form_fault procedure.now }
@@ -133,7 +133,7 @@ fn fault_of_forms(procedure: &Proc) -> Option<CheckFault>
     None
 }
 
-// How many key positions a procedure of this edition declares at most.
+// The greatest number of key positions that a procedure of this edition declares.
 fn most_keys(edition: Edition) -> usize
     ensures value { result ≡ formed.most_keys edition }
     ensures few { result ≤ MOST_CLAIMS }
@@ -236,7 +236,7 @@ fn has_earlier_sources(procedure: &Proc) -> bool
     have_sources(keys, 0, keys)
 }
 
-// The key positions from a place on.
+// As `has_earlier_sources`, for the key positions from index `place` on.
 fn have_sources(all: &[KeyDecl], place: usize, keys: &[KeyDecl]) -> bool
     requires { place + length keys.now ≤ MOST_CLAIMS }
     ensures { result ≡ formed.have_sources all.now place keys.now }
@@ -272,7 +272,7 @@ fn has_one_indirect_key(procedure: &Proc) -> bool
     indirect_keys(procedure.keys.as_slice()) <= 1
 }
 
-// How many key positions are indirect.
+// The number of indirect key positions.
 fn indirect_keys(keys: &[KeyDecl]) -> usize
     requires { length keys.now ≤ MOST_CLAIMS }
     ensures value { result ≡ sum_by formed.indirect keys.now }

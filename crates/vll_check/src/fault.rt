@@ -6,11 +6,11 @@ pub enum CheckFault {
     /// More than `MOST_ARGS` arguments.
     #[error("1")]
     TooManyArgs,
-    /// More key positions than the edition has: over `FIRST_MOST_KEYS` in edition One, over `MOST_CLAIMS` in edition
-    /// Two.
+    /// More key positions than the edition allows: more than `FIRST_MOST_KEYS` in edition One, more than `MOST_CLAIMS`
+    /// in edition Two.
     #[error("2")]
     TooManyKeys,
-    /// A key is placed by an argument that is not declared.
+    /// A key's record is named by an argument that is not declared.
     #[error("3")]
     KeyArg,
     /// A fixed record is not one of the records.
@@ -19,16 +19,16 @@ pub enum CheckFault {
     /// A key position that is not declared is read or set.
     #[error("5")]
     UnknownKey,
-    /// A key position is set that is declared Read, even where another position of its record is Write.
+    /// A key position that is declared Read is set, even if another position of its record is Write.
     #[error("6")]
     NotWritable,
-    /// An argument is read that is not declared.
+    /// An argument that is not declared is read.
     #[error("7")]
     UnknownArg,
-    /// A local is read or given a value whose place is `MOST_LOCALS` or more.
+    /// A local whose index is `MOST_LOCALS` or more is read or set.
     #[error("8")]
     UnknownLocal,
-    /// A local is read that is not surely set before.
+    /// A local that is not surely set before is read.
     #[error("9")]
     UnsetLocal,
     /// More than `MOST_OUTPUTS` replies.
@@ -40,8 +40,8 @@ pub enum CheckFault {
     /// More than `MOST_NODES` nodes in the body.
     #[error("12")]
     TooLong,
-    /// A key position's record is to be found by another one that does not stand before it, or that names no record by
-    /// itself.
+    /// A key position's record is to be found by another one that does not come before it, or that does not name its
+    /// record directly.
     #[error("13")]
     ThroughKey,
     /// More than one key position whose record is found by another's value.
@@ -50,12 +50,12 @@ pub enum CheckFault {
     /// A `Repeat` of more than `MOST_TURNS` turns, or any `Repeat` in edition One.
     #[error("15")]
     Turns,
-    /// A body whose weight is over `MOST_WEIGHT`.
+    /// A body whose weight is above `MOST_WEIGHT`.
     #[error("16")]
     TooMuchWork,
 }
 
-/// Why a call cannot be made: the lowest number that stands.
+/// Why a call cannot be made: the lowest number that applies.
 #[derive(Clone, Copy, PartialEq, Eq, Debug, Error)]
 pub enum CallFault {
     /// No procedure has the name.
@@ -64,7 +64,7 @@ pub enum CallFault {
     /// Not the declared number of arguments.
     #[error("2")]
     ArgCount,
-    /// An argument that places a key is not below the number of records.
+    /// An argument that names a key's record is not below the number of records.
     #[error("3")]
     RecordRange,
 }

@@ -1,4 +1,4 @@
-//! What holds of each checked procedure, and of each call that a library makes.
+//! Laws about each checked procedure, and about each call that a library makes.
 
 ghost use Rattle.std.specs.Prelude.{◌≡◌, ◌<◌, ℕ, List, All, None, true};
 ghost use Rattle.vll_record.specs.declared.claim.Claim.{Claim};
@@ -9,16 +9,16 @@ ghost use Rattle.vll_check.specs.Calls.{bare, bares, source, with_found, AreFoun
 ghost use Rattle.vll_check.specs.Catalog.{Catalog, IsCatalog};
 ghost use Rattle.vll_check.specs.Faults.{check_fault};
 
-/// A procedure that passed the tests for a number of records is well-formed, and its fixed records are there.
+/// A procedure that passed the tests for a number of records is well-formed, and its fixed records exist.
 #[tactic(auto, using(crate::proofs::Passed::passed_all))]
 pub fn checked_procedures_are_well_formed()
     ensures { (records : ℕ) (p : Proc) → check_fault records p ≡ None
         → IsWellFormed p × (has_records records p ≡ true) }
 {}
 
-/// A call that a library makes claims only records that are there. If it has no source, it has no indirect key, and
-/// finding leaves it as it is. What is found changes neither its procedure nor its arguments; so calls that may enter,
-/// and that have the procedures and arguments of these, are these with what they have found.
+/// A call that a library makes claims only existing records. If it has no source, it has no indirect key, and finding
+/// leaves it unchanged. What is found changes neither its procedure nor its arguments; so calls that may enter, and
+/// that have the procedures and arguments of given calls, are those calls with what they have found.
 pub fn fitting_calls_are_of_the_records()
     ensures within { (c : Catalog) (call : Call) → IsCatalog c → Fits c call → All (λ (d : Claim). d.id < c.records) call.claims }
     ensures alone { (c : Catalog) (call : Call) (v : ℕ) → IsCatalog c → Fits c call → source c call ≡ None → with_found c call v ≡ call }
@@ -27,7 +27,7 @@ pub fn fitting_calls_are_of_the_records()
 {}
 
 /// A call that is ready was made for a checked, well-formed procedure with its number, has found what it needs, and
-/// claims only records that are there.
+/// claims only existing records.
 #[tactic(auto, using(crate::proofs::Fitting::ready_well))]
 pub fn ready_calls_have_their_procedure()
     ensures { (c : Catalog) (call : Call) → IsCatalog c → IsReady c call → CallsProcedure c call }

@@ -1,4 +1,15 @@
-//! Which procedures are well-formed, the library of checked procedures, and the calls that it makes.
+//! Checks that procedures are well-formed, keeps the checked ones in a library, and makes their calls. `check` tests a
+//! procedure for a number of records, and returns it checked or the first of sixteen faults; a `Library` makes a call,
+//! with its claims, from the name of a procedure and arguments. Proved: a checked procedure is well-formed, and a call
+//! that is ready was made for a procedure of the library and claims only existing records. Start at `check`, `Checked`
+//! and `Library`.
+//!
+//! ```rattle
+//! let mut procs = Vec::new(alloc);
+//! procs.push(check(procedure, records)?)?;
+//! let library = Library::new(records, procs)?;
+//! let call = library.call("transfer", &[1, 0, 7])?;
+//! ```
 #![tactic(auto)]
 
 mod call;

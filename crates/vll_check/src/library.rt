@@ -12,11 +12,11 @@ use std::marker::Model;
 use vll_proc::{Call, Proc};
 use vll_record::RecordId;
 
-/// The procedures of a server, checked for its number of records, each with a name of its own.
+/// The procedures of a server, checked for its number of records, each with a unique name.
 #[derive(Drop)]
 pub struct Library {
     records: u32,
-    // In the order of the names.
+    // Sorted by name.
     procs: Vec<Checked>,
 }
 
@@ -38,9 +38,9 @@ impl Model for Library {
 }
 
 impl Library {
-    /// The library of these procedures, fewer than 2^32 and each checked for this number of records. Their numbers are
-    /// their places in the list, from 0. It refuses exactly a list in which two have one name, and drops it. It takes
-    /// no memory.
+    /// Returns the library of these procedures, fewer than 2^32 and each checked for this number of records. Their
+    /// numbers are their indices in the list, from 0. It refuses a list exactly if two have the same name, and then
+    /// drops it. It allocates no memory.
     pub fn new(records: u32, mut procs: Vec<Checked>) -> Result<Library, NameTwice>
         requires for_records { All (λ c. c.records ≡ records) procs.items }
         requires few { length procs.items < 2 ^ 32 }
@@ -51,7 +51,7 @@ impl Library {
         Ok(Library { records, procs })
     }
 
-    /// The number of records for which the procedures were checked.
+    /// Returns the number of records for which the procedures were checked.
     pub fn records(&self) -> u32
         ensures records { result ≡ self.now.records }
         ensures catalog { IsCatalog self.now }
@@ -59,7 +59,8 @@ impl Library {
         self.records
     }
 
-    /// The procedure with a number, and `None` exactly from the number of procedures on. It takes no memory.
+    /// Returns the procedure with a number, or `None` exactly if the number is not below the number of procedures. It
+    /// allocates no memory.
     pub fn proc(&self, number: u32) -> Option<&Proc>
         ensures procedure { option_map (λ p. p.now) result ≡ slice_get self.now.procs number }
         ensures catalog { IsCatalog self.now }
@@ -67,7 +68,7 @@ impl Library {
         Some(self.checked(number)?.proc())
     }
 
-    // The same with what was noted when it was checked.
+    // As `proc`, with what was noted when the procedure was checked.
     fn checked(&self, number: u32) -> Option<&Checked>
         ensures procedure { option_map (λ c. c.now.procedure) result ≡ slice_get self.now.procs number }
         ensures catalog { IsCatalog self.now }
@@ -76,7 +77,8 @@ impl Library {
         Some(&self.procs[entry.place() as usize])
     }
 
-    /// The procedure with a name, after its number. It takes no memory, and about log n comparisons for n procedures.
+    /// Returns the number of the procedure with a name, and the procedure. It allocates no memory, and takes about
+    /// log n comparisons for n procedures.
     pub(crate) fn find(&self, name: &str) -> Option<(u32, &Proc)>
         ensures number { option_map (λ found. found.0) result ≡ number_named name.now self.now.procs }
         ensures procedure { IfSome result (λ found. slice_get self.now.procs found.0 ≡ Some found.1.now) }
@@ -91,10 +93,11 @@ impl Library {
         }
     }
 
-    /// The call of the procedure with a name, or the lowest fault that stands: `UnknownProc` where no
-    /// procedure has the name, `ArgCount` where there are not as many arguments as it declares, and
-    /// `RecordRange` where an argument that places a key is not below the number of records. Nothing is found for the call
-    /// yet, and its claims are those that the keys ask for; an indirect one asks for none. It takes no memory.
+    /// Returns the call of the procedure with a name, or the lowest fault that applies: `UnknownProc` if
+    /// no procedure has the name, `ArgCount` if the number of arguments is not the declared one, and
+    /// `RecordRange` if an argument that names a key's record is not below the number of records. No value is found for
+    /// the call yet, and its claims are those that the keys ask for; an indirect key asks for none. It allocates no
+    /// memory.
     pub fn call(&self, name: &str, args: &[u64]) -> Result<Call, CallFault>
         ensures { result ≡ call_made self.now name.now args.now }
     {
@@ -104,7 +107,7 @@ impl Library {
         call_to(self.records(), number, procedure, args)
     }
 
-    /// Whether a call is one that `call` answers for this library. It takes no memory.
+    /// Reports whether a call is one that `call` returns for this library. It allocates no memory.
     pub fn fits(&self, call: &Call) -> bool
         ensures { IsTrue result ↔ Fits self.now call.now }
     {
@@ -114,8 +117,8 @@ impl Library {
         }
     }
 
-    /// The record by whose value a call that fits finds the record of its indirect key, and `None` exactly where its
-    /// procedure has no indirect key: such a call is ready as it is. It takes no memory.
+    /// Returns the record by whose value a call that fits finds the record of its indirect key, or `None` exactly if
+    /// its procedure has no indirect key: such a call is ready as it is. It allocates no memory.
     pub fn source(&self, call: &Call) -> Option<RecordId>
         requires { Fits self.now call.now }
         ensures source { result ≡ source self.now call.now }
@@ -127,9 +130,9 @@ impl Library {
         source_for(self.records(), checked.proc(), place, call)
     }
 
-    /// A call that fits, with a value that was found: its indirect key names the record whose number is the value's
-    /// remainder by the number of records, and the claims are those of all its keys. Without an indirect key the call
-    /// as it was. It takes no memory.
+    /// Returns a call that fits with a value that was found: its indirect key names the record whose number is the
+    /// value modulo the number of records, and the claims are those of all its keys. A call without an indirect key is
+    /// returned unchanged. It allocates no memory.
     pub fn with_found(&self, call: &Call, value: u64) -> Call
         requires { Fits self.now call.now }
         ensures call { result ≡ with_found self.now call.now value }
@@ -141,7 +144,8 @@ impl Library {
         }
     }
 
-    /// Whether a call may enter: it fits and has no indirect key, or `with_found` answers it. It takes no memory.
+    /// Reports whether a call may enter: it fits and has no indirect key, or `with_found` returns it. It allocates no
+    /// memory.
     pub fn is_ready(&self, call: &Call) -> bool
         ensures { IsTrue result ↔ IsReady self.now call.now }
     {

@@ -6,7 +6,7 @@ use crate::walk::{LeafTest, all_leaves};
 use std::marker::Model;
 use vll_proc::{Expr, MOST_LOCALS, Stmt};
 
-// For each local, whether it is surely set. Contracts see them as their list.
+// For each local, whether it is surely set. Contracts see this as a list.
 #[derive(Clone, Copy)]
 pub(crate) struct Locals {
     set: [bool; MOST_LOCALS],
@@ -38,7 +38,7 @@ impl Locals {
         i < MOST_LOCALS && self.set[i]
     }
 
-    // A place from `MOST_LOCALS` on is not a local's.
+    // No local has an index of `MOST_LOCALS` or more.
     fn with(mut self, i: u8) -> Locals
         ensures { result ≡ slice_set self i true }
     {
@@ -49,7 +49,7 @@ impl Locals {
         self
     }
 
-    // What both have.
+    // The locals that both have set.
     fn both(&self, other: &Locals) -> Locals
         ensures { result ≡ both_set self.now other.now }
     {
@@ -72,7 +72,7 @@ impl LeafTest for Locals {
     }
 }
 
-// What is surely set behind a list, and `None` where it reads a local that is not surely set before.
+// What is surely set after a list, or `None` if it reads a local that is not surely set before.
 #[cycle(set_behind)]
 pub(crate) fn list_set_behind(statements: &[Stmt], before: Locals) -> Option<Locals>
     ensures { result ≡ (if body_reads_set before statements.now
@@ -85,7 +85,7 @@ pub(crate) fn list_set_behind(statements: &[Stmt], before: Locals) -> Option<Loc
     Some(set)
 }
 
-// The same behind a statement.
+// As `list_set_behind`, for a statement.
 #[cycle(set_behind)]
 #[tactic(auto, using(vll_proc::proofs::Lists::branches))]
 fn set_behind(statement: &Stmt, before: Locals) -> Option<Locals>

@@ -1,4 +1,4 @@
-//! Calls of a procedure, made of their arguments.
+//! Calls of a procedure, made from their arguments.
 ghost use Rattle.std.specs.Prelude.{◌≡◌, ◌≤◌, ◌<◌, ◌^◌, length, map, true, All, IfSome, Some};
 ghost use Rattle.vll_record.specs.Canon.{laid};
 ghost use Rattle.vll_record.specs.Claim.{claims_of};
@@ -10,17 +10,17 @@ ghost use Rattle.vll_check.specs.Private.Making.{cell_of, IsPlaced};
 use vll_proc::{Call, KeyAt, KeyDecl, MOST_ARGS, Proc};
 use vll_record::{Claim, Claims, MOST_CLAIMS, RecordId};
 
-// By what key positions name their records.
+// What determines the records that key positions name.
 #[derive(Clone, Copy)]
 pub(crate) struct Naming<'a> {
-    // How many records there are.
+    // The number of records.
     pub(crate) records: u32,
     pub(crate) args: &'a [u64],
-    // The value that an indirect one has found.
+    // The value found for an indirect key position.
     pub(crate) found: Option<u64>,
 }
 
-// The call of a procedure with its number.
+// The call of the procedure with this number.
 pub(crate) fn call_of(number: u32, procedure: &Proc, naming: Naming) -> Call
     requires few { length naming.args.now ≤ MOST_ARGS }
     requires keys { length procedure.now.keys ≤ MOST_CLAIMS }
@@ -78,7 +78,7 @@ fn claims_of(keys: &[KeyDecl], naming: Naming) -> Claims
     }
 }
 
-// The arguments, and then zeros.
+// The arguments, padded with zeros.
 fn args_of(args: &[u64]) -> [u64; MOST_ARGS]
     requires { length args.now ≤ MOST_ARGS }
     ensures { result ≡ laid MOST_ARGS 0 args.now }
@@ -90,7 +90,7 @@ fn args_of(args: &[u64]) -> [u64; MOST_ARGS]
     places
 }
 
-// For each key position the place of its claim, and then zeros; zero too where it names no record.
+// For each key position the index of its claim, or 0 if it names no record; padded with zeros.
 fn cells_of(keys: &[KeyDecl], naming: Naming, claims: &Claims) -> [u8; MOST_CLAIMS]
     requires keys { length keys.now ≤ MOST_CLAIMS }
     requires some { IfSome naming.found (λ _. 0 < naming.records) }
@@ -104,7 +104,7 @@ fn cells_of(keys: &[KeyDecl], naming: Naming, claims: &Claims) -> [u8; MOST_CLAI
     cells
 }
 
-// The place of the claim of a record that a key position names, and 0 where it names none.
+// The index of the claim on the record that a key position names, or 0 if it names none.
 fn place_for(claims: &Claims, id: Option<u32>) -> u8
     ensures { result ≡ place_for claims.now id }
 {
@@ -114,7 +114,7 @@ fn place_for(claims: &Claims, id: Option<u32>) -> u8
     }
 }
 
-// The place of a record's claim, and the number of claims where there is none.
+// The index of a record's claim, or the number of claims if there is none.
 fn place_of(claims: &Claims, id: u32) -> u8
     ensures { result ≡ place_of claims.now id }
 {

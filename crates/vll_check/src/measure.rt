@@ -1,11 +1,11 @@
-//! Limits of a body. They are counted down, so no count overflows, and each walk stops where a limit
-//! is passed. The turns of a `Repeat` share what is left of a limit, so its list is walked once.
+//! Limits of a body. They are counted down, so no count overflows, and each walk stops once a limit is
+//! exceeded. The turns of a `Repeat` share what is left of a limit, so its list is walked once.
 ghost use Rattle.std.specs.Prelude.{◌≡◌, ◌+◌, ◌<◌, nat_le, sum_by, IfSome, IfNone};
 ghost use Rattle.vll_proc.specs.WellFormed.{depth, stmt_depth, body_depth, nodes, stmt_nodes, replies, weight};
 
 use vll_proc::{Expr, Stmt};
 
-// How many replies are left of a limit behind a list, and `None` where it has more.
+// What is left of a limit on replies after a list, or `None` if the list has more.
 #[cycle(replies)]
 pub(crate) fn replies_left(statements: &[Stmt], limit: u32) -> Option<u32>
     ensures enough { IfSome result (λ left. left + sum_by replies statements.now ≡ limit) }
@@ -18,8 +18,8 @@ pub(crate) fn replies_left(statements: &[Stmt], limit: u32) -> Option<u32>
     Some(left)
 }
 
-// The same behind a statement: a call runs one of the two lists of an `If`, and the list of a `Repeat`
-// in each turn.
+// As `replies_left`, for a statement: a call runs one of the two lists of an `If`, and the list of a
+// `Repeat` in each turn.
 #[cycle(replies)]
 #[tactic(auto, using(vll_proc::proofs::Lists::branches))]
 fn statement_replies_left(statement: &Stmt, limit: u32) -> Option<u32>
@@ -45,7 +45,7 @@ fn statement_replies_left(statement: &Stmt, limit: u32) -> Option<u32>
     }
 }
 
-// How many nodes are left of a limit behind a list, and `None` where it has more.
+// What is left of a limit on nodes after a list, or `None` if the list has more.
 #[cycle(nodes)]
 pub(crate) fn nodes_left(statements: &[Stmt], limit: u32) -> Option<u32>
     ensures enough { IfSome result (λ left. left + sum_by stmt_nodes statements.now ≡ limit) }
@@ -58,7 +58,7 @@ pub(crate) fn nodes_left(statements: &[Stmt], limit: u32) -> Option<u32>
     Some(left)
 }
 
-// The same behind a statement, which is itself a node.
+// As `nodes_left`, for a statement, which is itself a node.
 #[cycle(nodes)]
 #[tactic(auto, using(vll_proc::proofs::Lists::branches))]
 fn statement_nodes_left(statement: &Stmt, limit: u32) -> Option<u32>
@@ -80,7 +80,7 @@ fn statement_nodes_left(statement: &Stmt, limit: u32) -> Option<u32>
     }
 }
 
-// How much weight is left of a limit behind a list, and `None` if it has more.
+// What is left of a limit on weight after a list, or `None` if the list has more.
 #[cycle(weight)]
 pub(crate) fn weight_left(statements: &[Stmt], limit: u32) -> Option<u32>
     ensures enough { IfSome result (λ left. left + sum_by weight statements.now ≡ limit) }
@@ -93,7 +93,7 @@ pub(crate) fn weight_left(statements: &[Stmt], limit: u32) -> Option<u32>
     Some(left)
 }
 
-// The same behind a statement: a `Repeat` weighs as much as its list in each turn, and 1.
+// As `weight_left`, for a statement: a `Repeat` weighs 1, and the weight of its list in each turn.
 #[cycle(weight)]
 #[tactic(auto, using(vll_proc::proofs::Lists::branches))]
 fn statement_weight_left(statement: &Stmt, limit: u32) -> Option<u32>
@@ -122,7 +122,7 @@ fn statement_weight_left(statement: &Stmt, limit: u32) -> Option<u32>
     }
 }
 
-// The same behind an expression.
+// As `nodes_left`, for an expression.
 #[tactic(auto, using(vll_proc::proofs::Equations::forms))]
 fn expression_nodes_left(expression: &Expr, limit: u32) -> Option<u32>
     ensures enough { IfSome result (λ left. left + nodes expression.now ≡ limit) }

@@ -8,9 +8,8 @@ ghost use Rattle.vll_check.specs.Private.Order.{IsInOrder, AllPassed, AreNumbere
 use crate::checked::Checked;
 use crate::fault::NameTwice;
 
-// Numbers the procedures by their places, and puts them in the order of their names, ready to be found by name
-// and by number. It takes no memory, and about n log n comparisons for n procedures. An `Err` leaves them in
-// some order.
+// Numbers the procedures by their indices, and sorts them by name, ready to be found by name and by number. It
+// allocates no memory, and takes about n log n comparisons for n procedures. An `Err` leaves them in some order.
 pub(crate) fn arrange(entries: &mut [Checked]) -> Result<(), NameTwice>
     requires few { length entries.old < 2 ^ 32 }
     ensures ok { IfOk result (λ _. AreArranged entries.old entries.new) }
@@ -26,7 +25,7 @@ pub(crate) fn arrange(entries: &mut [Checked]) -> Result<(), NameTwice>
     Ok(())
 }
 
-// Gives each procedure its place as its number.
+// Sets each procedure's number to its index.
 fn set_numbers(entries: &mut [Checked])
     requires few { length entries.old < 2 ^ 32 }
     ensures numbered { AreNumbered entries.old entries.new }
@@ -44,7 +43,7 @@ fn sort_by_name(entries: &mut [Checked])
     entries.sort_unstable_by(|a, b| a.name().cmp(b.name()));
 }
 
-// Equal names are neighbours here.
+// In the order of the names, equal names are neighbours.
 fn has_equal_neighbours(entries: &[Checked]) -> bool
     requires { IsInOrder entries.now }
     ensures { result ≡ has_name_twice (map procedure_of entries.now) }
@@ -57,7 +56,7 @@ fn has_equal_neighbours(entries: &[Checked]) -> bool
     false
 }
 
-// Says at each number where the procedure with that number stands.
+// Sets the place at each number to the index of the procedure with that number.
 fn set_places(entries: &mut [Checked])
     requires few { length entries.old < 2 ^ 32 }
     requires numbers { HaveNumbers entries.old }

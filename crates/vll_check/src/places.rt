@@ -87,7 +87,7 @@ impl Test for KnownArgs {
     }
 }
 
-// Each local that is read or given a value is one of those there are.
+// Each local that is read or set exists.
 #[derive(Clone, Copy)]
 pub(crate) struct KnownLocals;
 

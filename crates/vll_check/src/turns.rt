@@ -1,11 +1,11 @@
-//! Whether the `Repeat`s of a body may stand in a procedure of its edition.
+//! Whether the `Repeat`s of a body are allowed in a procedure of its edition.
 ghost use Rattle.std.specs.Prelude.{◌≡◌};
 ghost use Rattle.std.specs.List.{list_all};
 ghost use Rattle.vll_proc.specs.WellFormed.{may_repeat, turns_are_few};
 
 use vll_proc::{Edition, MOST_TURNS, Stmt};
 
-// Whether each `Repeat` in a list may stand there.
+// Whether each `Repeat` in a list is allowed in this edition.
 #[cycle(turns)]
 pub(crate) fn list_turns_are_few(statements: &[Stmt], edition: Edition) -> bool
     ensures { result ≡ list_all (turns_are_few edition) statements.now }
@@ -18,7 +18,7 @@ pub(crate) fn list_turns_are_few(statements: &[Stmt], edition: Edition) -> bool
     true
 }
 
-// Whether each `Repeat` in a statement, and the statement itself, may stand there.
+// Whether each `Repeat` in a statement, and the statement itself, is allowed in this edition.
 #[cycle(turns)]
 #[tactic(auto, using(vll_proc::proofs::Lists::branches))]
 fn turns_are_few(statement: &Stmt, edition: Edition) -> bool
@@ -36,7 +36,7 @@ fn turns_are_few(statement: &Stmt, edition: Edition) -> bool
     }
 }
 
-// A `Repeat` of so many turns may stand there.
+// Whether a `Repeat` of this many turns is allowed in this edition.
 fn may_repeat(edition: Edition, turns: u8) -> bool
     ensures { result ≡ may_repeat edition turns }
 {

@@ -1,4 +1,4 @@
-//! Walks over expressions and statements, linear in what they walk over.
+//! Walks over expressions and statements, linear in their size.
 ghost use Rattle.std.specs.Prelude.{◌≡◌, Bool};
 ghost use Rattle.std.specs.List.{list_all};
 ghost use Rattle.vll_proc.specs.declared.syntax.Expr.{Expr};
@@ -43,7 +43,7 @@ pub(crate) fn all_leaves<T: LeafTest>(test: &T, expression: &Expr) -> bool
     }
 }
 
-// Whether a list passes, with all that is in its statements.
+// Whether a list passes, including all that its statements contain.
 #[cycle(throughout)]
 pub(crate) fn list_throughout<T: Test>(test: &T, statements: &[Stmt]) -> bool
     ensures { result
@@ -57,7 +57,7 @@ pub(crate) fn list_throughout<T: Test>(test: &T, statements: &[Stmt]) -> bool
     true
 }
 
-// Whether a statement passes, with all that is in it.
+// Whether a statement passes, including all that it contains.
 #[cycle(throughout)]
 #[tactic(auto, using(vll_proc::proofs::Lists::branches))]
 fn throughout<T: Test>(test: &T, statement: &Stmt) -> bool

@@ -6,7 +6,7 @@ use std::test::Fail;
 use vll_check::{CheckFault, check};
 use vll_proc::{Edition, Proc, Stmt, Text};
 
-// A procedure of an edition that repeats nothing, in no turn.
+// A procedure of this edition whose body is a `Repeat` of no statements in no turns.
 fn repeat_of_nothing(alloc: Global, edition: Edition) -> Result<Proc, AllocError> {
     let name = String::from_str(alloc, "p")?;
     let body = vec![in alloc; Stmt::Repeat(0, Items::new(alloc))]?;

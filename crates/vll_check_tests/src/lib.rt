@@ -1,4 +1,4 @@
-//! What checked procedures and the calls of a library are, as values: the tests of vll_check.
+//! The tests of vll_check: checked procedures and the calls of a library, as values.
 #![tactic(auto)]
 
 #[cfg(test)]

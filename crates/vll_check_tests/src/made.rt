@@ -1,4 +1,4 @@
-//! What calls are made of.
+//! The claims and cells of calls.
 ghost use Rattle.vll_record.specs.Claim.{with_claim};
 
 use vll_record::{Claim, Claims, MOST_CLAIMS, Mode, RecordId};

@@ -1,4 +1,4 @@
-//! Procedures, and the library of three of them on 3 records, with calls that it makes.
+//! Procedures, a library of three of them for 3 records, and calls that it makes.
 ghost use Rattle.std.specs.Prelude.{◌≡◌, IfOk};
 ghost use Rattle.vll_check.specs.Calls.{Fits};
 
@@ -40,8 +40,8 @@ fn key(mode: Mode, at: KeyAt) -> KeyDecl {
     KeyDecl { mode, at }
 }
 
-// `z` has no key. `transfer` writes the record of its first argument and reads that of its second one. `via` reads the
-// record of its argument, and writes the one that is found by its value.
+// `z` has no key. `transfer` writes the record of its first argument and reads that of its second. `via` reads the
+// record of its argument, and writes the one that is found by that record's value.
 pub(crate) fn library(alloc: Global) -> Result<Library, Fail> {
     let z = checked(alloc, "z", 0, &[])?;
     let keys = [

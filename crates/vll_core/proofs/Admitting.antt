@@ -37,7 +37,7 @@ use Rattle.vll_core.proofs.MachineSteps.{library_same, Takes, taken_reached, tak
 
 -- ---- the plain machine
 
--- what a call is told that gets a ticket: it runs where all its requests were granted
+-- the answer to a call that gets a ticket: it runs if all its requests were granted
 abbrev pub ticket_seen : Bool → ℕ → Seen
 ticket_seen free t = if free then Free t else Blocked t
 

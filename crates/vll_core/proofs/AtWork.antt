@@ -111,7 +111,7 @@ write_behind cs i n writes = let w = first_write cs i writes in ap (λ xs. slice
 pub write_counted : (cs : List Claim) (i : ℕ) → option_map_or is_write (slice_get cs i) false ≡ true → length (filter is_write (drop i cs)) ≡ suc (length (filter is_write (drop (i + 1) cs)))
 write_counted cs i writes = let w = first_write cs i writes in ap length w.first
 
--- behind the last claim there is none
+-- after the last claim there is none
 pub none_left : (cs : List Claim) (i : ℕ) → length cs ≤ i → filter is_write (drop i cs) ≡ []
 none_left cs i past = ap (filter is_write) (drop_none i cs past)
 

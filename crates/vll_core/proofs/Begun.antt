@@ -39,7 +39,7 @@ pub filled : {A E : Type 0} {Equal : Type 0} (x : A) (n : ℕ) (r : Result (Vec 
 filled x n (Ok v) h equal = h equal
 filled x n (Err why) h equal = tt
 
--- what is like no number is no number
+-- an option that satisfies a condition that no number does is None
 pub none_alone : (Like : Option ℕ → Type 0) → ((n : ℕ) → Like (Some n) → ⊥) → (y : Option ℕ) → Like y → y ≡ None
 none_alone Like other None like = refl
 none_alone Like other (Some n) like = absurd (other n like)

@@ -44,7 +44,7 @@ pub data Change (o : Opening) (s : State) : Move → State → Type 0 where
   finished : (t : ℕ) (e : Entered) → slice_get s.entries t ≡ Some e → is_running e.status ≡ true → nat_lt e.releases (length e.call.claims) ≡ false
       → Change o s (by_event (event.Finish t)) (with_entry s t (record e { status = Gone }))
 
--- what an answer tells of the tests before it
+-- what follows from an answer about the tests before it
 refused_not : (b : Bool) (why : Refusal) (go : Outcome) (out : Seen × State) → refuse_if b why go ≡ Ok out → (b ≡ false) × (go ≡ Ok out)
 refused_not true why go out h = absurd (cc h)
 refused_not false why go out h = (refl, h)

@@ -12,7 +12,7 @@ use Rattle.vll_core.specs.Moves.{IsReached}
 use Rattle.vll_core.specs.Shown.{Shown, opening_of, after}
 use Rattle.vll_core.proofs.Draining.{less_left}
 
--- one more event behind a list
+-- one more event after a list
 run_more : (o : Opening) (s : State) (events : List Event) (e : Event) → run o s (events ++ e ∷ []) ≡ state_after (run o s events) (step o (run o s events) e)
 run_more o s [] e = refl
 run_more o s (d ∷ events) e = run_more o (state_after s (step o s d)) events e
@@ -82,7 +82,7 @@ fixed_seen {H} first s t out fixed is =
     ∙ (ap (λ (x : Shown H). let y : Shown H = record x { state = state_after s.state out } in y) fixed
     ∙ ap (λ (x : State). let y : Shown H = record first { state = x } in y) (sym (ap (λ (x : Shown H). x.state) is)))
 
--- little was left at first, if little is left where no event or more were made
+-- little was left at first: if events were made this is given, and if none was, little is left now
 pub few_first : (o : Opening) (first mid : State) (made : ℕ) → IsDrained o first mid made → (0 < made → left first < 2 ^ 32) → left mid < 2 ^ 32 → left first < 2 ^ 32
 few_first o first mid made so_far before few = by_events so_far.events so_far.number so_far.leads
   where

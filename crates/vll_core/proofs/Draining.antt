@@ -108,7 +108,7 @@ less_change o s m next kept change not = absurd (cc not)
 pub less_left : (o : Opening) (s : State) (e : Event) (out : Seen × State) → IsReached o s → begins_or_scans e ≡ false → step o s e ≡ Ok out → left out.1 < left s
 less_left o s e out reached not is = less_change o s (by_event e) out.1 (kept_reached o s reached) (change_of o s (by_event e) out is) not
 
--- an entry, and a turn, have no more left than is told
+-- an entry and a turn have no more left than `most_of` and `most_of_turn`
 pub entry_most : (e : Entered) → steps_left e ≤ most_of e
 entry_most e = by_status e.status
   where
@@ -121,6 +121,6 @@ turn_most : (x : Option Turn) → turn_left x ≤ most_of_turn x
 turn_most None = omega arith
 turn_most (Some turn) = omega arith
 
--- nor has a state
+-- and a state no more than `most_events`
 pub left_most : (s : State) → left s ≤ most_events s
 left_most s = omega (arith, sum_by-le-sum_by steps_left most_of s.entries entry_most, turn_most s.turn)

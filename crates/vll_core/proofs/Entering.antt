@@ -240,15 +240,15 @@ some_fits a s client n v (Some call) core view at is =
     subst (λ (c : Catalog). Fits c call) (sym (library_same a s (library_of s) core view refl))
     (all_at (Fits a.library.value) v.items n call (all_at (λ (w : Vec Call). All (Fits a.library.value) w.items) a.scripts.items client v core.scripts_fit at) is)
 
--- a library that is handed in, the one that a machine shows, is a library
+-- if the library that is passed is the one that a machine shows, it is a catalog
 pub catalog_handed : {H : Type 0} {places : H → ℕ → ℕ} (a : Inside H) (s : Shown H) (library : Catalog) → IsMachine places a → shown a ≡ s → library ≡ library_of s → IsCatalog library
 catalog_handed a s library core view same = subst IsCatalog (sym (library_same a s library core view same)) core.catalog
 
--- what fields show of a client's next call is seen of it
+-- the next call of a client's script that the fields show is that of the state
 pub next_told : {H : Type 0} (a : Inside H) (s : Shown H) (client : ℕ) (x : Option Call) → shown a ≡ s → next_call (shown a).state client ≡ x → x ≡ next_call s.state client
 next_told {H} a s client x view is = sym is ∙ ap (λ (y : Shown H). next_call y.state client) view
 
--- what a test tells of an option
+-- what follows from a test of an option
 pub none_there : (x : Option ℕ) → is_some x ≡ false → x ≡ None
 none_there None none = refl
 none_there (Some r) none = absurd (cc none)
@@ -265,11 +265,11 @@ found_told {H} a s library client call value view same some at =
     ap (λ (c : Catalog). option_map (with_found c call) value) same
     ∙ sym (enters_found s.base s.state client there.0 call value (ap (λ (c : Catalog). source c call) (sym same) ∙ there.1) (ap (λ (x : Shown H). slice_get x.state.kept client) (sym view) ∙ at))
 
--- what is seen of a machine's scripts is what its fields show
+-- the next call of a client's script in the state is the one that the fields show
 pub next_seen : {H : Type 0} (a : Inside H) (s : Shown H) (client : ℕ) (x : Option Call) → shown a ≡ s → x ≡ next_call s.state client → next_call (shown a).state client ≡ x
 next_seen {H} a s client x view is = ap (λ (y : Shown H). next_call y.state client) view ∙ sym is
 
--- and of the call that enters
+-- and so is the call that enters
 pub ready_seen : {H : Type 0} (a : Inside H) (s : Shown H) (client : ℕ) (call : Call) (x : Option Call) → shown a ≡ s → x ≡ ready s.base s.state client call → ready (shown a).base (shown a).state client call ≡ x
 ready_seen {H} a s client call x view is = ap (λ (y : Shown H). ready y.base y.state client call) view ∙ sym is
 

@@ -1,4 +1,4 @@
--- What it tells that no fault stands at an opening.
+-- What follows if no fault applies at an opening.
 use Rattle.std.proofs.Common.{◌≡◌, ℕ, ◌≤◌, Bool, true, false, nat_le, Option, Some, None, if◌then◌else◌, refl}
 use Rattle.std.proofs.lemmas.Bool.{leb-true}
 use Rattle.vll_sca.specs.declared.bits.TheConstants.{MOST_BITS}
@@ -23,7 +23,7 @@ pub record IsAllowed (config : Config) : Type 0 where
   pub cap : IsUpTo MOST_WAITING config.cap
   pub bits : IsUpTo MOST_BITS config.bits
 
--- where no fault of the rest is answered behind a test, the test held and the rest has no fault
+-- if a test and what follows it give no fault, the test held and the rest has no fault
 passed : (b : Bool) (why : OpenFault) (rest : Option OpenFault) → (if b then rest else Some why) ≡ None → (b ≡ true) × (rest ≡ None)
 passed true why rest h = (refl, h)
 passed false why rest h = absurd (cc h)

@@ -4,7 +4,7 @@ use Rattle.std.proofs.lemmas.List.{take_more}
 use Rattle.vll_record.specs.Word.{value_word_of, pair_word_of_record}
 use Rattle.vll_core.specs.Private.FirstWords.{AreFirstWords}
 
--- each value with pair word 0 behind it
+-- each value, followed by pair word 0
 abbrev pub laid : List ℕ → List ℕ
 laid [] = []
 laid (v ∷ vs) = v ∷ 0 ∷ laid vs
@@ -33,7 +33,7 @@ pair_laid [] r = refl
 pair_laid (v ∷ vs) zero = refl
 pair_laid (v ∷ vs) (suc r) = let e : 1 + 2 * suc r ≡ suc (suc (1 + 2 * r)) = omega arith in ap (slice_index (laid (v ∷ vs))) e ∙ pair_laid vs r
 
--- word 0, and behind it each record's two
+-- word 0, followed by each record's two
 pub first_words : (vs words : List ℕ) → words ≡ 0 ∷ laid vs → AreFirstWords vs words
 first_words vs words is = record {
   long = ap length is ∙ (let h = length-laid vs in omega (arith, h));

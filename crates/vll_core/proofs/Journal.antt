@@ -1,4 +1,4 @@
--- What a machine tells of its entered calls: where each stands, and the lines of the journal.
+-- What a machine reports of its entered calls: the status of each, and the lines of the journal.
 use Rattle.std.proofs.Common.{◌≡◌, ℕ, zero, suc, ◌+◌, ◌<◌, Bool, true, false, List, [], ◌∷◌, length, map, refl, sym, ap, zero-add, add-zero, ◌∙◌, arith, slice_get, Option, Some, None, is_some, if◌then◌else◌}
 use Rattle.std.specs.List.{enumerate_from}
 use Rattle.std.specs.Option.{option_map}
@@ -22,7 +22,7 @@ use Rattle.vll_core.proofs.Kept.{IsEntryKept}
 use Rattle.vll_core.proofs.Reached.{kept_reached}
 use Rattle.vll_core.proofs.MachineState.{statuses_shown, entry_shown, made_shown}
 
--- where a ticket's call stands
+-- the status of a ticket's call
 pub status_shown : {H : Type 0} {places : H → ℕ → ℕ} (c : Inside H) (s : Shown H) (t : ℕ) → IsMachine places c → shown c ≡ s → slice_get (statuses c.queue) t ≡ option_map (λ (e : Entered). e.status) (slice_get s.state.entries t)
 status_shown {H} c s t core is =
     ap (λ (ss : List Status). slice_get ss t) (sym (statuses_shown c.queue.entries c.work.items core.works))
@@ -70,7 +70,7 @@ reply_shown {H} {places} c t e w core at has = by_status (is_gone e.status) refl
         ∙ ap (λ (made : List Made). Some (apply c.library.value.procs e.line.call (before c.library.value.procs made c.opening.value.items t)).reply) (sym (made_shown c.queue.entries c.work.items core.works))
     by_status false left = no_reply e.line.reply (has_reply_at c.queue.entries t e core.queue.answered at ∙ left)
 
--- lines, each told of its ticket and entry
+-- lines, each determined by its ticket and entry
 lines_are : (f : ℕ × Entered → Line) (n : ℕ) (es : List QueueEntry) (ws : List Work) → length ws ≡ length es
     → ((t : ℕ) (e : QueueEntry) (w : Work) → slice_get es t ≡ Some e → slice_get ws t ≡ Some w → e.line ≡ f (n + t, entered_of e w))
     → map (λ (e : QueueEntry). e.line) es ≡ map f (enumerate_from n (entries_of es ws))

@@ -59,7 +59,7 @@ length_shown [] ws same = refl
 length_shown (e ∷ es) [] same = absurd (omega (arith, same))
 length_shown (e ∷ es) (w ∷ ws) same = omega (arith, length_shown es ws (omega (arith, same)))
 
--- what is told of an entry of the queue alone is told of what is shown
+-- what depends on the entry of the queue alone is the same for the entry that is shown
 pub map_shown : {B : Type 0} (f : QueueEntry → B) (g : Entered → B) (es : List QueueEntry) (ws : List Work)
     → ((e : QueueEntry) (w : Work) → g (entered_of e w) ≡ f e) → length ws ≡ length es → map g (entries_of es ws) ≡ map f es
 map_shown f g [] ws alike same = refl
@@ -151,7 +151,7 @@ like_item {A} {B} f xs ys t y same at =
 pub all_from : {X : Type 0} (P : X → Type 0) (xs : List X) → ((t : ℕ) (x : X) → slice_get xs t ≡ Some x → P x) → All P xs
 all_from P xs all = λ k d within. let at = entry_at xs k within in subst P (sym (get_or_from_slice_get xs k at.0 d at.1)) (all k at.0 at.1)
 
--- lists of the same calls are ready alike
+-- if the calls of a list are ready, so are those of a list of the same calls
 pub ready_same : (c : Catalog) (es ds : List QueueEntry) → made_of es ≡ made_of ds → All (λ (e : QueueEntry). IsReady c e.line.call) es → All (λ (e : QueueEntry). IsReady c e.line.call) ds
 ready_same c es ds same all = all_from (λ (e : QueueEntry). IsReady c e.line.call) ds (λ t d at. ready t d at)
   where
@@ -160,7 +160,7 @@ ready_same c es ds same all = all_from (λ (e : QueueEntry). IsReady c e.line.ca
         let like = like_item (λ (e : QueueEntry). (e.line.client, e.line.call)) es ds t d same at in
         subst (IsReady c) (ap (λ (m : Made). m.1) like.2) (all_at (λ (e : QueueEntry). IsReady c e.line.call) es t like.0 all like.1)
 
--- works on the same calls are done alike
+-- works of a list of calls are also those of a list of the same calls
 pub at_work_same : (c : Catalog) (records : List ℕ) (es ds : List QueueEntry) (ws : List Work) → made_of es ≡ made_of ds → AreAtWork c records es ws → AreAtWork c records ds ws
 at_work_same c records es ds ws same all t d w at has =
     let like = like_item (λ (e : QueueEntry). (e.line.client, e.line.call)) es ds t d same at in

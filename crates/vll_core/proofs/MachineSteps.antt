@@ -22,7 +22,7 @@ closed_turn (Some t) b is closed = sym is ∙ closed
 pub library_shown : {H : Type 0} {places : H → ℕ → ℕ} (a : Inside H) → IsMachine places a → library_of (shown a) ≡ a.library.value
 library_shown a core = ap (λ (n : ℕ). let l : Catalog = record { records = n; procs = a.library.value.procs } in l) (sym core.records)
 
--- a library that is handed in, the one that a machine shows, is that of its opening
+-- if the library that is passed is the one that a machine shows, it is that of its opening
 pub library_same : {H : Type 0} {places : H → ℕ → ℕ} (a : Inside H) (s : Shown H) (library : Catalog) → IsMachine places a → shown a ≡ s → library ≡ library_of s → library ≡ a.library.value
 library_same {H} a s library core view same = same ∙ (ap (λ (x : Shown H). library_of x) (sym view) ∙ library_shown a core)
 

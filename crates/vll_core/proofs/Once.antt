@@ -88,7 +88,7 @@ started_on o s next m seen t e is at started =
     let on = change_on o s m next t e (change_of o s m (seen, next) is) at in
     (on.entry, on.at, on.on.started started)
 
--- the same over any number of moves
+-- what has started does not wait after any number of moves
 led_on : (o : Opening) (s later : State) (t : ℕ) (e : Entered) → Leads o s later → slice_get s.entries t ≡ Some e → is_waiting e.status ≡ false
     → (f : Entered) × (slice_get later.entries t ≡ Some f) × (is_waiting f.status ≡ false)
 led_on o s later t e stays at started = (e, at, started)

@@ -32,7 +32,7 @@ write_hit q (x ∷ xs) r all h = step (is_write x) (x.id == r) refl refl (write_
     step true false w i ih k = or_right (q x) (list_any q xs) (ih (sym (ap (λ b. b || list_any (λ (y : Claim). y.id == r) (filter is_write xs)) i) ∙ k))
     step false i w e ih k = or_right (q x) (list_any q xs) (ih k)
 
--- what passes a test behind a place passes it in the list
+-- if an item from a place on passes a test, one of the list passes it
 pub drop_any : (p : Claim → Bool) (n : ℕ) (cs : List Claim) → list_any p (drop n cs) ≡ true → list_any p cs ≡ true
 drop_any p zero cs h = h
 drop_any p (suc n) [] h = h
@@ -115,7 +115,7 @@ none_below n r (c ∷ cs) h low = step (c.id == r) refl (none_below (suc c.id) r
     step true is rest = absurd (let e = exact_unsigned_eq c.id r is in let a = h.0 in omega (arith, e, a, low))
     step false is rest = rest
 
--- behind a claim no other names its record
+-- after a claim no other names its record
 pub none_behind : (n : ℕ) (cs : List Claim) (k : ℕ) (c : Claim) → RisesFrom n cs → slice_get cs k ≡ Some c → list_any (λ (d : Claim). d.id == c.id) (drop (suc k) cs) ≡ false
 none_behind n [] k c h at = absurd (cc at)
 none_behind n (d ∷ ds) zero c h at = none_below (suc d.id) c.id ds h.1 (let e : d.id ≡ c.id = ap (λ (x : Claim). x.id) (same_Some d c at) in omega (arith, e))

@@ -12,7 +12,7 @@ take_next xs n x h = rw (add-one n, take-suc xs n x (slice_get_within xs n x h),
 pub drop_next : {A : Type 0} (xs : List A) (n : ℕ) (x : A) → slice_get xs n ≡ Some x → drop n xs ≡ x ∷ drop (n + 1) xs
 drop_next xs n x h = rw (add-one n, drop-cons xs n x (slice_get_within xs n x h), get_or_from_slice_get xs n x x h) refl
 
--- nothing is left behind the last claim
+-- nothing is left after the last claim
 pub drop_none : (n : ℕ) (cs : List Claim) → length cs ≤ n → drop n cs ≡ []
 drop_none zero [] h = refl
 drop_none (suc n) [] h = refl
@@ -51,14 +51,14 @@ get_set_other (x ∷ es) zero f (suc v) apart = refl
 get_set_other (x ∷ es) (suc t) f zero apart = refl
 get_set_other (x ∷ es) (suc t) f (suc v) apart = get_set_other es t f v (λ same. apart (ap suc same))
 
--- an item of a list with one more behind it
+-- an item of a list with one more after it
 pub at_push : {X : Type 0} (es : List X) (x : X) (t : ℕ) (e : X) → slice_get (es ++ x ∷ []) t ≡ Some e → (slice_get es t ≡ Some e) ⊎ ((t ≡ length es) × (e ≡ x))
 at_push [] x zero e at = inr (refl, sym (same_Some x e at))
 at_push [] x (suc t) e at = absurd (cc at)
 at_push (y ∷ es) x zero e at = inl at
 at_push (y ∷ es) x (suc t) e at = ⊎_elim (λ k. inl k) (λ p. inr (ap suc p.0, p.1)) (at_push es x t e at)
 
--- a list keeps its items where one more comes behind it
+-- a list keeps its items if one more is added at its end
 pub get_pushed : {X : Type 0} (es : List X) (x : X) (t : ℕ) (e : X) → slice_get es t ≡ Some e → slice_get (es ++ x ∷ []) t ≡ Some e
 get_pushed [] x t e at = absurd (cc at)
 get_pushed (y ∷ es) x zero e at = at

@@ -165,7 +165,7 @@ kept_entered {H} {place} a vs vl w l s waiting running fruitless h room idle pus
     answered_push ls ss m t all last =
         map-append has_reply ls (m ∷ []) ∙ (ap₂ (λ (bs : List Bool) (b : Bool). bs ++ b ∷ []) all last ∙ sym (map-append is_gone ss (t ∷ [])))
 
--- the same where the line stands already and the call is counted
+-- the queue stays kept if the line is already put and the call is counted
 pub kept_counted : {H : Type 0} {place : H → ℕ → ℕ} (a b : Inside H) (vs : Vec Status Global) (vl : Vec Line Global) (w : Window) (l : Line) (s : Status) (waiting running : ℕ) (fruitless : Bool) → IsKept place a
     → length a.statuses.items < a.limit → count_by is_waiting a.statuses.items < a.cap
     → b ≡ record a { journal = vl; waiting = waiting; running = running; is_fruitless = fruitless }

@@ -53,7 +53,7 @@ lines_admitted q e = map-append (λ (d : QueueEntry). d.line) q.entries (e ∷ [
 pub changed_there : (es : List QueueEntry) (t : ℕ) (e : QueueEntry) (change : QueueEntry → QueueEntry) → slice_get es t ≡ Some e → changed_at es t change ≡ slice_set es t (change e)
 changed_there es t e change at = ap (λ (o : Option QueueEntry). elim o [ None ↦ es | Some d ↦ slice_set es t (change d) ]) at
 
--- what a change makes of the one entry it makes of the list
+-- if a change gives its entry the image b, the list of images has b there
 pub map_changed : {B : Type 0} (f : QueueEntry → B) (es : List QueueEntry) (t : ℕ) (change : QueueEntry → QueueEntry) (b : B)
     → ((e : QueueEntry) → f (change e) ≡ b) → map f (changed_at es t change) ≡ slice_set (map f es) t b
 map_changed f [] t change b same = refl
@@ -61,7 +61,7 @@ map_changed f (e ∷ es) zero change b same = ap (λ x. x ∷ map f es) (same e)
 map_changed f (e ∷ es) (suc t) change b same =
     sym (ap (λ (ds : List QueueEntry). map f ds) (changed_later e es t change)) ∙ ap (λ xs. f e ∷ xs) (map_changed f es t change b same)
 
--- what a change leaves of each entry it leaves of the list
+-- if a change leaves the image of its entry, it leaves the list of images
 pub map_unchanged : {B : Type 0} (f : QueueEntry → B) (es : List QueueEntry) (t : ℕ) (change : QueueEntry → QueueEntry)
     → ((e : QueueEntry) → f (change e) ≡ f e) → map f (changed_at es t change) ≡ map f es
 map_unchanged f [] t change same = refl

@@ -169,7 +169,7 @@ abbrev three_handed : List Move
 three_handed =
     bump_handed ∷ bump_handed ∷ by_event ev.Claim ∷ by_event ev.Admit ∷ bump_handed ∷ by_event ev.Claim ∷ by_event ev.Admit ∷ bump_handed ∷ []
 
--- where both stand, it is Spent and not Busy that is told
+-- if both apply, the refusal is Spent and not Busy
 limit_is_tested_before_the_cap : moves_answered (record one_waits { limit = 2 }) no_scripted_call three_handed
     ≡ Ok Opened ∷ Err TurnOpen ∷ Ok (Claimed 0 true) ∷ Ok (Free 0) ∷ Ok Opened ∷ Ok (Claimed 4294967296 false) ∷ Ok (Blocked 1) ∷ Err Spent ∷ []
 unfolding hidden hidden-the_row-Expr-0 hidden-the_row-Stmt-0

@@ -170,7 +170,7 @@ runs_at a t call kept told = by_entry (slice_get a.queue.entries t) refl
         let w = entry_at a.work.items t (omega (arith, within, same)) in
         by_work e w.0 at w.1
 
--- what is told of a state is known of the fields that show it
+-- a call that runs in the state runs in the fields that show the state
 pub runs_told : {H : Type 0} {places : H → ℕ → ℕ} (a : Inside H) (s : Shown H) (t : ℕ) (call : Call) → IsMachine places a → shown a ≡ s → Some call ≡ option_map call_of (running s.state t) → RunsAt a t call
 runs_told {H} a s t call kept view told = runs_at a t call kept (ap (λ (x : Shown H). option_map call_of (running x.state t)) view ∙ sym told)
 
@@ -183,13 +183,13 @@ read_work a t u call r w same read =
 pub work_there : {H : Type 0} (a : Inside H) (t u : ℕ) (call : Call) → RunsAt a u call → t ≡ u → t < length a.work.items
 work_there a t u call r same = let within = slice_get_within a.work.items u r.work r.has in omega (arith, within, same)
 
--- what is lent of a library is of the machine's, where the library that is handed in is the machine's
+-- a procedure borrowed from the library that is passed is one of the machine's library, if that is the one passed
 pub lent_here : {H : Type 0} (a : Inside H) (s : Shown H) (library : Catalog) (number : ℕ) (o : Option (Bor Proc)) → shown a ≡ s → library ≡ library_of s
     → option_map (λ (p : Bor Proc). p.now) o ≡ slice_get library.procs number → option_map (λ (p : Bor Proc). p.now) o ≡ slice_get a.library.value.procs number
 lent_here {H} a s library number o view same lent =
     lent ∙ (ap (λ (c : Catalog). slice_get c.procs number) same ∙ ap (λ (x : Shown H). slice_get x.base.procs number) (sym view))
 
--- the procedure of the call is lent
+-- the library has the procedure of the call
 pub procedure_lent : {H : Type 0} (a : Inside H) (t : ℕ) (call : Call) (o : Option (Bor Proc)) → RunsAt a t call → option_map (λ (p : Bor Proc). p.now) o ≡ slice_get a.library.value.procs call.number → IsSome o
 procedure_lent a t call None r is = absurd (cc (is ∙ r.calls.found))
 procedure_lent a t call (Some p) r is = refl
@@ -206,12 +206,12 @@ procedure_is a t call o p r is lent =
 pub made_now : {H : Type 0} (a : Inside H) (t : ℕ) (call : Call) (r : RunsAt a t call) (p : Proc) → IsCallOf a.library.value.records p call → IsCallOf (length (now_at a t)) p call
 made_now a t call r p made = subst (λ (n : ℕ). IsCallOf n p call) (sym r.long) made
 
--- what the work tells of loads and stores
+-- what the work says of loads and stores
 abbrev pub stored_by_work : Call → After → Work → Bool
 stored_by_work call after w =
     (w.loads == length call.claims) && (((w.loads == length call.claims) && is_aborted after.reply) || (w.stores == length (writes call)))
 
--- is what the machine tells of them
+-- is what the machine says of them
 pub stored_shown : {H : Type 0} (a : Inside H) (t : ℕ) (call : Call) (r : RunsAt a t call) (w : Work) → length a.work.items ≡ length a.queue.entries → w ≡ r.work
     → has_stored (shown a).base (shown a).state t (entered_of r.entry r.work) ≡ stored_by_work call (apply a.library.value.procs call (now_at a t)) w
 stored_shown a t call r w same is =

@@ -35,7 +35,7 @@ pub end_more : (procs : List Proc) (xs : List Made) (m : Made) (records : List �
 end_more procs [] m records = refl
 end_more procs (x ∷ xs) m records = end_more procs xs m (apply procs x.1 records).records
 
--- the records behind a call
+-- the records after a call
 pub before_more : (procs : List Proc) (calls : List Made) (records : List ℕ) (n : ℕ) (m : Made) → slice_get calls n ≡ Some m
     → before procs calls records (n + 1) ≡ (apply procs m.1 (before procs calls records n)).records
 before_more procs calls records n m at = ap (λ xs. end procs xs records) (take_next calls n m at) ∙ end_more procs (take n calls) m records
@@ -90,14 +90,14 @@ pub length-made : (es : List Entered) → length (map made es) ≡ length es
 length-made [] = refl
 length-made (e ∷ es) = ap suc (length-made es)
 
--- what comes behind changes no record before a ticket
+-- what comes after a ticket changes no record before it
 pub records_pushed : (o : Base) (s : State) (x : Entered) (turn : Option Turn) (t : ℕ) → t ≤ length s.entries
     → records_before o (record s { entries = s.entries ++ x ∷ []; turn = turn }) t ≡ records_before o s t
 records_pushed o s x turn t within =
     ap (λ (ms : List Made). before o.procs ms o.records t) (map_push s.entries x)
     ∙ ap (λ (ms : List Made). end o.procs ms o.records) (take-append-le t (map made s.entries) (made x ∷ []) (let z = length-made s.entries in omega (arith, within, z)))
 
--- calls behind a list change no record before a call of the list
+-- calls after a list change no record before a call of the list
 pub later_leave_states : LaterCallsLeaveSerialStates
 later_leave_states procs calls more records i within = ap (λ (ms : List Made). end procs ms records) (take-append-le i calls more within)
 

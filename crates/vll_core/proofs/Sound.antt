@@ -1,4 +1,4 @@
--- In a sound state a load sees the records before its ticket, and a store makes its record that behind the ticket.
+-- In a sound state a load sees the records before its ticket, and a store gives its record the value after the ticket.
 use Rattle.std.proofs.Common.{◌≡◌, ℕ, Bool, true, false, ◌==◌, not, refl, sym, arith, ◌<◌, ◌≤◌, nat_lt, ◌+◌, List, length, drop, ap, ◌∙◌, subst, slice_get, Some, slice_index}
 use Rattle.std.proofs.lemmas.Option.{slice_get_within, same_Some, same_Some}
 use Rattle.std.specs.List.{list_any}
@@ -97,7 +97,7 @@ load_sees o s t e c sound at busy claim =
         let l = left in omega (arith, l, loads) in
         none_stored_above o s t e c e.loads sound at held claim v d (omega (arith, low, apart)) here some has
 
--- a running call that holds its claim c, and has no store on it to make, leaves the record as it is behind the ticket
+-- if a running call holds its claim c and has no store on it to make, the record has the value after the ticket
 pub stored_sees : (o : Base) (s : State) (t : ℕ) (e : Entered) (c : Claim) (n : ℕ) → IsSound o s → slice_get s.entries t ≡ Some e → is_waiting e.status ≡ false → e.releases ≡ 0
     → slice_get e.call.claims n ≡ Some c → will_store o s c.id (t, e) ≡ false → value o s c.id ≡ slice_index (records_before o s (t + 1)) c.id
 stored_sees o s t e c n sound at busy held claim done =

@@ -147,7 +147,7 @@ taken_store {H} {places} a t place word v call w next c f =
           ∙ ap (λ (s : State). let out : Outcome = Ok (Stored, s) in out) (sym (entries_stored a t place word v call w next c f));
     }
 
--- the value that is stored is that behind the ticket
+-- the value that is stored is that after the ticket
 value_stored : {H : Type 0} {places : H → ℕ → ℕ} (a : Inside H) (t place word v : ℕ) (call : Call) (w next : Work) (c : Claim) → IsMachine places a → Stores a t place word v call w next c
     → value (shown a).base (shown (stored_core a place word v next)).state c.id ≡ v
 value_stored {H} {places} a t place word v call w next c core f =

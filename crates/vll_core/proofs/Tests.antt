@@ -1,22 +1,22 @@
--- What tests of numbers and of truth values tell.
+-- What follows from tests of numbers and of truth values.
 use Rattle.std.proofs.Common.{◌≡◌, ℕ, zero, suc, Bool, true, false, ◌==◌, ◌&&◌, not, refl, sym, arith, ◌<◌, ◌≤◌, ◌||◌, nat_lt, nat_le, ◌≢◌, ◌⊎◌, inl, inr}
 
 pub both_true : (a b : Bool) → (a && b) ≡ true → (a ≡ true) × (b ≡ true)
 both_true true b h = (refl, h)
 both_true false b h = absurd (cc h)
 
--- where the first is true and not both are, the second is not
+-- if not both are true and the first is, the second is false
 pub and_rest : (a b : Bool) → (a && b) ≡ false → a ≡ true → b ≡ false
 and_rest true b h k = h
 and_rest false b h k = absurd (cc k)
 
--- the first is false where both would be, or the second is not true
+-- if `a && not b` is false, `b` is true or `a` is false
 pub and_not_parts : (a b : Bool) → (a && not b) ≡ false → (b ≡ true) ⊎ (a ≡ false)
 and_not_parts true true h = inl refl
 and_not_parts true false h = absurd (cc h)
 and_not_parts false b h = inr refl
 
--- where one of two is true and the first is not, the second is
+-- if one of two is true and the first is false, the second is true
 pub or_rest : (a b : Bool) → (a || b) ≡ true → a ≡ false → b ≡ true
 or_rest true b h k = absurd (cc k)
 or_rest false b h k = h

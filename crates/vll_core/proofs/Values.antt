@@ -127,7 +127,7 @@ value_load o s t e c r kept at runs left = by_cases (has_aborted o.base s t f) (
         ap (λ (m : ℕ). list_any (λ (x : Claim). x.id == m) (writes e.call)) found.names ∙ (ap (λ m. list_any idr (drop m (writes e.call))) (sym fresh) ∙ has) in
         subst (λ (m : ℕ). value o.base (with_entry s t f) m ≡ value o.base s m) found.names (value_abort o s t e c found.claim found.place kept at runs left is found.at some)
 
--- a store leaves the values of other records, and makes its own record's that behind the ticket
+-- a store leaves the values of other records, and gives its own record the value after the ticket
 value_store_other : (o : Base) (s : State) (t : ℕ) (e : Entered) (c : Claim) (r : ℕ) → slice_get s.entries t ≡ Some e → slice_get (writes e.call) e.stores ≡ Some c → (c.id == r) ≡ false
     → value o (with_entry s t (record e { stores = e.stores + 1 })) r ≡ value o s r
 value_store_other o s t e c r at next other =

@@ -1,4 +1,4 @@
--- Draining a machine: the open turn is closed and each call brought to its end, by events other than Find, Enter and Scan.
+-- Draining a machine: an open turn is closed and each call finished, by events other than Find, Enter and Scan.
 use Rattle.std.specs.Prelude.{◌≡◌, ℕ, ◌+◌, ◌*◌, Bool, true, false, List, length, Option, Some, None, All, is_ok, slice_index, if◌then◌else◌}
 use Rattle.std.specs.List.{sum_by}
 use Rattle.vll_proc.specs.Serial.{end}
@@ -15,7 +15,7 @@ begins_or_scans (event.Enter client) = true
 begins_or_scans event.Scan = true
 begins_or_scans other = false
 
--- a number of events leads from one state to another: none of them is Find, Enter or Scan, and none is refused
+-- `made` events lead from `s` to `next`: none of them is Find, Enter or Scan, and none is refused
 pub record IsDrained (o : Opening) (s next : State) (made : ℕ) : Type 0 where
   pub events : List Event
   pub number : length events ≡ made
@@ -23,18 +23,19 @@ pub record IsDrained (o : Opening) (s next : State) (made : ℕ) : Type 0 where
   pub taken : All (λ answer. is_ok answer ≡ true) (answers o s events)
   pub leads : run o s events ≡ next
 
--- every call is gone and no turn is open: each record is what the calls make of it one at a time in order of entry, and each counter is 0
+-- every call is gone and no turn is open: each record has the value that the calls give it one at a time in order of
+-- entry, and each counter is 0
 pub record IsAtEnd (o : Base) (s : State) : Type 0 where
   pub closed : s.turn ≡ None
   pub gone : All (λ (e : Entered). is_gone e.status ≡ true) s.entries
   pub values : (r : ℕ) → value o s r ≡ slice_index (end o.procs (entered s) o.records) r
   pub counters : (r : ℕ) → counter s r ≡ 0
 
--- the most events that bring a call to its end: three for each of its claims, and two
+-- the most events that it takes to finish a call: three for each of its claims, plus two
 abbrev pub most_of : Entered → ℕ
 most_of e = if is_gone e.status then 0 else 3 * length e.call.claims + 2
 
--- and that close a turn and bring its call to its end: four for each of its claims, and three
+-- the most events that it takes to close a turn and finish its call: four for each of its claims, plus three
 abbrev pub most_of_turn : Option Turn → ℕ
 most_of_turn None = 0
 most_of_turn (Some turn) = 4 * length turn.call.claims + 3

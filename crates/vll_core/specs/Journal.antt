@@ -7,7 +7,7 @@ use Rattle.vll_sca.specs.Status.{is_gone}
 use Rattle.vll_core.specs.State.{Base, Entered, State, reply_at}
 
 module _ (o : Base) (s : State) where
-  -- the reply of a finished call is what it replies if the calls run one at a time; before that there is none
+  -- a finished call has the reply that it gives if the calls run one at a time; other calls have none
   abbrev pub reply_of : ℕ → Entered → Option Reply
   reply_of t e = if is_gone e.status then Some (reply_at o s t e) else None
 

@@ -1,4 +1,4 @@
--- The plain machine: each event is refused, by the lowest number that stands, or has an answer and a next state.
+-- The plain machine: each event is refused, with the first refusal that applies, or has an answer and a next state.
 use Rattle.std.specs.Prelude.{ℕ, ◌+◌, Bool, true, false, ◌&&◌, ◌||◌, ◌==◌, not, nat_lt, nat_le, List, [], ◌∷◌, ◌++◌, map, length, count_by, position, Option, Some, None, is_some, slice_get, slice_set, option_map, Result, Ok, Err, if◌then◌else◌}
 use Rattle.vll_record.specs.declared.claim.Claim.{Claim}
 use Rattle.vll_record.specs.Claim.{conflict}
@@ -26,7 +26,7 @@ abbrev pub refuse_if : {A E : Type 0} → Bool → E → Result A E → Result A
 refuse_if true why go = Err why
 refuse_if false why go = go
 
--- refused if there is nothing to go on with
+-- refused if there is no value to go on with
 abbrev pub or_refuse : {A B E : Type 0} → Option A → E → (A → Result B E) → Result B E
 or_refuse None why go = Err why
 or_refuse (Some a) why go = go a
@@ -39,7 +39,7 @@ waiting s = count_by (λ (e : Entered). is_waiting e.status) s.entries
 abbrev pub running_count : State → ℕ
 running_count s = count_by (λ (e : Entered). is_running e.status) s.entries
 
--- the first call of a script, if there is a script and a call left of it
+-- the first call of a script, if there is a script and it has a call left
 abbrev pub first_call : Option (List Call) → Option Call
 first_call None = None
 first_call (Some []) = None
@@ -54,11 +54,11 @@ abbrev pub rest_of : {A : Type 0} → List A → List A
 rest_of [] = []
 rest_of (x ∷ xs) = xs
 
--- the scripts without that call
+-- the scripts without a client's next call
 abbrev pub used : State → ℕ → List (List Call)
 used s c = elim (slice_get s.scripts c) [ None ↦ s.scripts | Some script ↦ slice_set s.scripts c (rest_of script) ]
 
--- the open turn, if there is one, is this client's
+-- a turn is open, and it is this client's
 abbrev pub is_turn_of : ℕ → Option Turn → Bool
 is_turn_of c None = false
 is_turn_of c (Some turn) = turn.client == c
@@ -67,11 +67,12 @@ is_turn_of c (Some turn) = turn.client == c
 abbrev pub kept_for : State → ℕ → Option ℕ
 kept_for s c = elim (slice_get s.kept c) [ None ↦ None | Some v ↦ v ]
 
--- what is kept, with another value or none for a client
+-- the kept values, with another value or none for a client
 abbrev pub keeping : State → ℕ → Option ℕ → List (Option ℕ)
 keeping s c v = slice_set s.kept c v
 
--- a client's call as it enters: with the value that is kept for it, if it has an indirect key; it does not enter if none is kept
+-- a client's call as it enters: if it has an indirect key, with the value kept for it; without such a value it does not
+-- enter
 abbrev pub ready : Base → State → ℕ → Call → Option Call
 ready o s c call = elim (source (catalog_of o) call) [ None ↦ Some call | Some r ↦ option_map (with_found (catalog_of o) call) (kept_for s c) ]
 
@@ -133,7 +134,7 @@ admit s turn =
     let with : Status → State = λ status. record s { entries = s.entries ++ entry status ∷ []; turn = None } in
     if turn.granted then Ok (Free (length s.entries), with Running) else Ok (Blocked (length s.entries), with Waiting)
 
--- what an event is answered, and the next state
+-- the answer to an event, and the next state
 abbrev pub step : Opening → State → Event → Outcome
 step o s (event.Find c) =
     refuse_if (is_turn_of c s.turn) TurnOpen
@@ -174,7 +175,7 @@ abbrev pub state_after : State → Outcome → State
 state_after s (Ok seen) = seen.1
 state_after s (Err why) = s
 
--- what an outcome shows
+-- the answer or the refusal of an outcome
 abbrev pub told : Outcome → Result Seen Refusal
 told (Ok seen) = Ok seen.0
 told (Err why) = Err why
@@ -184,7 +185,7 @@ abbrev pub entered : Outcome → Result (Unit {0}) Refusal
 entered (Ok seen) = Ok tt
 entered (Err why) = Err why
 
--- what a list of events is answered
+-- the answers to a list of events
 abbrev pub answers : Opening → State → List Event → List (Result Seen Refusal)
 answers o s [] = []
 answers o s (e ∷ es) = let out = step o s e in told out ∷ answers o (state_after s out) es

@@ -1,4 +1,5 @@
--- Lawful moves: the events of the machine, and two that are wider than Front and Scan, and than Enter. The laws hold of them all.
+-- Lawful moves: the events of the machine, one that is wider than Front and Scan, and one that is wider than Enter. The
+-- laws hold for all of them.
 use Rattle.std.specs.Prelude.{◌≡◌, ◌≢◌, ℕ, Bool, false, not, List, length, Option, Some, None, Ok, All, is_some, slice_get, slice_index, ◌==◌, if◌then◌else◌}
 use Rattle.vll_record.specs.declared.claim.Claim.{Claim}
 use Rattle.vll_record.specs.declared.claim.Mode.TheVariants.{Write}
@@ -16,7 +17,8 @@ use Rattle.vll_sca.specs.Status.{is_waiting}
 use Rattle.vll_core.specs.State.{Base, catalog_of, Opening, Entered, Turn, State, delta_on, writes, is_clear}
 use Rattle.vll_core.specs.Machine.{Outcome, refuse_if, or_refuse, enter, with_status, step, opened}
 
--- a call of checked procedures: its claims rise by record number, and it changes none of the records that it does not claim for writing
+-- a call of checked procedures: its claims rise by record number, and it changes no record that it does not claim for
+-- writing
 pub record IsProper (o : Base) (call : Call) : Type 0 where
   pub rising : IsRising call.claims
   pub changes_its_own : (records : List ℕ) (r : ℕ) → length records ≡ length o.records → mode_on call.claims r ≢ Some Write → slice_index (apply o.procs call records).records r ≡ slice_index records r
@@ -25,11 +27,12 @@ pub record IsProper (o : Base) (call : Call) : Type 0 where
 abbrev pub EntersProper : Base → Call → Type 0
 EntersProper o call = elim (source (catalog_of o) call) [ None ↦ IsProper o call | Some r ↦ ((v : ℕ) → IsProper o (with_found (catalog_of o) call v)) ]
 
--- each call of each script is
+-- each call of each script is proper as it enters
 abbrev pub AreProper : Base → List (List Call) → Type 0
 AreProper o scripts = All (All (EntersProper o)) scripts
 
--- an event; a waiting ticket that is clear begins to run, also in an open turn; or a turn opens for a call that is handed in
+-- an event; a waiting ticket that is clear begins to run, even while a turn is open; or a turn opens for a call that is
+-- passed in
 pub data Move : Type 0 where
   by_event : Event → Move
   wake : ℕ → Move
@@ -40,13 +43,13 @@ abbrev pub if_waiting : Option Entered → Option Entered
 if_waiting None = None
 if_waiting (Some e) = if is_waiting e.status then Some e else None
 
--- what a move is answered, and the next state
+-- the answer to a move, and the next state
 abbrev pub move : Opening → State → Move → Outcome
 move o s (by_event e) = step o s e
 move o s (wake t) = or_refuse (if_waiting (slice_get s.entries t)) Idle (λ e. refuse_if (not (is_clear s t e.call.claims)) Idle (Ok (Run t, with_status s t Running)))
 move o s (hand client call) = refuse_if (is_some s.turn) TurnOpen (enter o s client (Some call) s.scripts s.kept)
 
--- a call that is handed in is proper
+-- a call that is passed in is proper
 abbrev pub IsLawful : Opening → Move → Type 0
 IsLawful o (by_event e) = Unit {0}
 IsLawful o (wake t) = Unit {0}
@@ -97,7 +100,7 @@ abbrev pub delta_if : ℕ → Option Claim → ℕ
 delta_if r None = 0
 delta_if r (Some c) = delta_on r c
 
--- a claim, if there is one, is on a record
+-- there is a claim, and it is on this record
 abbrev pub is_on : ℕ → Option Claim → Bool
 is_on r None = false
 is_on r (Some c) = c.id == r

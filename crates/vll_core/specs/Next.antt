@@ -1,4 +1,4 @@
--- What an event is of, in the state in which it is made.
+-- What an event acts on, in the state in which it is made.
 use Rattle.std.specs.Prelude.{ℕ, List, Option, Some, None, slice_get}
 use Rattle.vll_record.specs.declared.claim.Claim.{Claim}
 use Rattle.vll_core.specs.declared.event.Event.{Event}
@@ -13,7 +13,8 @@ abbrev pub entry_load : Option Entered → Option Claim
 entry_load None = None
 entry_load (Some e) = slice_get e.call.claims e.loads
 
--- the claim that an event is of: the next one that the open turn requests, or that a running call loads, stores or releases
+-- the claim that an event acts on: the next one that the open turn requests, or that a running call loads, stores or
+-- releases
 abbrev pub claim_of : State → Event → Option Claim
 claim_of s event.Claim = turn_request s.turn
 claim_of s (event.Load t) = entry_load (running s t)

@@ -1,4 +1,4 @@
--- What private contracts and what types keep cite: no contract of an exported item does.
+-- Cited by private contracts and by the views and invariants of types; no contract of an exported item cites it.
 pub mod Paired
 pub mod Window
 pub mod QueueKept

@@ -12,7 +12,7 @@ use Rattle.vll_sca.specs.declared.status.Status.{Status}
 use Rattle.vll_sca.specs.declared.status.Status.TheVariants.{Running, Waiting, Gone}
 use Rattle.vll_sca.specs.Status.{is_waiting, is_gone}
 
--- a call in the queue: its line in the journal, and where it stands
+-- a call in the queue: its line in the journal, and its status
 pub record QueueEntry : Type 0 where
   pub line : Line
   pub status : Status
@@ -42,8 +42,8 @@ has_reply l = is_some l.reply
 abbrev pub is_left : Status → Bool
 is_left s = not (is_gone s)
 
--- what is true of every queue: the limit, the cap and the number of bits are within their bounds, the limit and the cap are kept,
--- and a line has a reply exactly if its call is gone
+-- what is true of every queue: the limit, the cap and the number of bits are within their bounds, the limit and the cap
+-- are not exceeded, and a line has a reply exactly if its call is gone
 pub record IsQueued {H : Type 0} (q : Queued H) : Type 0 where
   pub some_calls : 1 ≤ q.limit
   pub few_calls : q.limit ≤ MOST_CALLS
@@ -76,7 +76,7 @@ entry client call free =
 abbrev pub admitted : {H : Type 0} → Queued H → QueueEntry → Queued H
 admitted q e = record q { entries = q.entries ++ e ∷ [] }
 
--- an entry is changed at its place; if there is none, nothing is
+-- an entry is changed at its place; if there is none, nothing changes
 abbrev pub changed_at : List QueueEntry → ℕ → (QueueEntry → QueueEntry) → List QueueEntry
 changed_at es t change = elim (slice_get es t) [ None ↦ es | Some e ↦ slice_set es t (change e) ]
 
@@ -103,7 +103,7 @@ abbrev pub started_if : {H : Type 0} → Queued H → Option ℕ → Queued H
 started_if q None = q
 started_if q (Some t) = started q t
 
--- the queue after its front was asked for: if there is one, it runs
+-- the queue after its front is started, if it waits
 abbrev pub fronted : {H : Type 0} → Queued H → Queued H
 fronted q = started_if q (front_among (statuses q))
 

@@ -8,7 +8,7 @@ use Rattle.vll_core.specs.declared.config.Config.{Config}
 use Rattle.vll_core.specs.State.{Base, catalog_of, Opening, State, counter, value}
 use Rattle.vll_core.specs.Machine.{Outcome, opened, state_after}
 
--- what is fixed from the opening on, the hash as it was handed in, and the state of the machine
+-- what is fixed from the opening on, with the hash itself, and the state of the machine
 pub record Shown (H : Type 0) : Type 0 where
   pub base : Base
   pub cap : ℕ
@@ -36,7 +36,7 @@ begun library records scripts config hash = record {
   state = opened (map (λ (v : Vec Call). v.items) scripts);
 }
 
--- a machine after what an event comes to
+-- a machine after the outcome of an event
 abbrev pub after : {H : Type 0} → Shown H → Outcome → Shown H
 after c out = record c { state = state_after c.state out }
 

@@ -17,7 +17,7 @@ pub record Base : Type 0 where
   pub procs : List Proc
   pub records : List ℕ
 
--- the catalog of the library: the procedures, checked for as many records
+-- the catalog of the library: the procedures, checked for this number of records
 abbrev pub catalog_of : Base → Catalog
 catalog_of base = record { records = length base.records; procs = base.procs }
 
@@ -46,7 +46,8 @@ pub record Turn : Type 0 where
   pub requested : ℕ
   pub granted : Bool
 
--- the entered calls in order, the open turn, and of each script the calls that are left and the value that is kept for the first of these
+-- the entered calls in order, the open turn, and for each script the calls that are left and the value kept for the
+-- first of these
 pub record State : Type 0 where
   pub entries : List Entered
   pub turn : Option Turn
@@ -86,7 +87,7 @@ delta_on r c = if c.id == r then delta_of c.mode else 0
 abbrev pub writes : Call → List Claim
 writes c = filter is_write c.claims
 
--- the answer of a call that aborted
+-- the reply of a call that aborted
 abbrev pub is_aborted : Reply → Bool
 is_aborted (Committed outputs) = false
 is_aborted (Aborted why) = true
@@ -100,7 +101,7 @@ module _ (o : Base) where
   abbrev pub reply_at : State → ℕ → Entered → Reply
   reply_at s t e = (apply o.procs e.call (records_before s t)).reply
 
-  -- a call has aborted from its last load on, if its answer is Aborted
+  -- a call has aborted if all its loads are made and its reply is Aborted
   abbrev pub has_aborted : State → ℕ → Entered → Bool
   has_aborted s t e = (e.loads == length e.call.claims) && is_aborted (reply_at s t e)
 
@@ -117,6 +118,6 @@ module _ (o : Base) where
   abbrev pub value : State → ℕ → ℕ
   value s r = slice_index (records_before s (unstored s r)) r
 
--- no open claim of a lower ticket conflicts with a claim of these
+-- no open claim of a lower ticket conflicts with one of these claims
 abbrev pub is_clear : State → ℕ → List Claim → Bool
 is_clear s t claims = not (conflict (flat_map open_of (take t s.entries)) claims)

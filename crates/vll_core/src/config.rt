@@ -3,10 +3,10 @@ use std::alloc::AllocError;
 /// The most records that a machine can have.
 pub const MOST_RECORDS: usize = 65_536;
 
-/// The most calls that can be entered in a machine, finished ones among them.
+/// The most calls that can be entered in a machine, including finished ones.
 pub const MOST_CALLS: u32 = 65_536;
 
-/// The most entered calls that can be let wait at a time.
+/// The most entered calls that can be allowed to wait at a time.
 pub const MOST_WAITING: u32 = 65_536;
 
 // As docs/SCENARIO.md says.
@@ -16,18 +16,18 @@ const _: () = prove!(MOST_CALLS == 65_536);
 
 const _: () = prove!(MOST_WAITING == 65_536);
 
-/// What is chosen at the opening.
+/// The settings chosen at the opening.
 #[derive(Clone, Copy, PartialEq, Eq, Debug)]
 pub struct Config {
-    /// How many entered calls may wait before no more are taken, from 1 to `MOST_WAITING`.
+    /// How many entered calls may wait before no more calls are accepted, from 1 to `MOST_WAITING`.
     pub cap: u32,
     /// How many calls may be entered, from 1 to `MOST_CALLS`.
     pub limit: u32,
-    /// How many bits records share in the contention analysis, from 1 to `MOST_BITS` of `vll_sca`.
+    /// How many bits the records share in the contention analysis, from 1 to `MOST_BITS` of `vll_sca`.
     pub bits: u32,
 }
 
-/// Why nothing can be opened: the lowest that stands, in this order.
+/// Why nothing can be opened: the first fault that applies, in this order.
 #[derive(Clone, Copy, PartialEq, Eq, Debug)]
 pub enum OpenFault {
     /// There are not 1 to `MOST_RECORDS` records.
@@ -38,7 +38,7 @@ pub enum OpenFault {
     Cap,
     /// The number of bits is not 1 to `MOST_BITS` of `vll_sca`.
     Bits,
-    /// Memory was refused.
+    /// An allocation failed.
     NoMemory,
 }
 

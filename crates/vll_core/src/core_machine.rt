@@ -24,9 +24,9 @@ use vll_sca::{Place, Status};
 
 mod drain;
 
-/// The machine of atomic steps with its library. It takes one event at a time, and keeps a value word and a pair
-/// word for each record, and the entered calls in a queue. Contracts see what was handed in at the opening, and
-/// the state of the plain machine.
+/// The machine of atomic steps with its library. It takes one event at a time, and keeps a value word and a pair word
+/// for each record, and the entered calls in a queue. Contracts see what it was opened with, and the state of the plain
+/// machine.
 #[derive(Drop)]
 pub struct Core<H: Place> {
     machine: Machine<H>,
@@ -50,9 +50,9 @@ impl<H: Place> Model for Core<H> {
 }
 
 impl<H: Place + Drop> Core<H> {
-    /// A machine over these records with nothing entered. The lowest fault that stands is returned, as `open_fault`
-    /// says: `Records`, `Limit`, `Cap` or `Bits`; if none stands, `NoMemory` is the only one. All memory is
-    /// taken here, and that of the list handed in is given back.
+    /// Opens a machine over these records, with no call entered. Fails with the first fault that applies, as
+    /// `open_fault` returns it: `Records`, `Limit`, `Cap` or `Bits`; if none applies, only with `NoMemory`. All memory
+    /// is allocated here, and that of `records` is freed.
     pub fn open(
         alloc: Global,
         records: Vec<u64>,
@@ -72,8 +72,8 @@ impl<H: Place + Drop> Core<H> {
 }
 
 impl<H: Place> Core<H> {
-    /// Takes one step, or refuses it by the lowest refusal that stands, as the plain machine does. A refused event
-    /// changes nothing. It takes no memory.
+    /// Takes one step, or refuses it with the first `Refusal` that applies, as the plain machine does. A refused event
+    /// changes nothing. Allocates nothing.
     pub fn step(&mut self, event: Event) -> Result<Seen, Refusal>
         ensures answer { result ≡ told (step (opening_of H.place_of self.old) self.old.state event) }
         ensures state { self.new ≡ after self.old (step (opening_of H.place_of self.old) self.old.state event) }
@@ -81,9 +81,9 @@ impl<H: Place> Core<H> {
         self.machine.step(&self.library, event)
     }
 
-    /// Opens a turn for a call that is handed in, for a client that has a script, an empty one too; the script and what
-    /// is kept for it stay as they are. Refused, in this order, by `TurnOpen`, `Spent` and `Busy`, as Enter is. A
-    /// refusal changes nothing. It takes no memory.
+    /// Opens a turn for `call`, for a client that has a script, even an empty one; the script and the value kept for it
+    /// do not change. Refused with `TurnOpen`, `Spent` or `Busy`, tested in this order, as for Enter. A refusal changes
+    /// nothing. Allocates nothing.
     pub fn enter(&mut self, client: u32, call: Call) -> Result<(), Refusal>
         requires client { client < length self.old.state.scripts }
         requires ready { IsReady (library_of self.old) call }
@@ -93,7 +93,7 @@ impl<H: Place> Core<H> {
         self.machine.enter(&self.library, client, call)
     }
 
-    /// The library, and the machine without it. It takes no memory.
+    /// Returns the machine without its library, and the library. Allocates nothing.
     pub fn into_parts(self) -> (Machine<H>, Library)
         ensures machine { result.0 ≡ self }
         ensures library { result.1 ≡ library_of self }
@@ -102,44 +102,44 @@ impl<H: Place> Core<H> {
         (machine, library)
     }
 
-    /// Where the call of a ticket stands, and `None` exactly if no call has the ticket.
+    /// Returns the status of a ticket's call, or `None` exactly if no call has the ticket.
     pub fn state(&self, ticket: Ticket) -> Option<Status>
         ensures { result ≡ option_map (λ (e : Entered). e.status) (slice_get self.now.state.entries ticket) }
     {
         self.machine.state(ticket)
     }
 
-    /// The claim that an event would be of, if it were made now: the next one that the call of the open turn requests,
-    /// or that a running call loads, stores or releases. `None` if there is none, and for any other event.
+    /// Returns the claim that an event would act on, if it were made now: the next one that the call of the open turn
+    /// requests, or that a running call loads, stores or releases. `None` if there is none, and for any other event.
     pub fn claim_of(&self, event: Event) -> Option<Claim>
         ensures { result ≡ claim_of self.now.state event }
     {
         self.machine.claim_of(event)
     }
 
-    /// The line that the call of the open turn gets as it enters, if a turn is open.
+    /// Returns the line that the call of the open turn gets when it enters, if a turn is open.
     pub fn line_of_turn(&self) -> Option<Line>
         ensures { result ≡ option_map line_of_turn self.now.state.turn }
     {
         self.machine.line_of_turn()
     }
 
-    /// How many entered calls wait. It looks at no entry.
+    /// Returns the number of entered calls that wait. It looks at no entry.
     pub fn waiting(&self) -> u32
         ensures { result ≡ waiting self.now.state }
     {
         self.machine.waiting()
     }
 
-    /// How many entered calls run. It looks at no entry.
+    /// Returns the number of entered calls that run. It looks at no entry.
     pub fn running(&self) -> u32
         ensures { result ≡ running_count self.now.state }
     {
         self.machine.running()
     }
 
-    /// The journal: each entered call with its client, in order of entry. If a call is finished its line has
-    /// the reply that it gives when the calls run one at a time in this order, and else none.
+    /// Returns the journal: each entered call with its client, in order of entry. The line of a finished call has the
+    /// reply that the call gives if the calls run one at a time in this order; the other lines have none.
     pub fn journal(&self) -> &[Line]
         ensures lines { result.now ≡ journal_of self.now.base self.now.state }
         ensures few { length result.now ≤ MOST_CALLS }
@@ -147,8 +147,8 @@ impl<H: Place> Core<H> {
         self.machine.journal()
     }
 
-    /// The words: the turn word 0, and then each record's value and its pair word. The state is one that
-    /// lawful moves reach, so the laws of the machine hold of it.
+    /// Returns the words: the turn word, which is 0, and then each record's value and its pair word. The state is one
+    /// that lawful moves reach, so the laws of the machine hold for it.
     pub fn words(&self) -> &[u64]
         ensures words { AreWords self.now.base self.now.state result.now }
         ensures reached { IsReached (opening_of H.place_of self.now) self.now.state }

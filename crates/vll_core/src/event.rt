@@ -1,14 +1,14 @@
 use crate::ticket::Ticket;
 
-/// One atomic step. A running call has its loads, then, unless it aborted, its stores, and then its releases.
-/// Loads and releases go once over all its claims, stores once over its Write claims, each in rising record order.
+/// One atomic step. A running call makes its loads, then, unless it aborted, its stores, and then its releases. Loads
+/// and releases go once over all its claims, stores once over its Write claims, each in rising record order.
 #[derive(Clone, Copy, PartialEq, Eq, Debug)]
 pub enum Event {
-    /// For the indirect key of the next call of a client's script, by the client's number from 0, its source is loaded,
-    /// without a claim; the value is kept for the call, in place of one that was kept before.
+    /// The source of the indirect key of the next call of a client's script is loaded, without a claim; the value is
+    /// kept for the call, and replaces one kept before. Clients are numbered from 0.
     Find(u32),
-    /// A turn opens for the next call of a client's script, by the client's number from 0; a call with an indirect key
-    /// takes the value that is kept for it.
+    /// A turn opens for the next call of a client's script; a call with an indirect key uses the value that is kept for
+    /// it. Clients are numbered from 0.
     Enter(u32),
     /// The call of the open turn requests its next claim, whose delta is added to the record's pair word.
     Claim,

@@ -1,9 +1,8 @@
-// Laws of the machine of atomic steps, each the contract of a function that does nothing. A lawful
-// move is an event of the machine, the start of any waiting ticket that is clear, or the opening of
-// a turn for a call that is handed in.
+// Laws of the machine of atomic steps, each the contract of a function that does nothing. A lawful move is an event of
+// the machine, the start of any waiting ticket that is clear, or the opening of a turn for a call that is passed in.
 ghost use Rattle.vll_core.specs.Laws.{EventListsReach, RunningTicketsAreClear, FrontTicketIsClear, ScanTicketIsClear, OpenTurnsHaveRoom, WaitingStaysWithinTheCap, LoadsSeeTheSerialState, CountersChangeByDeltas, StoresMakeTheSerialState, OtherValuesStay, SerialStatesStay, CountersStayWithinTheLimit, FinishedMachinesHaveTheSerialEnd, ReadyCallIsProper, FittingScriptsAreProper, LaterCallsLeaveSerialStates, LaterCallsLeaveSerialAnswers, GoneTicketsStay, StartedTicketsDoNotWait, TicketsStartOnce};
 
-/// Every list of events, refused ones among them, reaches a state of which the other laws hold.
+/// Every list of events, including refused ones, reaches a state for which the other laws hold.
 #[tactic(auto, using(crate::proofs::Reached::lists_reach))]
 pub fn event_lists_reach()
     ensures { EventListsReach }
@@ -21,52 +20,49 @@ pub fn front_ticket_is_clear()
     ensures { FrontTicketIsClear }
 {}
 
-/// The ticket that a contention analysis finds, in a state that lawful moves reach, waits and is
-/// clear, whatever places and whatever number of bits it goes by, also others than the machine's: a
-/// collision only holds a call back.
+/// The ticket that a contention analysis finds, in a state that lawful moves reach, waits and is clear, whatever places
+/// and number of bits it uses, even if not the machine's: a collision can only hold a call back.
 pub fn scan_ticket_is_clear()
     ensures { ScanTicketIsClear }
 {}
 
-/// While a turn is open, fewer calls are entered than the limit and fewer wait than the cap, so its
-/// call can get a ticket and wait.
+/// While a turn is open, the entered calls are below the limit and the waiting ones below the cap, so its call can get
+/// a ticket and wait.
 pub fn open_turns_have_room()
     ensures { OpenTurnsHaveRoom }
 {}
 
-/// No more calls wait than the cap.
+/// The number of waiting calls does not exceed the cap.
 pub fn waiting_stays_within_the_cap()
     ensures { WaitingStaysWithinTheCap }
 {}
 
-/// A load by ticket t returns the record as it is before ticket t, if the entered calls run one
-/// at a time.
+/// A load by ticket t returns the value that the record has before ticket t if the entered calls run one at a time.
 #[tactic(auto, using(crate::proofs::Reached::load_reached))]
 pub fn loads_see_the_serial_state()
     ensures { LoadsSeeTheSerialState }
 {}
 
-/// A request adds its claim's delta to the counter of its record, a release takes it, and nothing
-/// else changes a counter.
+/// A request adds its claim's delta to the counter of its record, a release subtracts it, and nothing else changes a
+/// counter.
 pub fn counters_change_by_deltas()
     ensures { CountersChangeByDeltas }
 {}
 
-/// A store by ticket t makes its record what it is behind ticket t, if the entered calls run one
-/// at a time.
+/// A store by ticket t gives its record the value that it has after ticket t if the entered calls run one at a time.
 #[tactic(auto, using(crate::proofs::Values::store_reached))]
 pub fn stores_make_the_serial_state()
     ensures { StoresMakeTheSerialState }
 {}
 
-/// No move changes a value, but a store that of its own record.
+/// No move changes a value, except that a store changes its own record's.
 #[tactic(auto, using(crate::proofs::Values::others_stay))]
 pub fn other_values_stay()
     ensures { OtherValuesStay }
 {}
 
-/// What the records are before a ticket, if the entered calls run one at a time, never changes
-/// once the lower tickets are given.
+/// The records as they are before a ticket, if the entered calls run one at a time, never change once the lower tickets
+/// are given out.
 #[tactic(auto, using(crate::proofs::Reached::serial_stays))]
 pub fn serial_states_stay()
     ensures { SerialStatesStay }
@@ -78,28 +74,28 @@ pub fn counters_stay_within_the_limit()
     ensures { CountersStayWithinTheLimit }
 {}
 
-/// If no turn is open and no call waits or runs, each call is gone, each record is what the
-/// entered calls make of it one at a time in order of entry, and each counter is 0.
+/// If no turn is open and no call waits or runs, each call is gone, each record has the value that the entered calls
+/// give it one at a time in order of entry, and each counter is 0.
 pub fn finished_machines_have_the_serial_end()
     ensures { FinishedMachinesHaveTheSerialEnd }
 {}
 
-/// Calls that are ready are proper, and those that a library makes are so as they enter, so a machine over its
-/// procedures meets what the laws ask for: when a call is handed in, and in its scripts.
+/// Ready calls are proper, and calls that a library makes are proper as they enter. So a machine over the library's
+/// procedures meets the conditions of the laws, both for calls that are passed in and for its scripts.
 pub fn fitting_calls_are_proper()
     ensures call { ReadyCallIsProper }
     ensures scripts { FittingScriptsAreProper }
 {}
 
-/// If calls run one at a time, what the records are before a call of a list and what the call
-/// answers is the same whatever calls come behind the list.
+/// If calls run one at a time, the records before a call of a list, and the call's reply, do not depend on the calls
+/// that follow the list.
 pub fn later_calls_leave_serial_runs()
     ensures states { LaterCallsLeaveSerialStates }
     ensures answers { LaterCallsLeaveSerialAnswers }
 {}
 
-/// No move leads a ticket from gone to anything else, nor from running or gone back to waiting. So a ticket that has
-/// run never starts again, wherever moves lead: it gets one pass, ever.
+/// No move takes a ticket from gone to anything else, nor from running or gone back to waiting. So a ticket that has
+/// run never starts again, whatever moves follow: it gets one pass, ever.
 pub fn tickets_start_once()
     ensures gone { GoneTicketsStay }
     ensures started { StartedTicketsDoNotWait }

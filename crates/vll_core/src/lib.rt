@@ -1,4 +1,15 @@
-//! The queue of entered calls and the machine of atomic steps.
+//! The queue of entered calls, and the machine that brings them to their replies in atomic steps, one event at a time.
+//! The engine (`vll_engine`) keeps its calls in the queue; replays (`vll_replay`) run the machine.
+//! Proved: each step gives the answer and the next state of the plain machine of `specs/Machine.antt`. In each state
+//! that lawful moves reach, loads and stores agree with the calls run one at a time, in the order of their tickets.
+//! Start at `Core` and `Event` for the machine, at `Queue` for the queue alone, and at `laws.rt` for the laws.
+//!
+//! ```rattle
+//! let mut core = Core::open(alloc, records, library, scripts, config, Placing::Modulo)?;
+//! let answer = core.step(Event::Enter(0)); // a turn opens for the next call of client 0
+//! let events = core.drain(); // the call enters, runs and is gone
+//! let (journal, words) = (core.journal(), core.words());
+//! ```
 #![tactic(auto)]
 
 mod config;

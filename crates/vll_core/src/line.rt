@@ -3,7 +3,7 @@ ghost use Rattle.std.specs.Prelude.{◌≡◌, [], None};
 use vll_proc::{Call, MOST_ARGS, Reply};
 use vll_record::{Claims, MOST_CLAIMS};
 
-/// A call in the order of entry, with the client that entered it, and its reply once it is finished.
+/// A line of the journal: a call, the client that entered it, and its reply once it is finished.
 #[derive(Clone, Copy)]
 pub struct Line {
     pub call: Call,
@@ -12,7 +12,7 @@ pub struct Line {
 }
 
 impl Line {
-    /// A line of a call that claims nothing, without a reply. Room for lines is filled with it.
+    /// Returns the line of a call without claims, and without a reply, with which room for lines is filled.
     pub(crate) fn blank() -> Line
         ensures claims { result.call.claims ≡ [] }
         ensures reply { result.reply ≡ None }

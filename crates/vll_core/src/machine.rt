@@ -44,14 +44,14 @@ pub(crate) struct OpenTurn {
     pub(crate) granted: bool,
 }
 
-/// The machine of atomic steps, without its library, which is handed in with each step. It takes one event at a
-/// time, and keeps a value word and a pair word for each record, and the entered calls in a queue. Contracts see
-/// what was handed in at the opening, and the state of the plain machine.
+/// The machine of atomic steps, without its library, which is passed with each step. It takes one event at a time, and
+/// keeps a value word and a pair word for each record, and the entered calls in a queue. Contracts see what it was
+/// opened with, and the state of the plain machine.
 #[derive(Drop)]
 pub struct Machine<H: Place> {
-    // The library as it was at the opening, for contracts alone.
+    // The library as it was at the opening, only for contracts.
     library: Snapshot<Library>,
-    // The records as they were handed in, for contracts alone.
+    // The records as they were at the opening, only for contracts.
     opening: Snapshot<Vec<u64>>,
     words: Vec<u64>,
     queue: Queue<H>,
@@ -84,8 +84,8 @@ impl<H: Place> Model for Machine<H> {
 }
 
 impl<H: Place + Drop> Machine<H> {
-    // A machine over these records with nothing entered, for this library. All memory is taken here, and that of the
-    // list handed in is given back.
+    // Opens a machine over these records, with no call entered, for this library. All memory is allocated here, and
+    // that of `records` is freed.
     pub(crate) fn open(
         alloc: Global,
         records: Vec<u64>,
@@ -105,7 +105,7 @@ impl<H: Place + Drop> Machine<H> {
         }
     }
 
-    // A machine in which nothing is entered. Nothing but memory can be refused.
+    // Opens a machine with no call entered. Fails only if an allocation fails.
     fn with_room(
         alloc: Global,
         records: &Vec<u64>,
@@ -138,7 +138,7 @@ impl<H: Place + Drop> Machine<H> {
         })
     }
 
-    /// The words and the journal. It takes no memory.
+    /// Returns the words and the journal. Allocates nothing.
     pub fn into_parts(self) -> (Vec<u64>, Vec<Line>)
         ensures words { AreWords self.base self.state result.0.items }
         ensures journal { result.1.items ≡ journal_of self.base self.state }
@@ -150,8 +150,8 @@ impl<H: Place + Drop> Machine<H> {
 }
 
 impl<H: Place> Machine<H> {
-    /// Takes one step, or refuses it by the lowest refusal that stands, as the plain machine does. A refused event
-    /// changes nothing. The library is the one of the opening. It takes no memory.
+    /// Takes one step, or refuses it with the first `Refusal` that applies, as the plain machine does. A refused event
+    /// changes nothing. `library` is the one of the opening. Allocates nothing.
     pub fn step(&mut self, library: &Library, event: Event) -> Result<Seen, Refusal>
         requires same { library.now ≡ library_of self.old }
         ensures answer { result ≡ told (step (opening_of H.place_of self.old) self.old.state event) }
@@ -171,29 +171,29 @@ impl<H: Place> Machine<H> {
         }
     }
 
-    /// Where the call of a ticket stands, and `None` exactly if no call has the ticket.
+    /// Returns the status of a ticket's call, or `None` exactly if no call has the ticket.
     pub fn state(&self, ticket: Ticket) -> Option<Status>
         ensures { result ≡ option_map (λ (e : Entered). e.status) (slice_get self.now.state.entries ticket) }
     {
         self.queue.status(ticket)
     }
 
-    /// How many entered calls wait. It looks at no entry.
+    /// Returns the number of entered calls that wait. It looks at no entry.
     pub fn waiting(&self) -> u32
         ensures { result ≡ waiting self.now.state }
     {
         self.queue.waiting()
     }
 
-    /// How many entered calls run. It looks at no entry.
+    /// Returns the number of entered calls that run. It looks at no entry.
     pub fn running(&self) -> u32
         ensures { result ≡ running_count self.now.state }
     {
         self.queue.running()
     }
 
-    /// The journal: each entered call with its client, in order of entry. If a call is finished its line has
-    /// the reply that it gives when the calls run one at a time in this order, and else none.
+    /// Returns the journal: each entered call with its client, in order of entry. The line of a finished call has the
+    /// reply that the call gives if the calls run one at a time in this order; the other lines have none.
     pub fn journal(&self) -> &[Line]
         ensures lines { result.now ≡ journal_of self.now.base self.now.state }
         ensures few { length result.now ≤ MOST_CALLS }
@@ -201,8 +201,8 @@ impl<H: Place> Machine<H> {
         self.queue.journal()
     }
 
-    /// The words: the turn word 0, and then each record's value and its pair word. The state is one that
-    /// lawful moves reach, so the laws of the machine hold of it.
+    /// Returns the words: the turn word, which is 0, and then each record's value and its pair word. The state is one
+    /// that lawful moves reach, so the laws of the machine hold for it.
     pub fn words(&self) -> &[u64]
         ensures words { AreWords self.now.base self.now.state result.now }
         ensures reached { IsReached (opening_of H.place_of self.now) self.now.state }
@@ -211,7 +211,7 @@ impl<H: Place> Machine<H> {
     }
 }
 
-// The words at the opening: word 0, and each record's value with pair word 0.
+// Returns the words at the opening: the turn word 0, and each record's value with its pair word 0.
 fn words_of(alloc: Global, records: &[u64]) -> Result<Vec<u64>, AllocError>
     requires { length records.now ≤ MOST_RECORDS }
     ensures { IfOk result (λ words. AreFirstWords records.now words.items) }

@@ -1,12 +1,12 @@
-// The rules of opening: what is refused before any memory is asked for.
+// The rules of opening: what is refused before any memory is requested.
 ghost use Rattle.std.specs.Prelude.{◌≡◌};
 ghost use Rattle.vll_core.specs.Faults.{config_fault, is_up_to, open_fault};
 
 use crate::config::{Config, MOST_CALLS, MOST_RECORDS, MOST_WAITING, OpenFault};
 use vll_sca::MOST_BITS;
 
-/// Why nothing can be opened with so many records and this configuration: the lowest fault that stands, and `None`
-/// if none does. `NoMemory` is not among these.
+/// Returns why nothing can be opened with `records` records and this configuration: the first fault that applies, or
+/// `None` if none does. It never returns `NoMemory`.
 pub fn open_fault(records: usize, config: Config) -> Option<OpenFault>
     ensures { result ≡ open_fault records config }
 {
@@ -16,7 +16,7 @@ pub fn open_fault(records: usize, config: Config) -> Option<OpenFault>
     config_fault(config)
 }
 
-// Why no queue can be opened with this configuration: the lowest fault that stands.
+// Returns why no queue can be opened with this configuration: the first fault that applies.
 pub(crate) fn config_fault(config: Config) -> Option<OpenFault>
     ensures { result ≡ config_fault config }
 {
@@ -32,7 +32,7 @@ pub(crate) fn config_fault(config: Config) -> Option<OpenFault>
     None
 }
 
-// Whether a number is from 1 to the most.
+// Reports whether `n` is from 1 to `most`.
 fn is_up_to(n: usize, most: usize) -> bool
     ensures { result ≡ is_up_to most n }
 {

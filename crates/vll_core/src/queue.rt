@@ -16,18 +16,18 @@ use std::marker::Model;
 use vll_proc::{Call, Reply};
 use vll_sca::{Bits, Place, Status};
 
-/// The entered calls in order of entry, each with its line and its status, and the contention analysis of them.
-/// All room is taken in `open`. Contracts see what was chosen at the opening, and the list of entries.
+/// The entered calls in order of entry, each with its line and its status, and their contention analysis. All room is
+/// allocated in `open`. Contracts see what was chosen at the opening, and the list of entries.
 #[derive(Drop)]
 pub struct Queue<H: Place> {
-    // What each call changes lies together.
+    // The fields that each call changes are next to each other.
     journal: Vec<Line>,
     statuses: Vec<Status>,
     // The tickets of the calls that run or wait.
     window: Window,
     waiting: u32,
     running: u32,
-    // The last scan found none, and since then no call was removed and none entered that waits. So the next scan would
+    // The last scan found none, and since then no call was removed and no waiting one entered. So the next scan would
     // find none.
     is_fruitless: bool,
     cap: u32,
@@ -52,9 +52,9 @@ impl<H: Place> Model for Queue<H> {
 }
 
 impl<H: Place + Drop> Queue<H> {
-    /// A queue in which nothing is entered, with room for `limit` calls. Each place of the room is written once, so
-    /// that the system has mapped it before the first call. The lowest fault that stands is returned: `Limit`, `Cap` or
-    /// `Bits`, before any memory is asked for; if none stands, `NoMemory` is the only one.
+    /// Opens an empty queue with room for `config.limit` calls. Each slot is written once, so that the system has
+    /// mapped it before the first call. Fails with the first fault that applies: `Limit`, `Cap` or `Bits`, before any
+    /// memory is requested; if none applies, only with `NoMemory`.
     pub fn open(alloc: Global, config: Config, hash: H) -> Result<Queue<H>, OpenFault>
         ensures refused { Refuses (config_fault config) result }
         ensures opened { IfOk result (λ q. q ≡ empty config hash) }
@@ -65,7 +65,7 @@ impl<H: Place + Drop> Queue<H> {
         }
     }
 
-    // A queue in which nothing is entered, for a configuration without a fault.
+    // Opens an empty queue, for a configuration without a fault.
     pub(crate) fn with_room(alloc: Global, config: Config, hash: H) -> Result<Queue<H>, AllocError>
         requires { config_fault config ≡ None }
         ensures { IfOk result (λ q. q ≡ empty config hash) }
@@ -89,7 +89,7 @@ impl<H: Place + Drop> Queue<H> {
         })
     }
 
-    /// The lines by ticket, moved out. It takes no memory.
+    /// Moves out the lines by ticket. Allocates nothing.
     pub fn into_journal(self) -> Vec<Line>
         ensures lines { result.items ≡ lines self }
         ensures kept { IsQueued self }
@@ -98,10 +98,9 @@ impl<H: Place + Drop> Queue<H> {
         journal
     }
 
-    /// Begins anew: the queue with nothing entered, for the same configuration and hash, and the lines by ticket, moved
-    /// out. The list that is handed in has room for as many lines as the limit; what it holds is dropped, and its room
-    /// is for the next lines. The list of lines has as much room, so it can be handed in the next time. It takes no
-    /// memory.
+    /// Starts over: returns the emptied queue, with the same configuration and hash, and the lines by ticket, moved
+    /// out. `journal` must have capacity for `limit` lines; its items are dropped, and it takes the next lines. The
+    /// returned list has capacity for `limit` lines too, so it can be passed the next time. Allocates nothing.
     pub fn reopen(self, mut journal: Vec<Line>) -> (Queue<H>, Vec<Line>)
         requires room { self.limit ≤ vec_capacity journal }
         ensures queue { result.0 ≡ emptied self }
@@ -138,7 +137,7 @@ impl<H: Place + Drop> Queue<H> {
 }
 
 impl<H: Place> Queue<H> {
-    /// As many calls as the limit have been entered.
+    /// Reports whether the number of entered calls has reached the limit.
     pub fn is_spent(&self) -> bool
         ensures answer { IsTrue result ↔ (length self.now.entries ≡ self.now.limit) }
         ensures kept { IsQueued self.now }
@@ -146,7 +145,7 @@ impl<H: Place> Queue<H> {
         self.journal.len() == self.limit as usize
     }
 
-    /// As many calls as the cap wait.
+    /// Reports whether the number of waiting calls has reached the cap.
     pub fn is_busy(&self) -> bool
         ensures answer { IsTrue result ↔ (count_by waiting (statuses self.now) ≡ self.now.cap) }
         ensures kept { IsQueued self.now }
@@ -154,35 +153,35 @@ impl<H: Place> Queue<H> {
         self.waiting == self.cap
     }
 
-    /// How many entered calls wait.
+    /// Returns the number of entered calls that wait.
     pub fn waiting(&self) -> u32
         ensures { result ≡ count_by waiting (statuses self.now) }
     {
         self.waiting
     }
 
-    /// How many entered calls run.
+    /// Returns the number of entered calls that run.
     pub fn running(&self) -> u32
         ensures { result ≡ count_by running (statuses self.now) }
     {
         self.running
     }
 
-    /// Where the call of a ticket stands. `None` exactly if there is no such ticket yet.
+    /// Returns the status of a ticket's call, or `None` exactly if there is no such ticket yet.
     pub fn status(&self, ticket: Ticket) -> Option<Status>
         ensures { result ≡ slice_get (statuses self.now) ticket }
     {
         self.statuses.get(ticket.0 as usize).copied()
     }
 
-    /// The line of a ticket. `None` exactly if there is no such ticket yet.
+    /// Returns the line of a ticket, or `None` exactly if there is no such ticket yet.
     pub fn line(&self, ticket: Ticket) -> Option<&Line>
         ensures { option_copied result ≡ slice_get (lines self.now) ticket }
     {
         self.journal.get(ticket.0 as usize)
     }
 
-    /// The lines by ticket.
+    /// Returns the lines by ticket.
     pub fn journal(&self) -> &[Line]
         ensures lines { result.now ≡ lines self.now }
         ensures kept { IsQueued self.now }
@@ -190,8 +189,8 @@ impl<H: Place> Queue<H> {
         &self.journal
     }
 
-    /// Enters a call at the end, without a reply, and returns its ticket. It runs if it is free, else it waits.
-    /// The queue must be neither spent nor busy. No memory is taken.
+    /// Enters a call at the end, without a reply, and returns its ticket. The call runs if `free`, else it waits. The
+    /// queue must be neither spent nor busy. Allocates nothing.
     pub fn admit(&mut self, client: u32, call: &Call, free: bool) -> Ticket
         requires unspent { length self.old.entries < self.old.limit }
         requires idle { count_by waiting (statuses self.old) < self.old.cap }
@@ -217,15 +216,15 @@ impl<H: Place> Queue<H> {
         ticket
     }
 
-    // The lowest ticket that is not gone.
+    // Returns the lowest ticket that is not gone.
     pub(crate) fn lowest(&self) -> Option<Ticket>
         ensures { result ≡ position is_left (statuses self.now) }
     {
         Some(Ticket(self.window.front()?))
     }
 
-    /// If the lowest ticket that is not gone waits, its call begins to run, and the ticket is returned.
-    /// Else the result is `None`, and nothing changes.
+    /// Starts the call of the lowest ticket that is not gone, if it waits, and returns the ticket. Otherwise returns
+    /// `None` and changes nothing.
     pub fn front(&mut self) -> Option<Ticket>
         ensures ticket { result ≡ front_among (statuses self.old) }
         ensures fronted { self.new ≡ fronted self.old }
@@ -238,10 +237,10 @@ impl<H: Place> Queue<H> {
         Some(front)
     }
 
-    /// If the contention analysis finds a waiting call that is in hash conflict with no earlier one that runs or
-    /// waits, the first such call begins to run, and its ticket is returned. Else the result is `None`, and nothing
-    /// changes. It walks over the calls that run or wait, and over no more that are gone; and over none, if the last
-    /// scan found none and since then no call was removed and none entered that waits. No memory is taken.
+    /// Starts the first waiting call that, by the contention analysis, is in hash conflict with no earlier one that
+    /// runs or waits, and returns its ticket. If there is none, returns `None` and changes nothing. It walks over the
+    /// calls that run or wait, and at most as many that are gone; and over none, if the last scan found none and since
+    /// then no call was removed and no waiting one entered. Allocates nothing.
     pub fn scan(&mut self) -> Option<Ticket>
         ensures ticket { result ≡ found_by H.place_of self.old }
         ensures scanned { self.new ≡ scanned H.place_of self.old }
@@ -258,7 +257,7 @@ impl<H: Place> Queue<H> {
         Some(ticket)
     }
 
-    // A waiting call begins to run.
+    // Starts a waiting call.
     fn start(&mut self, ticket: Ticket)
         requires { slice_get (statuses self.old) ticket ≡ Some Status.Waiting }
         ensures { self.new ≡ started self.old ticket }
@@ -268,7 +267,7 @@ impl<H: Place> Queue<H> {
         self.running += 1;
     }
 
-    /// Takes the running call of a ticket out: it is gone, and its line gets the reply. Nothing else changes.
+    /// Removes the running call of a ticket: it is gone, and its line gets the reply. Nothing else changes.
     pub fn remove(&mut self, ticket: Ticket, reply: &Reply)
         requires { slice_get (statuses self.old) ticket ≡ Some Status.Running }
         ensures { self.new ≡ finished self.old ticket reply.now }

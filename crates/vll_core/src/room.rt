@@ -1,10 +1,10 @@
-// Room for lists, which is really there before the first call.
+// Room for lists, all of it mapped before the first call.
 ghost use Rattle.std.specs.Prelude.{◌≡◌, ◌≤◌, [], IfOk, vec_capacity};
 
 use std::alloc::{AllocError, Global};
 
-/// A list without items, and room for so many. Each place of the room has been written once, so that the system has
-/// mapped all of it, and no later push meets a page that it does not have.
+/// Returns an empty list with capacity for at least `room` items. Each slot has been written once, so that the system
+/// has mapped all of them, and no later push meets an unmapped page.
 pub(crate) fn list_with_room<T: Copy>(
     alloc: Global,
     room: usize,

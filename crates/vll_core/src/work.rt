@@ -25,7 +25,7 @@ pub(crate) struct Work {
 }
 
 impl Work {
-    /// The work of a call that has done nothing yet. The body of a call without claims has run.
+    /// Returns the work of a call that has done nothing yet; if the call has no claims, its body has run.
     pub(crate) fn new(call: &Call, procedure: &Proc) -> Work
         requires formed { IsWellFormed procedure.now }
         requires made { (n : ℕ) × IsCallOf n procedure.now call.now }
@@ -43,7 +43,7 @@ impl Work {
         work
     }
 
-    /// The work of a call of which nothing is done. Room for works is filled with it.
+    /// Returns a work with nothing done, with which room for works is filled.
     pub(crate) fn blank() -> Work
         ensures loads { result.loads ≡ 0 }
         ensures stores { result.stores ≡ 0 }
@@ -60,14 +60,14 @@ impl Work {
         }
     }
 
-    /// The claim whose record is to be loaded next. `None` exactly if all loads are made.
+    /// Returns the claim whose record is to be loaded next, or `None` exactly if all loads are made.
     pub(crate) fn next_load(&self, call: &Call) -> Option<Claim>
         ensures { result ≡ slice_get call.now.claims self.now.loads }
     {
         call.claims.get(self.loads as usize)
     }
 
-    /// Takes the value of the claim that is to be loaded next. With the last one the body runs.
+    /// Takes the value of the claim that is to be loaded next. After the last one, it runs the body.
     pub(crate) fn load(&mut self, call: &Call, procedure: &Proc, value: u64)
         requires formed { IsWellFormed procedure.now }
         requires made { (n : ℕ) × IsCallOf n procedure.now call.now }
@@ -109,21 +109,21 @@ impl Work {
         }
     }
 
-    /// All loads are made, so the body has run.
+    /// Reports whether all loads are made, and so the body has run.
     pub(crate) fn has_loaded(&self, call: &Call) -> bool
         ensures { result ≡ (self.now.loads == length call.now.claims) }
     {
         self.loads as usize == call.claims.len()
     }
 
-    /// The body has run, and the call aborted.
+    /// Reports whether the body has run and the call aborted.
     pub(crate) fn has_aborted(&self) -> bool
         ensures { result ≡ option_map_or is_aborted self.now.reply false }
     {
         matches!(self.reply, Some(Reply::Aborted(_)))
     }
 
-    /// The Write claim whose record is to be stored next, with the value of its cell. `None` exactly if all
+    /// Returns the Write claim whose record is to be stored next, with the value of its cell, or `None` exactly if all
     /// Write claims are stored.
     pub(crate) fn next_store(&self, call: &Call) -> Option<(Claim, u64)>
         ensures claim { option_map (λ (p : Claim × ℕ). p.0) result ≡ slice_get (writes call.now) self.now.stores }
@@ -137,7 +137,7 @@ impl Work {
         Some((claim, self.frame.get(index)))
     }
 
-    /// One more store is made.
+    /// Counts one more store.
     pub(crate) fn stored(&mut self)
         requires room { self.old.stores < 255 }
         ensures at_work { (procs : List Proc) (call : Call) (records : List ℕ)
@@ -147,7 +147,7 @@ impl Work {
         self.stores += 1;
     }
 
-    /// All loads are made, and the call aborted or all its stores are made.
+    /// Reports whether all loads are made, and the call aborted or all its stores are made.
     #[tactic(auto, using(crate::proofs::AtWork::aborted_at_work))]
     pub(crate) fn has_stored(&self, call: &Call) -> bool
         ensures at_work { (procs : List Proc) (records : List ℕ) → IsAtWork procs call.now records self.now
@@ -161,14 +161,14 @@ impl Work {
             && (self.has_aborted() || self.stores == count_of_writes(&call.claims))
     }
 
-    /// The claim that is to be released next. `None` exactly if all releases are made.
+    /// Returns the claim that is to be released next, or `None` exactly if all releases are made.
     pub(crate) fn next_release(&self, call: &Call) -> Option<Claim>
         ensures { result ≡ slice_get call.now.claims self.now.releases }
     {
         call.claims.get(self.releases as usize)
     }
 
-    /// One more release is made.
+    /// Counts one more release.
     pub(crate) fn released(&mut self)
         requires room { self.old.releases < 255 }
         ensures at_work { (procs : List Proc) (call : Call) (records : List ℕ)
@@ -179,7 +179,7 @@ impl Work {
     }
 }
 
-// The index of a Write claim, by its number among the Write claims, and `None` if there are fewer.
+// Returns the index of Write claim `number`, counted from 0 among the Write claims, or `None` if there are fewer.
 fn index_of_write(claims: &Claims, number: u8) -> Option<usize>
     ensures claim { option_and_then (slice_get claims.now) result ≡ slice_get (filter writes_record claims.now) number }
     ensures within { IfSome result (λ i. i < MOST_CLAIMS) }
@@ -196,7 +196,7 @@ fn index_of_write(claims: &Claims, number: u8) -> Option<usize>
     None
 }
 
-// How many of the claims are Write.
+// Returns the number of Write claims.
 fn count_of_writes(claims: &Claims) -> u8
     ensures { result ≡ length (filter writes_record claims.now) }
 {
@@ -209,7 +209,7 @@ fn count_of_writes(claims: &Claims) -> u8
     count
 }
 
-// There is a claim, and it is Write.
+// Reports whether there is a claim and it is Write.
 fn is_write(claim: Option<Claim>) -> bool
     ensures { result ≡ option_map_or writes_record claim false }
 {

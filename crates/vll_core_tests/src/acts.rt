@@ -1,4 +1,4 @@
-// What is done to a core, and what has to come of it.
+// What is done to a core, and the results that it must have.
 use crate::asserts::{equal, equal_at};
 use crate::opening::opened;
 use crate::words::{said, standing};
@@ -8,7 +8,7 @@ use std::test::Fail;
 use vll_core::{Core, Event, Ticket};
 use vll_sca::Placing;
 
-// An event, in which a ticket is its number.
+// An event, with a ticket given by its number.
 #[derive(Clone, Copy, Debug)]
 pub(crate) enum Step {
     Find(u32),
@@ -40,21 +40,21 @@ pub(crate) fn event(step: Step) -> Event {
 
 #[derive(Clone, Copy)]
 pub(crate) enum Act<'a> {
-    // Each of these events in turn is answered in these words.
+    // Each of these events in turn has this answer, in words.
     Play(&'a [(Step, &'a str)]),
-    // Each of these events is refused in these words, and leaves the calls, their statuses and the words.
+    // Each of these events is refused in these words, and leaves the calls, their statuses and the words unchanged.
     Refuse(&'a [(Step, &'a str)]),
-    // The core is drained, by so many events.
+    // The core is drained, by this many events.
     Drain(u64),
-    // As many calls run, and as many wait.
+    // This many calls run, and this many wait.
     Counts(u32, u32),
     // The core has these words.
     Words(&'a [u64]),
-    // This stands in the core.
+    // The core has this content.
     Stands(&'a str),
 }
 
-// What a core answers an event.
+// Returns the answer of a core to an event, in words.
 fn answer(alloc: Global, core: &mut Core<Placing>, step: Step) -> Result<String, AllocError> {
     said(alloc, core.step(event(step)))
 }
@@ -132,7 +132,7 @@ fn perform(
     }
 }
 
-// Goes through these acts in turn, with the core of a scenario.
+// Performs these acts in turn, on the core of a scenario.
 pub(crate) fn run(
     rt: &(impl AllocGlobal + Abort),
     scenario: &str,

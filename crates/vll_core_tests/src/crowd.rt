@@ -1,4 +1,4 @@
-// As many calls as a core can have entered, all of one record.
+// As many calls as can be entered in a core, all on one record.
 ghost use Rattle.std.specs.Prelude.{All, IfOk};
 ghost use Rattle.vll_check.specs.Calls.{Fits};
 
@@ -14,14 +14,14 @@ use vll_proc::Call;
 use vll_sca::Placing;
 use vll_test_procedures::library;
 
-// A bump of record 0.
+// Returns a bump of record 0.
 fn bump(library: &Library) -> Result<Call, CallFault>
     ensures { IfOk result (Fits library.now) }
 {
     library.call("bump", &[0])
 }
 
-// So many bumps of record 0.
+// Returns `count` bumps of record 0.
 fn bumps(alloc: Global, library: &Library, count: usize) -> Result<Vec<Call>, Fail>
     ensures { IfOk result (λ script. All (Fits library.now) script.items) }
 {
@@ -33,7 +33,7 @@ fn bumps(alloc: Global, library: &Library, count: usize) -> Result<Vec<Call>, Fa
     Ok(script)
 }
 
-// The scripts of two clients: of as many bumps as can enter, and of one.
+// Returns the scripts of two clients: as many bumps as can enter, and one.
 fn scripts(alloc: Global, library: &Library) -> Result<Vec<Vec<Call>>, Fail>
     ensures { IfOk result (λ scripts. All (λ script. All (Fits library.now) script.items) scripts.items) }
 {
@@ -45,7 +45,7 @@ fn scripts(alloc: Global, library: &Library) -> Result<Vec<Vec<Call>>, Fail>
     Ok(scripts)
 }
 
-// A core over one record that is 0, with these scripts, in which as many calls may enter and wait as can.
+// Opens a core over one record that is 0, with these scripts, and with the highest limit and cap.
 fn core(alloc: Global) -> Result<Core<Placing>, Fail> {
     let library = library(alloc, 1)?;
     let scripts = scripts(alloc, &library)?;
@@ -59,7 +59,7 @@ fn core(alloc: Global) -> Result<Core<Placing>, Fail> {
     Ok(core)
 }
 
-// A bump enters behind so many others.
+// Enters a bump after `others` others.
 fn enter_behind(
     rt: &(impl AllocGlobal + Abort),
     core: &mut Core<Placing>,

@@ -1,4 +1,4 @@
-// Cores that are drained.
+// Draining a core.
 use crate::acts::Act::{Counts, Drain, Play, Stands};
 use crate::acts::Step::{Admit, Claim, Enter, Front, Load, Release, Scan, Store};
 use crate::acts::run;
@@ -32,7 +32,7 @@ const TRANSFER_AND_TAKE: &str = r#"{"version":1,"records":[10,20],
  "clients":[[{"proc":"transfer","args":[0,1,5]}],[{"proc":"take","args":[0,6]}]],
  "cap":8,"limit":2,"bits":64}"#;
 
-// Ticket 0 runs and has four steps left; of the two that wait each has Front too.
+// Ticket 0 runs and has four steps left; each of the two that wait needs Front as well.
 #[test]
 fn waiting_calls_are_brought_to_their_ends(rt: HostRuntime) -> Result<(), Fail> {
     run(
@@ -78,8 +78,8 @@ fn open_turn_is_closed(rt: HostRuntime) -> Result<(), Fail> {
     )
 }
 
-// Ticket 0 has its end and one release left; the call of the open turn has one request left, its admission, Front,
-// a load, a release and its end, and no store, since it aborts.
+// Ticket 0 has one release and its Finish left; the call of the open turn has one request left, then Admit, Front, a
+// load, a release and its Finish, and no store, since it aborts.
 #[test]
 fn drain_goes_on_from_the_middle_of_steps(rt: HostRuntime) -> Result<(), Fail> {
     run(

@@ -1,4 +1,4 @@
-// Calls that are handed in.
+// Calls that are passed to a core.
 ghost use Rattle.std.specs.Prelude.{◌≡◌, ◌<◌, IfOk, length};
 ghost use Rattle.vll_check.specs.Calls.{IsReady};
 ghost use Rattle.vll_core.specs.Shown.{library_of};
@@ -39,14 +39,14 @@ const VIA: &str = r#"{"version":1,"records":[0],
    "body":[["set",1,["add",["key",1],1]],["reply",["key",1]]]}],
  "clients":[[{"proc":"via","args":[0]}]],"cap":1,"limit":4,"bits":64}"#;
 
-// What is done to a core: the call is handed in for client 0, or an event is stepped.
+// What is done to a core: the call is passed in for client 0, or an event is made.
 #[derive(Clone, Copy, Debug)]
 enum Turn {
     Hand,
     Then(Step),
 }
 
-// What a core answers when the call is handed in.
+// Returns the answer of a core when the call is passed in, in words.
 fn handed(core: &mut Core<Placing>, call: &Call) -> &'static str
     requires client { 0 < length core.old.state.scripts }
     requires ready { IsReady (library_of core.old) call.now }
@@ -96,7 +96,7 @@ fn play(
     Ok(())
 }
 
-// A bump of record 0, which needs no value.
+// Returns a bump of record 0, which needs no value.
 fn bump(library: &Library) -> Result<Call, CallFault>
     ensures { IfOk result (IsReady library.now) }
 {
@@ -104,7 +104,7 @@ fn bump(library: &Library) -> Result<Call, CallFault>
     Ok(library.with_found(&call, 0))
 }
 
-// The core of a scenario that has a client, and a bump of record 0 that is ready for it.
+// Returns the core of a scenario that has a client, and a bump of record 0 that is ready for it.
 fn opened(alloc: Global, scenario: &str) -> Result<(Core<Placing>, Call), Fail>
     ensures client { IfOk result (λ r. 0 < length r.0.state.scripts) }
     ensures ready { IfOk result (λ r. IsReady (library_of r.0) r.1) }
@@ -125,7 +125,7 @@ fn opened(alloc: Global, scenario: &str) -> Result<(Core<Placing>, Call), Fail>
     Ok((core, bump))
 }
 
-// Goes through these turns with the core of a scenario. The call that is handed in each time is a bump of record 0.
+// Makes these turns in order, on the core of a scenario. The call that is passed in is always a bump of record 0.
 fn run(
     rt: &(impl AllocGlobal + Abort),
     scenario: &str,
@@ -135,7 +135,7 @@ fn run(
     play(rt, &mut core, &bump, turns)
 }
 
-// If as many calls as the limit are entered, that is reported, also if as many as the cap wait.
+// If the entered calls have reached the limit, that is reported, even if the waiting ones have reached the cap.
 #[test]
 fn cap_and_limit_hold_of_calls_that_are_handed_in(rt: HostRuntime) -> Result<(), Fail> {
     for (scenario, last) in [(LIMIT_OF_2, "refused spent"), (LIMIT_OF_3, "refused busy")] {

@@ -1,4 +1,4 @@
-//! What a core and a queue answer, step by step: the tests of vll_core.
+//! The tests of vll_core: the answers of a core and of a queue, step by step.
 #![tactic(auto)]
 
 #[cfg(test)]

@@ -1,4 +1,4 @@
-// Cores of scenarios, and what an opening refuses.
+// Cores of scenarios, and the faults of an opening.
 use crate::asserts::{equal, equal_at};
 use std::alloc::Global;
 use std::test::Fail;
@@ -7,7 +7,7 @@ use vll_core::{Config, Core, OpenFault};
 use vll_sca::Placing;
 use vll_test_procedures::parts;
 
-// The core of a scenario, which is a text.
+// Opens the core of a scenario, given as text.
 pub(crate) fn opened(alloc: Global, scenario: &str) -> Result<Core<Placing>, Fail> {
     let parts = parts(alloc, scenario)?;
     let core = Core::open(
@@ -21,7 +21,7 @@ pub(crate) fn opened(alloc: Global, scenario: &str) -> Result<Core<Placing>, Fai
     Ok(core)
 }
 
-// What an opening over so many records refuses, which needs no procedures.
+// Returns the fault of an opening over `records` records, without procedures.
 fn fault_of(alloc: Global, records: u32, config: Config) -> Result<Option<OpenFault>, Fail> {
     let library = Library::new(records, Vec::new(alloc))?;
     let values = vec![in alloc; 5; records as usize]?;

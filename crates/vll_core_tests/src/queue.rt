@@ -1,4 +1,4 @@
-// What a queue answers, and what stands in it.
+// The answers and the content of a queue.
 mod playing;
 mod scanning;
 

@@ -1,4 +1,4 @@
-// Answers, and what stands in a core, in words.
+// Answers, and the content of a core, in words.
 use std::alloc::{AllocError, Global};
 use vll_core::{Core, Line, Refusal, Seen, Ticket};
 use vll_sca::{Placing, Status};
@@ -41,7 +41,7 @@ pub(crate) fn words_of(refusal: Refusal) -> &'static str {
     }
 }
 
-// What an event was answered.
+// Returns the answer to an event, in words.
 pub(crate) fn said(alloc: Global, answer: Result<Seen, Refusal>) -> Result<String, AllocError> {
     let mut text = String::new(alloc);
     match answer {
@@ -51,7 +51,7 @@ pub(crate) fn said(alloc: Global, answer: Result<Seen, Refusal>) -> Result<Strin
     Ok(text)
 }
 
-// Where a call stands, or its reply.
+// Writes the status of a call, or its reply.
 fn push_state(text: &mut String, state: Option<Status>, line: &Line) -> Result<(), AllocError> {
     match (state, &line.reply) {
         (Some(Status::Running), None) => text.push_str("running"),
@@ -80,7 +80,7 @@ fn push_records(text: &mut String, words: &[u64]) -> Result<(), AllocError> {
     Ok(())
 }
 
-// What stands in a core: a line for each entered call, and then one for each record.
+// Returns the content of a core: a line for each entered call, then one for each record.
 pub(crate) fn standing(alloc: Global, core: &Core<Placing>) -> Result<String, AllocError> {
     let mut text = String::new(alloc);
     push_calls(&mut text, core)?;

@@ -1,4 +1,5 @@
--- The step of a session's seat under no lock keeps the rule: it finds a record, behind each ticket that it was given and that claims the record.
+-- The step of a session's seat under no lock keeps the rule: it finds a record's value as it is after each ticket that
+-- it was given and that claims the record.
 use Rattle.std.proofs.Common.{◌≡◌, ◌≢◌, ℕ, suc, ◌+◌, ◌<◌, ◌≤◌, ◌||◌, ◌==◌, Bool, true, false, List, [], ◌∷◌, length, drop, not, refl, sym, ap, ◌∙◌, subst, arith, Some, slice_get, slice_index}
 use Rattle.std.specs.List.{list_any}
 use Rattle.std.proofs.lemmas.List.{length-map}

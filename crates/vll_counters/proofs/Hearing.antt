@@ -1,4 +1,5 @@
--- The steps of news keep the rule: a session tells what it has seen, news comes to another one, and that one hears it.
+-- The steps of news keep the rule: a session makes news of what it has seen, the news joins another session, and that
+-- one hears it.
 use Rattle.std.proofs.Common.{◌≡◌, ◌≢◌, ℕ, List, [], ◌∷◌, set, refl, sym, ap, ◌∙◌, subst}
 use Rattle.std.proofs.lemmas.Option.{same_Some}
 use mathlib.Core.Option.{some, some-injective}
@@ -81,7 +82,7 @@ module _ {S : Type 0} (base : Base) where
       }
 
 module _ (base : Base) where
-  -- a session hears the news that has come to it: it has then seen all entered calls
+  -- a session hears the news that has joined it: it has then seen all entered calls
   pub hears : (slots by : ℕ) (g : SessionView) (calls : List Made)
       → Allows (Rule {S = Unit {0}} base) slots by (Hearing g calls, []) 0 (λ n. n) (HearTells (step 0 0 0 0 mathlib.Core.Option.none) (Hearing g calls, []))
   hears slots by g calls t k _ at small =
@@ -109,7 +110,7 @@ module _ (base : Base) where
         (y, (refl, record { same = refl; heard = k.news by (Hearing g calls) calls at refl; begins = seen.begins; own = seen.own })),
       )
 
--- ---- the same where the seats and their views are known by equations
+-- ---- the steps of news, if the seats and their views are known by equations
 
 pub news_me : {S : Type 0} (me : Me S View) (z : TableId) (s : NewsShown) → me ≡ (News (calls_of_view me.0), []) → record { table = z; calls = calls_of_view me.0 } ≡ s → me ≡ (News s.calls, [])
 news_me me z s is shown = is ∙ ap (λ (x : NewsShown). (News x.calls, [])) shown

@@ -1,4 +1,4 @@
--- The moves of the plain machine, each with the state that it comes to.
+-- The moves of the plain machine, each with the state that it results in.
 use Rattle.std.proofs.Common.{◌≡◌, ℕ, ◌+◌, ◌<◌, ◌≤◌, ◌||◌, Bool, true, false, not, nat_lt, nat_le, refl, ap, ◌∙◌, arith, [], ◌∷◌, ◌++◌, length, slice_get, Option, Some, None, is_some, Ok, if◌then◌else◌}
 use Rattle.vll_record.specs.declared.claim.Claim.{Claim}
 use Rattle.vll_proc.specs.declared.call.Call.{Call}

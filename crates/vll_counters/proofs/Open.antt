@@ -1,4 +1,5 @@
--- Each pair word counts the open claims that the views tell: the passes at the seats are those of the running tickets, each once.
+-- Each pair word counts the open claims that the views show: the passes at the seats are those of the running tickets,
+-- each once.
 use Rattle.std.proofs.Common.{◌≡◌, ◌≢◌, ℕ, zero, suc, ◌+◌, ◌<◌, ◌≤◌, ◌==◌, Bool, true, false, List, [], ◌∷◌, ◌++◌, map, length, drop, refl, sym, ap, ap₂, ◌∙◌, arith, add-zero, Option, Some, None, slice_get, ⊎_elim, if◌then◌else◌}
 use Rattle.std.specs.List.{enumerate_from, flat_map}
 use Rattle.std.specs.Option.{option_map}
@@ -116,7 +117,7 @@ module _ (r : ℕ) where
   abbrev weight : Option PassView → ℕ
   weight x = word_on r (held_by x)
 
-  -- the same, at its own ticket alone
+  -- what the claims of a pass count, at its own ticket alone
   abbrev part : Option PassView → ℕ → ℕ
   part None t = 0
   part (Some p) t = if p.ticket == t then weight (Some p) else 0

@@ -1,4 +1,4 @@
--- Which item stands at which place of a list, and which seat has what.
+-- Which item is at which place of a list, and which seat has what.
 use Rattle.std.proofs.Common.{◌≡◌, ◌≢◌, ◌⊎◌, ℕ, zero, suc, ◌<◌, List, [], ◌∷◌, ◌++◌, length, sym, ap, arith, Some, None, inl, inr, refl, slice_get}
 use Rattle.std.specs.Prelude.{◌==◌, if◌then◌else◌, slice_set}
 use Rattle.std.proofs.lemmas.Bool.Decides.{nat_tests}
@@ -13,7 +13,7 @@ at_below [] k a e = absurd (some-ne-none a (sym e))
 at_below (x ∷ xs) zero a e = omega arith
 at_below (x ∷ xs) (suc k) a e = let h = at_below xs k a e in omega (arith, h)
 
--- an item of a list with one more behind it
+-- an item of a list with one more after it
 pub at_end : {A : Type 0} (l : List A) (a b : A) (k : ℕ) → get_elem? (l ++ a ∷ []) k ≡ some b → (get_elem? l k ≡ some b) ⊎ ((k ≡ length l) × (a ≡ b))
 at_end [] a b zero e = inr (refl, some-injective a b e)
 at_end [] a b (suc k) e = absurd (some-ne-none b (sym e))
@@ -24,7 +24,7 @@ at_end (x ∷ xs) a b (suc k) e = by_place (at_end xs a b k e)
     by_place (inl h) = inl h
     by_place (inr h) = inr (ap suc h.0, h.1)
 
--- a list goes on behind its items
+-- a list goes on after its items
 pub get_longer : {A : Type 0} (xs ys : List A) (k : ℕ) (a : A) → slice_get xs k ≡ Some a → slice_get (xs ++ ys) k ≡ Some a
 get_longer [] ys k a e = absurd (cc e)
 get_longer (x ∷ xs) ys zero a e = e
@@ -34,7 +34,7 @@ pub get_last : {A : Type 0} (xs : List A) (a : A) → slice_get (xs ++ a ∷ [])
 get_last [] a = refl
 get_last (x ∷ xs) a = get_last xs a
 
--- behind the end there is nothing
+-- past the end there is nothing
 pub get_past : {A : Type 0} (xs : List A) → slice_get xs (length xs) ≡ None
 get_past [] = refl
 get_past (x ∷ xs) = get_past xs

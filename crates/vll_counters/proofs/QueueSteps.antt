@@ -82,7 +82,7 @@ module _ (base : Base) where
         (refl, record { now = record { moment = t; rule = k; at = at }; counts = k.words.pairs c.id room }),
       )
 
-  -- what the queue's seat is told of a session that has come
+  -- what the queue's seat learns of a session that has joined it
   knows : (t : Moment) (q : QueueView) → Holds base q t.words t.views → get_elem? t.views 0 ≡ some (Queue q) → (g : SessionView) → q.session ≡ Some g → KnowsSession base q g
   knows t q h at g has = let o = h.sessions 0 (Queue q) g at has in record { client = o.client; has_seen = o.has_seen; replied = replied base q h.state h.shows }
 

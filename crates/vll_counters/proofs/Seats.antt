@@ -1,4 +1,4 @@
--- The steps where the seat and its view, the words and what a step is told are known by equations.
+-- The steps, if the seat and its view, the words and what a step knows besides are known by equations.
 use Rattle.std.proofs.Common.{◌≡◌, ◌≢◌, ℕ, ◌+◌, ◌-◌, ◌*◌, ◌%◌, ◌<◌, true, false, List, [], ◌∷◌, ◌++◌, length, length-append, ⊎_elim, refl, sym, ap, ◌∙◌, subst, arith, Option, Some, None, slice_get, slice_index, IfSome, IsSome, count_by, Bor}
 use Rattle.std.specs.Option.{option_map}
 use Rattle.atomic_table.specs.Seated.{TableId}
@@ -135,7 +135,7 @@ module _ {S : Type 0} where
   pub makes_at : (base b : Base) (id : ℕ) (v : View) (q : QueueView) → base ≡ b → id ≡ 0 → v ≡ Queue q → q.lines ≡ [] → Splits (Rule {S = S} base) id v (more_clients v) (session_made v)
   makes_at base b id v q same i is empty = rw (same, i, is) (makes_session b q empty)
 
--- ---- what comes of a split and of a join
+-- ---- the results of a split and of a join
 
 -- a given pass's seat has the view of a pass
 pub given_pass : {S : Type 0} (me seat : Me S View) (n m : ℕ) (q : QueueView) → n ≡ m → me ≡ (Queue q, []) → MayRun q.lines q.statuses q.turn m → seat ≡ (pass_made n me.0, []) → seat ≡ (Pass (pass_of_view seat.0), [])
@@ -155,7 +155,7 @@ joined_pass me other q p is has = λ i. (joined (is i).0 (has i).0, (is i).1)
 pub joined_session : {S : Type 0} (me other : Me S View) (q : QueueView) (g : SessionView) → me ≡ (Queue q, []) → other ≡ (Session g, []) → ◌≡◌ {A = Me S View} (joined me.0 other.0, me.1) (Queue (record q { session = Some g }), [])
 joined_session me other q g is has = λ i. (joined (is i).0 (has i).0, (is i).1)
 
--- what is told of a pass that has come
+-- what is known of a pass that has joined
 pub told_pass : {S : Type 0} (me : Me S View) (q : QueueView) (p : PassView) → me ≡ (Queue (record q { pass = Some p }), []) → AtQueue (λ x. (y : PassView) → x.pass ≡ Some y → KnowsPass x y) me.0 → KnowsPass q p
 told_pass me q p is knows = let k = (subst (λ (m : Me _ View). AtQueue (λ x. (y : PassView) → x.pass ≡ Some y → KnowsPass x y) m.0) is knows) p refl in
     record { line = k.line; at = k.at; call = k.call; runs = k.runs; seen = k.seen }

@@ -24,7 +24,7 @@ use Rattle.vll_counters.proofs.Places.{get_longer, get_last, get_past, past_more
 abbrev pub status_of : Entered → Status
 status_of e = e.status
 
--- ---- lists told of their places
+-- ---- lists known by their places
 
 lines_same : (f g : ℕ × Entered → Line) (n : ℕ) (es : List Entered) → ((k : ℕ) (e : Entered) → slice_get es k ≡ Some e → g (n + k, e) ≡ f (n + k, e)) → map g (enumerate_from n es) ≡ map f (enumerate_from n es)
 lines_same f g n [] same = refl
@@ -62,7 +62,7 @@ set_same (x ∷ xs) (suc t) a at = λ i. x ∷ set_same xs t a at i
 
 -- ---- the lines
 
--- the line of a ticket, where these are the entered calls
+-- the line of a ticket, if these are the entered calls
 abbrev pub line_by : Base → List Made → ℕ × Entered → Line
 line_by base calls (t, e) = record {
   client = e.client;
@@ -77,7 +77,7 @@ calls_numbered : (base : Base) (calls : List Made) (n : ℕ) (es : List Entered)
 calls_numbered base calls n [] = refl
 calls_numbered base calls n (e ∷ es) = ap (λ (l : List Made). made e ∷ l) (calls_numbered base calls (n + 1) es)
 
--- the lines tell the entered calls
+-- the lines give the entered calls
 pub calls_entered : (base : Base) (s : State) → calls_in (journal_of base s) ≡ entered s
 calls_entered base s = calls_numbered base (entered s) 0 s.entries
 
@@ -234,6 +234,6 @@ module _ (base : Base) (s : State) (turn : Option Turn) (new : Entered) where
   pub pass_waits : is_running new.status ≡ false → pass_of base with_more (length s.entries) ≡ None
   pass_waits waits = pass_none base with_more (length s.entries) new (get_last s.entries new) waits
 
--- no pass stands behind the last ticket
+-- no pass is after the last ticket
 pub pass_past : (base : Base) (s : State) → pass_of base s (length s.entries) ≡ None
 pass_past base s = ap (λ (x : Option Entered). option_map (pass_for base (entered s) (length s.entries)) (if_running x)) (get_past s.entries)

@@ -1,14 +1,15 @@
--- What the types of the words and of their seats keep.
+-- What contracts see of the words, and their type's invariant.
 use Rattle.std.specs.Prelude.{◌≡◌, ◌+◌, ◌*◌, ◌≤◌, length, vec_capacity, vec_len}
 use Rattle.vll_check.specs.Catalog.{IsCatalog}
 use Rattle.vll_counters.specs.declared.words.Words.TheInside.{Inside}
 use Rattle.vll_counters.specs.Shown.{WordsShown, base_of}
 
--- what is shown of the words
+-- what contracts see of the words
 abbrev pub words_shown : Inside → WordsShown
 words_shown w = record { table = w.table.shared.table_id; base = base_of w.table.shared.key }
 
--- there is a turn word, and two words for each record, and room for as many; the library makes calls on these records
+-- there is a turn word and two words for each record, and room for as many words; the library makes calls on these
+-- records
 pub record AreWordsKept (w : Inside) : Type 0 where
   pub words : w.table.shared.table_id.words ≡ 1 + 2 * length w.table.shared.key.records.value.items
   pub slots : w.table.shared.table_id.slots ≡ 0

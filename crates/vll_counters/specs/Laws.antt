@@ -1,4 +1,4 @@
--- What the rule says of tickets, passes, sessions and pair words, wherever it holds.
+-- What the rule says of tickets, passes, sessions and pair words, whenever it holds.
 use Rattle.std.specs.Prelude.{◌≡◌, ℕ, ◌<◌, true, false, length, Some, slice_get, slice_index}
 use mathlib.Core.Option as opt
 use lib.ListN.{get_elem?}

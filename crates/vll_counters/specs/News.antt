@@ -1,4 +1,4 @@
--- News: a session tells the calls that it has seen, and another one hears them.
+-- News: the calls that one session has seen, which another one hears.
 use Rattle.std.specs.Prelude.{◌≡◌, ℕ, List, []}
 use Rattle.atomic_table.specs.Seated.{TableId}
 use Rattle.atomic_table.specs.Table.{Me, Step}
@@ -9,7 +9,7 @@ use Rattle.vll_counters.specs.declared.views.View.TheVariants.{Session, News, He
 use Rattle.vll_counters.specs.Views.{calls_by, Begins}
 use Rattle.vll_counters.specs.Steps.{told}
 
--- what contracts see of news: of which words it is, and the entered calls that it has
+-- what contracts see of news: the identity of its words, and the entered calls that it has
 pub record NewsShown : Type 0 where
   pub table : TableId
   pub calls : List Made
@@ -19,37 +19,38 @@ abbrev pub calls_of_view : View → List Made
 calls_of_view (News calls) = calls
 calls_of_view v = []
 
--- a session that tells stays as it is
+-- a session that makes news stays as it is
 abbrev pub as_it_is : View → View
 as_it_is v = v
 
--- the view of the news that a session tells: it has what the session has seen
+-- the view of the news that a session makes: it has what the session has seen
 abbrev pub news_told : View → View
 news_told (Session g) = News g.seen
 news_told v = Spent
 
--- the view of a session's seat when news has come to it
+-- the view of a session's seat that news has joined
 abbrev pub with_news : View → View → View
 with_news (Session g) (News calls) = Hearing g calls
 with_news v w = v
 
--- a session has heard news: it has seen the calls that the news has, and all that it had seen itself, with no more of its client
+-- a session has heard news: it has seen the calls of the news, and all that it had seen itself, with no more of its own
+-- client
 pub record HasHeard (old new : SessionView) (calls : List Made) : Type 0 where
   pub same : new ≡ told new.seen old
   pub heard : Begins calls new.seen
   pub begins : Begins old.seen new.seen
   pub own : calls_by old.client old.seen ≡ calls_by old.client new.seen
 
--- a fact about a session and the news that has come to it
+-- a fact about a session and the news that has joined it
 abbrev pub AtHearing : (SessionView → List Made → Type 0) → View → Type 0
 AtHearing P (Hearing g calls) = P g calls
 AtHearing P v = Unit {0}
 
--- the view of a session that has heard the news that has come to it
+-- the view of a session that has heard the news that had joined it
 abbrev pub on_hearing : SessionView → View → View
 on_hearing new (Hearing g calls) = Session new
 on_hearing new v = v
 
--- hearing changes the session, and tells what it has heard
+-- hearing changes the session, and its caller learns what the session has heard
 abbrev pub HearTells : {S : Type 0} → Step S → Me S View → ℕ → Me S View → Type 0
 HearTells st v n w = (new : SessionView) × ((w ≡ (on_hearing new v.0, v.1)) × AtHearing (λ g calls. HasHeard g new calls) v.0)

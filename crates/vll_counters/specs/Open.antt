@@ -1,4 +1,4 @@
--- The open claims, as the views of the seats tell them.
+-- The open claims, by the views of the seats.
 use Rattle.std.specs.Prelude.{List, [], ◌∷◌, ◌++◌, take, drop, Option, Some, None, if◌then◌else◌}
 use Rattle.vll_record.specs.declared.claim.Claim.{Claim}
 use Rattle.vll_sca.specs.declared.status.Status.{Status}
@@ -30,6 +30,7 @@ abbrev pub held_in : List View → List Claim
 held_in [] = []
 held_in (view ∷ views) = held_by (pass_in view) ++ held_in views
 
--- the open claims: those that the open turn has requested, all of the calls that wait, and those that no pass has released
+-- the open claims: those that the open turn has requested, all of the waiting calls, and those that the passes have not
+-- released
 abbrev pub open_in : QueueView → List View → List Claim
 open_in queue views = (requested_in queue.turn ++ waiting_in queue.lines queue.statuses) ++ held_in views

@@ -21,7 +21,7 @@ use Rattle.vll_counters.specs.declared.views.View.{View}
 use Rattle.vll_counters.specs.declared.views.View.TheVariants.{Queue}
 use Rattle.vll_counters.specs.Views.{calls_in, calls_by, Begins, pass_in, session_in, news_in}
 
--- the opening that allows most: as many calls as a machine can have, which may all wait. No step uses its hash
+-- the most permissive opening: as many calls as a machine can have, which may all wait. No step uses its hash
 abbrev pub widest : Base → Opening
 widest base = record { base = base; cap = MOST_WAITING; limit = MOST_CALLS; bits = 1; place = λ r. r }
 
@@ -49,19 +49,21 @@ pass_for base calls t e = record {
 abbrev pub pass_of : Base → State → ℕ → Option PassView
 pass_of base s t = option_map (pass_for base (entered s) t) (running s t)
 
--- the queue's seat knows the state: of each ticket its line, with the serial reply once the call is gone, and its status; and the open turn
+-- the queue's seat knows the state: each ticket's line, with the serial reply once the call is gone, and status; and
+-- the open turn
 pub record Shows (base : Base) (q : QueueView) (s : State) : Type 0 where
   pub reached : IsReached (widest base) s
   pub lines : q.lines ≡ journal_of base s
   pub statuses : q.statuses ≡ map (λ (e : Entered). e.status) s.entries
   pub turn : q.turn ≡ turn_view s.turn
 
--- an open turn is that of the session which has come to the queue
+-- an open turn is that of the session that has joined the queue's seat
 abbrev pub IsHosted : Option TurnView → Option SessionView → Type 0
 IsHosted None session = Unit {0}
 IsHosted (Some turn) session = (g : SessionView) × (session ≡ Some g) × (g.client ≡ turn.client)
 
--- each pass that a seat has is the pass of its ticket, which no other seat has, and each running ticket's pass is at its seat
+-- each pass that a seat has is the pass of its ticket, and no other seat has it; and each running ticket's pass is at
+-- its seat
 pub record ArePasses (pass : ℕ → Option PassView) (seat_of : ℕ → ℕ) (views : List View) : Type 0 where
   pub each : (seat : ℕ) (v : View) (p : PassView) → get_elem? views seat ≡ opt.some v → pass_in v ≡ Some p → (seat_of p.ticket ≡ seat) × (pass p.ticket ≡ Some p)
   pub all : (t : ℕ) (p : PassView) → pass t ≡ Some p → (v : View) × (get_elem? views (seat_of t) ≡ opt.some v) × (pass_in v ≡ Some p)
@@ -72,7 +74,7 @@ pub record HasSeen (calls : List Made) (statuses : List Status) (g : SessionView
   pub own : calls_by g.client g.seen ≡ calls_by g.client calls
   pub given : (k t : ℕ) → slice_get g.given k ≡ Some t → slice_get statuses t ≡ Some Gone
 
--- a session that a seat has is at that seat alone and of a client of the opening, and it has seen what it should
+-- a session that a seat has is at that seat alone, is of a client of the opening, and has seen what `HasSeen` says
 pub record IsSession (calls : List Made) (statuses : List Status) (clients : ℕ) (seat_of : ℕ → ℕ) (seat : ℕ) (g : SessionView) : Type 0 where
   pub there : seat_of g.client ≡ seat
   pub client : g.client < clients
@@ -87,9 +89,9 @@ AreSessions calls statuses clients seat_of views =
 abbrev pub AreNews : List Made → List View → Type 0
 AreNews calls views = (seat : ℕ) (v : View) (some : List Made) → get_elem? views seat ≡ opt.some v → news_in v ≡ Some some → Begins some calls
 
--- THE RULE. There is a state of the plain machine, reached by lawful moves, in which each value word is the record's value and each
--- pair word its counter; the queue's seat knows it; each running ticket has one pass and no other ticket has any, and each client at most one session; and all news is of a
--- beginning of the entered calls
+-- THE RULE. There is a state of the plain machine, reached by lawful moves, in which each value word is the record's
+-- value and each pair word its counter; the queue's seat knows it; each running ticket has one pass and no other ticket
+-- has any; each client has at most one session; and all news is of a beginning of the entered calls
 module _ {S : Type 0} where
   pub record Rule (base : Base) (t : table.State S View) : Type 0 where
     pub state : State

@@ -21,7 +21,7 @@ use Rattle.vll_counters.specs.Steps.{first_queue, new_session, new_pass, turn_en
 abbrev pub base_of : Key → Base
 base_of key = record { procs = key.library.value.procs; records = key.records.value.items }
 
--- which words these are, and what the rule on them is about
+-- the identity of the words, and what the rule on them is about
 pub record WordsShown : Type 0 where
   pub table : TableId
   pub base : Base
@@ -30,7 +30,7 @@ pub record WordsShown : Type 0 where
 abbrev pub library_of : WordsShown → Catalog
 library_of w = catalog_of w.base
 
--- what the queue's seat knows between two calls, when no pass is on its way into it
+-- what the queue's seat knows between two functions of `Words`, when no pass is joined to it
 pub record QueueShown : Type 0 where
   pub table : TableId
   pub lines : List Line
@@ -39,12 +39,12 @@ pub record QueueShown : Type 0 where
   pub session : Option SessionView
   pub clients : ℕ
 
--- what contracts see of a session's seat: of which words it is, and its view
+-- what contracts see of a session's seat: the identity of its words, and its view
 pub record SessionShown : Type 0 where
   pub table : TableId
   pub session : SessionView
 
--- what contracts see of a pass's seat: of which words it is, and its view
+-- what contracts see of a pass's seat: the identity of its words, and its view
 pub record PassShown : Type 0 where
   pub table : TableId
   pub pass : PassView
@@ -76,11 +76,11 @@ abbrev pub pass_of_view : View → PassView
 pass_of_view (Pass p) = p
 pass_of_view v = new_pass 0 no_call []
 
--- what is shown of a queue's seat of a table that has a view
+-- what contracts see of the queue's seat of a table, by its view
 abbrev pub shown_queue : TableId → QueueView → QueueShown
 shown_queue id q = record { table = id; lines = q.lines; statuses = q.statuses; turn = q.turn; session = q.session; clients = q.clients }
 
--- a queue's view with no pass on its way into it
+-- a queue's view with no pass joined to it
 abbrev pub settled : QueueView → QueueView
 settled q = record q { pass = None }
 
@@ -113,6 +113,6 @@ left_session s given g = record { table = s.table; session = leaving given (turn
 abbrev pub with_pass_given : QueueShown → ℕ → QueueView
 with_pass_given s t = pass_given t s.turn (queue_view s)
 
--- one session a client, in order, which have seen nothing
+-- one session for each client, in order, which have seen nothing
 abbrev pub AreNewSessions : TableId → ℕ → List SessionShown → Type 0
 AreNewSessions table clients sessions = (length sessions ≡ clients) × ((c : ℕ) → c < clients → slice_get sessions c ≡ Some (record { table = table; session = new_session c }))

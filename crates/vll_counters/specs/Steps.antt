@@ -47,7 +47,7 @@ on_session f v = v
 abbrev pub new_session : ℕ → SessionView
 new_session client = record { client = client; seen = []; given = []; waited = 0 }
 
--- there is one client more
+-- there is one more client
 abbrev pub more_clients : View → View
 more_clients v = on_queue (λ q. record q { clients = suc q.clients }) v
 
@@ -56,19 +56,19 @@ abbrev pub session_made : View → View
 session_made (Queue q) = Session (new_session q.clients)
 session_made v = Spent
 
--- ---- a pass or a session comes to the queue
+-- ---- a pass or a session joins the queue's seat
 
--- a pass or a session that comes stands in the view of the queue's seat
+-- a pass or a session that joins is in the view of the queue's seat
 abbrev pub taken_in : View → QueueView → QueueView
 taken_in (Pass p) q = record q { pass = Some p }
 taken_in (Session g) q = record q { session = Some g }
 taken_in v q = q
 
--- the view of the queue's seat when another seat has come to it
+-- the view of the queue's seat that another seat has joined
 abbrev pub joined : View → View → View
 joined v w = on_queue (taken_in w) v
 
--- the seat that has come knows nothing any more
+-- a seat that has joined another one no longer knows anything
 abbrev pub spent : View
 spent = Spent
 
@@ -173,14 +173,14 @@ stored p = record p { stores = p.stores + 1 }
 abbrev pub released : PassView → PassView
 released p = record p { releases = p.releases + 1 }
 
--- ---- a pass that has come to the queue ends
+-- ---- a pass that has joined the queue's seat ends
 
 module _ (base : Base) where
   -- the records before the pass's ticket, if the entered calls run one at a time
   abbrev pub records_before_pass : PassView → List ℕ
   records_before_pass p = before base.procs p.seen base.records p.ticket
 
-  -- what its call replies then
+  -- the reply of its call then
   abbrev pub reply_of_pass : PassView → Reply
   reply_of_pass p = (apply base.procs p.call (records_before_pass p)).reply
 
@@ -201,6 +201,6 @@ module _ (base : Base) where
   finished_by None q = q
   finished_by (Some p) q = finished p q
 
-  -- the view of the queue's seat when the pass that has come has ended
+  -- the view of the queue's seat when the joined pass has ended
   abbrev pub ended : QueueView → QueueView
   ended q = finished_by q.pass q

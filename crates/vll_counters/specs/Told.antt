@@ -1,4 +1,4 @@
--- What each step tells its caller, beside its new view.
+-- What the caller of each step learns, besides its new view.
 use Rattle.std.specs.List.{list_any}
 use Rattle.std.specs.Prelude.{◌≡◌, ℕ, suc, ◌+◌, ◌*◌, ◌<◌, ◌≤◌, ◌&&◌, ◌||◌, ◌==◌, Bool, true, false, List, length, take, Option, Some, None, slice_get, slice_index}
 use mathlib.Core.Option as opt
@@ -59,7 +59,7 @@ pub record SessionMoment (base : Base) (g : SessionView) : Type 0 where
   pub seat : ℕ
   pub at : get_elem? moment.views seat ≡ opt.some (Session g)
 
--- this is the record's counter at such a moment
+-- this is the record's counter at a moment of the queue's seat
 pub record IsCounterNow (base : Base) (q : QueueView) (r n : ℕ) : Type 0 where
   pub now : QueueMoment base q
   pub counts : n ≡ counter now.rule.state r
@@ -79,14 +79,17 @@ pub record IsCountedNow (base : Base) (p : PassView) (r n : ℕ) : Type 0 where
 abbrev pub is_claimed_by : Call → ℕ → Bool
 is_claimed_by call r = list_any (λ (c : Claim). c.id == r) call.claims
 
--- a value that a record had: if these calls run one at a time it is the record's before some ticket up to a bound, and behind each of these given tickets whose call claims the record
+-- a value that a record had: if these calls run one at a time, it is the record's value before some ticket up to a
+-- bound, which comes after each of these given tickets whose call claims the record
 pub record WasThere (base : Base) (calls : List Made) (given : List ℕ) (bound r v : ℕ) : Type 0 where
   pub ticket : ℕ
   pub within : ticket ≤ bound
   pub value : v ≡ slice_index (before base.procs calls base.records ticket) r
   pub behind : (k t : ℕ) (m : Made) → slice_get given k ≡ Some t → slice_get calls t ≡ Some m → is_claimed_by m.1 r ≡ true → t < ticket
 
--- a session has found a record's present value, at a moment of its own: it has then seen all calls that have entered, with no more of its client; each ticket whose reply it was given is one of theirs, and among them the value was there
+-- a session has found a record's present value, at a moment of its own: it has then seen all calls that have entered,
+-- with no more of its own client; each ticket whose reply it was given is one of theirs, and in their serial run the
+-- value was there
 pub record HasFound (base : Base) (old new : SessionView) (r v : ℕ) : Type 0 where
   pub now : SessionMoment base old
   pub present : v ≡ value base now.rule.state r
@@ -102,13 +105,13 @@ abbrev pub AreReplied : Base → QueueView → Type 0
 AreReplied base q =
     (t : ℕ) (l : Line) → slice_get q.lines t ≡ Some l → slice_get q.statuses t ≡ Some Gone → l.reply ≡ answer base.procs (calls_in q.lines) base.records t
 
--- what the queue's seat learns of the session that has come, and of its own lines
+-- what the queue's seat learns of the session that has joined it, and of its own lines
 pub record KnowsSession (base : Base) (q : QueueView) (g : SessionView) : Type 0 where
   pub client : g.client < q.clients
   pub has_seen : HasSeen (calls_in q.lines) q.statuses g
   pub replied : AreReplied base q
 
--- what the queue's seat learns of the pass that has come: its ticket runs, and it has seen the calls up to its own
+-- what the queue's seat learns of the pass that has joined it: its ticket runs, and it has seen the calls up to its own
 pub record KnowsPass (q : QueueView) (p : PassView) : Type 0 where
   pub line : Line
   pub at : slice_get q.lines p.ticket ≡ Some line
@@ -153,11 +156,12 @@ abbrev pub MayLeave : Option TurnView → Type 0
 MayLeave None = Unit {0}
 MayLeave (Some turn) = EntersBlocked turn
 
--- the ticket whose reply is handed out, if there is one, is gone
+-- the ticket whose reply is given, if there is one, is gone
 abbrev pub IsGivenOut : List Status → Option ℕ → Type 0
 IsGivenOut statuses given = (t : ℕ) → given ≡ Some t → slice_get statuses t ≡ Some Gone
 
--- the words once every call is gone: each record is what the entered calls make of it one at a time, no claim is open, and each line has its serial reply
+-- the words once every call is gone: each record is what the entered calls make of it, one at a time; no claim is open;
+-- and each line has its serial reply
 pub record IsAtEnd (base : Base) (lines : List Line) (words : List ℕ) : Type 0 where
   pub long : length words ≡ 1 + 2 * length base.records
   pub turn : slice_index words 0 ≡ 0
@@ -166,30 +170,30 @@ pub record IsAtEnd (base : Base) (lines : List Line) (words : List ℕ) : Type 0
   pub replied : (t : ℕ) (l : Line) → slice_get lines t ≡ Some l → l.reply ≡ answer base.procs (calls_in lines) base.records t
 
 module _ {S : Type 0} where
-  -- a request changes the turn, and tells the record's counter at its moment
+  -- a request changes the turn, and its caller learns the record's counter at its moment
   abbrev pub RequestTells : Base → Claim → Step S → Me S View → ℕ → Me S View → Type 0
   RequestTells base c st v n w = (w ≡ (on_queue (requested c n) v.0, v.1)) × AtQueue (λ q. IsCounterNow base q c.id n) v.0
 
-  -- the opening of a turn tells what the queue's seat learns of the session that has come
+  -- opening a turn, the caller learns what the queue's seat does of the session that has joined it
   abbrev pub OpenTells : Base → Option Call → Step S → Me S View → ℕ → Me S View → Type 0
   OpenTells base call st v n w = (w ≡ (on_queue (opened call) v.0, v.1)) × AtQueue (λ q. (g : SessionView) → q.session ≡ Some g → KnowsSession base q g) v.0
 
-  -- a load changes the pass, and tells the record's value
+  -- a load changes the pass, and its caller learns the record's value
   abbrev pub LoadTells : Base → ℕ → Step S → Me S View → ℕ → Me S View → Type 0
   LoadTells base r st v n w = (w ≡ (on_pass (loaded n) v.0, v.1)) × AtPass (λ p. IsValueNow base p r n) v.0
 
-  -- a find changes the session, and tells what it has found
+  -- a find changes the session, and its caller learns what was found
   abbrev pub FindTells : Base → ℕ → Step S → Me S View → ℕ → Me S View → Type 0
   FindTells base r st v n w = (new : SessionView) × ((w ≡ (on_session (λ g. new) v.0, v.1)) × AtSession (λ g. HasFound base g new r n) v.0)
 
-  -- a store changes the pass, and tells nothing
+  -- a store changes the pass, and its caller learns nothing
   abbrev pub StoreTells : Step S → Me S View → ℕ → Me S View → Type 0
   StoreTells st v n w = w ≡ (on_pass stored v.0, v.1)
 
-  -- a release changes the pass, and tells the record's counter at its moment
+  -- a release changes the pass, and its caller learns the record's counter at its moment
   abbrev pub ReleaseTells : Base → ℕ → Step S → Me S View → ℕ → Me S View → Type 0
   ReleaseTells base r st v n w = (w ≡ (on_pass released v.0, v.1)) × AtPass (λ p. IsCountedNow base p r n) v.0
 
-  -- the end of a call tells what the queue's seat learns of the pass that has come
+  -- ending a call, the caller learns what the queue's seat does of the pass that has joined it
   abbrev pub EndTells : Base → Step S → Me S View → ℕ → Me S View → Type 0
   EndTells base st v n w = (w ≡ (on_queue (ended base) v.0, v.1)) × AtQueue (λ q. (p : PassView) → q.pass ≡ Some p → KnowsPass q p) v.0

@@ -16,24 +16,24 @@ calls_in lines = map (λ (l : Line). (l.client, l.call)) lines
 abbrev pub calls_by : ℕ → List Made → List Call
 calls_by client calls = map (λ (m : Made). m.1) (filter (λ (m : Made). m.0 == client) calls)
 
--- the second list goes on from the first
+-- the second list begins with the first
 abbrev pub Begins : List Made → List Made → Type 0
 Begins some all = (more : List Made) × (all ≡ some ++ more)
 
--- the pass that a seat has: its own, or at the queue's seat the one that has come to the queue
+-- the pass that a seat has: its own, or at the queue's seat the one that has joined it
 abbrev pub pass_in : View → Option PassView
 pass_in (Queue q) = q.pass
 pass_in (Pass p) = Some p
 pass_in v = None
 
--- the session that a seat has: its own, or at the queue's seat the one that has come to the queue
+-- the session that a seat has: its own, or at the queue's seat the one that has joined it
 abbrev pub session_in : View → Option SessionView
 session_in (Queue q) = q.session
 session_in (Session g) = Some g
 session_in (Hearing g calls) = Some g
 session_in v = None
 
--- the calls of the news that a seat has: its own, or at a session's seat those of the news that has come to it
+-- the calls of the news that a seat has: its own, or at a session's seat those of the news that has joined it
 abbrev pub news_in : View → Option (List Made)
 news_in (News calls) = Some calls
 news_in (Hearing g calls) = Some calls

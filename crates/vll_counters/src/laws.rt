@@ -1,5 +1,5 @@
-// Laws of the rule, each the contract of a function that does nothing. They hold between any two atomic steps, since
-// the rule does.
+// Laws of the rule, each the contract of a function that does nothing. They hold between any two atomic steps, as the
+// rule does.
 ghost use Rattle.vll_counters.specs.Laws.{TicketsAreClear, RunningTicketsHaveAPass, PassesAreOfRunningTickets, TicketsHaveOnePass, ClientsHaveOneSession, PairWordsCountOpenClaims};
 
 /// A ticket that is running or gone is clear: no claim that a lower ticket has requested and not released conflicts
@@ -20,8 +20,8 @@ pub fn clients_have_one_session()
     ensures { ClientsHaveOneSession }
 {}
 
-/// Each pair word is 2^32 for each Write claim and 1 for each Read claim on its record, among the claims that the open
-/// turn has requested, all claims of the calls that wait, and the claims that each pass has not released.
+/// Each pair word is the sum of 2^32 for each Write claim and 1 for each Read claim on its record, over the claims that
+/// the open turn has requested, all claims of the waiting calls, and the claims that each pass has not released.
 pub fn pair_words_count_open_claims()
     ensures { PairWordsCountOpenClaims }
 {}

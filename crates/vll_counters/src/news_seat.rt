@@ -1,4 +1,4 @@
-// News, which one session tells and another one hears, under no lock.
+// News from one session to another, under no lock.
 ghost use Rattle.std.specs.Prelude.{◌≡◌};
 ghost use Rattle.vll_counters.specs.News.{HasHeard};
 
@@ -28,7 +28,7 @@ impl Model for NewsSeat {
 }
 
 impl Words {
-    /// A session tells what it has seen. It needs no lock, and the session stays as it is.
+    /// Returns news of what the session has seen. Takes no lock, and leaves the session unchanged.
     pub fn tell(&self, session: &mut SessionSeat) -> NewsSeat
         requires same { session.old.table ≡ self.now.table }
         ensures session { session.new ≡ session.old }
@@ -39,8 +39,8 @@ impl Words {
         }
     }
 
-    /// A session hears news, by a load of the turn word, which needs no lock. It has then seen all that it had seen and
-    /// all calls that the news has, and no more of its client's than before.
+    /// Makes the session hear news, by a load of the turn word, which needs no lock. It has then seen all calls that it
+    /// had seen and all of the news, and no more calls of its own client than before.
     pub fn hear(&self, session: &mut SessionSeat, news: NewsSeat)
         requires same { (session.old.table ≡ self.now.table) × (news.table ≡ self.now.table) }
         ensures table { session.new.table ≡ session.old.table }

@@ -13,8 +13,8 @@ use atomic_table::Seat;
 use std::marker::{Brand, Model};
 use vll_record::{Claim, RecordId, delta, pair_word, value_word};
 
-/// The seat of one running call, which makes its steps under no lock. It must be spent by `Words::join_pass`. Contracts
-/// see its ticket and call, the entered calls up to its own, the numbers of its steps, and the values that it loaded.
+/// The seat of one running call, which makes its steps under no lock. `Words::join_pass` has to consume it. Contracts
+/// see its ticket and call, the entered calls up to its own, the numbers of its steps, and the values it has loaded.
 pub struct PassSeat {
     pub(crate) seat: Seat<(), View>,
 }
@@ -32,8 +32,8 @@ impl Model for PassSeat {
 }
 
 impl Words {
-    /// The pass loads the record of its next claim, by one load of its value word. The value is the record's present
-    /// one, and what the record is before the pass's ticket if the entered calls run one at a time.
+    /// Loads the record of the pass's next claim, by one load of its value word. The value is the record's present one,
+    /// and the one before the pass's ticket if the entered calls run one at a time.
     pub fn load(&self, pass: &mut PassSeat, id: RecordId) -> u64
         requires same { pass.old.table ≡ self.now.table }
         requires next { record_of (slice_get pass.old.pass.call.claims pass.old.pass.loads) ≡ Some id }
@@ -57,8 +57,9 @@ impl Words {
             .load::<Loads<T>>(&mut pass.seat, value_word(id))
     }
 
-    /// The pass stores the record of its next Write claim, by one store to its value word, once all its loads are made.
-    /// Its call does not abort, and the value is what the call makes of the record as it is before the pass's ticket.
+    /// Stores the record of the pass's next Write claim, by one store to its value word, once all its loads are made.
+    /// Its call does not abort, and `value` is the record's value after the call is applied to the records before the
+    /// pass's ticket.
     pub fn store(&self, pass: &mut PassSeat, id: RecordId, value: u64)
         requires same { pass.old.table ≡ self.now.table }
         requires next { record_of (slice_get (writes pass.old.pass.call) pass.old.pass.stores) ≡ Some id }
@@ -73,8 +74,9 @@ impl Words {
             .store::<Stores>(&mut pass.seat, value_word(id), value);
     }
 
-    /// The pass releases its next claim, by one fetch_sub on the record's pair word, once all its stores are made. It
-    /// returns the word before that. The clause calls it the record's counter at a moment that fits what the pass knew.
+    /// Releases the pass's next claim, by one fetch_sub on the record's pair word, once all its stores are made.
+    /// Returns the word before that: by the clause, the record's counter at a moment consistent with what the pass
+    /// knew.
     pub fn release(&self, pass: &mut PassSeat, claim: Claim) -> u64
         requires same { pass.old.table ≡ self.now.table }
         requires next { slice_get pass.old.pass.call.claims pass.old.pass.releases ≡ Some claim }

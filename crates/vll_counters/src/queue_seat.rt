@@ -1,4 +1,4 @@
-// The steps of the queue's seat that are about calls: requests, passes given, and passes that end.
+// The steps of the queue's seat for calls: requesting claims, giving passes, and ending them.
 ghost use Rattle.std.specs.Prelude.{◌≡◌, ◌<◌, true, length, Some, None, slice_get, option_map};
 ghost use Rattle.vll_core.specs.declared.line.Line.{Line};
 ghost use Rattle.vll_counters.specs.Shown.{queue_view, after, next_claim, with_pass_given};
@@ -14,8 +14,8 @@ use std::marker::{Brand, Model};
 use vll_core::Ticket;
 use vll_record::{Claim, delta, pair_word};
 
-/// The queue's seat, which is kept under the queue's lock. Contracts see the lines and the statuses of all tickets,
-/// the open turn, the session that has come to the queue, and the number of clients.
+/// The queue's seat, which is kept under the queue's lock. Contracts see the lines and the statuses of all tickets, the
+/// open turn, the session that has joined it, and the number of clients.
 #[derive(Drop)]
 pub struct QueueSeat {
     pub(crate) seat: Seat<(), View>,
@@ -34,8 +34,8 @@ impl Model for QueueSeat {
 }
 
 impl Words {
-    /// The open turn requests its next claim, by one fetch_add on the record's pair word. It returns the word before
-    /// that. The clause calls it the record's counter at a moment that fits what the queue's seat knew.
+    /// Requests the open turn's next claim, by one fetch_add on the record's pair word. Returns the word before that:
+    /// by the clause, the record's counter at a moment consistent with what the queue's seat knew.
     pub fn request(&self, queue: &mut QueueSeat, claim: Claim) -> u64
         requires same { queue.old.table ≡ self.now.table }
         requires next { next_claim queue.old.turn ≡ Some claim }
@@ -59,8 +59,8 @@ impl Words {
             .fetch_add::<Requests<T>>(&mut queue.seat, pair_word(claim.id), delta(claim.mode))
     }
 
-    /// A call begins to run and gets its pass: if a turn is open its call, which enters and was granted all its
-    /// claims, and else a call that waits and that no lower ticket holds back.
+    /// Starts a call and returns its pass. If a turn is open, it is the turn's call, which was granted all its claims
+    /// and enters; else it is a waiting call that no lower ticket holds back.
     pub fn give_pass(&self, queue: &mut QueueSeat, ticket: Ticket) -> PassSeat
         requires same { queue.old.table ≡ self.now.table }
         requires may_run { MayRun queue.old.lines queue.old.statuses queue.old.turn ticket }
@@ -86,8 +86,8 @@ impl Words {
         }
     }
 
-    /// The pass of a running call that has made all its stores and releases comes back and is spent: the call is gone,
-    /// and its line has its serial reply.
+    /// Consumes the pass of a running call that has made all its stores and releases: the call is gone, and its line
+    /// has its serial reply.
     pub fn join_pass(&self, queue: &mut QueueSeat, pass: PassSeat)
         requires same { (queue.old.table ≡ self.now.table) × (pass.table ≡ self.now.table) }
         requires closed { queue.old.turn ≡ None }

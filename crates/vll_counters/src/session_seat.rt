@@ -1,4 +1,4 @@
-// The steps that bring a session to the queue's seat and let it leave, and the one that it makes under no lock.
+// The steps by which a session joins the queue's seat and leaves it, and the one that it makes under no lock.
 ghost use Rattle.std.specs.Prelude.{◌≡◌, ◌<◌, suc, [], length, Some, None, IfSome, IsSome, option_map};
 ghost use Rattle.vll_check.specs.Calls.{IsReady};
 ghost use Rattle.vll_core.specs.declared.config.TheConstants.{MOST_CALLS};
@@ -17,7 +17,7 @@ use vll_proc::Call;
 use vll_record::{RecordId, value_word};
 
 /// A client's seat. Contracts see what its session knows: the entered calls that it has seen, the tickets whose reply
-/// it was given, and how many calls waited when it last left the lock.
+/// it was given, and the number of calls that waited when it last left the lock.
 #[derive(Drop)]
 pub struct SessionSeat {
     pub(crate) seat: Seat<(), View>,
@@ -36,7 +36,7 @@ impl Model for SessionSeat {
 }
 
 impl Words {
-    /// One more client's session, before any call.
+    /// Makes one more client's session, before any call.
     pub fn make_session(&self, queue: &mut QueueSeat) -> SessionSeat
         requires same { queue.old.table ≡ self.now.table }
         requires empty { queue.old.lines ≡ [] }
@@ -51,10 +51,11 @@ impl Words {
         }
     }
 
-    /// A session loads a record, by one load of its value word, which needs no lock. The clause calls the value the
-    /// record's present one at a moment that fits what the session knew. By then the session has seen all calls that
-    /// have entered, no more of its client's than before. If these run one at a time the record has the value before
-    /// some ticket, behind each one whose reply the session was given and whose call claims the record.
+    /// Loads a record for a session, by one load of its value word, which needs no lock. By the clause, the value is
+    /// the record's present one at a moment consistent with what the session knew. The session has then seen all calls
+    /// that have entered, no more of its own client than before. If these run one at a time, the record has the value
+    /// before some ticket, which comes after each ticket whose reply the session was given and whose call claims the
+    /// record.
     pub fn find(&self, session: &mut SessionSeat, id: RecordId) -> u64
         requires same { session.old.table ≡ self.now.table }
         requires there { id < length self.now.base.records }
@@ -76,8 +77,8 @@ impl Words {
             .load::<Finds<T>>(&mut session.seat, value_word(id))
     }
 
-    /// A session comes to the queue. If it brings a call, a turn opens for it. What the session has seen is a beginning
-    /// of the entered calls, with all calls of its client, and the tickets whose reply it was given are gone.
+    /// Joins a session to the queue's seat. If it brings a call, a turn opens for it. What the session has seen is a
+    /// beginning of the entered calls, with all calls of its client, and the tickets whose reply it was given are gone.
     pub fn join_session(&self, queue: &mut QueueSeat, session: SessionSeat, call: Option<&Call>)
         requires same { (queue.old.table ≡ self.now.table) × (session.table ≡ self.now.table) }
         requires alone { queue.old.session ≡ None }
@@ -111,9 +112,9 @@ impl Words {
         self.table.shared.load::<Opens<T>>(&mut queue.seat, 0);
     }
 
-    /// The session that has come leaves the queue, has seen all entered calls, and knows how many wait. If its turn is
-    /// open, the turn's call enters and waits: not all of its claims were granted. The session is given the reply of a
-    /// ticket that is gone, or none.
+    /// Returns the joined session, which leaves the queue, has seen all entered calls, and knows how many wait. If its
+    /// turn is open, the turn's call enters and waits: not all of its claims were granted. The session is given the
+    /// reply of a ticket that is gone, or none.
     pub fn give_session(&self, queue: &mut QueueSeat, given: Option<Ticket>) -> SessionSeat
         requires same { queue.old.table ≡ self.now.table }
         requires there { IsSome queue.old.session }

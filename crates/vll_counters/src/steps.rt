@@ -1,9 +1,9 @@
-// The kinds of step: what each does to views, and what it tells.
+// The kinds of step: what each does to views, and what its caller learns.
 use crate::views::View;
 use atomic_table::{Join, Play, Split};
 use std::marker::{Brand, PhantomData};
 
-/// What a step knows beside the view of its seat. Each call picks it.
+/// What a step knows besides the view of its seat. Each function picks it.
 pub trait Told {
     ghost use Rattle.std.specs.Prelude.{ℕ, Option};
     ghost use Rattle.vll_record.specs.declared.claim.Claim.{Claim};
@@ -36,7 +36,7 @@ impl Told for Brand {
     ghost given = { None };
 }
 
-/// A client's session is made, at the opening.
+/// Makes a client's session, at the opening.
 pub struct MakesSession;
 
 impl Split<View> for MakesSession {
@@ -47,7 +47,7 @@ impl Split<View> for MakesSession {
     ghost right = { session_made };
 }
 
-/// A pass or a session comes to the queue.
+/// Joins a pass or a session to the queue's seat.
 pub struct Comes;
 
 impl Join<View> for Comes {
@@ -58,7 +58,7 @@ impl Join<View> for Comes {
     ghost spent = { spent };
 }
 
-/// A turn opens for the call of the session that has come, if it brings one.
+/// Opens a turn for the call of the joined session, if it brings one.
 pub struct Opens<T>(PhantomData<T>);
 
 impl<T: Told> Play<(), View> for Opens<T> {
@@ -67,7 +67,7 @@ impl<T: Told> Play<(), View> for Opens<T> {
     ghost then = { OpenTells T.base T.call };
 }
 
-/// The open turn requests its next claim.
+/// Requests the open turn's next claim.
 pub struct Requests<T>(PhantomData<T>);
 
 impl<T: Told> Play<(), View> for Requests<T> {
@@ -76,7 +76,7 @@ impl<T: Told> Play<(), View> for Requests<T> {
     ghost then = { RequestTells T.base T.claim };
 }
 
-/// A call begins to run: that of the open turn, which enters, or one that waits.
+/// Starts a call: that of the open turn, which enters, or a waiting one.
 pub struct GivesPass<T>(PhantomData<T>);
 
 impl<T: Told> Split<View> for GivesPass<T> {
@@ -87,7 +87,7 @@ impl<T: Told> Split<View> for GivesPass<T> {
     ghost right = { pass_made T.number };
 }
 
-/// The session leaves the queue; if its turn is open, its call enters.
+/// Lets the session leave the queue; if its turn is open, its call enters.
 pub struct GivesSession<T>(PhantomData<T>);
 
 impl<T: Told> Split<View> for GivesSession<T> {
@@ -98,7 +98,7 @@ impl<T: Told> Split<View> for GivesSession<T> {
     ghost right = { session_given T.given };
 }
 
-/// A session loads a record for a call that it has not entered yet.
+/// Loads a record for a call that a session has not entered yet.
 pub struct Finds<T>(PhantomData<T>);
 
 impl<T: Told> Play<(), View> for Finds<T> {
@@ -107,7 +107,7 @@ impl<T: Told> Play<(), View> for Finds<T> {
     ghost then = { FindTells T.base T.number };
 }
 
-/// A session tells what it has seen.
+/// Makes news of what a session has seen.
 pub struct Tells;
 
 impl Split<View> for Tells {
@@ -118,7 +118,7 @@ impl Split<View> for Tells {
     ghost right = { news_told };
 }
 
-/// News comes to a session.
+/// Joins news to a session's seat.
 pub struct NewsComes;
 
 impl Join<View> for NewsComes {
@@ -130,7 +130,7 @@ impl Join<View> for NewsComes {
     ghost spent = { spent };
 }
 
-/// A session hears the news that has come to it.
+/// Makes a session hear the news that has joined its seat.
 pub struct Hears;
 
 impl Play<(), View> for Hears {
@@ -139,7 +139,7 @@ impl Play<(), View> for Hears {
     ghost then = { HearTells };
 }
 
-/// A running call loads the record of its next claim.
+/// Loads the record of a running call's next claim.
 pub struct Loads<T>(PhantomData<T>);
 
 impl<T: Told> Play<(), View> for Loads<T> {
@@ -148,7 +148,7 @@ impl<T: Told> Play<(), View> for Loads<T> {
     ghost then = { LoadTells T.base T.number };
 }
 
-/// A running call stores the record of its next Write claim.
+/// Stores the record of a running call's next Write claim.
 pub struct Stores;
 
 impl Play<(), View> for Stores {
@@ -157,7 +157,7 @@ impl Play<(), View> for Stores {
     ghost then = { StoreTells };
 }
 
-/// A running call releases its next claim.
+/// Releases a running call's next claim.
 pub struct Releases<T>(PhantomData<T>);
 
 impl<T: Told> Play<(), View> for Releases<T> {
@@ -166,7 +166,7 @@ impl<T: Told> Play<(), View> for Releases<T> {
     ghost then = { ReleaseTells T.base T.number };
 }
 
-/// The call of the pass that has come is gone.
+/// Ends the call of the joined pass: it is gone.
 pub struct Ends<T>(PhantomData<T>);
 
 impl<T: Told> Play<(), View> for Ends<T> {

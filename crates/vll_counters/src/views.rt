@@ -3,8 +3,8 @@ use vll_core::Line;
 use vll_proc::Call;
 use vll_sca::Status;
 
-/// The open turn: whose it is and its call, how many of its claims have been requested, and whether all of these
-/// were granted. Like all views it stands in contracts and proofs alone; no value of it is made.
+/// The open turn: its client and its call, the number of its claims that have been requested, and whether all of these
+/// were granted. Like all views it occurs only in contracts and proofs; no value of it is made.
 pub struct TurnView {
     pub client: u32,
     pub call: Call,
@@ -13,7 +13,7 @@ pub struct TurnView {
 }
 
 /// What a pass knows: its ticket and call, the entered calls up to its own, the numbers of its loads, stores and
-/// releases, and the values that it loaded.
+/// releases, and the values it has loaded.
 pub struct PassView {
     pub ticket: u32,
     pub call: Call,
@@ -24,8 +24,8 @@ pub struct PassView {
     pub loaded: LinkedList<u64>,
 }
 
-/// What a session knows: its client, the entered calls that it has seen, the tickets whose reply it was given, and
-/// how many calls waited when it last left the lock.
+/// What a session knows: its client, the entered calls that it has seen, the tickets whose reply it was given, and the
+/// number of calls that waited when it last left the lock.
 pub struct SessionView {
     pub client: u32,
     pub seen: LinkedList<(u32, Call)>,
@@ -34,7 +34,7 @@ pub struct SessionView {
 }
 
 /// What the queue's seat knows: the line and the status of each ticket, the open turn, the pass and the session that
-/// have come to the queue, and how many clients there are.
+/// have joined it, and the number of clients.
 pub struct QueueView {
     pub lines: LinkedList<Line>,
     pub statuses: LinkedList<Status>,
@@ -44,8 +44,8 @@ pub struct QueueView {
     pub clients: u32,
 }
 
-/// What a seat knows. News has a list of entered calls; a session to which news has come has that list beside its own
-/// view until it has heard it. A seat that has joined another knows nothing any more.
+/// What a seat knows. News has a list of entered calls; a session that news has joined has that list beside its own
+/// view until it has heard it. A seat that has joined another one no longer knows anything.
 pub enum View {
     Queue(QueueView),
     Pass(PassView),

@@ -19,12 +19,12 @@ use vll_check::Library;
 use vll_record::{Claim, granted, pair_word};
 
 /// The words: the turn word 0, and each record's value word and pair word. Threads change them in single atomic steps,
-/// each by a seat, and the rule holds between any two steps. Contracts see which words they are, and the procedures
-/// and records of the opening.
+/// each by a seat, and the rule holds between any two steps. Contracts see their identity, and the procedures and
+/// records of the opening.
 #[derive(Drop)]
 pub struct Words {
     pub(crate) table: Table<(), View, Key, Law, Global>,
-    // Room for the words at the end.
+    // Room for the words that closing returns.
     room: Vec<u64>,
 }
 
@@ -45,7 +45,7 @@ impl Model for Words {
     ghost invariant = { AreWordsKept };
 }
 
-// The records, in a list with room for the words.
+// Copies the records to a list with room for the words.
 fn copied(alloc: Global, records: &[u64]) -> Result<Vec<u64>, AllocError>
     ensures items { IfOk result (λ v. v.items ≡ records.now) }
     ensures room { IfOk result (λ v. 1 + 2 * length records.now ≤ vec_capacity v) }
@@ -55,7 +55,7 @@ fn copied(alloc: Global, records: &[u64]) -> Result<Vec<u64>, AllocError>
     Ok(list)
 }
 
-// The records, in place of what the list held.
+// Replaces what the list holds by the records.
 fn copy(list: &mut Vec<u64>, records: &[u64])
     requires room { length records.now ≤ vec_capacity list.old }
     ensures items { list.new.items ≡ records.now }
@@ -67,7 +67,7 @@ fn copy(list: &mut Vec<u64>, records: &[u64])
     }
 }
 
-// The words of these records, with no claim open.
+// Appends the words of these records, with no claim open.
 fn lay(words: &mut Vec<u64>, records: &[u64])
     requires empty { words.old.items ≡ [] }
     requires room { 1 + 2 * length records.now ≤ vec_capacity words.old }
@@ -81,7 +81,7 @@ fn lay(words: &mut Vec<u64>, records: &[u64])
     }
 }
 
-// The words of a closed table.
+// Appends the words of a closed table to an empty list, and returns the list.
 fn gathered(mut words: Vec<u64>, closed: &Closed<(), Global>) -> Vec<u64>
     requires full { IsFull closed.now.words }
     requires empty { vec_len words ≡ 0 }
@@ -96,8 +96,8 @@ fn gathered(mut words: Vec<u64>, closed: &Closed<(), Global>) -> Vec<u64>
 }
 
 impl Words {
-    /// The words of these records, with no claim open, the queue's seat, and one session's seat for each client, in
-    /// order. The library is named for contracts and not kept. All memory is taken here.
+    /// Returns the words of these records, with no claim open, the queue's seat, and one session's seat for each
+    /// client, in order. `library` is only used in contracts and is not kept. All memory is allocated here.
     pub fn open(
         alloc: Global,
         records: &[u64],
@@ -118,9 +118,9 @@ impl Words {
         Ok((words, queue, sessions))
     }
 
-    /// The words of these records, as by `open`, and the queue's seat, which knows of no client: `make_session` makes the
-    /// sessions. The list has room for the words, as one that `close` gave has; what it holds is dropped. The block of
-    /// the atomic words is all the memory that is taken.
+    /// Returns the words of these records, as `open`, and the queue's seat, which knows of no client: `make_session`
+    /// makes the sessions. The list `room` has room for the words, as one that `close` returned has; what it holds is
+    /// dropped. Only the block of the atomic words is allocated.
     pub fn reopen(
         alloc: Global,
         mut room: Vec<u64>,
@@ -136,7 +136,7 @@ impl Words {
         Words::laid(alloc, room, records, library)
     }
 
-    // The words of the records that the list has, in its room, and the queue's seat.
+    // Returns the words of the records that the list holds, which keep the list for closing, and the queue's seat.
     fn laid(
         alloc: Global,
         mut room: Vec<u64>,
@@ -161,17 +161,17 @@ impl Words {
         Ok((Words { table, room }, QueueSeat { seat }))
     }
 
-    /// A load of the pair word of the claim's record, which changes nothing: it is near when a request comes to it soon
-    /// after. Whether a request would have been granted by the word as it was; by now it may be another one, and no
-    /// contract says more.
+    /// Loads the pair word of the claim's record, and returns whether a request would have been granted by the word
+    /// loaded; it may have changed by now, and no contract says more. It changes nothing, but a request soon after
+    /// finds the word in the cache.
     pub fn look(&self, claim: Claim) -> bool
         requires { claim.id < length self.now.base.records }
     {
         granted(claim.mode, self.table.shared.peek(pair_word(claim.id)))
     }
 
-    /// The words once no turn is open and no call waits or runs: each value is what the entered calls make of the
-    /// record, one at a time in the order of entry, and each pair word is 0. It takes no memory.
+    /// Returns the words, once no turn is open and no call waits or runs: each value is what the entered calls make of
+    /// the record, one at a time in the order of entry, and each pair word is 0. Allocates nothing.
     pub fn close(self, queue: QueueSeat) -> Vec<u64>
         requires same { queue.table ≡ self.table }
         requires closed { queue.turn ≡ None }

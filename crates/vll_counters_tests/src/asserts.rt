@@ -1,14 +1,14 @@
-// Asserts, each proved once: to prove one where it is written takes a second or two, and to prove a call none.
+// Asserts, each proved once: proving one in place takes a second or two, proving a call of one takes none.
 
 use std::fmt::Debug;
 use std::process::Abort;
 
-// The two are the same.
+// Checks that the two are equal.
 pub(crate) fn equal<T: PartialEq + Debug + Drop>(rt: &impl Abort, found: T, wanted: T) {
     assert_eq!(rt; found, wanted);
 }
 
-// The test fails, for this reason.
+// Fails the test, for this reason.
 pub(crate) fn fail(rt: &impl Abort, why: &str) -> ! {
     panic!(rt; "{why}")
 }

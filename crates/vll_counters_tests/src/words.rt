@@ -41,7 +41,7 @@ fn words_without_calls_keep_the_records(rt: HostRuntime) -> Result<(), Fail> {
     Ok(())
 }
 
-// The call of a procedure on record 0. It has nothing to find.
+// The call of a procedure on record 0. It has no indirect key.
 fn ready_call(rt: &impl Abort, library: &Library, name: &str) -> Result<Call, CallFault>
     ensures { IfOk result (IsReady library.now) }
 {
@@ -73,7 +73,7 @@ fn only_session(table: &Words, sessions: Vec<SessionSeat>) -> Option<SessionSeat
     sessions.pop()
 }
 
-// The first call enters and runs: what its request found, its pass, and its session.
+// Enters the first call, which runs. Returns what its request found, its pass, and its session.
 fn enter(
     rt: &impl Abort,
     words: &Words,
@@ -104,7 +104,7 @@ fn enter(
     (requested, pass, session)
 }
 
-// A running call that reads one record loads it: what it found.
+// Loads the one record that a running call reads. Returns the value found.
 fn load(rt: &impl Abort, words: &Words, pass: &mut PassSeat, claim: &Claim) -> u64
     requires same { pass.old.table ≡ words.now.table }
     requires fresh { (pass.old.pass.loads ≡ 0) × (pass.old.pass.stores ≡ 0) }
@@ -120,7 +120,7 @@ fn load(rt: &impl Abort, words: &Words, pass: &mut PassSeat, claim: &Claim) -> u
     words.load(pass, claim.id)
 }
 
-// A running call that writes one record loads it, runs its body on it and stores it.
+// Loads the one record that a running call writes, runs the body on it, and stores it.
 fn change(
     rt: &impl Abort,
     words: &Words,
@@ -153,7 +153,7 @@ fn change(
     words.store(pass, claim.id, frame.get(0));
 }
 
-// A running call that has made its stores releases its one claim, and ends: what its release found.
+// Releases the one claim of a running call that has made its stores, and ends it. Returns what the release found.
 fn end(words: &Words, queue: &mut QueueSeat, pass: PassSeat, claim: &Claim) -> u64
     requires same { (queue.old.table ≡ words.now.table) × (pass.table ≡ words.now.table) }
     requires closed { queue.old.turn ≡ None }

@@ -29,7 +29,7 @@ step_ahead b w past s t u has some ahead most columns standing =
     let fewer : u.ahead ≡ w.from - length (past ++ s ∷ []) = omega (arith, ahead, has.ahead, some, length-append past (s ∷ [])) in
     same b w past (past ++ s ∷ []) t u has (window-ahead w.from w.count past s before) fewer most columns standing
 
--- a step behind those that are drawn
+-- a step after those that are drawn
 pub step_behind : (b : Base) (w : Window) (past : List Step) (s : Step) (t u : Tape) → HasTaped b w past t → t.ahead ≤ 0 → t.most ≤ length t.columns.items → u.ahead ≡ t.ahead → u.most ≡ t.most
     → u.columns.items ≡ t.columns.items → u.standing ≡ t.standing → HasTaped b w (past ++ s ∷ []) u
 step_behind b w past s t u has none many ahead most columns standing =

@@ -23,7 +23,7 @@ window-within from count ss s begun few =
     let more : length (left ++ s ∷ []) ≤ count = omega (arith, length-append left (s ∷ []), short) in
     ap (take count) (drop-append-le from ss (s ∷ []) begun) ∙ take_all count (left ++ s ∷ []) more ∙ ap (λ xs. xs ++ s ∷ []) (sym (take_all count left all))
 
--- a step behind the window
+-- a step after the window
 pub window-full : (from count : ℕ) (ss : List Step) (s : Step) → from ≤ length ss → count ≤ length (window from count ss) → window from count (ss ++ s ∷ []) ≡ window from count ss
 window-full from count ss s begun full =
     let left = drop from ss in

@@ -1,4 +1,4 @@
--- The page of a replay: below its drawings stands a list of the lines of the replay's text.
+-- The page of a replay: below its drawings is a list of the lines of the replay's text.
 use Rattle.std.specs.Prelude.{◌≡◌, ℕ, List, ◌++◌, Option, Ok, codes}
 use Rattle.std.specs.List.{flat_map, enumerate_from}
 use Rattle.std.specs.Fmt.{decimal}
@@ -12,15 +12,15 @@ use Rattle.vll_replay.specs.Text.{Text}
 abbrev pub item : ℕ × Text → Text
 item (i, line) = codes "<li id=\"l" ++ decimal i ++ codes "\">" ++ line ++ codes "</li>\n"
 
--- where the list begins
+-- the start of the list
 abbrev pub list_start : Text
 list_start = codes "<ol>\n"
 
--- where it ends, and the page with it
+-- the end of the list and of the page
 abbrev pub list_end : Text
 list_end = codes "</ol>\n</body>\n</html>\n"
 
--- behind what is drawn, the page lists the lines of the text, and nothing but its end follows
+-- after the drawings the page lists the lines of the text, and then it ends
 pub record Lists (page text : Text) : Type 0 where
   pub drawn : Text
   pub whole : page ≡ drawn ++ list_start ++ flat_map item (enumerate_from 0 (lines text)) ++ list_end

@@ -1,4 +1,4 @@
--- What a tape has kept of the steps that it was shown.
+-- What a tape has kept of the steps that it has seen.
 use Rattle.std.specs.Prelude.{◌≡◌, ◌-◌, ◌≤◌, List, [], ◌∷◌, length}
 use Rattle.vll_core.specs.declared.event.Event.{Event}
 use Rattle.vll_core.specs.State.{Base, State}
@@ -20,11 +20,11 @@ pub record HasTaped (b : Base) (w : Window) (past : List Step) (t : Tape) : Type
   pub columns : AreColumns b (drawn w past) t.columns.items
   pub standing : (s : Step) (more : List Step) → drawn w past ≡ s ∷ more → AreWords b s.before t.standing.words.items
 
--- if the step to come is the first one that is drawn, the words before it were kept
+-- if the next step is the first one that is drawn, the words before it were kept
 abbrev pub StandsBefore : Base → Window → List Step → State → Tape → Type 0
 StandsBefore b w past s t = w.from ≤ length past → drawn w past ≡ [] → AreWords b s t.standing.words.items
 
--- beside these, what the machine has shown before an event
+-- besides these, what the machine has shown before an event
 pub record Tapes (b : Base) (w : Window) (past : List Step) (s : State) (e : Event) (t : Tape) : Type 0 where
   pub taped : HasTaped b w past t
   pub claim : t.claim ≡ claim_of s e

@@ -1,4 +1,4 @@
-//! A scenario in, and the page of its replay out.
+//! Reads a scenario, and writes the page of its replay.
 ghost use Rattle.std.specs.Prelude.{◌≡◌, ◌↔◌, false, true, Err, IfOk, OnOk, string_bytes};
 ghost use Rattle.std.specs.Io.KnownBytes.{Appends};
 ghost use Rattle.vll_scenario.specs.Streams.{AppendsBeginning};
@@ -24,11 +24,11 @@ use vll_sca::Placing;
 use vll_scenario::{Scenario, Sink, Source, read_scenario, write_text};
 
 /// Reads a scenario, replays its schedule as `replay` of `vll_replay` does, and writes an HTML page. Its drawings show
-/// the events of the window, and below them stands a list of the lines of the replay's text, all of them.
+/// the events of the window; below them is a list of all lines of the replay's text.
 ///
-/// The page is made whole before its first byte is written. After `Scenario` and `NoMemory` nothing has been
-/// written, and after `Write` a beginning of the page. `Scenario` is what `read_scenario` answers, `NoMemory` is for
-/// want of memory once a scenario was read, and `Write` comes exactly if the writer has failed.
+/// The whole page is built before its first byte is written. After `Scenario` and `NoMemory` nothing has been written,
+/// and after `Write` a prefix of the page. `Scenario` carries the fault that `read_scenario` returned, `NoMemory` means
+/// that memory ran out after a scenario was read, and `Write` is returned exactly if the writer has failed.
 pub fn draw<S: Source, W: Sink>(
     alloc: Global,
     reader: &mut S,
@@ -63,7 +63,7 @@ fn page_of(alloc: Global, scenario: Scenario, window: Window) -> Result<String, 
     with_list(drawn, text.as_str())
 }
 
-// A replay with what the drawing needs of it.
+// A replay with what is needed to draw it.
 #[derive(Drop)]
 struct Taped {
     text: String,
@@ -71,7 +71,7 @@ struct Taped {
     tape: Tape,
 }
 
-// The text of a scenario's replay, the machine as it stands at its end, and what was kept of the events that are drawn.
+// The text of a scenario's replay, the machine in its state at the end, and what was kept of the events that are drawn.
 fn watched(alloc: Global, scenario: Scenario, window: Window) -> Result<Taped, AllocError>
     ensures text { IfOk result (λ made. string_bytes made.text ≡ text_of_setup scenario) }
     ensures tape { IfOk result (λ made. HasTaped (opening_for scenario).base window
@@ -82,7 +82,7 @@ fn watched(alloc: Global, scenario: Scenario, window: Window) -> Result<Taped, A
     Ok(Taped { text, core, tape })
 }
 
-// The page up to its list. The first event that is drawn has this number.
+// The page up to its list. `first` is the number of the first event that is drawn.
 fn drawings_of(
     alloc: Global,
     core: Core<Placing>,

@@ -1,16 +1,16 @@
 use thiserror::Error;
 use vll_scenario::ScenarioFault;
 
-/// Why a page was not written whole.
+/// Why a page was not written in full.
 #[derive(Clone, Copy, PartialEq, Eq, Debug, Error)]
 pub enum DrawFault {
     /// There is no scenario to draw. Nothing has been written.
     #[error("scenario: {0}")]
     Scenario(ScenarioFault),
-    /// Memory was wanting after the scenario was read. Nothing has been written.
+    /// Memory ran out after the scenario was read. Nothing has been written.
     #[error("draw: no memory")]
     NoMemory,
-    /// The page was not written whole.
+    /// The page was not written in full.
     #[error("draw: write")]
     Write,
 }

@@ -1,4 +1,14 @@
-//! A replay as a page to look at: what each event did is drawn over time, and the lines of its text stand below.
+//! A replay as an HTML page: what each event did is drawn over time, with the lines of the replay's text listed below.
+//! It is the whole of the program's `vll draw`. The crate proves that the list has exactly the lines of the replay of
+//! the scenario that was read, and that the column kept for each drawn event holds what the machine's specification
+//! says of its step; nothing is proved about the markup of the drawings. Start at `draw` and `Window`.
+//!
+//! ```rattle
+//! let window = Window { from, count };
+//! let mut reader = Plain::new(rt.reader());
+//! let mut writer = Plain::new(io::writer(rt));
+//! draw(rt.alloc(), &mut reader, &mut writer, window)?;
+//! ```
 #![tactic(auto)]
 
 mod drawing;

@@ -6,7 +6,7 @@ ghost use Rattle.vll_draw.specs.Page.{Lists, item, list_end, list_start};
 
 use std::alloc::AllocError;
 
-/// The page that has this drawn, and lists the lines of a text.
+/// Returns the page that begins with `drawn` and lists the lines of `text`.
 pub(crate) fn with_list(drawn: String, text: &str) -> Result<String, AllocError>
     ensures { IfOk result (λ page. Lists (string_bytes page) text.now) }
 {

@@ -1,4 +1,4 @@
-//! What is kept of a replay while it runs, for the drawing: the events of the window, and what stood before them.
+//! What is kept of a replay while it runs, for the drawing: the events of the window, and the state before them.
 ghost use Rattle.std.specs.Prelude.{◌≡◌, ◌<◌, [], List, IfOk, IfSome, OnOk, length, slice_index};
 ghost use Rattle.vll_core.specs.State.{Base};
 ghost use Rattle.vll_core.specs.Shown.{AreWords};
@@ -17,20 +17,20 @@ use vll_record::{Claim, RecordId, pair_word, value_word};
 use vll_replay::Observer;
 use vll_sca::{Placing, Status};
 
-/// What was kept.
+/// What is kept of a replay for its drawing.
 #[derive(Drop)]
 pub(crate) struct Tape {
     alloc: Global,
-    /// How many events there were so far.
+    /// The number of events so far.
     pub(crate) events: usize,
-    /// How many are still to come before those that are drawn.
+    /// The number of events still to come before those that are drawn.
     pub(crate) ahead: u32,
-    /// How many are drawn at most.
+    /// The most events that are drawn.
     pub(crate) most: u32,
     pub(crate) columns: Vec<Column>,
-    /// The words of the machine before the first event that is drawn, and where each entered call was.
+    /// The words of the machine before the first event that is drawn, and the phase of each entered call.
     pub(crate) standing: Standing,
-    /// The claim that the event to come is of.
+    /// The claim that the next event concerns.
     pub(crate) claim: Option<Claim>,
 }
 
@@ -52,7 +52,7 @@ impl Tape {
         }
     }
 
-    // Keeps what stands before an event, if that is the first one that is drawn.
+    // Keeps the state before an event, if the event is the first that is drawn.
     fn stand(&mut self, core: &Core<Placing>) -> Result<(), AllocError>
         ensures stands { OnOk result ((w : Window) (past : List Step) → HasTaped core.now.base w past self.old
             → HasTaped core.now.base w past self.new × StandsBefore core.now.base w past core.now.state self.new) }
@@ -100,14 +100,14 @@ impl Observer for Tape {
             return Ok(());
         }
         let column = column_of(core, event, told, self.claim);
-        // The check wants each type named here that a column holds.
+        // The check needs every type that a column holds to be named here.
         let _named: Option<Reply> = None;
         self.columns.push(column)?;
         Ok(())
     }
 }
 
-// The column of an event that the machine has made, with this claim if it was not refused.
+// The column of an event that the machine has performed, with this claim if the event was not refused.
 fn column_of(
     core: &Core<Placing>,
     event: &Event,
@@ -146,7 +146,7 @@ fn column_with(
     }
 }
 
-// What a claim's record has.
+// The words of a claim's record.
 fn words_of(core: &Core<Placing>, claim: &Option<Claim>) -> RecordWords
     ensures { IfSome claim.now (λ k. k.id < length core.now.base.records → AreWordsOf core.now.base core.now.state k.id result) }
 {
@@ -156,7 +156,7 @@ fn words_of(core: &Core<Placing>, claim: &Option<Claim>) -> RecordWords
     }
 }
 
-// What a record has.
+// The words of a record.
 fn record_words(core: &Core<Placing>, id: RecordId) -> RecordWords
     ensures { id < length core.now.base.records → AreWordsOf core.now.base core.now.state id result }
 {
@@ -173,7 +173,7 @@ fn word_at(words: &[u64], index: usize) -> u64
     if index < words.len() { words[index] } else { 0 }
 }
 
-// The ticket of the call that an event was of, by what it saw.
+// The ticket of an event's call, by what the event saw.
 fn ticket_of(core: &Core<Placing>, event: &Event, seen: &Seen) -> Option<usize>
     ensures { result ≡ ticket_seen (length core.now.state.entries) event.now seen.now }
 {
@@ -211,7 +211,7 @@ fn ticket_in(event: &Event) -> Option<usize>
     }
 }
 
-// The machine's words, and where each entered call is.
+// The machine's words, and the phase of each entered call.
 fn standing_of(alloc: Global, core: &Core<Placing>) -> Result<Standing, AllocError>
     ensures { IfOk result (λ standing. AreWords core.now.base core.now.state standing.words.items) }
 {
@@ -221,7 +221,7 @@ fn standing_of(alloc: Global, core: &Core<Placing>) -> Result<Standing, AllocErr
     Ok(Standing { words, phases })
 }
 
-// Where each entered call is.
+// The phase of each entered call.
 fn phases_of(alloc: Global, core: &Core<Placing>) -> Result<Vec<Phase>, AllocError> {
     let mut phases = Vec::new(alloc);
     for ticket in 0..core.journal().len() {

@@ -2,14 +2,14 @@ ghost use Rattle.std.specs.Prelude.{◌≤◌};
 
 use vll_replay::UpTo;
 
-/// How many events a page draws at most.
+/// The most events that a page draws.
 pub const MOST_COLUMNS: u32 = 3600;
 
-/// Which events of a schedule are drawn. The lines of all of them are listed.
+/// The events of a schedule that are drawn. The lines of all events are listed.
 #[derive(Clone, Copy, Debug)]
 pub struct Window {
     /// The number of the first one, from 0.
     pub from: u32,
-    /// How many there are at most.
+    /// The most events that are drawn.
     pub count: UpTo<MOST_COLUMNS>,
 }

@@ -35,7 +35,7 @@ end_is_as_long e ls now is = ap length is ∙ end_length e.base.procs (calls_in 
 within : (r m k : ℕ) → m ≡ k → r < m → r < k
 within r m k h low = omega (arith, h, low)
 
--- the values are the records behind all calls
+-- the values are the records after all calls
 ended_values : (base : Base) (ls : List Line) (words values pairs : List ℕ) → IsAtEnd base ls words → AreDivided (length base.records) words values pairs
     → values ≡ end base.procs (calls_in ls) base.records
 ended_values base ls words values pairs are divided =

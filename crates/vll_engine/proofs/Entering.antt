@@ -1,4 +1,5 @@
--- What a call's entry makes of the queue's seat, of its session and of the lock's type, and why a call is refused.
+-- What a call's entry does to the queue's seat, to its session and to the invariant of the lock's type, and why a call
+-- is refused.
 use Rattle.std.proofs.Common.{◌≡◌, ℕ, suc, ◌+◌, ◌<◌, Bool, true, false, nat_le, List, [], ◌∷◌, ◌++◌, length, All, Option, Some, None, slice_get, refl, sym, ap, ◌∙◌, subst, arith, if◌then◌else◌}
 use Rattle.std.specs.Prelude.{IfSome, count_by}
 use Rattle.std.proofs.lemmas.Bool.{leb-true}
@@ -38,7 +39,7 @@ use Rattle.vll_engine.proofs.Starting.{new_pass_fresh}
 
 -- ---- why a call is refused
 
--- what a session has seen and how many it knows to wait tell why
+-- what a session has seen, and the number of calls it knows to wait, determine why
 pub refused : {H : Type 0} (e : Named) (q : Queued H) (g : SessionView) (why : BeginRefusal) → IsQueued q → q.limit ≡ e.config.limit → q.cap ≡ e.config.cap → ◌≡◌ {A = Option BeginRefusal} (Some why) (refusal q)
     → g.seen ≡ calls_in (lines q) → g.waited ≡ count_by is_waiting (statuses q) → IsRefused e g why
 refused {H = H} e q g why queued limit cap is seen waited = by_tests why (nat_le q.limit (length q.entries)) (nat_le q.cap (count_by is_waiting (statuses q))) refl refl is

@@ -1,4 +1,4 @@
--- What a session that has heard news knows, and that its later calls come behind those of the news.
+-- What a session that has heard news knows, and that its later calls come after those of the news.
 use Rattle.std.proofs.Common.{◌≡◌, ℕ, ◌<◌, List, [], ◌∷◌, ◌++◌, length, sym, ap, ◌∙◌, arith, Some, slice_get, append_assoc}
 use Rattle.std.proofs.lemmas.List.{append-nil, append_cancel_left, length-append}
 use Rattle.std.proofs.lemmas.Option.{slice_get_within}
@@ -29,7 +29,7 @@ hears_news old new calls h =
       heard = h.heard;
     }
 
--- ---- what a session sees goes on from what it had seen
+-- ---- what a session sees extends what it had seen
 
 pub others_begin : (old new : SessionView) → SawOthers old new → Begins old.seen new.seen
 others_begin old new saw = (saw.others, saw.seen)
@@ -43,7 +43,7 @@ handed_on first last (next ∷ more) h = begins_further first next last h.0 (han
 
 -- ---- an entered call has its place
 
--- it stands at its ticket
+-- it is at its ticket
 own_at : (old new : SessionView) (call : Call) (t : ℕ) → SawOwn old new call t → slice_get new.seen t ≡ Some (old.client, call)
 own_at old new call t saw = ap (λ (l : List Made). slice_get l t) saw.seen ∙ ap (slice_get ((old.seen ++ saw.others) ++ (old.client, call) ∷ [])) saw.place ∙ get_last (old.seen ++ saw.others) (old.client, call)
 
@@ -51,7 +51,7 @@ own_at old new call t saw = ap (λ (l : List Made). slice_get l t) saw.seen ∙ 
 at_longer : (some all : List Made) (t : ℕ) (m : Made) → Begins some all → slice_get some t ≡ Some m → slice_get all t ≡ Some m
 at_longer some all t m b at = ap (λ (l : List Made). slice_get l t) b.1 ∙ get_longer some b.0 t m at
 
--- the next call of a session comes behind all that it had seen
+-- the next call of a session comes after all that it had seen
 behind : (old new : SessionView) (call : Call) (u t : ℕ) → SawOwn old new call u → t < length old.seen → t < u
 behind old new call u t saw low = let long = length-append old.seen saw.others in let place = saw.place in omega (arith, long, place, low)
 

@@ -1,4 +1,4 @@
--- What the lock's type keeps where a call begins to run and where one ends.
+-- The invariant of the lock's type holds when a call begins to run and when one ends.
 use Rattle.std.proofs.Common.{◌≡◌, ℕ, zero, suc, ◌<◌, List, [], ◌∷◌, map, Option, Some, None, slice_get, slice_set, refl, sym, ap, ◌∙◌, subst}
 use Rattle.std.proofs.lemmas.List.Elements.{All-set}
 use Rattle.vll_proc.specs.declared.call.Reply.{Reply}

@@ -33,7 +33,7 @@ calls_by-append client xs ys =
     ap (λ (l : List Made). map (λ (m : Made). m.1) l) (filter-append (λ (m : Made). m.0 == client) xs ys)
     ∙ map-append (λ (m : Made). m.1) (filter (λ (m : Made). m.0 == client) xs) (filter (λ (m : Made). m.0 == client) ys)
 
--- what entered behind what a session has seen is other clients'
+-- what entered after what a session has seen is of other clients
 not_own : (calls : List Made) (statuses : List Status) (g : SessionView) → (h : HasSeen calls statuses g) → calls_by g.client h.begins.0 ≡ []
 not_own calls statuses g h =
     append_cancel_left (calls_by g.client g.seen) (calls_by g.client h.begins.0) []
@@ -48,7 +48,7 @@ saw_others calls statuses old new h client whole = record {
   seen = whole ∙ h.begins.1;
 }
 
--- a session sees all calls, and a call of its own behind them
+-- a session sees all calls, and a call of its own after them
 pub saw_own : (calls : List Made) (statuses : List Status) (old new : SessionView) (call : Call) (ticket : ℕ) → HasSeen calls statuses old → new.client ≡ old.client
     → new.seen ≡ calls ++ (old.client, call) ∷ [] → ticket ≡ length calls → SawOwn old new call ticket
 saw_own calls statuses old new call ticket h client whole last = record {
@@ -114,7 +114,7 @@ reply_at e place seat inside q t r kept is queued at =
       there = at ∙ ap (λ (ls : List Line). reply_in (slice_get ls t)) (sym lines_are);
     }
 
--- the ticket whose reply is handed out is gone
+-- the ticket whose reply is given is gone
 pub given_out : (old joined : QueueShown) (g : SessionView) (t : ℕ) (r : Option Reply) (some : Bool) (given : Option ℕ) → IsReplyAt old t r → joined ≡ record old { session = Some g; turn = None }
     → some ≡ is_some r → given ≡ then_some some t → IsGivenOut joined.statuses given
 given_out old joined g t r some given there is test out u at =

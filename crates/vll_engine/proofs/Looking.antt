@@ -115,7 +115,7 @@ seen_before calls more t m within at =
     let here = slice_get-get_or calls t m within in
     here ∙ sym (get_longer calls more t _ here) ∙ at
 
--- a value that was there is there behind more calls
+-- a value that was there is still there with more calls after
 was_there_later : (base : Base) (calls more : List Made) (given : List ℕ) (ticket r v : ℕ) → ((k t : ℕ) → slice_get given k ≡ Some t → t < length calls) → length calls ≤ ticket
     → WasThere base calls given (length calls) r v → WasThere base (calls ++ more) given ticket r v
 was_there_later base calls more given ticket r v known within was =

@@ -1,4 +1,4 @@
--- A call that begins, with its pass put behind others.
+-- A call that begins, with its pass appended to a list.
 use Rattle.std.proofs.Common.{◌≡◌, ℕ, ◌<◌, ◌-◌, List, [], ◌∷◌, ◌++◌, None, Option, Some, suc, length, take, set, get_or, sym, ap, ◌∙◌, arith}
 use Rattle.std.proofs.Math.Seq.{take-length, take-suc}
 use Rattle.std.proofs.lemmas.List.{get_or-set_same, take-set}

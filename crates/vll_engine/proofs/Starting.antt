@@ -59,7 +59,7 @@ front_here : (s : Status) (ss : List Status) (t : ℕ) (b : Bool) → is_waiting
 front_here s ss t true waits k = subst (IsFront (s ∷ ss)) (same_Some 0 t k) (record { waits = ap Some (waits_alone s waits); gone = λ u x low at. absurd (omega (arith, low)) })
 front_here s ss t false waits k = absurd (cc k)
 
--- a front behind a call that is gone
+-- a front after a call that is gone
 front_later : (s : Status) (ss : List Status) (u : ℕ) → is_left s ≡ false → IsFront ss u → IsFront (s ∷ ss) (suc u)
 front_later s ss u left rest = record { waits = rest.waits; gone = below }
   where

@@ -17,7 +17,7 @@ use Rattle.vll_counters.specs.Views.{calls_in}
 use Rattle.vll_engine.specs.Found.{FoundThere, AreFoundThere}
 use Rattle.vll_engine.specs.Shown.{Named}
 
--- what was there is there with more calls behind
+-- what was there is still there with more calls after
 later : (base : Base) (calls more : List Made) (bound : ℕ) (call : Call) (r : ℕ) → bound ≤ length calls → FoundThere base calls bound call r → FoundThere base (calls ++ more) bound call r
 later base calls more bound call r within was =
     let below = was.within in

@@ -35,7 +35,7 @@ use Rattle.vll_engine.specs.Shown.{Named, library_of, words_of}
 
 -- ---- loops over claims
 
--- the claim that is handed out next stands behind those that were
+-- the claim that the loop gets next follows those it has got
 pub next_at : (yielded rest left all : List Claim) (c : Claim) (n : ℕ) → yielded ++ rest ≡ all → rest ≡ c ∷ left → n ≡ length yielded → slice_get all n ≡ Some c
 next_at yielded rest left all c n is next count =
     (λ i. slice_get (sym is i) (count i)) ∙ ap (λ (cs : List Claim). slice_get (yielded ++ cs) (length yielded)) next ∙ behind yielded
@@ -44,7 +44,7 @@ next_at yielded rest left all c n is next count =
     behind [] = refl
     behind (d ∷ cs) = behind cs
 
--- the Write claims before one that is Write are as many as its number among the Write claims
+-- the number of Write claims before a Write claim is its number among the Write claims
 pub next_write : (yielded rest left all : List Claim) (c : Claim) → yielded ++ rest ≡ all → rest ≡ c ∷ left → is_write c ≡ true → slice_get (filter is_write all) (length (filter is_write yielded)) ≡ Some c
 next_write yielded rest left all c is next writes =
     ap (λ (cs : List Claim). slice_get cs (length (filter is_write yielded)))
@@ -63,7 +63,7 @@ held_next cells claims records n value c few within whole first at is =
     (loading_next claims records (record { loads = n; stores = 0; releases = 0; frame = cells; reply = None }) (record { loads = n + 1; stores = 0; releases = 0; frame = slice_set cells n value; reply = None })
     value c few (record { within = within; whole = whole; loaded = first; pending = refl }) at is refl refl refl).loaded
 
--- once all claims were handed out each cell has its record's value
+-- once the loop has got all claims, each cell has its record's value
 pub held_all : (base : Base) (p : PassView) (yielded rest claims : List Claim) (cells : List ℕ) (n : ℕ) → yielded ++ rest ≡ claims → rest ≡ [] → n ≡ length yielded → All (λ (c : Claim). c.id < length base.records) claims
     → HoldsFirst n cells claims (records_before_pass base p) → Holds cells claims (records_before_pass base p)
 held_all base p yielded rest claims cells n is none count there first =
@@ -99,7 +99,7 @@ has_procedure e library table p call answer procedure catalog of known same at i
     let ready = procedure_ready library call procedure.now catalog (subst (λ (x : Catalog × Call). IsReady x.0 x.1) (λ i. (sym known i, same i)) of.ready) found in
     record { found = found; formed = ready.0; made = ready.1 }
 
--- what its body has made on the records before its ticket: its reply, and the cells behind it
+-- the result of its body on the records before its ticket: its reply, and the cells after it
 pub record Ran (base : Base) (p : PassView) (call : Call) (cells : List ℕ) (reply : Reply) : Type 0 where
   pub reply_is : reply_of_pass base p ≡ reply
   pub holds : Holds cells call.claims (apply base.procs p.call (records_before_pass base p)).records

@@ -5,7 +5,8 @@ use Rattle.vll_proc.specs.Serial.{Made, before}
 use Rattle.vll_check.specs.Calls.{source}
 use Rattle.vll_core.specs.State.{Base, catalog_of}
 
--- a call has found a value that was in a record: if these calls run one at a time, it is the record's before some ticket up to a bound
+-- a call has found a value that was in a record: if these calls run one at a time, it is the record's value before some
+-- ticket up to a bound
 pub record FoundThere (base : Base) (calls : List Made) (bound : ℕ) (call : Call) (r : ℕ) : Type 0 where
   pub value : ℕ
   pub is : call.found ≡ Some value

@@ -1,4 +1,4 @@
--- News: what one session has seen is told to another one, which begins its later calls behind it.
+-- News: what one session has seen reaches another one, whose later calls are ordered after it.
 use Rattle.std.specs.Prelude.{◌≡◌, ℕ, ◌<◌, List, [], ◌∷◌, Some, slice_get}
 use Rattle.vll_proc.specs.declared.call.Call.{Call}
 use Rattle.vll_proc.specs.declared.call.Reply.{Reply}
@@ -11,31 +11,34 @@ use Rattle.vll_engine.specs.Calling.{IsCalled}
 use Rattle.vll_engine.specs.Sessions.{SawOthers, SawOwn}
 use Rattle.vll_engine.specs.Shown.{Named, library_of}
 
--- a session has heard news of these calls: what it has seen begins with them, and behind what it had seen itself it has now seen calls of other clients alone; nothing else of it has changed
+-- a session has heard news of these calls: what it has seen begins with them, and after what it had seen itself it has
+-- now seen only calls of other clients; nothing else of it has changed
 pub record Hears (old new : SessionView) (calls : List Made) : Type 0 where
   pub same : new ≡ told new.seen old
   pub others : SawOthers old new
   pub heard : Begins calls new.seen
 
--- the first calls come to the last by way of these: each list begins with the one before it, as what a session has seen does with what it had seen and with what it has heard, and as news is what the session had seen that told it
+-- the first calls reach the last by way of these lists: each list begins with the one before it, as what a session has
+-- seen begins with what it had seen and with what it has heard, and as news is what its sender had seen
 abbrev pub IsHandedOn : List Made → List (List Made) → List Made → Type 0
 IsHandedOn first [] last = Begins first last
 IsHandedOn first (next ∷ more) last = Begins first next × IsHandedOn next more last
 
--- of these calls the one of ticket t stands before the one of ticket u
+-- in these calls, the first call is at ticket t and the second at ticket u, and t is lower
 pub record ComesBefore (calls : List Made) (first second : Made) (t u : ℕ) : Type 0 where
   pub order : t < u
   pub first_at : slice_get calls t ≡ Some first
   pub second_at : slice_get calls u ≡ Some second
 
--- a session has entered a call, what it has seen since comes to another session by any chain of news, and that one then enters a call: in all calls that ever enter, the first call comes before the second
+-- a session has entered a call, what it has seen by then reaches another session by any chain of news, and that one
+-- then enters a call: among all calls that ever enter, the first comes before the second
 abbrev pub NewsOrdersEntries : Type 0
 NewsOrdersEntries =
     (one after_one other after_other : SessionView) (a b : Call) (t u : ℕ) (chain : List (List Made)) (calls : List Made)
     → SawOwn one after_one a t → IsHandedOn after_one.seen chain other.seen → SawOwn other after_other b u → Begins after_other.seen calls
     → ComesBefore calls (one.client, a) (other.client, b) t u
 
--- the same of calls that were made from entry to reply
+-- as `NewsOrdersEntries`, for calls made from entry to reply
 abbrev pub NewsOrdersCalls : Type 0
 NewsOrdersCalls =
     (e : Named) (one after_one other after_other : SessionView) (a b : Call) (t u : ℕ) (reply answered : Reply) (chain : List (List Made)) (calls : List Made)

@@ -1,4 +1,4 @@
--- What it is for a call to begin or to be found, if its pass is put behind others in a list.
+-- What it means that a call begins or is found, if its pass is appended to a list.
 use Rattle.std.specs.Prelude.{◌≡◌, ◌++◌, ◌∷◌, [], List}
 use Rattle.vll_proc.specs.declared.call.Call.{Call}
 use Rattle.vll_counters.specs.declared.views.PassView.{PassView}
@@ -12,25 +12,25 @@ use Rattle.vll_engine.specs.Begin.{FindsAndBegins}
 use Rattle.vll_engine.specs.Pass.{IsFresh, StaysOf}
 use Rattle.vll_engine.specs.Shown.{Named}
 
--- the same answer, with the pass as the last of the list in place of in the answer; without a pass the list is as it was
+-- the same answer, with the pass appended to the list instead of in the answer; without a pass the list is unchanged
 abbrev pub IsOnto : Begun → BegunOnto → List PassShown → List PassShown → Type 0
 IsOnto (Free pass) answer before after = (answer ≡ onto.Free) × (after ≡ before ++ pass ∷ [])
 IsOnto (Blocked ticket) answer before after = (answer ≡ onto.Blocked ticket) × (after ≡ before)
 IsOnto (Refused why) answer before after = (answer ≡ onto.Refused why) × (after ≡ before)
 
--- what the answer and the list say of the session, and of a call that first finds the record of its indirect key, if it has one
+-- as `FindsAndBegins`, with the pass appended to the list
 pub record FindsAndBeginsOnto (e : Named) (old new : SessionView) (call : Call) (answer : BegunOnto) (before after : List PassShown) : Type 0 where
   pub begun : Begun
   pub begins : FindsAndBegins e old new call begun
   pub onto : IsOnto begun answer before after
 
--- one pass is behind the others, of a call of this engine that has made no step
+-- one pass is appended, of a call of this engine that has made no step
 pub record HasOneMore (e : Named) (before after : List PassShown) : Type 0 where
   pub pass : PassShown
   pub fresh : IsFresh e pass
   pub more : after ≡ before ++ pass ∷ []
 
--- a pass was the last of a list and is off it, and is still for the same call
+-- the pass was the last of the list and was taken off, and is still for the same call
 pub record IsOfLast (before after : List PassShown) (p : PassView) : Type 0 where
   pub last : PassShown
   pub off : before ≡ after ++ last ∷ []

@@ -1,4 +1,4 @@
--- A pass of an engine, from the moment at which its call may run to its end.
+-- A pass of an engine, from the moment its call may run to the call's end.
 use Rattle.std.specs.Prelude.{◌≡◌, ℕ, true, length, Some, slice_get}
 use Rattle.atomic_table.specs.Seated.{TableId}
 use Rattle.vll_proc.specs.declared.call.Reply.{Reply}
@@ -9,7 +9,7 @@ use Rattle.vll_counters.specs.Shown.{PassShown}
 use Rattle.vll_counters.specs.Told.{has_stored_pass}
 use Rattle.vll_engine.specs.Shown.{Named, library_of}
 
--- what is shown of a call that was executed: its pass and its reply
+-- what contracts see of a call that was executed: its pass and its reply
 pub record DoneShown : Type 0 where
   pub table : TableId
   pub pass : PassView
@@ -29,7 +29,7 @@ pub record IsFresh (e : Named) (p : PassShown) : Type 0 where
   pub no_stores : p.pass.stores ≡ 0
   pub no_releases : p.pass.releases ≡ 0
 
--- the reply is that of the pass's call, if the entered calls run one at a time
+-- the reply is that of the pass's call, if the calls that the pass has seen run one at a time
 abbrev pub IsReply : Named → DoneShown → Type 0
 IsReply e d = answer e.base.procs d.pass.seen e.base.records d.pass.ticket ≡ Some d.reply
 

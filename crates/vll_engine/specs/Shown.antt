@@ -1,4 +1,4 @@
--- What an engine's name tells, and what contracts see of an opening and of a session.
+-- What an engine's name states, and what contracts see of an opening and of a session.
 use Rattle.std.specs.Prelude.{ℕ, List, [], Option, Some, None}
 use Rattle.atomic_table.specs.Seated.{TableId}
 use Rattle.vll_check.specs.Catalog.{Catalog}
@@ -7,8 +7,8 @@ use Rattle.vll_core.specs.State.{Base, catalog_of}
 use Rattle.vll_counters.specs.Shown.{WordsShown, SessionShown}
 use Rattle.vll_counters.specs.Steps.{new_session}
 
--- which words an engine has, the procedures and the records of its opening, what was chosen, the places that its hash gives to records,
--- and the number of its clients
+-- which words an engine has, the procedures and records it was opened with, its configuration, the places that its hash
+-- gives to records, and the number of its clients
 pub record Named : Type 0 where
   pub table : TableId
   pub base : Base
@@ -38,7 +38,8 @@ no_engine = record {
   clients = 0;
 }
 
--- which words an opening has, and what it was made with: the library, the records, what was chosen, the hash, and the number of clients
+-- which words an opening has, and what it was made with: the library, the records, the configuration, the hash, and the
+-- number of clients
 pub record OpeningShown (H : Type 0) : Type 0 where
   pub table : TableId
   pub library : Catalog
@@ -47,12 +48,12 @@ pub record OpeningShown (H : Type 0) : Type 0 where
   pub hash : H
   pub clients : ℕ
 
--- an opening of these words, made with these
+-- an opening of these words, made with these arguments
 abbrev pub opening : {H : Type 0} → TableId → Catalog → List ℕ → Config → H → ℕ → OpeningShown H
 opening table library records config hash clients =
     record { table = table; library = library; records = records; config = config; hash = hash; clients = clients }
 
--- what names an opening; of the hash it has the places
+-- the name of an opening; of the hash it has only the places
 abbrev pub name_of : {H : Type 0} → (H → ℕ → ℕ) → OpeningShown H → Named
 name_of place o = record {
   table = o.table;
@@ -62,7 +63,7 @@ name_of place o = record {
   clients = o.clients;
 }
 
--- what a session shows while its seat is there, as it always is between two calls
+-- what contracts see of a session while its seat is there, as it always is between two calls
 abbrev pub shown_in : Option SessionShown → SessionShown
 shown_in (Some s) = s
 shown_in None = record { table = no_table; session = new_session 0 }

@@ -2,7 +2,7 @@ use crate::pass::Pass;
 use vll_core::Ticket;
 use vll_counters::PassSeat;
 
-/// What comes of a call that begins.
+/// The result of beginning a call.
 pub enum Begun {
     /// Each claim was granted: the call may run, by this pass.
     Free(Pass),
@@ -12,7 +12,7 @@ pub enum Begun {
     Refused(BeginRefusal),
 }
 
-/// What comes of a call that begins, if its pass goes onto a list.
+/// The result of beginning a call whose pass is appended to a list.
 pub enum BegunOnto {
     /// Each claim was granted: the call may run, by the last pass of the list.
     Free,
@@ -22,14 +22,14 @@ pub enum BegunOnto {
     Refused(BeginRefusal),
 }
 
-// The same at the lock. A call that is free has a seat there, and its pass is made of it outside, where the call is.
+// The result at the lock. A free call has a seat there; the caller, which has the call, makes the pass of it.
 pub(crate) enum Admission {
     Free(PassSeat, Ticket),
     Blocked(Ticket),
     Refused(BeginRefusal),
 }
 
-/// Why a call may not begin: the lowest that stands, in this order.
+/// Why a call may not begin: the first of these that holds, in this order.
 #[derive(Clone, Copy, PartialEq, Eq, Debug)]
 pub enum BeginRefusal {
     /// As many calls as the limit have entered. This stays so.

@@ -25,11 +25,11 @@ use vll_sca::Place;
 pub struct Spent;
 
 impl<N: Name, H: Place + Send + Drop> Engine<N, H> {
-    /// The session's client makes a call, from its entry to its reply: the answer is its ticket and its reply. A call
-    /// that may run is executed at once. While it waits, or as many calls wait as the cap, this thread brings others to
-    /// their end, whoever's they are: the front, or what the scan finds. If there are none it rests, and looks again;
-    /// it does not give up. If the engine is spent no call has entered. A call that may run takes the lock twice. No
-    /// worker is needed, and no memory is taken.
+    /// Makes a call of the session's client, from its entry to its reply, and returns its ticket and its reply. A call
+    /// that may run is executed at once. While it waits, or as many calls as the cap wait, this thread brings other
+    /// calls to their end, of any client: the front, or what the scan finds. If there are none it rests and looks
+    /// again; it does not give up. If the engine is spent, no call has entered. A call that may run at entry takes the
+    /// lock twice. No worker is needed, and no memory is taken.
     pub fn call(
         &self,
         wait: &impl Wait,
@@ -53,7 +53,7 @@ impl<N: Name, H: Place + Send + Drop> Engine<N, H> {
         unreachable!()
     }
 
-    // The same, unless as many calls wait as the cap: then this thread helps once, and no call has entered.
+    // As `call`, unless as many calls as the cap wait: then this thread helps once, and no call has entered.
     fn try_call(
         &self,
         wait: &impl Wait,
@@ -85,7 +85,7 @@ impl<N: Name, H: Place + Send + Drop> Engine<N, H> {
         }
     }
 
-    // A call that may run is made: its ticket and its reply.
+    // Makes a call that may run, and returns its ticket and its reply.
     fn make(&self, wait: &impl Wait, session: &mut Session, pass: Pass) -> (Ticket, Reply)
         requires session { session.old.table ≡ N.engine.table }
         requires pass { IsFresh N.engine pass }
@@ -100,7 +100,7 @@ impl<N: Name, H: Place + Send + Drop> Engine<N, H> {
         (ticket, reply)
     }
 
-    // The reply of a ticket, once it is there.
+    // Returns the reply of a ticket, once it is there.
     fn reply_of<'a>(
         &'a self,
         wait: &impl Wait,
@@ -124,7 +124,7 @@ impl<N: Name, H: Place + Send + Drop> Engine<N, H> {
         unreachable!()
     }
 
-    // Brings a call to its end that may run, if there is one, and else rests. The lock is let go meanwhile.
+    // Brings a call that may run to its end, if there is one, else rests. The lock is released meanwhile.
     fn help<'a>(
         &'a self,
         wait: &impl Wait,

@@ -1,4 +1,4 @@
-// A session whose type knows of which engine it is, so that its calls ask nothing of whoever makes them.
+// A session whose type knows its engine, so that a caller has nothing to prove about that.
 ghost use Rattle.std.specs.Prelude.{◌≡◌, ◌++◌, ◌∷◌, [], IfErr, IfNone, IfOk, IfSome, IsOk, IsSome, Some, Err, slice_get};
 ghost use Rattle.vll_check.specs.Calls.{Fits, call_made};
 ghost use Rattle.vll_proc.specs.Serial.{answer};
@@ -40,7 +40,7 @@ impl<N: Name> Model for Client<N> {
 }
 
 impl<N: Name> Client<N> {
-    /// The client whose session this is.
+    /// The client with this session.
     pub fn of(session: Session) -> Client<N>
         requires { session.table ≡ N.engine.table }
         ensures { result ≡ session }
@@ -51,7 +51,7 @@ impl<N: Name> Client<N> {
         }
     }
 
-    /// Its session.
+    /// Returns its session.
     pub fn into_session(self) -> Session
         ensures session { result ≡ self }
         ensures table { result.table ≡ N.engine.table }
@@ -66,9 +66,9 @@ impl<N: Name> Client<N> {
         self.session.client()
     }
 
-    /// Makes the call of the procedure with this name, from its entry to its reply, as `Engine::call` does: its ticket
-    /// and its reply. `Call` with the fault if the library does not make the call: then the client is as it was.
-    /// `Refused` with `Spent` if the engine takes no more calls: then none has entered. There is no other fault.
+    /// Calls the procedure with this name, from entry to reply, as `Engine::call` does, and returns the call's ticket
+    /// and reply. Fails with `Call` and the fault if the library does not make the call: the client is then unchanged.
+    /// Fails with `Refused(Spent)` if the engine takes no more calls: none has entered then. There is no other fault.
     pub fn call<H: Place + Send + Drop>(
         &mut self,
         wait: &impl Wait,
@@ -84,7 +84,7 @@ impl<N: Name> Client<N> {
         Ok(self.make(wait, engine, &call)?)
     }
 
-    /// Makes a call, from its entry to its reply, as `Engine::call` does.
+    /// Makes a call, from entry to reply, as `Engine::call` does.
     pub fn make<H: Place + Send + Drop>(
         &mut self,
         wait: &impl Wait,
@@ -112,7 +112,7 @@ impl<N: Name> Client<N> {
         engine.begin(wait, &mut self.session, call)
     }
 
-    /// The reply of a ticket, as `Engine::reply` tells it.
+    /// Returns the reply of a ticket, as `Engine::reply` does.
     pub fn reply<H: Place + Send + Drop>(
         &mut self,
         wait: &impl Wait,
@@ -128,7 +128,7 @@ impl<N: Name> Client<N> {
         engine.reply(wait, &mut self.session, ticket)
     }
 
-    /// Tells what it has seen, as `Engine::tell` does.
+    /// Returns news of what it has seen, as `Engine::tell` does.
     pub fn tell<H: Place + Send + Drop>(&mut self, engine: &Engine<N, H>) -> News<N>
         ensures news { result.calls ≡ self.old.session.seen }
         ensures same { self.new ≡ self.old }

@@ -1,4 +1,4 @@
-// The clients of an engine that no thread has in hand.
+// The clients of an engine that are not in use by a thread.
 ghost use Rattle.std.specs.Prelude.{◌≡◌, ◌++◌, ◌∷◌, ◌↔◌, [], All, IfNone, IfOk, IfSome, IsTrue, OnErr, OnOk, length};
 ghost use Rattle.vll_counters.specs.Shown.{AreNewSessions};
 ghost use Rattle.vll_engine.specs.Shown.{name_of};
@@ -12,12 +12,12 @@ use std::alloc::{AllocError, Global};
 use std::marker::{Model, PhantomData};
 use vll_sca::Place;
 
-/// The clients of the engine of this name, in a list: whoever is to make calls takes one, and puts it back when it has
-/// made them. Contracts see the sessions of those that are there.
+/// A list of clients of the engine of this name: a thread that is to make calls takes one, and puts it back afterwards.
+/// Contracts see the sessions of those in the list.
 #[derive(Drop)]
 pub struct Clients<N: Name> {
     sessions: Vec<Session>,
-    // How many the engine has.
+    // The number of clients of the engine.
     all: u32,
     of: PhantomData<N>,
 }
@@ -34,7 +34,7 @@ impl<N: Name> Model for Clients<N> {
 }
 
 impl<N: Name> Clients<N> {
-    /// The clients with these sessions, and how many clients the engine has.
+    /// The clients with these sessions, of an engine with `all` clients.
     pub fn of(sessions: Vec<Session>, all: u32) -> Clients<N>
         requires sessions { All (λ s. s.table ≡ N.engine.table) sessions.items }
         requires all { all ≡ N.engine.clients }
@@ -47,7 +47,7 @@ impl<N: Name> Clients<N> {
         }
     }
 
-    /// Their sessions, as `Engine::close` and `Engine::reopen` take them.
+    /// Returns their sessions, as `Engine::close` and `Engine::reopen` take them.
     pub fn into_sessions(self) -> Vec<Session>
         ensures sessions { result.items ≡ self }
         ensures tables { All (λ s. s.table ≡ N.engine.table) result.items }
@@ -55,28 +55,28 @@ impl<N: Name> Clients<N> {
         self.sessions
     }
 
-    /// How many are there.
+    /// The number of clients in the list.
     pub fn len(&self) -> usize
         ensures { result ≡ length self.now }
     {
         self.sessions.len()
     }
 
-    /// How many clients the engine has.
+    /// The number of clients of the engine.
     pub fn all(&self) -> u32
         ensures { result ≡ N.engine.clients }
     {
         self.all
     }
 
-    /// Whether as many are there as the engine has, as `Engine::reopen` wants.
+    /// Whether the list has as many clients as the engine, as `Engine::reopen` requires.
     pub fn are_all(&self) -> bool
         ensures { IsTrue result ↔ (length self.now ≡ N.engine.clients) }
     {
         self.sessions.len() == self.all as usize
     }
 
-    /// Takes the last one. `None` exactly if none is there.
+    /// Takes the last client off. Returns `None` exactly if the list is empty.
     pub fn pop(&mut self) -> Option<Client<N>>
         ensures last { IfSome result (λ client. self.old ≡ self.new ++ client ∷ []) }
         ensures none { IfNone result ((self.old ≡ []) × (self.new ≡ [])) }
@@ -84,8 +84,8 @@ impl<N: Name> Clients<N> {
         Some(Client::of(self.sessions.pop()?))
     }
 
-    /// Puts a client behind the others. It takes memory only if more are there than ever before; if that is refused the
-    /// client is dropped, and the others are as they were.
+    /// Appends a client. Allocates only if there are more clients than ever before; if that allocation fails, the
+    /// client is dropped and the list is unchanged.
     pub fn push(&mut self, client: Client<N>) -> Result<(), AllocError>
         ensures ok { OnOk result (self.new ≡ self.old ++ client ∷ []) }
         ensures err { OnErr result (self.new ≡ self.old) }
@@ -94,7 +94,7 @@ impl<N: Name> Clients<N> {
         Ok(())
     }
 
-    /// Takes all that are there, in order. If memory is refused all are still there.
+    /// Takes all clients off, in order. If the allocation fails, the list is unchanged.
     pub fn take_all(&mut self, alloc: Global) -> Result<Vec<Client<N>>, AllocError>
         ensures ok { IfOk result (λ clients. (clients.items ≡ self.old) × (self.new ≡ [])) }
         ensures err { OnErr result (self.new ≡ self.old) }
@@ -109,7 +109,7 @@ impl<N: Name> Clients<N> {
 }
 
 impl<H: Place + Send + Drop> Opening<H> {
-    /// The engine, and its clients, in order. The name is one that names this opening.
+    /// Starts the engine, and returns it with its clients, in order. `N` has to name this opening.
     pub fn start_clients<N: Name>(self) -> (Engine<N, H>, Clients<N>)
         requires named { N.engine ≡ name_of H.place_of self }
         ensures clients { AreNewSessions N.engine.table N.engine.clients result.1 }

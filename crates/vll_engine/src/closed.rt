@@ -13,23 +13,23 @@ pub struct Closed {
     pub journal: Vec<Line>,
 }
 
-/// An engine that was not closed, since calls run or wait in it. It goes on as it was.
+/// An engine that was not closed, since calls run or wait in it. It goes on unchanged.
 #[derive(Drop)]
 pub struct NotClosed<N: Name, H: Place + Send + Drop> {
     pub engine: Engine<N, H>,
-    /// The sessions that were handed in.
+    /// The sessions that were passed.
     pub sessions: Vec<Session>,
-    /// How many calls have a pass that is not spent to the end.
+    /// The number of calls that run: each has a pass that has not reached its end.
     pub running: u32,
-    /// How many calls are blocked.
+    /// The number of blocked calls.
     pub waiting: u32,
 }
 
-/// What an engine leaves that goes on by another name: the calls in order of entry, each with its reply, and an opening
+/// What a reopened engine leaves: the calls in order of entry, each with its reply, and an opening, to be named anew,
 /// over the records as these calls have left them.
 #[derive(Drop)]
 pub struct Reopened<H: Place> {
-    /// Its list has room for as many calls as the limit: it can be handed in when the next engine is reopened.
+    /// Its capacity is at least the limit: the list can be passed when the next engine is reopened.
     pub journal: Vec<Line>,
     pub opening: Opening<H>,
 }
@@ -37,9 +37,9 @@ pub struct Reopened<H: Place> {
 /// An engine that was not reopened.
 #[derive(Drop)]
 pub struct NotReopened<N: Name, H: Place + Send + Drop> {
-    /// What `close` answers. The engine was not closed if calls run or wait in it, and else it is closed, since memory
-    /// was refused.
+    /// What `close` returns: an engine that was not closed, if calls run or wait in it, else what the closed engine
+    /// leaves, since an allocation failed.
     pub left: Result<Closed, NotClosed<N, H>>,
-    /// The list that was handed in for the journal.
+    /// The list that was passed for the journal.
     pub journal: Vec<Line>,
 }

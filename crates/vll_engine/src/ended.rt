@@ -1,4 +1,4 @@
-// What is left of an engine in which no call runs or waits, before it is closed or goes on.
+// What is left of an engine in which no call runs or waits, before it is closed or reopened.
 ghost use Rattle.std.specs.Prelude.{◌≡◌, ◌≤◌, [], IfErr, IfOk, IsOk, vec_capacity};
 ghost use Rattle.vll_core.specs.Queue.{lines};
 ghost use Rattle.vll_counters.specs.Shown.{AreNewSessions, shown_queue};
@@ -18,22 +18,22 @@ use vll_core::{Line, Queue};
 use vll_counters::{QueueSeat, Words};
 use vll_sca::Place;
 
-// The lists have the room that the next opening needs.
+// The lists have the capacity that the next opening needs.
 #[derive(Drop)]
 pub(crate) struct Ended<H: Place> {
     pub(crate) library: Library,
-    // All words, and divided into the records' values and their pairs.
+    // All words, and then the same divided into the records' values and their pair words.
     pub(crate) words: Vec<u64>,
     pub(crate) records: Vec<u64>,
     pub(crate) pairs: Vec<u64>,
     pub(crate) queue: Queue<H>,
-    // The list that the sessions were in, which is empty, and how many they were.
+    // The list that the sessions were in, empty by now, and how many there were.
     pub(crate) sessions: Vec<Session>,
     pub(crate) clients: usize,
 }
 
 impl<H: Place + Send + Drop> Ended<H> {
-    // What the engine leaves.
+    // Returns what the engine leaves.
     pub(crate) fn into_closed<N: Name>(self) -> Closed
         requires { IsEnded H.place_of N.engine self }
         ensures serial { IsSerial N.engine result }
@@ -46,7 +46,7 @@ impl<H: Place + Send + Drop> Ended<H> {
         }
     }
 
-    // The journal, and the next opening.
+    // Returns the journal and the next opening.
     pub(crate) fn reopen<N: Name>(
         self,
         alloc: Global,

@@ -30,16 +30,16 @@ use vll_counters::Words;
 use vll_proc::{Call, Reply};
 use vll_sca::Place;
 
-/// The engine. Many threads may share it; each call that takes `wait` holds the lock once, and no other call takes it.
-/// `hold` keeps the lock for several calls.
+/// The engine. Many threads may share it. Only a function that takes `wait` takes the lock: `call` takes it as often as
+/// it needs, every other one once, and `hold` keeps it for several calls.
 #[derive(Drop)]
 pub struct Engine<N: Name, H: Place + Send + Drop> {
     library: Library,
     pub(crate) words: Words,
     room: Room,
-    // What each hold changes begins on a line of the cache of its own.
+    // What each hold changes starts on its own cache line.
     locked: CachePadded<Mutex<Locked<N, H>>>,
-    // Who waits looks at it all the time, so it lies apart from what a hold changes.
+    // Waiting threads read it all the time, so it is kept apart from what a hold changes.
     latch: CachePadded<Latch>,
     ghost library_is: { library ≡ library_of N.engine },
     ghost catalog: { IsCatalog library },
@@ -49,7 +49,7 @@ pub struct Engine<N: Name, H: Place + Send + Drop> {
 }
 
 impl<N: Name, H: Place + Send + Drop> Engine<N, H> {
-    // The library, the words, the queue behind its lock, and the room for what is left at the end.
+    // An engine of the library, the words, the queue behind its lock, and the room for what closing leaves.
     pub(crate) fn new(
         library: Library,
         words: Words,
@@ -61,7 +61,7 @@ impl<N: Name, H: Place + Send + Drop> Engine<N, H> {
         requires room { room ≡ length N.engine.base.records }
         requires few { N.engine.clients < 4294967296 }
     {
-        // A contract knows that the procedures passed their tests only where the library is read.
+        // A contract knows that the procedures passed their checks only if the library is read.
         let _ = library.records();
         Engine {
             library,
@@ -79,35 +79,35 @@ impl<N: Name, H: Place + Send + Drop> Engine<N, H> {
         &self.library
     }
 
-    /// The lock, kept until the hold is dropped: what is called on the hold needs no lock of its own, and no call of
-    /// another thread that needs one comes between.
+    /// Takes the lock and keeps it until the hold is dropped: functions of the hold take no lock of their own, and
+    /// nothing that another thread does under the lock comes between them.
     pub fn hold(&self, wait: &impl Wait) -> Hold<'_, N, H> {
         let latch: &Latch = &self.latch;
         let latch = latch.enter().then_some(latch);
         Hold::new(self.locked.lock(wait), &self.words, &self.library, latch)
     }
 
-    /// A load of the pair word of each record that a call which fits claims. It changes nothing: a call that begins
-    /// soon after finds the words near. Whether each claim would have been granted by its word as it was: it is a hint,
-    /// since the words may be others by now. The record of an indirect key is not known yet, and is not among them. It
-    /// takes no lock.
+    /// Loads the pair word of each record that the call claims, and returns whether each claim would have been granted
+    /// by the word loaded. That is a hint, since the words may have changed by now. It changes nothing, but a call that
+    /// begins soon after finds the words in the cache. The record of an indirect key is not known yet, and is not among
+    /// them. Takes no lock.
     pub fn look(&self, call: &Call) -> bool
         requires { Fits (library_of N.engine) call.now }
     {
         execution::look::<N>(&self.words, call)
     }
 
-    /// A session's client enters a call, which requests all its claims and gets the next ticket. `Free` with a pass
-    /// if every claim was granted, and else `Blocked`; a blocked call keeps its claims. A refusal enters nothing and
-    /// takes no claim: `Spent` if as many calls as the limit have entered, `Busy` if that is not so and as many as the
-    /// cap wait. After each answer the session has seen all calls that had entered when the lock was let go: behind
-    /// what it had seen, calls of other clients alone and, after an entry, its own as the last.
+    /// Enters a call of the session's client: the call requests all its claims and gets the next ticket. Returns `Free`
+    /// with a pass if every claim was granted, else `Blocked`; a blocked call keeps its claims. A refusal enters
+    /// nothing and takes no claim: `Spent` if as many calls as the limit have entered, else `Busy` if as many as the
+    /// cap wait. In each case the session has then seen all calls that had entered when the lock was released: after
+    /// what it had seen, only calls of other clients and, after an entry, its own as the last.
     ///
-    /// If the call has an indirect key its source is loaded first, without a claim and before the lock is taken, and
-    /// what enters is the call with the value found; a refusal drops it. The source held the value before the call's
-    /// ticket or an earlier one, and behind each call that claims it and whose reply the session was given. If the
-    /// source has another value when the body begins the call is aborted with `Reason::Moved`; the engine does not try
-    /// again. The pass of a call that may run is for this call, with what it found.
+    /// If the call has an indirect key, its source is loaded first, without a claim and before the lock is taken, and
+    /// the call enters with the value found; a refusal drops the value. The source held the value before the call's
+    /// ticket or an earlier one, and after each call that claims it and whose reply the session was given. If the
+    /// source has another value when the body begins, the call is aborted with `Reason::Moved`; the engine does not
+    /// retry. The pass of a call that may run is for this call, with what it found.
     pub fn begin(&self, wait: &impl Wait, session: &mut Session, call: &Call) -> Begun
         requires session { session.old.table ≡ N.engine.table }
         requires fits { Fits (library_of N.engine) call.now }
@@ -124,24 +124,24 @@ impl<N: Name, H: Place + Send + Drop> Engine<N, H> {
         }
     }
 
-    /// A pass for the lowest ticket that is not gone, if it waits: all before it are gone.
+    /// Returns a pass for the lowest ticket that is not gone, if it waits: all before it are gone.
     pub fn next_front(&self, wait: &impl Wait) -> Option<Pass>
         ensures { IfSome result (IsFresh N.engine) }
     {
         self.hold(wait).next_front()
     }
 
-    /// A pass for the first waiting ticket that is in hash conflict with no earlier one that runs or waits, by the
-    /// places of this opening's hash.
+    /// Returns a pass for the first waiting ticket that has no hash conflict with an earlier one that runs or waits, by
+    /// the places of this opening's hash.
     pub fn next_scan(&self, wait: &impl Wait) -> Option<Pass>
         ensures { IfSome result (IsFresh N.engine) }
     {
         self.hold(wait).next_scan()
     }
 
-    /// Loads each claim's record, runs the body, and stores each Write claim's record unless the call aborts. It takes
-    /// no lock, and other calls may make their own steps between any two of these. The reply is that of the serial run
-    /// of the calls that the pass has seen, at its ticket.
+    /// Loads each claim's record, runs the body, and stores each Write claim's record unless the call aborts. Takes no
+    /// lock, and steps of other calls may come between any two of these. The reply is the one at the pass's ticket in
+    /// the serial run of the calls that the pass has seen.
     #[inline(always)]
     pub fn execute(&self, pass: Pass) -> Done
         requires pass { IsFresh N.engine pass }
@@ -151,7 +151,7 @@ impl<N: Name, H: Place + Send + Drop> Engine<N, H> {
         execution::execute::<N>(&self.words, &self.library, pass)
     }
 
-    /// The call releases each of its claims. It takes no lock.
+    /// Releases each of the call's claims. Takes no lock.
     #[inline(always)]
     pub fn release(&self, done: Done) -> Released
         requires done { IsDone N.engine done }
@@ -162,7 +162,7 @@ impl<N: Name, H: Place + Send + Drop> Engine<N, H> {
         execution::release::<N>(&self.words, done)
     }
 
-    /// Executes the call and releases its claims, as by `execute` and then `release`, with fewer copies between them.
+    /// Executes the call and releases its claims, as `execute` and then `release`, with fewer copies.
     #[inline(always)]
     pub fn execute_and_release(&self, pass: Pass) -> Released
         requires pass { IsFresh N.engine pass }
@@ -172,8 +172,8 @@ impl<N: Name, H: Place + Send + Drop> Engine<N, H> {
         execution::execute_and_release::<N>(&self.words, &self.library, pass)
     }
 
-    /// Takes the last pass off a list, executes its call and releases the claims, as by `execute_and_release`, but
-    /// without a copy of the call. `None` exactly if the list is empty.
+    /// Takes the last pass off a list, executes its call and releases the claims, as `execute_and_release`, but without
+    /// copying the call. Returns `None` exactly if the list is empty.
     #[inline(always)]
     pub fn run_last(&self, passes: &mut Vec<Pass>) -> Option<Released>
         requires passes { All (IsFresh N.engine) passes.old.items }
@@ -194,7 +194,7 @@ impl<N: Name, H: Place + Send + Drop> Engine<N, H> {
         Some(pass.into_released(reply))
     }
 
-    /// The call is gone, and its line gets the reply. The ticket and the reply are those of the call.
+    /// Finishes the call: it is gone, and its line gets the reply. Returns its ticket and its reply.
     pub fn finish(&self, wait: &impl Wait, released: Released) -> (Ticket, Reply)
         requires released { IsReleased N.engine released }
         ensures ticket { result.0 ≡ released.pass.ticket }
@@ -203,9 +203,9 @@ impl<N: Name, H: Place + Send + Drop> Engine<N, H> {
         self.hold(wait).finish(released)
     }
 
-    /// The reply in the ticket's line; `None` if there is no such line or it has no reply yet. It is that of the calls
-    /// which the session has then seen, made one at a time. The session sees all calls that have entered; a ticket
-    /// whose reply it was given is answered ever after.
+    /// Returns the reply in the ticket's line; `None` if there is no such line or it has no reply yet. The reply is the
+    /// ticket's in the serial run of the calls that the session has then seen. The session sees all calls that have
+    /// entered; once it was given a ticket's reply, it always gets one for that ticket.
     pub fn reply(&self, wait: &impl Wait, session: &mut Session, ticket: Ticket) -> Option<Reply>
         requires session { session.old.table ≡ N.engine.table }
         ensures reply { IfSome result (λ reply. answer N.engine.base.procs session.new.session.seen N.engine.base.records ticket ≡ Some reply) }
@@ -217,11 +217,11 @@ impl<N: Name, H: Place + Send + Drop> Engine<N, H> {
         self.hold(wait).reply(session, ticket)
     }
 
-    /// The records, their pair words and the journal, if no call runs or waits: each line has its reply, the records
-    /// are those of the journal's calls made one at a time, and each pair word is 0. Each call may enter, has found
-    /// what was there, and is of a client of the engine. The journal begins with what each session handed in has seen,
-    /// and has no other calls of its client. Else all is handed back, with the numbers of those that run and wait. The
-    /// list may lack sessions.
+    /// Returns the records, their pair words and the journal, if no call runs or waits: each line has its reply, the
+    /// records are those of the journal's calls made one at a time, and each pair word is 0. Each call may enter, has
+    /// found what was there, and is of a client of the engine. The journal begins with what each session passed has
+    /// seen, and has no other calls of its client. Otherwise returns the engine and the sessions, with the numbers of
+    /// calls that run and that wait. `sessions` may lack some sessions.
     pub fn close(self, sessions: Vec<Session>) -> Result<Closed, NotClosed<N, H>>
         requires sessions { All (λ s. s.table ≡ N.engine.table) sessions.items }
         ensures serial { IfOk result (λ c. IsSerial N.engine c) }
@@ -245,14 +245,13 @@ impl<N: Name, H: Place + Send + Drop> Engine<N, H> {
     }
 
     /// Closes the engine, and opens another one over the records as its calls have left them, with the same library,
-    /// configuration and hash, for as many clients: the journal, and the opening. It begins by another name, and its
-    /// journal with its first call. Of the journal, the replies and the sessions this says what `close` says. All
-    /// sessions have to be handed in. The list for the journal has room for as many lines as the limit, as the one that
-    /// is returned has; what it holds is dropped.
+    /// configuration, hash and number of clients. Returns the journal and the opening, which gets a name of its own and
+    /// an empty journal. What `close` promises of the journal, the replies and the sessions holds here too. All
+    /// sessions have to be passed. The capacity of the list `journal` is at least the limit, and so is that of the one
+    /// returned; what `journal` holds is dropped.
     ///
-    /// All lists are used again. The block of the atomic words is given back, and one of the same size is taken: that
-    /// is all the memory that it takes. If it is refused, or if calls run or wait, it answers what `close` answers, and
-    /// the list that was handed in.
+    /// All lists are reused. The block of atomic words is freed, and one of the same size is allocated: no other memory
+    /// is taken. If that allocation fails, or if calls run or wait, returns what `close` returns, and `journal`.
     pub fn reopen(
         self,
         alloc: Global,

@@ -20,7 +20,7 @@ use vll_counters::{PassSeat, Words};
 use vll_proc::{Call, Frame, Reply};
 use vll_record::{Claims, MOST_CLAIMS, Mode};
 
-// Looks at the pair word of each record that the call claims. Tells whether each claim looks free.
+// Loads the pair word of each record that the call claims. Returns whether each claim looks free.
 pub(crate) fn look<N: Name>(words: &Words, call: &Call) -> bool
     requires words { words.now ≡ words_of N.engine }
     requires catalog { IsCatalog (library_of N.engine) }
@@ -29,7 +29,7 @@ pub(crate) fn look<N: Name>(words: &Words, call: &Call) -> bool
     look_all(words, &call.claims)
 }
 
-// Looks at the pair word of each claim, also behind one that does not look free.
+// Loads the pair word of each claim, also after one that does not look free.
 fn look_all(words: &Words, claims: &Claims) -> bool
     requires there { All (λ (c : Claim). c.id < length words.now.base.records) claims.now }
 {
@@ -40,7 +40,7 @@ fn look_all(words: &Words, claims: &Claims) -> bool
     are_free
 }
 
-// The call of a pass makes all its loads, runs its body, and makes all its stores unless it aborts.
+// Makes all loads of a pass's call, runs its body, and makes all its stores unless it aborts.
 #[inline(always)]
 pub(crate) fn execute<N: Name>(words: &Words, library: &Library, pass: Pass) -> Done
     requires words { words.now ≡ words_of N.engine }
@@ -63,7 +63,7 @@ pub(crate) fn execute<N: Name>(words: &Words, library: &Library, pass: Pass) -> 
     }
 }
 
-// The same, and then it releases each of its claims.
+// As `execute`, and then releases each of the call's claims.
 #[inline(always)]
 pub(crate) fn execute_and_release<N: Name>(words: &Words, library: &Library, pass: Pass) -> Released
     requires words { words.now ≡ words_of N.engine }
@@ -87,7 +87,7 @@ pub(crate) fn execute_and_release<N: Name>(words: &Words, library: &Library, pas
     }
 }
 
-// The same where the pass lies. The reply.
+// As `execute_and_release`, on a borrowed pass. Returns the reply.
 #[inline(always)]
 pub(crate) fn run_in_place<N: Name>(words: &Words, library: &Library, pass: &mut Pass) -> Reply
     requires words { words.now ≡ words_of N.engine }
@@ -102,7 +102,8 @@ pub(crate) fn run_in_place<N: Name>(words: &Words, library: &Library, pass: &mut
     reply
 }
 
-// The steps of a call whose pass has this seat: its loads, and its stores unless its body aborts. The body's reply.
+// Makes the loads of a call whose pass has this seat, runs its body, and makes its stores unless the body aborts.
+// Returns the body's reply.
 #[inline(always)]
 fn work<N: Name>(words: &Words, library: &Library, seat: &mut PassSeat, call: &Call) -> Reply
     requires words { words.now ≡ words_of N.engine }
@@ -123,7 +124,7 @@ fn work<N: Name>(words: &Words, library: &Library, seat: &mut PassSeat, call: &C
     reply
 }
 
-// The pass loads the record of each claim into the claim's cell.
+// Loads the record of each claim into the claim's cell.
 fn load_all(words: &Words, seat: &mut PassSeat, claims: &Claims, frame: &mut Frame)
     requires same { seat.old.table ≡ words.now.table }
     requires claims { seat.old.pass.call.claims ≡ claims.now }
@@ -141,7 +142,7 @@ fn load_all(words: &Words, seat: &mut PassSeat, claims: &Claims, frame: &mut Fra
     }
 }
 
-// The pass stores each Write claim's cell into its record.
+// Stores each Write claim's cell into its record.
 fn store_all(words: &Words, seat: &mut PassSeat, claims: &Claims, frame: &Frame)
     requires same { seat.old.table ≡ words.now.table }
     requires claims { seat.old.pass.call.claims ≡ claims.now }
@@ -162,7 +163,7 @@ fn store_all(words: &Words, seat: &mut PassSeat, claims: &Claims, frame: &Frame)
     }
 }
 
-// The call of a pass releases each of its claims.
+// Releases each claim of an executed call.
 #[inline(always)]
 pub(crate) fn release<N: Name>(words: &Words, done: Done) -> Released
     requires words { words.now ≡ words_of N.engine }
@@ -186,7 +187,7 @@ pub(crate) fn release<N: Name>(words: &Words, done: Done) -> Released
     }
 }
 
-// The pass releases each claim.
+// Releases each of the pass's claims.
 fn release_all(words: &Words, seat: &mut PassSeat, claims: &Claims)
     requires same { seat.old.table ≡ words.now.table }
     requires claims { seat.old.pass.call.claims ≡ claims.now }

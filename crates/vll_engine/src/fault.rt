@@ -9,8 +9,8 @@ use vll_check::{CallFault, CheckFault, NameTwice};
 use vll_core::OpenFault;
 use vll_sca::Place;
 
-/// Why a program with the engine inside stops: `?` makes one of each fault that it can meet on its way from procedures
-/// to the closed engine.
+/// Why a program with an embedded engine stops: `?` makes one of each fault possible between making procedures and
+/// closing the engine.
 #[derive(Clone, Copy, PartialEq, Eq, Debug, Error)]
 pub enum EngineFault {
     #[error("memory was refused")]
@@ -31,7 +31,7 @@ pub enum EngineFault {
     /// A call may not begin.
     #[error("a call may not begin: {0:?}")]
     Refused(BeginRefusal),
-    /// Calls run or wait that were to have come to their end, as in an engine that is to be closed.
+    /// Calls still run or wait that should have ended, as in an engine that is to be closed.
     #[error("calls are left")]
     Left,
 }

@@ -1,4 +1,4 @@
-// Before a call enters it finds the record of its indirect key, under no lock.
+// Finds the record of a call's indirect key before the call enters, under no lock.
 ghost use Rattle.std.specs.Prelude.{◌≡◌, ◌<◌, Some};
 ghost use Rattle.vll_check.specs.Calls.{Fits, IsReady, source as source_in};
 ghost use Rattle.vll_check.specs.Catalog.{IsCatalog};
@@ -12,7 +12,7 @@ use vll_counters::Words;
 use vll_proc::Call;
 use vll_record::RecordId;
 
-// The call with the value that its source has. It stands apart, so that other calls do not make room for it.
+// The call with the value that its source has. It is not inlined, so that other calls make no room for it.
 #[inline(never)]
 pub(crate) fn find<N: Name>(
     words: &Words,

@@ -26,16 +26,15 @@ use vll_proc::{Call, Reply};
 use vll_record::RecordId;
 use vll_sca::Place;
 
-/// An engine's lock, kept for as many calls as a program makes under it: it can finish a call, look for the next that
-/// may run, and begin others, and takes the lock once. The lock is let go when the hold is dropped. Until then each
-/// other thread waits that asks for a hold or makes a call of the engine that takes `wait`, and a thread that does so
-/// under a hold of its own waits forever. `Engine::execute` and `Engine::release` need no hold, and are best called
-/// outside one.
+/// An engine's lock, taken once and kept for several functions: a program can finish a call under it, look for the next
+/// that may run, and begin others. Dropping the hold releases the lock. Until then every other thread that asks for a
+/// hold, or calls a function of the engine that takes `wait`, waits; a thread that does so under its own hold waits
+/// forever. `Engine::execute` and `Engine::release` need no hold, and are best called outside one.
 pub struct Hold<'a, N: Name, H: Place + Send + Drop> {
     guard: MutexGuard<'a, Locked<N, H>>,
     words: &'a Words,
     library: &'a Library,
-    // The latch, if this hold has taken it: only then it opens it.
+    // The latch, if this hold has taken it: only then does it open it.
     latch: Option<&'a Latch>,
     ghost words_are: { words.now ≡ words_of N.engine },
     ghost library_is: { library.now ≡ library_of N.engine },
@@ -43,7 +42,7 @@ pub struct Hold<'a, N: Name, H: Place + Send + Drop> {
 }
 
 impl<'a, N: Name, H: Place + Send + Drop> Hold<'a, N, H> {
-    // The hold of a lock that was taken, and of the latch in front of it if that was taken too.
+    // A hold of a lock that was taken, and of the latch in front of it if that was taken too.
     pub(crate) fn new(
         guard: MutexGuard<'a, Locked<N, H>>,
         words: &'a Words,
@@ -62,7 +61,7 @@ impl<'a, N: Name, H: Place + Send + Drop> Hold<'a, N, H> {
         }
     }
 
-    /// A session's client enters a call, or is refused, as by `Engine::begin`. If the call has an indirect key its
+    /// Enters a call of the session's client, or refuses it, as `Engine::begin`. If the call has an indirect key, its
     /// source is loaded under this hold.
     pub fn begin(&mut self, session: &mut Session, call: &Call) -> Begun
         requires session { session.old.table ≡ N.engine.table }
@@ -80,7 +79,7 @@ impl<'a, N: Name, H: Place + Send + Drop> Hold<'a, N, H> {
         }
     }
 
-    // The same at the lock: a call that may run has its seat.
+    // As `begin_ready`, but a call that may run has its seat in place of a pass.
     #[inline(always)]
     fn admit(&mut self, session: &mut Session, call: &Call) -> Admission
         requires session { session.old.table ≡ N.engine.table }
@@ -99,7 +98,7 @@ impl<'a, N: Name, H: Place + Send + Drop> Hold<'a, N, H> {
         admission
     }
 
-    // The session's client enters a call that is ready, or is refused.
+    // Enters a ready call of the session's client, or refuses it.
     #[inline(always)]
     pub(crate) fn begin_ready(&mut self, session: &mut Session, call: &Call) -> Begun
         requires session { session.old.table ≡ N.engine.table }
@@ -120,8 +119,8 @@ impl<'a, N: Name, H: Place + Send + Drop> Hold<'a, N, H> {
         }
     }
 
-    /// As `begin`, but the pass of a call that may run is put behind the others of a list that has room for it. So the
-    /// call is copied once, to where its pass lies.
+    /// As `begin`, but the pass of a call that may run is appended to `passes`, which has room for it. So the call is
+    /// copied once, to where its pass is kept.
     #[inline(always)]
     pub fn begin_onto(
         &mut self,
@@ -143,7 +142,7 @@ impl<'a, N: Name, H: Place + Send + Drop> Hold<'a, N, H> {
         }
     }
 
-    // The same for a call with an indirect key. It stands apart, so that other calls do not make room for it.
+    // As `begin_onto`, for a call with an indirect key. It is not inlined, so that other calls make no room for it.
     #[inline(never)]
     fn find_and_begin_onto(
         &mut self,
@@ -166,7 +165,7 @@ impl<'a, N: Name, H: Place + Send + Drop> Hold<'a, N, H> {
         self.begin_ready_onto(session, &call, passes)
     }
 
-    // The same for a call that is ready.
+    // As `begin_onto`, for a ready call.
     #[inline(always)]
     fn begin_ready_onto(
         &mut self,
@@ -197,8 +196,7 @@ impl<'a, N: Name, H: Place + Send + Drop> Hold<'a, N, H> {
         }
     }
 
-    /// As `next_front`, but the pass is put behind the others of a list that has room for it. Tells whether there is
-    /// one.
+    /// As `next_front`, but the pass is appended to `passes`, which has room for it. Returns whether there is one.
     #[inline(always)]
     pub fn next_front_onto(&mut self, passes: &mut Vec<Pass>) -> bool
         requires room { length passes.old.items < vec_capacity passes.old }
@@ -212,8 +210,7 @@ impl<'a, N: Name, H: Place + Send + Drop> Hold<'a, N, H> {
         true
     }
 
-    /// As `next_scan`, but the pass is put behind the others of a list that has room for it. Tells whether there is
-    /// one.
+    /// As `next_scan`, but the pass is appended to `passes`, which has room for it. Returns whether there is one.
     pub fn next_scan_onto(&mut self, passes: &mut Vec<Pass>) -> bool
         requires room { length passes.old.items < vec_capacity passes.old }
         ensures pass { MatchBool result (HasOneMore N.engine passes.old.items passes.new.items) (passes.new.items ≡ passes.old.items) }
@@ -226,7 +223,7 @@ impl<'a, N: Name, H: Place + Send + Drop> Hold<'a, N, H> {
         true
     }
 
-    /// A pass for the lowest ticket that is not gone, if it waits, as by `Engine::next_front`.
+    /// Returns a pass for the lowest ticket that is not gone, if it waits, as `Engine::next_front`.
     #[inline(always)]
     pub fn next_front(&mut self) -> Option<Pass>
         ensures { IfSome result (IsFresh N.engine) }
@@ -235,7 +232,7 @@ impl<'a, N: Name, H: Place + Send + Drop> Hold<'a, N, H> {
         Some(self.guard.pass(seat, ticket))
     }
 
-    /// A pass for the ticket that the contention analysis finds, if any, as by `Engine::next_scan`.
+    /// Returns a pass for the ticket that the contention analysis finds, if any, as `Engine::next_scan`.
     pub fn next_scan(&mut self) -> Option<Pass>
         ensures { IfSome result (IsFresh N.engine) }
     {
@@ -243,11 +240,11 @@ impl<'a, N: Name, H: Place + Send + Drop> Hold<'a, N, H> {
         Some(self.guard.pass(seat, ticket))
     }
 
-    /// As `next_scan`, unless a scan is put off. A scan that finds none owes as many entries as calls wait. Each
-    /// finished call pays for eight of them, and each time that this call puts a scan off for 64. One is put off while
-    /// 64 or more are owed and 64 calls or more wait, so that what such scans cost a call does not grow with the calls
-    /// that wait. At most one time in a row for each 64 that wait this answers `None` though a scan would find a call.
-    /// Whoever is about to leave the engine alone asks `next_scan` in its place.
+    /// As `next_scan`, unless a scan is put off. A scan that finds no call adds a debt of as many entries as calls
+    /// wait. Each finished call pays off eight of them, and each time that a scan is put off here, 64. A scan is put
+    /// off while 64 or more entries are owed and 64 or more calls wait, so that what such scans cost a call does not
+    /// grow with the number of waiting calls. At most once in a row for each 64 that wait, this returns `None` though a
+    /// scan would find a call. A caller that is about to leave the engine alone uses `next_scan` instead.
     pub fn next_scan_if_due(&mut self) -> Option<Pass>
         ensures { IfSome result (IsFresh N.engine) }
     {
@@ -255,7 +252,7 @@ impl<'a, N: Name, H: Place + Send + Drop> Hold<'a, N, H> {
         Some(self.guard.pass(seat, ticket))
     }
 
-    /// The call is gone, and its line gets the reply, as by `Engine::finish`.
+    /// Finishes the call: it is gone, and its line gets the reply, as `Engine::finish`.
     #[inline(always)]
     pub fn finish(&mut self, released: Released) -> (Ticket, Reply)
         requires released { IsReleased N.engine released }
@@ -265,7 +262,7 @@ impl<'a, N: Name, H: Place + Send + Drop> Hold<'a, N, H> {
         self.guard.finish(self.words, released)
     }
 
-    /// As `finish`, but the reply is not copied out: it stands in the line alone.
+    /// As `finish`, but the reply is not returned: it is only in the line.
     #[inline(always)]
     pub fn finish_untold(&mut self, released: Released) -> Ticket
         requires released { IsReleased N.engine released }
@@ -274,7 +271,7 @@ impl<'a, N: Name, H: Place + Send + Drop> Hold<'a, N, H> {
         self.guard.finish_untold(self.words, released)
     }
 
-    /// The reply in the ticket's line, if there is one yet, as by `Engine::reply`.
+    /// Returns the reply in the ticket's line, if there is one yet, as `Engine::reply`.
     pub fn reply(&mut self, session: &mut Session, ticket: Ticket) -> Option<Reply>
         requires session { session.old.table ≡ N.engine.table }
         ensures reply { IfSome result (λ reply. answer N.engine.base.procs session.new.session.seen N.engine.base.records ticket ≡ Some reply) }
@@ -293,7 +290,7 @@ impl<'a, N: Name, H: Place + Send + Drop> Hold<'a, N, H> {
 }
 
 impl<N: Name, H: Place + Send + Drop> Drop for Hold<'_, N, H> {
-    // The latch is opened once the lock is free, so that who takes it next finds the lock free too.
+    // Opens the latch once the lock is free, so that the thread that takes it next finds the lock free too.
     fn drop(self) {
         let Hold {
             guard,

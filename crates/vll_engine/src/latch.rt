@@ -2,28 +2,30 @@ use std::hint::spin_loop;
 use std::sync::atomic::{AtomicBool, Ordering};
 use std::thread::yield_now;
 
-// How often a thread looks at a latch that is taken before it goes on without it: about 50 microseconds of looking.
+// How often a thread looks at a taken latch before it goes on without it: about 50 microseconds.
 const MOST_LOOKS: u32 = 4_096;
 
-// After so many looks the thread lets others run.
+// After this many looks the thread yields to others.
 const LOOKS_A_TURN: u32 = 256;
 
-// A word in front of the engine's lock. Who finds the lock taken goes to sleep and has to be woken; who finds this word
-// taken looks again for a while. It keeps nobody out, and nothing is claimed of it: the lock alone protects.
+// A word in front of the engine's lock. A thread that finds the lock taken goes to sleep and has to be woken; one that
+// finds this word taken spins for a while. It keeps no thread out, and nothing is claimed of it: the lock alone
+// protects.
 #[derive(Drop)]
 pub(crate) struct Latch {
     taken: AtomicBool,
 }
 
 impl Latch {
-    // A latch that nobody has taken.
+    // A latch that is not taken.
     pub(crate) fn new() -> Latch {
         Latch {
             taken: AtomicBool::new(false),
         }
     }
 
-    // Whether this thread has taken the latch, after at most `MOST_LOOKS` looks. Only who has taken it opens it.
+    // Tries to take the latch, in at most `MOST_LOOKS` looks, and returns whether it did. Only the thread that has
+    // taken it opens it.
     pub(crate) fn enter(&self) -> bool {
         for look in 1..=MOST_LOOKS {
             if !self.taken.load(Ordering::SeqCst) && !self.taken.swap(true, Ordering::SeqCst) {
@@ -38,7 +40,7 @@ impl Latch {
         false
     }
 
-    // The next thread may take it.
+    // Opens the latch: the next thread may take it.
     pub(crate) fn leave(&self) {
         self.taken.store(false, Ordering::SeqCst);
     }

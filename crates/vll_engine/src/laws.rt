@@ -6,10 +6,10 @@ ghost use Rattle.vll_proc.specs.declared.call.Call.{Call};
 ghost use Rattle.vll_engine.specs.News.{NewsOrdersCalls, NewsOrdersEntries};
 ghost use Rattle.vll_engine.specs.Sessions.{SawOthers, SawOwn};
 
-/// Strict serializability, as far as threads tell each other: if one session has entered a call, or made it from entry
-/// to reply, and another one that was told so enters a call, then the first call comes before the second, in the order
-/// in which calls enter and run. They may be told by any chain of news: what a session has seen later, or has heard,
-/// goes on from what it had seen.
+/// Strict serializability, as far as threads pass news: if one session has entered a call, or made it from entry to
+/// reply, and another session that has heard of it enters a call, then the first call comes before the second in the
+/// order in which calls enter and run. The news may go through any chain of sessions: what a session has seen later, or
+/// has heard, extends what it had seen.
 pub fn news_orders_calls()
     ensures entries { NewsOrdersEntries }
     ensures calls { NewsOrdersCalls }

@@ -1,6 +1,15 @@
-//! The engine: it takes calls from many sessions, tells which may run, and brings each to its reply, so that the
-//! replies and records are those of the calls made one at a time, in the order of their tickets. The queue of entered
-//! calls is behind one lock; records are loaded and stored, and claims released, outside it.
+//! The engine, which a program embeds to run transactions on records in memory: it takes calls from many sessions,
+//! decides which may run, and brings each to its reply. The queue of entered calls is behind one lock; records are
+//! loaded and stored, and claims released, outside it. Proved: the replies and records are those of the calls made one
+//! at a time, in the order of their tickets. Start at `Opening`, `Service`, `Clients` and `Client`; `Session`, `Hold`
+//! and `Pass` are for a program that makes the steps of a call itself.
+//!
+//! ```rattle
+//! let opening = Opening::new(alloc, accounts, library, config, Placing::Spread, 2)?;
+//! opening.serve(Bank { rt }) // a `Service`, whose `serve` gets `engine` and `clients` and does:
+//! let (ticket, reply) = client.call(rt, &engine, "transfer", &[0, 1, 30])?;
+//! let closed = engine.close(clients.into_sessions())?;
+//! ```
 #![tactic(auto)]
 
 mod begun;

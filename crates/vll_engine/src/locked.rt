@@ -14,8 +14,8 @@ mod finish;
 mod next;
 mod reply;
 
-// What lies behind the lock: the queue, and its seat of the words. To a contract it is the queue. What the methods
-// answer is said exactly of that queue.
+// What is behind the lock: the queue, and its seat of the words. To a contract it is the queue. The contracts of the
+// methods say exactly what they return for that queue.
 #[derive(Drop)]
 pub(crate) struct Locked<N: Name, H: Place> {
     queue: Queue<H>,
@@ -39,7 +39,7 @@ impl<N: Name, H: Place> Model for Locked<N, H> {
 }
 
 impl<N: Name, H: Place> Locked<N, H> {
-    // A queue with its seat, while no turn is open and no session is there.
+    // A queue with its seat, which has no open turn and no session at it.
     pub(crate) fn new(queue: Queue<H>, seat: QueueSeat) -> Locked<N, H>
         requires { IsKept N.engine H.place_of seat queue }
         ensures { result ≡ queue }

@@ -1,4 +1,4 @@
-// What one session has seen, told to another one.
+// News: what one session has seen, for another session.
 ghost use Rattle.std.specs.Prelude.{◌≡◌};
 ghost use Rattle.vll_engine.specs.News.{Hears};
 
@@ -9,9 +9,9 @@ use std::marker::{Model, PhantomData};
 use vll_counters::NewsSeat;
 use vll_sca::Place;
 
-/// A causality token: it stands for the calls that a session had seen when it told them, and each of them comes before
-/// every call that a session enters after it has heard the news. It has no bytes, and can go to another thread by any
-/// way, such as a channel or a lock. Contracts see the calls.
+/// A causality token: it stands for the calls that a session had seen when `Engine::tell` made it. Each of them is
+/// ordered before every call that a session enters after hearing the news. It takes no bytes, and can reach another
+/// thread in any way, such as a channel or a lock. Contracts see the calls.
 #[derive(Drop)]
 pub struct News<N: Name> {
     seat: NewsSeat,
@@ -30,8 +30,8 @@ impl<N: Name> Model for News<N> {
 }
 
 impl<N: Name, H: Place + Send + Drop> Engine<N, H> {
-    /// A session tells what it has seen, which is its own calls and all that entered before the last time it was at the
-    /// lock, found or heard. It may do so as often as it likes. It takes no lock.
+    /// Returns news of what the session has seen: its own calls, and all that entered before it was last at the lock,
+    /// found or heard. It can be called any number of times. Takes no lock.
     pub fn tell(&self, session: &mut Session) -> News<N>
         requires session { session.old.table ≡ N.engine.table }
         ensures news { result.calls ≡ session.old.session.seen }
@@ -46,9 +46,9 @@ impl<N: Name, H: Place + Send + Drop> Engine<N, H> {
         }
     }
 
-    /// A session hears news of this engine: from now on what it has seen begins with the calls that the news has, so
-    /// each of its later calls gets a higher ticket than all of them. Behind what it had seen it has seen calls of
-    /// other clients alone. It takes no lock.
+    /// Makes the session hear news of this engine: what it has seen now begins with the calls of the news, so each of
+    /// its later calls gets a higher ticket than all of them. What it has seen grows by calls of other clients only.
+    /// Takes no lock.
     pub fn hear(&self, session: &mut Session, news: News<N>)
         requires session { session.old.table ≡ N.engine.table }
         ensures heard { Hears session.old.session session.new.session news.calls }

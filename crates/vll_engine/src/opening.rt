@@ -48,9 +48,9 @@ impl<H: Place> Model for Opening<H> {
 }
 
 impl<H: Place + Drop> Opening<H> {
-    /// An engine over these records in which nothing is entered, with so many clients. The lowest fault that stands
-    /// is answered, as `open_fault` of `vll_core` tells it: `Records`, `Limit`, `Cap` or `Bits`; where none stands,
-    /// `NoMemory` is the only one. All memory of the engine is taken here.
+    /// An engine over these records with `clients` clients, in which no call has entered. Returns the lowest fault that
+    /// holds, by `open_fault` of `vll_core`: `Records`, `Limit`, `Cap` or `Bits`; if none holds, only `NoMemory` is
+    /// possible. All memory of the engine is allocated here.
     pub fn new(
         alloc: Global,
         records: Vec<u64>,
@@ -80,7 +80,7 @@ impl<H: Place + Drop> Opening<H> {
         })
     }
 
-    // An opening of these parts, in which nothing is entered.
+    // An opening of these parts, in which no call has entered.
     pub(crate) fn of(
         library: Library,
         words: Words,
@@ -109,8 +109,8 @@ impl<H: Place + Drop> Opening<H> {
 }
 
 impl<H: Place + Send + Drop> Opening<H> {
-    /// The engine, and a session for each client, in order, which has seen nothing. The name is one that names this
-    /// opening.
+    /// Starts the engine, and returns it with a session for each client, in order, which has seen nothing. `N` has to
+    /// name this opening.
     pub fn start<N: Name>(self) -> (Engine<N, H>, Vec<Session>)
         requires named { N.engine ≡ name_of H.place_of self }
         ensures sessions { AreNewSessions N.engine.table N.engine.clients result.1.items }

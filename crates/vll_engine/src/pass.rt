@@ -6,10 +6,10 @@ use vll_counters::PassSeat;
 use vll_proc::{Call, Reply};
 use vll_record::Claims;
 
-/// The right to execute the call of a ticket, which runs. It is spent by `Engine::execute`, and cannot be dropped
-/// nor used twice. Contracts see what the pass knows.
+/// The right to execute the running call of a ticket. `Engine::execute` consumes it; it can neither be dropped nor used
+/// twice. Contracts see what the pass knows.
 pub struct Pass {
-    // It comes first, so that it is copied once from where it lies to where the pass is kept.
+    // The first field, so that the call is copied only once, to where the pass is kept.
     pub(crate) call: Call,
     pub(crate) seat: PassSeat,
     pub(crate) ticket: Ticket,
@@ -26,8 +26,8 @@ impl Model for Pass {
     ghost invariant = { λ p. (p.seat.pass.ticket ≡ p.ticket) × (p.seat.pass.call ≡ p.call) };
 }
 
-/// A call that was executed and has its claims still. It is spent by `Engine::release`. Contracts see what its pass
-/// knows, and its reply.
+/// A call that was executed and still has its claims. `Engine::release` consumes it. Contracts see what its pass knows,
+/// and its reply.
 pub struct Done {
     pub(crate) seat: PassSeat,
     pub(crate) ticket: Ticket,
@@ -46,7 +46,7 @@ impl Model for Done {
     ghost invariant = { λ d. (d.seat.pass.ticket ≡ d.ticket) × (d.seat.pass.call.claims ≡ d.claims) };
 }
 
-/// A call that was executed and has released its claims. It is spent by `Engine::finish`. Contracts see what its pass
+/// A call that was executed and has released its claims. `Engine::finish` consumes it. Contracts see what its pass
 /// knows, and its reply.
 pub struct Released {
     pub(crate) seat: PassSeat,
@@ -66,7 +66,7 @@ impl Model for Released {
 }
 
 impl Pass {
-    /// The number of the call in the order of entry, from 0.
+    /// The call's number in the order of entry, from 0.
     pub fn ticket(&self) -> Ticket
         ensures { result ≡ self.now.pass.ticket }
     {
@@ -94,7 +94,7 @@ impl Pass {
 }
 
 impl Done {
-    /// The number of the call in the order of entry, from 0.
+    /// The call's number in the order of entry, from 0.
     pub fn ticket(&self) -> Ticket
         ensures { result ≡ self.now.pass.ticket }
     {
@@ -103,7 +103,7 @@ impl Done {
 }
 
 impl Released {
-    /// The number of the call in the order of entry, from 0.
+    /// The call's number in the order of entry, from 0.
     pub fn ticket(&self) -> Ticket
         ensures { result ≡ self.now.pass.ticket }
     {

@@ -4,26 +4,26 @@ use std::thread::yield_now;
 // The first pause, in turns of a spin loop.
 const FIRST_PAUSE: u32 = 32;
 
-// A pause lets another thread run after so many turns.
+// After this many turns of a pause the thread yields to others.
 const TURNS_A_YIELD: u32 = 64;
 
 // The longest pause, some ten microseconds.
 const LONGEST_PAUSE: u32 = 1_024;
 
-// How a thread waits that finds nothing to do: each time twice as long, until it finds something. It is a matter of
-// speed alone, and nothing is promised of it.
+// How a thread that finds nothing to do waits: each time about twice as long, until it finds something. It only affects
+// speed, and nothing is promised of it.
 #[derive(Clone, Copy)]
 pub(crate) struct Rest {
     pause: u32,
 }
 
 impl Rest {
-    // The next pause is the shortest.
+    // A rest whose next pause is the shortest.
     pub(crate) fn new() -> Rest {
         Rest { pause: 0 }
     }
 
-    // Something was found: the next pause is the shortest again.
+    // Notes that something was found: the next pause is the shortest again.
     pub(crate) fn found(&mut self) {
         self.pause = 0;
     }

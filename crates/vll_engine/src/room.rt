@@ -3,7 +3,8 @@ ghost use Rattle.std.specs.Prelude.{◌≡◌, ◌≤◌, [], IfOk, vec_capacity
 use std::alloc::{AllocError, Global};
 use std::marker::Model;
 
-// The room for what is left at the end, so that closing takes no memory. Contracts see for how many records.
+// Lists for what closing leaves, so that closing allocates nothing. Contracts see the number of records they have room
+// for.
 #[derive(Drop)]
 pub(crate) struct Room {
     pub(crate) count: u32,
@@ -23,7 +24,7 @@ impl Model for Room {
 }
 
 impl Room {
-    // The room for so many records.
+    // Room for `count` records.
     pub(crate) fn new(alloc: Global, count: u32) -> Result<Room, AllocError>
         ensures { IfOk result (λ r. r ≡ count) }
     {
@@ -34,7 +35,7 @@ impl Room {
         })
     }
 
-    // The room that these lists are, for so many records. What they hold is dropped.
+    // Room for `count` records in these lists. What they hold is dropped.
     pub(crate) fn of(count: u32, mut records: Vec<u64>, mut pairs: Vec<u64>) -> Room
         requires records { count ≤ vec_capacity records }
         requires pairs { count ≤ vec_capacity pairs }
@@ -50,8 +51,8 @@ impl Room {
     }
 }
 
-// An empty list with room for so many words. Each is written once, since a system may promise memory and look for it
-// only when it is first used.
+// An empty list with room for `count` words. Each is written once, since a system may provide memory only when it is
+// first used.
 fn touched(alloc: Global, count: usize) -> Result<Vec<u64>, AllocError>
     ensures empty { IfOk result (λ v. v.items ≡ []) }
     ensures room { IfOk result (λ v. count ≤ vec_capacity v) }

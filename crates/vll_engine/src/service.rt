@@ -1,4 +1,4 @@
-// What a program does with an engine, by whatever name.
+// What a program does with an engine, whatever its name.
 ghost use Rattle.std.specs.Prelude.{◌≡◌};
 ghost use Rattle.vll_counters.specs.Shown.{AreNewSessions};
 ghost use Rattle.vll_engine.specs.Shown.{Named, name_of};
@@ -12,17 +12,17 @@ use std::marker::Brand;
 use vll_sca::Placing;
 
 /// What a program does with an engine, from its start to its end. `Opening::serve` finds the name, so that the program
-/// has nothing to prove of it.
+/// has nothing to prove about it.
 pub trait Service {
     type Answer;
 
-    /// What it asks of the opening, as the engine's name tells it: nothing if it does not say.
+    /// What it requires of the opening, as the engine's name states it: nothing by default.
     ghost allows: { Self → Named → Type 0 } = { λ _ _. Unit {0} };
 
-    /// What its answer says, by the opening: nothing if it does not say.
+    /// What its answer promises, by the opening: nothing by default.
     ghost answers: { Self → Named → Self.Answer → Type 0 } = { λ _ _ _. Unit {0} };
 
-    /// Serves with the engine and its clients, in order, which have seen nothing.
+    /// Runs the service on the engine and its clients, in order, which have seen nothing.
     fn serve<N: Name + Send + Sync>(
         self,
         engine: Engine<N, Placing>,
@@ -34,7 +34,7 @@ pub trait Service {
 }
 
 impl Opening<Placing> {
-    /// Starts the engine, and lets a service serve with it: its answer.
+    /// Starts the engine, runs a service on it, and returns the service's answer.
     pub fn serve<S: Service>(self, service: S) -> S::Answer
         requires allowed { S.allows service (name_of placing self) }
         ensures answered { S.answers service (name_of placing self) result }
@@ -43,7 +43,7 @@ impl Opening<Placing> {
     }
 }
 
-// Serves with the engine of this name.
+// Runs the service on the engine of this name.
 fn serve_by<N: Name + Send + Sync, S: Service>(opening: Opening<Placing>, service: S) -> S::Answer
     requires named { N.engine ≡ name_of placing opening }
     requires allowed { S.allows service N.engine }

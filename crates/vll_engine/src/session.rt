@@ -3,13 +3,13 @@ ghost use Rattle.std.specs.Prelude.{◌≡◌};
 use std::marker::Model;
 use vll_counters::SessionSeat;
 
-/// A client's way into the engine: the calls that begin with it are this client's, and there is one for each client.
-/// Contracts see what it has seen of the entered calls, the tickets whose reply it was given, and how many calls waited
-/// when it last left the lock.
+/// A client's way into the engine: the calls begun with it are this client's, and there is one for each client.
+/// Contracts see which of the entered calls it has seen, the tickets whose reply it was given, and the number of calls
+/// that waited when it last left the lock.
 #[derive(Drop)]
 pub struct Session {
     pub(crate) client: u32,
-    // The seat; it is away only while the session is at the lock.
+    // The seat; it is `None` only while the session is at the lock.
     pub(crate) seat: Option<SessionSeat>,
 }
 
@@ -26,7 +26,7 @@ impl Model for Session {
 }
 
 impl Session {
-    /// Whose session it is.
+    /// The number of the client whose session it is.
     pub fn client(&self) -> u32
         ensures { result ≡ self.now.session.client }
     {

@@ -1,4 +1,4 @@
-// A call with an indirect key finds before it asks for the lock.
+// A call with an indirect key finds its record before it asks for the lock.
 ghost use Rattle.std.specs.Prelude.{◌≡◌};
 ghost use Rattle.vll_engine.specs.Shown.{name_of};
 ghost use Rattle.vll_sca.specs.Placing.{placing};
@@ -16,10 +16,10 @@ use vll_engine::{Begun, Engine, Name, Opening, Session};
 use vll_proc::{Reason, Reply};
 use vll_sca::Placing;
 
-// How often a thread lets others run while it keeps a hold.
+// How often a thread yields to others while it keeps a hold.
 const MOST_TURNS: u32 = 2_000;
 
-// How far two threads have come.
+// How far two threads have got.
 #[derive(Drop)]
 struct Progress {
     // One thread keeps a hold.
@@ -28,8 +28,8 @@ struct Progress {
     is_near: AtomicBool,
 }
 
-// A bump of record 0, which is 1, is executed and released under a hold: not before another thread is about to begin a
-// call, and a while later.
+// Executes and releases a bump of record 0, which is 1, under a hold: a while after another thread is about to begin a
+// call.
 fn bumps_under_a_hold<N: Name, R: Wait + Abort>(
     rt: &R,
     engine: &Engine<N, Placing>,
@@ -56,7 +56,7 @@ fn bumps_under_a_hold<N: Name, R: Wait + Abort>(
     ends(rt, engine, released, 2);
 }
 
-// Beside that hold a call begins that finds by record 0. Its reply.
+// Begins, during that hold, a call that finds by record 0. Returns its reply.
 fn begins_beside_a_hold<N: Name, R: Wait + Abort>(
     rt: &R,
     engine: &Engine<N, Placing>,
@@ -83,8 +83,8 @@ fn begins_beside_a_hold<N: Name, R: Wait + Abort>(
     }
 }
 
-// Record 0 becomes 2 under a hold, while another thread begins a call that finds by it. Whether that call has found the
-// 1 from before.
+// Record 0 becomes 2 under a hold, while another thread begins a call that finds by it. Returns whether that call has
+// found the earlier 1.
 fn finds_beside_a_hold<N: Name + Send + Sync, R: Wait + Threads + Abort + Sync>(
     rt: &R,
     opening: Opening<Placing>,
@@ -115,8 +115,8 @@ fn finds_beside_a_hold<N: Name + Send + Sync, R: Wait + Threads + Abort + Sync>(
     false
 }
 
-// How often it is tried. The other thread may be late, and then finds what the bump has stored; but a call that finds
-// under the lock always does.
+// The number of tries. The other thread may be late, and then finds what the bump has stored; a call that finds under
+// the lock always does.
 const MOST_TRIES: u32 = 100;
 
 #[test]

@@ -19,7 +19,7 @@ use vll_core::{Line, Ticket};
 use vll_engine::{BeginRefusal, Begun, Engine, Name, Opening, Session, Spent};
 use vll_sca::Placing;
 
-// A session's client makes a bump of a record: its ticket and its output.
+// Makes a bump of a record for the session's client. Returns its ticket and its output.
 fn bumps<N: Name, R: Wait + Abort>(
     rt: &R,
     engine: &Engine<N, Placing>,
@@ -36,10 +36,10 @@ fn bumps<N: Name, R: Wait + Abort>(
     }
 }
 
-// How many bumps each of two threads makes.
+// The number of bumps each of two threads makes.
 const BUMPS: u32 = 1_000;
 
-// A client makes its bumps of one record. Each replies more than the one before.
+// Makes a client's bumps of one record. Each replies more than the one before.
 fn bumps_often<N: Name, R: Wait + Abort>(
     rt: &R,
     engine: &Engine<N, Placing>,
@@ -105,7 +105,7 @@ fn two_threads_call_until_each_has_its_reply(rt: HostRuntime) -> Result<(), Fail
     Ok(())
 }
 
-// Two calls wait as the third is made, one of them at the cap: its thread brings both to their end.
+// One call waits when the third is made, as many as the cap: the third call's thread brings both to their end.
 fn helps_in_a_full_queue<N: Name, R: Wait + Abort>(rt: &R, opening: Opening<Placing>)
     requires { N.engine ≡ name_of placing opening }
 {
@@ -145,12 +145,12 @@ fn second_call_of_one_is_spent(rt: HostRuntime) -> Result<(), Fail> {
     Ok(())
 }
 
-// How many records are hot, and how many bumps each of four threads makes of them.
+// The number of hot records, and of bumps of them that each of four threads makes.
 const HOT: u32 = 10;
 
 const HOT_BUMPS: u32 = 500;
 
-// A client makes its bumps of the hot records in turn.
+// Makes a client's bumps of the hot records in turn.
 fn bumps_the_hot<N: Name, R: Wait + Abort>(
     rt: &R,
     engine: &Engine<N, Placing>,
@@ -166,7 +166,7 @@ fn bumps_the_hot<N: Name, R: Wait + Abort>(
     session
 }
 
-// Two clients make their bumps of the hot records, each in a thread.
+// Makes two clients' bumps of the hot records, each client in a thread.
 fn two_bump_the_hot<N: Name + Send + Sync, R: Wait + Threads + Abort + Sync>(
     rt: &R,
     engine: &Engine<N, Placing>,
@@ -227,20 +227,20 @@ fn four_threads_call_on_ten_records(rt: HostRuntime) -> Result<(), Fail> {
     Ok(())
 }
 
-// How often a thread looks whether the other one's call waits, and how many turns it lets others run before each look
-// and before it lets its pass go.
+// How often a thread looks whether the other one's call waits, and how many times it yields to others before each look
+// and before it gives up its pass.
 const MOST_LOOKS: u32 = 10_000;
 
 const TURNS: u32 = 100;
 
-// Others run for a while.
+// Lets others run for a while.
 fn lets_others_run() {
     for _ in 0..TURNS {
         yield_now();
     }
 }
 
-// Whether a call waits, while one may: the bump of a record is refused then, and else is made.
+// Whether a call waits, if the cap is 1: the bump of a record is refused then, otherwise it is made.
 fn is_one_waiting<N: Name, R: Wait + Abort>(
     rt: &R,
     engine: &Engine<N, Placing>,
@@ -265,7 +265,7 @@ fn is_one_waiting<N: Name, R: Wait + Abort>(
     }
 }
 
-// Goes on once the other client's call waits.
+// Returns once the other client's call waits.
 fn waits_until_one_waits<N: Name, R: Wait + Abort>(
     rt: &R,
     engine: &Engine<N, Placing>,
@@ -283,7 +283,8 @@ fn waits_until_one_waits<N: Name, R: Wait + Abort>(
     fail(rt, "no call waits")
 }
 
-// A client's bump of record 0 runs, and its pass is kept until the other client's call was seen to wait for a while.
+// Begins a client's bump of record 0, and keeps its pass until the other client's call has been seen to wait for a
+// while.
 fn keeps_its_pass<N: Name, R: Wait + Abort>(
     rt: &R,
     engine: &Engine<N, Placing>,
@@ -302,7 +303,7 @@ fn keeps_its_pass<N: Name, R: Wait + Abort>(
     finishes(rt, engine, pass, 1);
 }
 
-// The other client makes its bump of record 0 once the pass is kept. It has its reply only behind the pass.
+// Makes the other client's bump of record 0 once the pass is kept. It gets its reply only after the pass is given up.
 fn waits_for_the_pass<N: Name, R: Wait + Abort>(
     rt: &R,
     engine: &Engine<N, Placing>,
@@ -351,7 +352,7 @@ fn one_keeps_and_one_waits<N: Name + Send + Sync, R: Wait + Threads + Abort + Sy
     equal(rt, closed.records.as_slice().first().copied(), Some(2));
 }
 
-// A call waits for a pass that another thread keeps, and with which it cannot help.
+// A call waits for a pass that another thread keeps, and cannot help with it.
 #[test]
 fn call_waits_for_a_pass_that_is_kept(rt: HostRuntime) -> Result<(), Fail> {
     let opening = opening(rt.alloc(), 2, MOST_LOOKS + 2, 1, 2)?;

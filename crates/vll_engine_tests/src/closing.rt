@@ -40,7 +40,7 @@ fn close_hands_all_back_while_calls_are_left(rt: HostRuntime) -> Result<(), Fail
     Ok(())
 }
 
-// A call runs and none waits: its pass is out while the engine stays open, and is spent then.
+// A call runs and none waits: the engine stays open while its pass is out; then the pass is consumed.
 fn closes_once_the_pass_is_spent<N: Name, R: Wait + Abort>(rt: &R, opening: Opening<Placing>)
     requires { N.engine ≡ name_of placing opening }
 {
@@ -60,7 +60,7 @@ fn close_waits_for_a_pass_that_is_out(rt: HostRuntime) -> Result<(), Fail> {
     Ok(())
 }
 
-// The call of ticket 0 is released before ticket 1 begins, and finished behind it.
+// The call of ticket 0 is released before ticket 1 begins, and finished after it.
 fn is_finished_later<N: Name, R: Wait + Abort>(rt: &R, opening: Opening<Placing>)
     requires { N.engine ≡ name_of placing opening }
 {

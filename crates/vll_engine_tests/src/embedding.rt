@@ -1,4 +1,4 @@
-// An engine as a program around it uses it: by clients, and calls by name.
+// An engine as an embedding program uses it: through clients, with calls by name.
 ghost use Rattle.std.specs.Prelude.{◌≡◌, ◌≤◌, vec_capacity};
 ghost use Rattle.vll_engine.specs.Shown.{name_of};
 ghost use Rattle.vll_sca.specs.Placing.{placing};
@@ -18,7 +18,7 @@ use vll_core::Line;
 use vll_engine::{BeginRefusal, Client, Clients, Engine, EngineFault, Name, Opening, Service};
 use vll_sca::Placing;
 
-// A client's bump of a record: its ticket and its output.
+// Makes a client's bump of a record. Returns its ticket and its output.
 fn bumps<N: Name>(
     rt: &impl Wait,
     engine: &Engine<N, Placing>,
@@ -29,7 +29,7 @@ fn bumps<N: Name>(
     Ok((ticket.0, output_of(&reply).unwrap_or(0)))
 }
 
-// A call that is not made says why, and has not entered: the ticket of the next one tells.
+// A call that is not made reports why, and has not entered, as the ticket of the next one shows.
 fn calls_up_to_the_limit_of_two<N: Name, R: Wait + Abort>(
     rt: &R,
     engine: &Engine<N, Placing>,
@@ -80,10 +80,10 @@ fn call_by_name_is_made_or_says_why_not(rt: HostRuntime) -> Result<(), Fail> {
     Ok(())
 }
 
-// How many bumps each of two threads makes.
+// The number of bumps each of two threads makes.
 const BUMPS: u32 = LIMIT / 2;
 
-// A client makes its bumps of record 0.
+// Makes a client's bumps of record 0.
 fn bumps_often<N: Name>(
     rt: &impl Wait,
     engine: &Engine<N, Placing>,
@@ -95,7 +95,7 @@ fn bumps_often<N: Name>(
     Ok(client)
 }
 
-// Both clients make their bumps, each in a thread, and are put back.
+// Makes both clients' bumps, each client in a thread, and puts the clients back.
 fn two_threads_bump<N: Name + Send + Sync, R: Wait + Threads + Sync>(
     rt: &R,
     engine: &Engine<N, Placing>,
@@ -114,7 +114,7 @@ fn two_threads_bump<N: Name + Send + Sync, R: Wait + Threads + Sync>(
     Ok(())
 }
 
-// All clients are taken, in order, and put back.
+// Takes all clients, in order, and puts them back.
 fn are_handed_out_and_put_back<N: Name>(
     rt: &impl Abort,
     alloc: Global,
@@ -130,7 +130,7 @@ fn are_handed_out_and_put_back<N: Name>(
     Ok(())
 }
 
-// Two clients call and are put back, and the engine is reopened: its journal.
+// Two clients call and are put back, and the engine is reopened. Returns its journal.
 fn two_call_in_threads<N: Name + Send + Sync, R: Wait + Threads + Abort + Sync>(
     rt: &R,
     alloc: Global,

@@ -20,7 +20,7 @@ use vll_engine::{Engine, Name, Opening, Pass, Released, Session};
 use vll_proc::{Reason, Reply};
 use vll_sca::Placing;
 
-// The session was told the reply of a bump, and then finds by the value that the bump has stored.
+// The session was given the reply of a bump, and then finds by the value that the bump has stored.
 fn finds_the_bumped_value<N: Name, R: Wait + Abort>(rt: &R, opening: Opening<Placing>)
     requires { N.engine ≡ name_of placing opening }
 {
@@ -41,7 +41,7 @@ fn begin_finds_by_the_value_of_a_call_that_is_finished(rt: HostRuntime) -> Resul
     Ok(())
 }
 
-// A pass is executed, released and finished, and its call is aborted since its source has moved.
+// Executes, releases and finishes the call of a pass, which is aborted since its source has moved.
 fn is_moved<N: Name, R: Wait + Abort>(rt: &R, engine: &Engine<N, Placing>, pass: Pass)
     requires { IsFresh N.engine pass }
 {
@@ -50,7 +50,7 @@ fn is_moved<N: Name, R: Wait + Abort>(rt: &R, engine: &Engine<N, Placing>, pass:
     holds(rt, matches!(reply, Reply::Aborted(Reason::Moved)));
 }
 
-// A bump runs while a call is found by its record, which it changes before that call runs.
+// A bump runs while a call finds by its record, which it changes before that call runs.
 fn moved_source_aborts<N: Name, R: Wait + Abort>(rt: &R, opening: Opening<Placing>)
     requires { N.engine ≡ name_of placing opening }
 {
@@ -71,8 +71,8 @@ fn call_is_aborted_if_its_source_has_moved(rt: HostRuntime) -> Result<(), Fail> 
     Ok(())
 }
 
-// Under one hold a call begins that finds by record 0 and waits, then the bump of that record is executed, and another
-// call begins that finds by it: the pass of this one, and the bump that is released.
+// Under one hold, begins a call that finds by record 0 and waits, then executes the bump of that record, and begins
+// another call that finds by it. Returns the pass of the last, and the released bump.
 fn begins_before_and_after_a_store<N: Name, R: Wait + Abort>(
     rt: &R,
     engine: &Engine<N, Placing>,
@@ -104,7 +104,7 @@ fn begins_before_and_after_a_store<N: Name, R: Wait + Abort>(
     }
 }
 
-// The call from before the store has found 1 and is aborted, and the one from after it has found 2.
+// The call begun before the store has found 1 and is aborted, and the one begun after it has found 2.
 fn finds_under_a_hold<N: Name, R: Wait + Abort>(rt: &R, opening: Opening<Placing>)
     requires { N.engine ≡ name_of placing opening }
 {

@@ -1,4 +1,4 @@
-// Several calls under one hold.
+// Several steps under one hold.
 ghost use Rattle.std.specs.Prelude.{◌≡◌, IfOk, IfSome};
 ghost use Rattle.vll_check.specs.Calls.{Fits};
 ghost use Rattle.vll_engine.specs.Pass.{IsFresh, IsReleased};
@@ -22,7 +22,7 @@ use vll_engine::{Begun, Engine, Hold, Name, Opening, Pass, Released, Session};
 use vll_proc::Call;
 use vll_sca::Placing;
 
-// A session's client begins a call under a hold: its pass if it is free, and its ticket if it is blocked.
+// Begins a call of the session's client under a hold. Returns its pass if it is free, and its ticket if it is blocked.
 pub(crate) fn begins_under<N: Name, R: Abort>(
     rt: &R,
     hold: &mut Hold<'_, N, Placing>,
@@ -41,8 +41,8 @@ pub(crate) fn begins_under<N: Name, R: Abort>(
     }
 }
 
-// Under one hold ticket 0 is finished, ticket 1 runs at the front, and ticket 2 begins on the record of ticket 0. The
-// pass of ticket 1.
+// Under one hold, finishes ticket 0, starts ticket 1 at the front, and begins ticket 2 on the record of ticket 0.
+// Returns the pass of ticket 1.
 fn holds<N: Name, R: Wait + Abort>(
     rt: &R,
     engine: &Engine<N, Placing>,
@@ -76,8 +76,7 @@ fn holds<N: Name, R: Wait + Abort>(
     front
 }
 
-// Ticket 0 is released and ticket 1 waits. What comes under one hold leaves ticket 1 to run, and ticket 2 to wait for
-// it.
+// Ticket 0 is released and ticket 1 waits. After the steps under one hold, ticket 1 runs and ticket 2 waits for it.
 fn works_under_one_hold<N: Name, R: Wait + Abort>(rt: &R, opening: Opening<Placing>)
     requires { N.engine ≡ name_of placing opening }
 {
@@ -106,7 +105,7 @@ fn one_hold_finishes_looks_and_begins(rt: HostRuntime) -> Result<(), Fail> {
 // How many pairs of bumps each of two clients makes.
 const PAIRS: u32 = 500;
 
-// A client begins a bump of its record, which is free, and releases it.
+// Begins a client's bump of its record, which is free, and releases it.
 fn begins<N: Name, R: Wait + Abort>(
     rt: &R,
     engine: &Engine<N, Placing>,
@@ -124,8 +123,8 @@ fn begins<N: Name, R: Wait + Abort>(
     }
 }
 
-// Under one hold, which no other thread has a part of, a released call is finished and the next bump begins. It is
-// free, and is released.
+// Under one hold, which excludes all other threads, finishes a released call and begins the next bump, which is free.
+// Then releases it.
 fn goes_on<N: Name, R: Wait + Abort>(
     rt: &R,
     engine: &Engine<N, Placing>,
@@ -153,15 +152,15 @@ fn goes_on<N: Name, R: Wait + Abort>(
     }
 }
 
-// What two threads meet at: before each pair of bumps the one that comes first waits for the other. It is counted who
-// has a hold.
+// Where two threads meet: before each pair of bumps the one that comes first waits for the other. The threads that have
+// a hold are counted.
 #[derive(Drop)]
 struct Meeting {
     barrier: Barrier,
     holders: AtomicU64,
 }
 
-// A client makes its pairs of bumps.
+// Makes a client's pairs of bumps.
 fn bumps<N: Name, R: Wait + Abort>(
     rt: &R,
     engine: &Engine<N, Placing>,
@@ -182,7 +181,7 @@ fn bumps<N: Name, R: Wait + Abort>(
     session
 }
 
-// Each bump replies how many its client has made by then. Whenever both have made a pair, neither is ahead.
+// Each bump replies the number of bumps its client has made by then. Whenever both have made a pair, neither is ahead.
 fn are_made_in_turn(rt: &impl Abort, lines: &[Line]) {
     let mut zero: u64 = 0;
     let mut one: u64 = 0;

@@ -11,7 +11,7 @@ use vll_core::Line;
 use vll_proc::{Call, Frame, Reason, Reply};
 use vll_record::{Claims, MOST_CLAIMS, Mode};
 
-// Makes the calls of these lines one at a time. Each line has the reply that its call has then.
+// Makes the calls of these lines one at a time, and checks that each line has the reply that its call gets then.
 pub(crate) fn judge(rt: &impl Abort, library: &Library, records: &mut [u64], lines: &[Line]) {
     for line in lines {
         holds(rt, library.is_ready(&line.call));
@@ -20,7 +20,7 @@ pub(crate) fn judge(rt: &impl Abort, library: &Library, records: &mut [u64], lin
     }
 }
 
-// What a reply tells: its output if it is one, and why it aborted.
+// The content of a reply: its output, if there is exactly one, and why the call aborted.
 fn told(reply: &Reply) -> (Option<u64>, Option<Reason>) {
     match reply {
         Reply::Committed(_) => (output_of(reply), None),

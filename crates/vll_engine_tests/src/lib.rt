@@ -1,4 +1,4 @@
-//! What an engine answers, call by call: the tests of vll_engine.
+//! The tests of vll_engine: what an engine answers, call by call.
 #![tactic(auto)]
 
 #[cfg(test)]

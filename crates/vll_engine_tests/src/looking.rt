@@ -1,4 +1,4 @@
-// What a look at the words of a call tells.
+// What a look at the words of a call returns.
 ghost use Rattle.std.specs.Prelude.{◌≡◌};
 ghost use Rattle.vll_engine.specs.Shown.{name_of};
 ghost use Rattle.vll_sca.specs.Placing.{placing};
@@ -13,7 +13,7 @@ use std::test::*;
 use vll_engine::{Name, Opening};
 use vll_sca::Placing;
 
-// A read of record 0 looks free but while a bump of it runs; a bump of record 1 looks free throughout.
+// A read of record 0 looks free except while a bump of it runs; a bump of record 1 always looks free.
 fn looks<N: Name, R: Wait + Abort>(rt: &R, opening: Opening<Placing>)
     requires { N.engine ≡ name_of placing opening }
 {

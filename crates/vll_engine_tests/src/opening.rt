@@ -10,7 +10,7 @@ use vll_engine::Opening;
 use vll_sca::Placing;
 use vll_test_procedures::library;
 
-// An opening over so many records that hold 0.
+// An opening over `records` records that hold 0.
 pub(crate) fn opening_of(
     alloc: Global,
     records: u32,
@@ -24,8 +24,8 @@ pub(crate) fn opening_of(
     Ok(opening)
 }
 
-// An opening over so many records that hold 0, for so many calls of which so many may wait, by the hash that leaves
-// the records' numbers as they are.
+// An opening over `records` records that hold 0, with this limit and cap, by the hash that leaves the records' numbers
+// as they are.
 pub(crate) fn opening(
     alloc: Global,
     records: u32,
@@ -41,7 +41,7 @@ pub(crate) fn opening(
     opening_of(alloc, records, config, Placing::Modulo, clients)
 }
 
-// An opening over three records with these values, for as many calls as may wait.
+// An opening over three records with these values, with `limit` as its limit and its cap.
 pub(crate) fn opening_over(
     alloc: Global,
     values: [u64; 3],
@@ -59,7 +59,7 @@ pub(crate) fn opening_over(
     Ok(opening)
 }
 
-// What an opening over so many records refuses, which needs no procedures.
+// The fault of an opening over `records` records, which needs no procedures.
 fn fault_of(alloc: Global, records: u32, config: Config) -> Result<Option<OpenFault>, Fail> {
     let library = Library::new(records, Vec::new(alloc))?;
     let values = vec![in alloc; 0; records as usize]?;

@@ -1,4 +1,4 @@
-// Single steps of an engine, each with the answer that it has to give.
+// Single steps of an engine, each with the answer that it must give.
 ghost use Rattle.std.specs.Prelude.{◌≡◌, All, IfSome};
 ghost use Rattle.vll_check.specs.Calls.{Fits};
 ghost use Rattle.vll_engine.specs.Pass.{IsFresh, IsReleased};
@@ -35,7 +35,7 @@ pub(crate) fn last_of<N: Name>(rt: &impl Abort, sessions: &mut Vec<Session>) -> 
     }
 }
 
-// A session goes back to the end of a list.
+// Puts a session back at the end of a list.
 pub(crate) fn put_back<N: Name>(rt: &impl Abort, sessions: &mut Vec<Session>, session: Session)
     requires session { session.table ≡ N.engine.table }
     requires others { All (λ s. s.table ≡ N.engine.table) sessions.old.items }
@@ -162,7 +162,7 @@ pub(crate) fn begins_refused<N: Name, R: Wait + Abort>(
     }
 }
 
-// A pass is given for a ticket.
+// A pass was given, for this ticket.
 pub(crate) fn is_given<N: Name, R: Abort>(rt: &R, pass: Option<Pass>, ticket: u32) -> Pass
     requires { IfSome pass (IsFresh N.engine) }
     ensures { IsFresh N.engine result }
@@ -176,7 +176,7 @@ pub(crate) fn is_given<N: Name, R: Abort>(rt: &R, pass: Option<Pass>, ticket: u3
     }
 }
 
-// No pass is given.
+// No pass was given.
 pub(crate) fn is_not_given<N: Name, R: Wait + Abort>(
     rt: &R,
     engine: &Engine<N, Placing>,
@@ -193,7 +193,7 @@ pub(crate) fn is_not_given<N: Name, R: Wait + Abort>(
     }
 }
 
-// A pass is executed and released.
+// Executes and releases the call of a pass.
 pub(crate) fn releases<N: Name, R: Abort>(
     rt: &R,
     engine: &Engine<N, Placing>,
@@ -210,7 +210,7 @@ pub(crate) fn releases<N: Name, R: Abort>(
     released
 }
 
-// A released call is finished with one output.
+// Finishes a released call, whose reply is this one output.
 pub(crate) fn ends<N: Name, R: Wait + Abort>(
     rt: &R,
     engine: &Engine<N, Placing>,
@@ -225,7 +225,7 @@ pub(crate) fn ends<N: Name, R: Wait + Abort>(
     equal(rt, output_of(&reply), Some(output));
 }
 
-// A pass is executed, released and finished with one output.
+// Executes, releases and finishes the call of a pass, whose reply is this one output.
 pub(crate) fn finishes<N: Name, R: Wait + Abort>(
     rt: &R,
     engine: &Engine<N, Placing>,
@@ -246,7 +246,7 @@ pub(crate) fn output_of(reply: &Reply) -> Option<u64> {
     }
 }
 
-// A ticket has a reply of one output, or none.
+// The ticket's reply is this one output, or is not there yet.
 pub(crate) fn replies<N: Name, R: Wait + Abort>(
     rt: &R,
     engine: &Engine<N, Placing>,
@@ -262,7 +262,7 @@ pub(crate) fn replies<N: Name, R: Wait + Abort>(
     equal(rt, reply.as_ref().and_then(output_of), output);
 }
 
-// What an engine leaves, which closes.
+// Closes an engine, and returns what it leaves.
 pub(crate) fn closed_of<N: Name, R: Abort>(
     rt: &R,
     engine: Engine<N, Placing>,
@@ -276,7 +276,7 @@ pub(crate) fn closed_of<N: Name, R: Abort>(
     }
 }
 
-// No claim is left open on so many records.
+// No claim is open on any of `records` records.
 fn none_is_open<R: Abort>(rt: &R, pairs: &[u64], records: usize) {
     equal(rt, pairs.len(), records);
     for pair in pairs {
@@ -309,7 +309,7 @@ pub(crate) fn closes<N: Name, R: Abort>(
     are_lines_of(rt, closed.journal.as_slice(), clients);
 }
 
-// The engine does not close, since so many calls run and so many wait. It and the sessions are handed back.
+// The engine does not close, since `running` calls run and `waiting` wait. Returns it and the sessions.
 pub(crate) fn stays_open<N: Name, R: Abort>(
     rt: &R,
     engine: Engine<N, Placing>,

@@ -1,4 +1,4 @@
-// What a session is told of its calls.
+// What a session learns of its calls.
 ghost use Rattle.std.specs.Prelude.{◌≡◌};
 ghost use Rattle.vll_engine.specs.Shown.{name_of};
 ghost use Rattle.vll_sca.specs.Placing.{placing};

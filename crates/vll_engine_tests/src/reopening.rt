@@ -1,4 +1,4 @@
-// Engines that go on from the records of others.
+// Engines that continue from the records of others.
 ghost use Rattle.std.specs.Prelude.{◌≡◌, ◌≤◌, All, IfOk, length, vec_capacity};
 ghost use Rattle.vll_engine.specs.Shown.{name_of};
 ghost use Rattle.vll_sca.specs.Placing.{placing};
@@ -18,7 +18,7 @@ use vll_engine::{Engine, Name, NotReopened, Opening, Reopened, Session, Spent};
 use vll_sca::Placing;
 use vll_test_procedures::library;
 
-// How many calls each engine of these tests takes.
+// The limit of each engine of these tests.
 pub(crate) const LIMIT: u32 = 4;
 
 // An opening over these records, for two clients.
@@ -44,7 +44,7 @@ pub(crate) fn room_for_lines(alloc: Global) -> Result<Vec<Line>, AllocError>
     Vec::with_capacity(alloc, LIMIT as usize)
 }
 
-// An engine is reopened, with its two sessions.
+// Reopens an engine, with its two sessions.
 fn reopened<N: Name, R: Abort>(
     rt: &R,
     alloc: Global,
@@ -67,7 +67,7 @@ fn reopened<N: Name, R: Abort>(
     }
 }
 
-// An engine with two sessions is not reopened, since so many calls run and so many wait. All is handed back.
+// An engine with two sessions is not reopened, since `running` calls run and `waiting` wait. All is returned.
 fn is_not_reopened<N: Name, R: Abort>(
     rt: &R,
     alloc: Global,
@@ -164,7 +164,7 @@ fn reopen_hands_all_back_while_calls_are_left(rt: HostRuntime) -> Result<(), Fai
 // A call that a test makes: the procedure, and its arguments.
 type Asked<'a> = (&'a str, &'a [u64]);
 
-// The session's client makes a call, from its entry to its reply.
+// Makes a call of the session's client, from entry to reply.
 fn makes<N: Name, R: Wait + Abort>(
     rt: &R,
     engine: &Engine<N, Placing>,
@@ -212,7 +212,7 @@ fn epoch<N: Name, R: Wait + Abort>(
     reopened(rt, alloc, engine, sessions, journal)
 }
 
-// An epoch by a name of its own, whose lines are judged and then put behind those of the epochs before it.
+// An epoch under a name of its own, whose lines are judged and then appended to those of earlier epochs.
 fn next_epoch<R: Wait + Abort>(
     rt: &R,
     alloc: Global,
@@ -238,7 +238,7 @@ fn next_epoch<R: Wait + Abort>(
     next
 }
 
-// What an engine has whose clients make no call.
+// An engine whose clients make no call ends with these records.
 fn ends_with<N: Name, R: Abort>(rt: &R, opening: Opening<Placing>, records: &[u64])
     requires { N.engine ≡ name_of placing opening }
 {
@@ -246,7 +246,7 @@ fn ends_with<N: Name, R: Abort>(rt: &R, opening: Opening<Placing>, records: &[u6
     closes(rt, engine, sessions, records, &[]);
 }
 
-// What the two clients ask for in the first epoch, in the second and in the third.
+// The calls of the two clients in the first, second and third epoch.
 const FIRST: [Asked<'static>; 3] = [("bump", &[0]), ("take", &[0, 10]), ("transfer", &[1, 0, 4])];
 
 const SECOND: [Asked<'static>; 4] = [
@@ -258,7 +258,7 @@ const SECOND: [Asked<'static>; 4] = [
 
 const THIRD: [Asked<'static>; 2] = [("take", &[0, 10]), ("via", &[0])];
 
-// Three epochs, one behind the other: what the next one would begin with.
+// Three epochs, one after the other. Returns what the next one would begin with.
 fn three_epochs<R: Wait + Abort>(
     rt: &R,
     alloc: Global,
@@ -276,7 +276,7 @@ fn three_epochs<R: Wait + Abort>(
     next.opening
 }
 
-// Each epoch begins with the records that the one before has left: a take that aborts at first, and commits later.
+// Each epoch begins with the records that the one before left: a take aborts at first, and commits later.
 #[test]
 fn three_epochs_are_one_serial_run(rt: HostRuntime) -> Result<(), Fail> {
     let alloc = rt.alloc();

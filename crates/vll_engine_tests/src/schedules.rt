@@ -38,7 +38,7 @@ fn blocked_bump_runs_at_the_front(rt: HostRuntime) -> Result<(), Fail> {
     Ok(())
 }
 
-// Ticket 0 keeps record 0. Ticket 1 is gone from record 1, which ticket 3 waits for behind ticket 2.
+// Ticket 0 keeps record 0, which ticket 2 waits for. Ticket 1 is gone from record 1, which ticket 3 waits for.
 fn runs_past_the_front<N: Name, R: Wait + Abort>(rt: &R, opening: Opening<Placing>)
     requires { N.engine ≡ name_of placing opening }
 {
@@ -69,7 +69,7 @@ fn scan_finds_an_unhindered_call(rt: HostRuntime) -> Result<(), Fail> {
     Ok(())
 }
 
-// Ticket 0 keeps record 0. Ticket 1 is gone from record 4, which ticket 2 waits for. The scan finds ticket 2 where the
+// Ticket 0 keeps record 0. Ticket 1 is gone from record 4, which ticket 2 waits for. The scan finds ticket 2 if the
 // places of the two records differ.
 fn scans_past_the_front<N: Name, R: Wait + Abort>(
     rt: &R,
@@ -98,8 +98,8 @@ fn scans_past_the_front<N: Name, R: Wait + Abort>(
     closes(rt, engine, sessions, &[1, 0, 0, 0, 2], &[0, 0, 0]);
 }
 
-// Of 2 places records 0 and 4 have the same by their numbers. By the other hash record 0 has place 0, and record 4
-// has 4 * 11400714819323198485 mod 2^64 / 2^32 = 2027808485, which is odd.
+// With 2 places, records 0 and 4 have the same place by their numbers. By the other hash record 0 has place 0, and
+// record 4 has 4 * 11400714819323198485 mod 2^64 / 2^32 = 2027808485, which is odd.
 #[test]
 fn scan_goes_by_the_hash(rt: HostRuntime) -> Result<(), Fail> {
     let config = Config {

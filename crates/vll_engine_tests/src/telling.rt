@@ -1,4 +1,4 @@
-// News, from one thread to another one, by a channel.
+// News from one thread to another, by a channel.
 ghost use Rattle.std.specs.Prelude.{◌≡◌, ◌<◌, length};
 ghost use Rattle.vll_engine.specs.Shown.{name_of};
 ghost use Rattle.vll_sca.specs.Placing.{placing};
@@ -26,7 +26,7 @@ struct Receipt<N: Name> {
     ghost has_it: { ticket < length news.calls },
 }
 
-// A session's client makes a bump of record 0, and tells what it has seen.
+// Makes a bump of record 0 for the session's client. Returns it with news of what the session has seen.
 fn makes_and_tells<N: Name, R: Wait + Abort>(
     rt: &R,
     engine: &Engine<N, Placing>,
@@ -46,7 +46,7 @@ fn makes_and_tells<N: Name, R: Wait + Abort>(
     }
 }
 
-// A session's client hears of a call that was made, and makes a bump behind it: its ticket and its output.
+// Makes the session hear of a call that was made, and makes a bump after it. Returns the bump's ticket and output.
 fn hears_and_makes<N: Name, R: Wait + Abort>(
     rt: &R,
     engine: &Engine<N, Placing>,
@@ -65,7 +65,7 @@ fn hears_and_makes<N: Name, R: Wait + Abort>(
     }
 }
 
-// One client makes its bump, and sends the news to the other one.
+// Makes one client's bump, and sends the news to the other client.
 fn tells<N: Name, R: Wait + Abort>(
     rt: &R,
     engine: &Engine<N, Placing>,
@@ -84,7 +84,7 @@ fn tells<N: Name, R: Wait + Abort>(
     session
 }
 
-// The other client waits for the news, and makes its bump once it has heard.
+// Waits for the news, and makes the other client's bump once it has heard.
 fn hears<N: Name, R: Wait + Abort>(
     rt: &R,
     engine: &Engine<N, Placing>,

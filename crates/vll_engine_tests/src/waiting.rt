@@ -23,7 +23,7 @@ fn scans<N: Name, R: Wait>(rt: &R, engine: &Engine<N, Placing>) -> Option<Pass>
     engine.hold(rt).next_scan_if_due()
 }
 
-// So many bumps of record 0 are blocked, under the tickets from this one on.
+// `many` bumps of record 0 are blocked, under the tickets from `from` on.
 fn begins_many<N: Name, R: Wait + Abort>(
     rt: &R,
     engine: &Engine<N, Placing>,
@@ -42,7 +42,7 @@ fn begins_many<N: Name, R: Wait + Abort>(
     session
 }
 
-// They run one after the other, each at the front.
+// Those bumps run one after the other, each at the front.
 fn finishes_many<N: Name, R: Wait + Abort>(
     rt: &R,
     engine: &Engine<N, Placing>,
@@ -57,7 +57,7 @@ fn finishes_many<N: Name, R: Wait + Abort>(
     }
 }
 
-// So many times in a row a scan is put off.
+// A scan is put off `times` times in a row.
 fn are_put_off<N: Name, R: Wait + Abort>(rt: &R, engine: &Engine<N, Placing>, times: u8) {
     for _ in 0..times {
         let scanned = scans(rt, engine);
@@ -65,7 +65,7 @@ fn are_put_off<N: Name, R: Wait + Abort>(rt: &R, engine: &Engine<N, Placing>, ti
     }
 }
 
-// The next scan, which asks whether one is due or does not ask.
+// Scans, only if a scan is due if `if_due`, else in any case.
 fn next_scan<N: Name, R: Wait>(rt: &R, engine: &Engine<N, Placing>, if_due: bool) -> Option<Pass>
     ensures { IfSome result (IsFresh N.engine) }
 {
@@ -75,8 +75,8 @@ fn next_scan<N: Name, R: Wait>(rt: &R, engine: &Engine<N, Placing>, if_due: bool
     engine.next_scan(rt)
 }
 
-// Tickets 0 and 1 run, so many calls wait for record 0, and the last one for record 1. A scan finds none. Then ticket 1
-// is gone, and the last call may run. The scan is put off so many times, and then finds it.
+// Tickets 0 and 1 run, `many` calls wait for record 0, and the last one for record 1. A scan finds none. Then ticket 1
+// is gone, and the last call may run. The scan is put off `times` times, and then finds it.
 fn scans_after_some_are_put_off<N: Name, R: Wait + Abort>(
     rt: &R,
     opening: Opening<Placing>,
@@ -105,8 +105,8 @@ fn scans_after_some_are_put_off<N: Name, R: Wait + Abort>(
     equal(rt, closed.records.as_slice(), [value, 2].as_slice());
 }
 
-// While fewer than 64 wait, no scan is put off. Of more each owes one, a finished call pays for 8, and each time that a
-// scan is put off for 64, until fewer than 64 are owed. The engine's own call puts none off.
+// While fewer than 64 calls wait, no scan is put off. If 64 or more wait, each of them adds 1 to the debt, a finished
+// call pays off 8, and each scan that is put off 64, until less than 64 is owed. `next_scan` puts none off.
 #[test]
 fn scan_is_put_off_for_so_long(rt: HostRuntime) -> Result<(), Fail> {
     for (many, times, if_due) in [
@@ -124,8 +124,8 @@ fn scan_is_put_off_for_so_long(rt: HostRuntime) -> Result<(), Fail> {
     Ok(())
 }
 
-// Two calls run on records of their own, each with one that waits for it, and 81 wait for record 0. Once both are gone
-// each scan finds one: a scan that finds a call owes nothing.
+// Two calls run on records of their own, each with one that waits for it, and 81 wait for record 0. Once both are gone,
+// each scan finds one: a scan that finds a call adds no debt.
 fn scans_twice_in_a_row<N: Name, R: Wait + Abort>(rt: &R, opening: Opening<Placing>)
     requires { N.engine ≡ name_of placing opening }
 {

@@ -23,7 +23,7 @@ use Rattle.vll_core.proofs.Tests.{both_true, lt_no, lt_yes}
 use Rattle.vll_counters.specs.Views.{calls_in}
 use Rattle.vll_example.specs.Bank.{HoldInTotal, procedures, sum_body, sum_of_two, transfer, transfer_body}
 
--- what is taken from one place is put to another
+-- what is taken from one place is added to another
 moved : (xs : List ℕ) (i j a : ℕ) → i < length xs → j < length xs → a ≤ slice_index xs i
     → sum (slice_set (slice_set xs i (slice_index xs i - a)) j (slice_index (slice_set xs i (slice_index xs i - a)) j + a)) ≡ sum xs
 moved xs i j a from to enough =

@@ -17,7 +17,7 @@ transfer_keys = record { mode = Write; at = at.Arg 0 } ∷ record { mode = Write
 abbrev pub transfer_body : List Stmt
 transfer_body = If (Less (Key 0) (Arg 2)) (Abort TOO_LITTLE ∷ []) [] ∷ Set 0 (Sub (Key 0) (Arg 2)) ∷ Set 1 (Add (Key 1) (Arg 2)) ∷ Reply (Key 0) ∷ []
 
--- moves an amount from one account to another, and replies what is left of the first
+-- moves an amount from one account to another, and replies what is left in the first
 abbrev pub transfer : Proc
 transfer = record { edition = Two; name = codes "transfer"; args = 3; keys = transfer_keys; body = transfer_body }
 
@@ -37,6 +37,6 @@ sum_of_two = record { edition = Two; name = codes "sum"; args = 2; keys = sum_ke
 abbrev pub procedures : List Proc
 procedures = transfer ∷ sum_of_two ∷ []
 
--- so many accounts hold this much together
+-- this many accounts hold this much in total
 abbrev pub HoldInTotal : ℕ → ℕ → List ℕ → Type 0
 HoldInTotal accounts total now = (length now ≡ accounts) × (sum now ≡ total)

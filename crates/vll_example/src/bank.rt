@@ -1,5 +1,5 @@
-// A bank over the engine: first one client's calls, then two clients' at the same time, and last one that tells the
-// other.
+// A bank on the engine: first the calls of one client, then those of two at the same time, and last news from one
+// client to the other.
 ghost use Rattle.std.specs.Prelude.{◌≡◌, IfOk, sum};
 ghost use Rattle.vll_example.specs.Bank.{procedures};
 ghost use Rattle.vll_engine.specs.Pass.{IsFresh};
@@ -14,7 +14,7 @@ use vll_engine::{Begun, Client, Clients, Engine, EngineFault, Name, Opening, Pas
 use vll_proc::{Reply, invariants_carry_over};
 use vll_sca::Placing;
 
-/// Opens the engine over two accounts, for two clients, and serves them. All memory is taken here.
+/// Opens the engine over two accounts, for two clients, and serves them. All memory is allocated here.
 pub(crate) fn open<R: Wait + Print>(rt: &R, alloc: Global) -> Result<(), EngineFault> {
     let accounts = vec![in alloc; 100, 50]?;
     let config = Config {
@@ -54,7 +54,7 @@ impl<'a, R: Wait + Print> Service for Bank<'a, R> {
     }
 }
 
-// The calls of both clients.
+// Makes the calls of both clients.
 fn make_calls<N: Name, R: Wait + Print>(
     rt: &R,
     engine: &Engine<N, Placing>,
@@ -68,7 +68,7 @@ fn make_calls<N: Name, R: Wait + Print>(
     print_order(rt, relay(rt, engine, &mut first, &mut other)?)
 }
 
-// One client's calls, of which the account is too low for the second.
+// Makes one client's two transfers; for the second its account is too low.
 fn transfer_twice<N: Name, R: Wait + Print>(
     rt: &R,
     engine: &Engine<N, Placing>,
@@ -93,8 +93,8 @@ fn print_accounts(rt: &impl Print, accounts: &[u64]) -> Result<(), EngineFault> 
     Ok(())
 }
 
-// What the accounts hold at the end: in total as much as at the opening. Each call of the bank keeps the total, and
-// what each call keeps carries over.
+// Closes the engine and returns what the accounts hold: in total as much as at the opening. Each call of the bank keeps
+// the total, and what each call keeps holds to the end.
 fn close<N: Name>(engine: Engine<N, Placing>, clients: Clients<N>) -> Result<Vec<u64>, EngineFault>
     requires procedures { N.engine.base.procs ≡ procedures }
     ensures total { IfOk result (λ accounts. sum accounts.items ≡ sum N.engine.base.records) }
@@ -115,7 +115,7 @@ fn run<N: Name>(rt: &impl Wait, engine: &Engine<N, Placing>, pass: Pass) -> Repl
 }
 
 // Two clients at the same time: the sum begins while the transfer has its claims, so it waits, and runs once the
-// transfer has finished. Its client is told the reply.
+// transfer has finished. Its client then gets the reply.
 fn meet<N: Name, R: Wait + Print>(
     rt: &R,
     engine: &Engine<N, Placing>,
@@ -137,7 +137,7 @@ fn meet<N: Name, R: Wait + Print>(
         Begun::Blocked(ticket) => Ok(ticket),
         Begun::Refused(refusal) => Err(refusal.into()),
     };
-    // a pass has to be spent before the function may return
+    // a pass has to be consumed before the function may return
     let reply = run(rt, engine, pass);
     println!(rt; "the transfer {reply}")?;
     let ticket = waiting?;

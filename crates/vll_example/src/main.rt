@@ -1,4 +1,4 @@
-//! A program with the engine inside: two clients of a bank, on one thread.
+//! A program with an embedded engine: two clients of a bank, on one thread.
 #![tactic(auto)]
 
 mod bank;

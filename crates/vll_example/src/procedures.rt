@@ -15,7 +15,7 @@ use vll_record::Mode;
 /// The code with which a transfer aborts if the first account holds less than the amount.
 const TOO_LITTLE: u16 = 1;
 
-// A key whose record is the argument of the same place.
+// A key whose record is given by the argument at the same place.
 fn key(mode: Mode, argument: u8) -> KeyDecl
     ensures { result ≡ record { mode = mode; at = at.Arg argument } }
 {
@@ -65,7 +65,7 @@ fn deposit(alloc: Global) -> Result<Stmt, AllocError>
     Ok(Stmt::Set(1, add(alloc, Expr::Key(1), Expr::Arg(2))?))
 }
 
-// Moves an amount from one account to another, and replies what is left of the first.
+// Moves an amount from one account to another, and replies what is left in the first.
 fn transfer(alloc: Global) -> Result<Proc, AllocError>
     ensures { IfOk result (λ p. p ≡ transfer) }
 {
@@ -98,7 +98,7 @@ fn sum(alloc: Global) -> Result<Proc, AllocError>
     })
 }
 
-/// The library of both procedures, for a number of accounts.
+/// The library of both procedures, for this many accounts.
 pub(crate) fn library(alloc: Global, accounts: u32) -> Result<Library, EngineFault>
     ensures { IfOk result (λ l. l ≡ record { records = accounts; procs = procedures }) }
 {

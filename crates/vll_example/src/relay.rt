@@ -1,4 +1,4 @@
-// News from one client to the other one.
+// News from one client to the other.
 ghost use Rattle.std.specs.Prelude.{◌<◌, IfOk};
 
 use std::sync::Wait;
@@ -6,8 +6,8 @@ use vll_core::Ticket;
 use vll_engine::{Client, Engine, EngineFault, Name, news_orders_calls};
 use vll_sca::Placing;
 
-/// The first client makes a transfer and tells the other one, which then makes its own: the tickets of both. The other
-/// client's is higher.
+/// Makes a transfer of the first client, passes news of it to the other one, and then makes that one's transfer.
+/// Returns the tickets of both; the second is higher.
 pub(crate) fn relay<N: Name>(
     rt: &impl Wait,
     engine: &Engine<N, Placing>,

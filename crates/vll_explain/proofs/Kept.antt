@@ -1,4 +1,4 @@
--- How what is answered for bytes in memory is answered for the reader that gave them.
+-- How the result for bytes in memory becomes the result for the reader that supplied them.
 use Rattle.std.proofs.Common.{◌≡◌, ◌≤◌, ◌⊎◌, inl, inr, refl, sym, subst, IfOk, ℕ, List, length, Option, Some, None, Result, Ok, Err, ap}
 use Rattle.serde_json.specs.Data.{Data}
 use Rattle.vll_scenario.specs.declared.limits.TheConstants.{MOST_BYTES}
@@ -28,7 +28,7 @@ held_reads of old new bytes (Err (fault.Call c i f)) all told = (bytes, (all.0, 
 held_reads of old new bytes (Err fault.Size) all told = (bytes, (all.0, inr all.1), told)
 held_reads of old new bytes (Err fault.NameTwice) all told = (bytes, (all.0, inr all.1), told)
 
--- what is told of bytes is told as far as the reader tells them
+-- what is known of bytes is known as far as the reader makes them known
 held_tells : {A : Type 0} (of : Option Data → Result A ScenarioFault) (old new : Option (List ℕ)) (bytes : List ℕ) (r : Result A ScenarioFault) → ReadsAll old new bytes → Tells of (Some bytes) r → Tells of old r
 held_tells of old new bytes r all told = reads_tell of old new r (held_reads of old new bytes r all told)
 
@@ -68,7 +68,7 @@ unread_told old bytes.Read text told = told
 unread_told old bytes.NoMemory text told = told
 unread_told old bytes.Size text told = told
 
--- what is told of bytes that were not read to their end
+-- the explanation of bytes that were not read to their end
 pub unread_explains : (old new : Option (List ℕ)) (read : ReadFault) (why : ScenarioFault) (text : List ℕ) → why ≡ fault_of read → (read ≡ bytes.Size → ReadsTooMany old new) → IsBegun why text → Explains old new (Some why) (λ t. t ≡ text)
 unread_explains old new read why text is many told =
     let explained = subst (λ f. IsBegun f text) is told in
@@ -98,12 +98,12 @@ tree_told bytes tree (fault.Call c i f) text few is_tree is told = (tree, (inr (
 tree_told bytes tree fault.Size text few is_tree is told = told
 tree_told bytes tree fault.NameTwice text few is_tree is told = (tree, (inr (few, (Some tree, is_tree, refl)), is), told)
 
--- what is read and told of a fault that lies in the tree of bytes
+-- the result and the explanation of a fault that lies in the tree of bytes
 pub tree_explains : (bytes : List ℕ) (tree : Data) (why : ScenarioFault) (text : List ℕ) → length bytes ≤ MOST_BYTES → IsTree bytes (Some tree) → IsScenarioOf tree (Err why) → IsToldOf tree why text
     → (read : Result Setup ScenarioFault) × Tells scenario_at (Some bytes) read × (fault_in read ≡ Some why) × IsTold (Some bytes) read text
 tree_explains bytes tree why text few is_tree is told = (Err why, tree_tells bytes tree (Err why) few is_tree is, refl, tree_told bytes tree why text few is_tree is told)
 
--- what is read and told of bytes that have no tree
+-- the result and the explanation of bytes that have no tree
 pub treeless_explains : (bytes : List ℕ) (why : ScenarioFault) (text : List ℕ) → length bytes ≤ MOST_BYTES → ((why ≡ fault.Json) × IsTree bytes None) ⊎ (why ≡ fault.NoMemory) → IsBegun why text
     → (read : Result Setup ScenarioFault) × Tells scenario_at (Some bytes) read × (fault_in read ≡ Some why) × IsTold (Some bytes) read text
 treeless_explains bytes why text few (inl (json, is_tree)) told =
@@ -111,7 +111,7 @@ treeless_explains bytes why text few (inl (json, is_tree)) told =
 treeless_explains bytes why text few (inr memory) told =
     subst (λ f. IsBegun f text → (read : Result Setup ScenarioFault) × Tells scenario_at (Some bytes) read × (fault_in read ≡ Some f) × IsTold (Some bytes) read text) (sym memory) (λ of_memory. (Err fault.NoMemory, tt, refl, of_memory)) told
 
--- ---- the fault of a tree is none of the reader's
+-- ---- the fault of a tree is not the reader's
 
 never_read : (r : Result Parts ScenarioFault) → (r ≡ Err fault.Read → ⊥) → (r >>= setup_of) ≡ Err fault.Read → ⊥
 never_read (Ok parts) none is = setup_reads_nothing (Err fault.Read) parts is refl

@@ -1,4 +1,4 @@
--- What is told of a scenario that was read.
+-- What `explain` writes about a scenario that was read.
 use Rattle.std.specs.Prelude.{◌≡◌, ℕ, List, [], ◌∷◌, ◌++◌, Option, Some, None, Result, Ok, Err, codes}
 use Rattle.std.specs.Fmt.{decimal}
 use Rattle.serde_json.specs.Data.{Data}
@@ -15,7 +15,7 @@ use Rattle.vll_scenario.specs.Ways.{LeadsToFault, step_words, words_of}
 abbrev pub line_of : ScenarioFault → List ℕ
 line_of why = codes "vll: scenario: " ++ fault_words why ++ codes "\n"
 
--- what is told of a way: its steps, and behind the second one what is shown of the name of the item to which it leads
+-- the words of a way: its steps, and after the second one the name, as shown, of the item to which it leads
 abbrev pub way_words : List ℕ → List Step → List ℕ
 way_words shown [] = codes "the scenario"
 way_words shown (part ∷ []) = step_words part
@@ -25,11 +25,11 @@ way_words shown (part ∷ item ∷ steps) = step_words part ++ step_words item +
 abbrev pub IsBegun : ScenarioFault → List ℕ → Type 0
 IsBegun why text = (rest : List ℕ) × (text ≡ line_of why ++ codes "at: " ++ rest)
 
--- the same of one that names a place first
+-- `IsBegun` for an explanation that names a place first
 abbrev pub IsAt : ScenarioFault → List ℕ → List ℕ → Type 0
 IsAt why place text = (rest : List ℕ) × (text ≡ line_of why ++ codes "at: " ++ place ++ rest)
 
--- what is told of a procedure by its index, and of a call by its client and its index
+-- the words of a procedure by its index, and of a call by its client and its index
 abbrev pub procedure_words : ℕ → List ℕ
 procedure_words index = codes "procs " ++ decimal index
 
@@ -44,7 +44,8 @@ pub record IsLocated (tree : Data) (why : ScenarioFault) (text : List ℕ) : Typ
   pub rest : List ℕ
   pub is : text ≡ line_of why ++ codes "at: " ++ way_words shown way ++ codes "\nwhy: " ++ rest
 
--- what is told of a fault that lies in a tree: of the shape the piece at fault, and else the procedure or the call of which it tells
+-- the text about a fault that lies in a tree: for the shape, the piece at fault, else the procedure or the call that it
+-- names
 abbrev pub IsToldOf : Data → ScenarioFault → List ℕ → Type 0
 IsToldOf tree (fault.Shape spot) text = IsLocated tree (fault.Shape spot) text
 IsToldOf tree (fault.Check index why) text = IsAt (fault.Check index why) (procedure_words index) text
@@ -55,7 +56,8 @@ IsToldOf tree why text = IsBegun why text
 abbrev pub HasFault : Option (List ℕ) → Data → ScenarioFault → Type 0
 HasFault known tree why = Tells tree_or_json known (Ok tree) × (scenario_at (Some tree) ≡ Err why)
 
--- what is told of the scenario that known bytes are: the fault, and where in their tree it lies; or `ok`, and then what the scenario has
+-- the text about the scenario of known bytes: the fault, and where in their tree it lies; or `ok`, and then what the
+-- scenario has
 abbrev pub IsTold : Option (List ℕ) → Result Setup ScenarioFault → List ℕ → Type 0
 IsTold known (Err fault.Read) text = IsBegun fault.Read text
 IsTold known (Err fault.NoMemory) text = IsBegun fault.NoMemory text
@@ -69,7 +71,7 @@ abbrev pub fault_in : Result Setup ScenarioFault → Option ScenarioFault
 fault_in (Err why) = Some why
 fault_in (Ok setup) = None
 
--- a scenario or this fault was read, and this holds of a text that tells it
+-- a scenario or this fault was read, and this holds of a text about it
 pub record Explains (old new : Option (List ℕ)) (fault : Option ScenarioFault) (Holds : List ℕ → Type 0) : Type 0 where
   pub read : Result Setup ScenarioFault
   pub is_read : IsRead old new read

@@ -5,7 +5,7 @@ use serde_json::Value;
 use std::alloc::{AllocError, Global};
 use vll_scenario::CallFault;
 
-// How many names are told.
+// The number of names that are listed.
 const MOST_NAMES: usize = 8;
 
 // The mistake for which a call is refused with this fault.
@@ -50,7 +50,7 @@ fn name_of(procedure: &Value) -> &str {
     procedure.get("name").and_then(Value::as_str).unwrap_or("")
 }
 
-// Which names there are, if one is none of them.
+// The names that there are, for a name that is not among them.
 fn unknown_name(alloc: Global, procs: &[Value], name: &str) -> Result<String, AllocError> {
     let name = Quoted(name);
     let mut why = format!(in alloc; "no procedure has the name {name}; ")?;
@@ -71,7 +71,7 @@ fn unknown_name(alloc: Global, procs: &[Value], name: &str) -> Result<String, Al
     Ok(why)
 }
 
-// The argument that is to be the record of a key, and is none.
+// The argument that a key takes as its record, if there is no such record.
 fn record_mistake(alloc: Global, keys: &[Value], args: &[Value], records: usize) -> Found {
     for (i, key) in keys.iter().enumerate() {
         if key.get(1).and_then(Value::as_str) != Some("arg") {

@@ -1,4 +1,4 @@
-//! The text about a scenario, and the writing of it.
+//! The text about a scenario, and writing it.
 ghost use Rattle.std.specs.Prelude.{◌≡◌, ◌≤◌, ◌↔◌, false, true, Some, None, Ok, Err, Option, Result, IfOk, IfErr, length, string_bytes};
 ghost use Rattle.std.specs.Io.KnownBytes.{Appends};
 ghost use Rattle.vll_scenario.specs.Reading.{Tells};
@@ -21,13 +21,13 @@ use vll_scenario::{
     WriteFault, read_bytes, reading_of, way_to_fault, write_text,
 };
 
-/// Reads a scenario as `read_scenario` does, and writes what is to be told of it: if it is refused, the line of its
-/// fault, and behind it an explanation, which begins with `at: `; if not, `ok`, and behind it what the scenario has.
-/// docs/SCENARIO.md describes the text. Returns the fault, if there is one.
+/// Reads a scenario as `read_scenario` does, and writes a report: if it is refused, the line of its fault, followed by
+/// an explanation that begins with `at: `; if not, `ok`, followed by what the scenario has. docs/SCENARIO.md describes
+/// the text. Returns the fault, if there is one.
 ///
-/// The text is made whole before its first byte is written. After `NoMemory` nothing has been written, and after
-/// `Write` a beginning of the text. `NoMemory` is for want of memory outside `read_scenario`, and `Write` comes exactly
-/// if the writer has failed.
+/// The whole text is built before its first byte is written. After `NoMemory` nothing has been written, and after
+/// `Write` a prefix of the text. `NoMemory` means that memory ran out outside `read_scenario`, and `Write` is returned
+/// exactly if the writer has failed.
 pub fn explain<S: Source, W: Sink>(
     alloc: Global,
     reader: &mut S,
@@ -49,7 +49,7 @@ pub fn explain<S: Source, W: Sink>(
     Ok(fault)
 }
 
-// The fault of the scenario that a reader gives, if there is one, and the text about it.
+// The fault of the scenario that a reader supplies, if there is one, and the text about it.
 fn explained<S: Source>(
     alloc: Global,
     reader: &mut S,
@@ -70,7 +70,7 @@ fn explained<S: Source>(
     }
 }
 
-// The same of bytes that were read to their end.
+// As `explained`, for bytes that were read to their end.
 fn explained_of(alloc: Global, bytes: &[u8]) -> Result<(Option<ScenarioFault>, String), WriteFault>
     requires { length bytes.now ≤ MOST_BYTES }
     ensures told { IfOk result (λ made. (read : Result Setup ScenarioFault) × Tells scenario_at (Some bytes.now) read
@@ -96,7 +96,8 @@ fn explained_of(alloc: Global, bytes: &[u8]) -> Result<(Option<ScenarioFault>, S
     }
 }
 
-// The line of a fault, and an explanation, if there is no JSON tree. Of what was not read to its end there are no bytes.
+// The line of a fault, and an explanation, if there is no JSON tree. If the source was not read to its end, `bytes` is
+// empty.
 fn text_of_unread(alloc: Global, why: ScenarioFault, bytes: &[u8]) -> Result<String, AllocError>
     ensures { IfOk result (λ text. IsBegun why (string_bytes text)) }
 {

@@ -1,16 +1,16 @@
-//! What is wrong with a list that has to have the form of a key, a statement, an expression or an event.
+//! What is wrong with a list that must have the form of a key, a statement, an expression or an event.
 use crate::shown::{Quoted, Shown};
 use serde_json::Value;
 use std::alloc::{AllocError, Global};
 use vll_scenario::Kind;
 
-// What has a form, and which forms there are.
+// What has a form, and the forms that there are.
 #[derive(Clone, Copy)]
 struct Forms {
-    // Its name, and that with its article.
+    // Its name, and the name with its article.
     name: &'static str,
     one: &'static str,
-    // What a word that is not known is not.
+    // What an unknown word is said not to be.
     word: &'static str,
     all: &'static str,
 }
@@ -48,7 +48,7 @@ fn forms_of(kind: Kind) -> Forms {
     }
 }
 
-// Why a list is none that has to be.
+// Why a list does not have the form of `kind`.
 pub(crate) fn form_why(
     alloc: Global,
     tree: &Value,
@@ -110,7 +110,7 @@ fn key_why(alloc: Global, list: &[Value], all: &str) -> Result<String, AllocErro
     }
 }
 
-// How many items stand behind a word, if it is known.
+// The number of items that follow a word, if it is known.
 fn behind_word(kind: Kind, word: &str) -> Option<usize> {
     match (kind, word) {
         (Kind::Event, "claim" | "admit" | "front" | "scan") => Some(0),

@@ -1,10 +1,10 @@
-//! Where bytes are no JSON text.
+//! Where bytes stop being a JSON text.
 use crate::shown::Quoted;
 use serde_json::Value;
 use std::alloc::{AllocError, Global};
 use std::str;
 
-// How deep lists and objects may stand inside one another.
+// How deeply lists and objects may be nested.
 const MOST_DEEP: usize = 127;
 
 // The place at which bytes stop being a JSON text, and what is wrong there.
@@ -75,12 +75,12 @@ fn line_and_column(bytes: &[u8], place: usize) -> (usize, usize) {
     (line, column)
 }
 
-// The text from a place on, or from the end if a character does not begin there.
+// The text from a place on, or the empty text if no character begins there.
 fn text_from(text: &str, place: usize) -> &str {
     text.get(place..).unwrap_or("")
 }
 
-// What is wrong with the byte at a place, behind those before it.
+// What is wrong with the byte at a place, given the bytes before it.
 fn why_at(bytes: &[u8], place: usize) -> &'static str {
     let Some(byte) = bytes.get(place) else {
         return "a value is missing";
@@ -111,7 +111,7 @@ fn why_at(bytes: &[u8], place: usize) -> &'static str {
     }
 }
 
-// Why no value begins with this byte, or one that does is not read.
+// Why no value begins with this byte, or why a value that does is not read.
 fn why_no_value(byte: u8) -> &'static str {
     match byte {
         b'"' =>
@@ -124,18 +124,18 @@ fn why_no_value(byte: u8) -> &'static str {
     }
 }
 
-// What is open before a place.
+// What encloses a place.
 #[derive(Clone, Copy)]
 enum Surrounding {
-    // No list and no object.
+    // Neither a list nor an object.
     Nothing,
     List,
     Object,
-    // More lists and objects inside one another than there may be.
+    // Lists and objects nested as deeply as they may be.
     Deep,
 }
 
-// The last byte before a place that is no space.
+// The last byte before a place that is not whitespace.
 fn last_before(bytes: &[u8], place: usize) -> Option<u8> {
     let mut last = None;
     for byte in bytes.iter().take(place) {
@@ -159,7 +159,7 @@ fn surrounding_of(bytes: &[u8], place: usize) -> Surrounding {
     }
 }
 
-// The first bracket or brace up to a place that closes nothing, or the wrong one of a list and an object.
+// The first bracket or brace up to a place that closes nothing, or closes a list as an object or an object as a list.
 fn first_wrong_end(bytes: &[u8], place: usize) -> Option<usize> {
     let mut open = Open::new();
     for (i, byte) in bytes.iter().take(place.saturating_add(1)).enumerate() {
@@ -170,7 +170,7 @@ fn first_wrong_end(bytes: &[u8], place: usize) -> Option<usize> {
     None
 }
 
-// The lists and objects that are open, none deeper than there may be, and whether a text is.
+// The open lists and objects, down to the greatest depth allowed, and whether a text is open.
 #[derive(Drop)]
 struct Open {
     are_objects: [bool; MOST_DEEP],
@@ -189,12 +189,12 @@ impl Open {
         }
     }
 
-    // Whether the innermost that is open is an object.
+    // Whether the innermost open one is an object.
     fn is_object(&self) -> bool {
         0 < self.depth && self.depth <= MOST_DEEP && self.are_objects[self.depth - 1]
     }
 
-    // Takes the next byte, and says whether it closes nothing, or what it does not fit.
+    // Takes the next byte, and returns whether it is a bracket or brace that closes nothing or does not match.
     fn ends_wrongly(&mut self, byte: u8) -> bool {
         if self.is_escaped {
             self.is_escaped = false;

@@ -1,4 +1,14 @@
-//! What is wrong with a scenario, told for a person; or what a scenario has.
+//! Explanations for a person: what is wrong with a scenario and where, or, if nothing is, what the scenario has. It is
+//! the whole of the program's `vll explain`. The crate proves that the text names the fault of the bytes that were
+//! read, and the place of a wrong shape, of a refused procedure and of a refused call; the wording of reasons is not
+//! proved. Start at `explain`.
+//!
+//! ```rattle
+//! let mut reader = Plain::new(rt.reader());
+//! let mut writer = Plain::new(io::writer(rt));
+//! let fault = explain(rt.alloc(), &mut reader, &mut writer)?;
+//! let is_valid = fault.is_none();
+//! ```
 #![tactic(auto)]
 
 mod asked;

@@ -1,4 +1,4 @@
-//! The explanation of a fault that is none of the shape.
+//! The explanations of faults other than of shape.
 use crate::asked::{call_mistake, items_of};
 use crate::check::{Declared, check_mistake};
 use crate::json_place::json_explanation;
@@ -18,7 +18,8 @@ const TOO_LITTLE_MEMORY: &str =
 const UNKNOWN: &str =
     "\nwhy: a second look has not found it; docs/SCENARIO.md tells what this line means\n";
 
-// Where the mistake is that tells of bytes which were not read to their end, or are no JSON text, and what is wrong there.
+// The explanation for bytes that were not read to their end, or are not a JSON text: where the mistake is, and what is
+// wrong there.
 pub(crate) fn unread_explanation(
     alloc: Global,
     why: ScenarioFault,
@@ -34,7 +35,7 @@ pub(crate) fn unread_explanation(
     }
 }
 
-// Where the mistake is in a JSON tree whose sizes or names are at fault, and what is wrong there.
+// The explanation for a JSON tree whose sizes or names are at fault: where the mistake is, and what is wrong there.
 pub(crate) fn explanation_of(
     alloc: Global,
     why: ScenarioFault,
@@ -56,7 +57,7 @@ fn push_unknown(text: &mut String, place: &str) -> Result<(), AllocError> {
     write!(text, "{place}{UNKNOWN}")
 }
 
-// Appends the way to a mistake behind where it begins, and what is wrong there.
+// Appends the way to a mistake, after the place where the way begins, and what is wrong there.
 fn push_mistake(text: &mut String, found: Option<Mistake>) -> Result<(), AllocError> {
     match found {
         Some(mistake) => mistake.tell(text),
@@ -75,7 +76,7 @@ fn push_name(text: &mut String, named: Option<&Value>) -> Result<(), AllocError>
     }
 }
 
-// Where in a procedure the mistake is, behind its index, and what is wrong there.
+// Where in a procedure the mistake is, to follow the procedure's index, and what is wrong there.
 pub(crate) fn check_explanation(
     alloc: Global,
     tree: &Value,
@@ -107,7 +108,7 @@ fn number_of(value: &Value, name: &str) -> u64 {
     value.get(name).and_then(Value::as_u64).unwrap_or(0)
 }
 
-// Where in a call the mistake is, behind its client and its index, and what is wrong there.
+// Where in a call the mistake is, to follow its client and index, and what is wrong there.
 pub(crate) fn call_explanation(
     alloc: Global,
     tree: &Value,

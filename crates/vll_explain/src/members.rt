@@ -2,10 +2,10 @@ use crate::shown::{Quoted, Shown};
 use serde_json::Value;
 use std::alloc::{AllocError, Global};
 
-// How many unknown members are told.
+// The number of unknown members that are listed.
 const MOST_TOLD: usize = 4;
 
-// What is wrong with what has to be an object with the first members and none but these and the second ones.
+// What is wrong with a value that must be an object with all members in `must`, and others only from `may`.
 pub(crate) fn member_why(
     alloc: Global,
     value: &Value,
@@ -33,7 +33,7 @@ pub(crate) fn member_why(
     Ok(why)
 }
 
-// Appends names, with commas between them.
+// Appends names, separated by commas.
 fn push_names(text: &mut String, names: &[&str]) -> Result<(), AllocError> {
     for (i, name) in names.iter().enumerate() {
         let comma = if i == 0 { "" } else { ", " };

@@ -18,7 +18,7 @@ pub(crate) struct Mistake {
 // The mistake that was found, if there is one.
 pub(crate) type Found = Result<Option<Mistake>, AllocError>;
 
-// This is wrong with the piece at hand.
+// Reports this about the piece at hand.
 pub(crate) fn wrong(alloc: Global, why: String) -> Found {
     Ok(Some(Mistake {
         steps: Vec::new(alloc),
@@ -26,12 +26,12 @@ pub(crate) fn wrong(alloc: Global, why: String) -> Found {
     }))
 }
 
-// What was found in a piece that has this name, as seen from the piece around it.
+// What was found in a piece of this name, as seen from the enclosing piece.
 pub(crate) fn inside(found: Option<Mistake>, name: &'static str) -> Found {
     with_step(found, Step { name, index: None })
 }
 
-// The same of one of several.
+// As `inside`, for one of several pieces of this name.
 pub(crate) fn inside_item(found: Option<Mistake>, name: &'static str, index: usize) -> Found {
     with_step(
         found,
@@ -51,7 +51,7 @@ fn with_step(found: Option<Mistake>, step: Step) -> Found {
 }
 
 impl Mistake {
-    // Writes the way to the piece, behind what it begins at, and what is wrong with it.
+    // Appends the way to the piece, after the place where the way begins, and what is wrong with it.
     pub(crate) fn tell(&self, text: &mut String) -> Result<(), AllocError> {
         for step in self.steps.iter().rev() {
             let name = step.name;

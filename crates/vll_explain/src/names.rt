@@ -1,8 +1,8 @@
-//! Two procedures of one name.
+//! Two procedures with the same name.
 use serde_json::Value;
 use std::alloc::{AllocError, Global};
 
-// The lowest procedure whose name one before it has too, behind the first that has it.
+// The lowest procedure with the name of an earlier one: the index of the first with this name, and its own.
 pub(crate) fn name_twice(
     alloc: Global,
     procs: &[Value],

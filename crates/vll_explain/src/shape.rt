@@ -10,7 +10,7 @@ const MUST: [&str; 4] = ["version", "records", "procs", "clients"];
 
 const MAY: [&str; 5] = ["cap", "bits", "limit", "hash", "schedule"];
 
-// What is wrong with the piece of a tree that was found, or with the tree itself.
+// What is wrong with the piece found in a tree, or with the tree itself.
 pub(crate) fn shape_why(
     alloc: Global,
     tree: &Value,

@@ -1,8 +1,8 @@
-//! Pieces of a scenario as they are shown to a person: in printable ASCII, and cut if they are long.
+//! Pieces of a scenario as shown to a person: in printable ASCII, and cut if they are long.
 use serde_json::Value;
 use std::fmt;
 
-// How many characters of a text are shown.
+// The number of characters of a text that are shown.
 const MOST_SHOWN: usize = 40;
 
 // A text in quotation marks.
@@ -22,7 +22,7 @@ impl fmt::Display for Quoted<'_> {
     }
 }
 
-// A character as it stands in JSON, if it is printable ASCII, and else by its number.
+// A character as JSON writes it, if it is printable ASCII, else by its number.
 fn show_char<W: fmt::Write>(f: &mut fmt::Formatter<W>, c: char) -> fmt::Result {
     let number = c as u32;
     match c {
@@ -33,7 +33,7 @@ fn show_char<W: fmt::Write>(f: &mut fmt::Formatter<W>, c: char) -> fmt::Result {
     }
 }
 
-// A JSON value: a number or a text as it is, and what kind of value anything else is.
+// A JSON value: a number or a text as it is, anything else by its kind.
 #[derive(Clone, Copy)]
 pub(crate) struct Shown<'a>(pub &'a Value);
 

@@ -1,4 +1,4 @@
-//! What of a scenario is outside its limits.
+//! What in a scenario is outside its limits.
 use crate::mistake::{Found, inside, wrong};
 use serde_json::Value;
 use std::alloc::Global;
@@ -6,7 +6,7 @@ use vll_core::{MOST_CALLS, MOST_RECORDS, MOST_WAITING};
 use vll_sca::MOST_BITS;
 use vll_scenario::{MOST_CLIENTS, MOST_EVENTS, MOST_PROCS};
 
-// The first size that is outside its limit, in the order in which they are tested.
+// The first size outside its limit, in the order in which sizes are checked.
 pub(crate) fn size_mistake(alloc: Global, tree: &Value) -> Found {
     let calls = calls_in(tree);
     let sizes = [
@@ -33,7 +33,7 @@ pub(crate) fn size_mistake(alloc: Global, tree: &Value) -> Found {
     Ok(None)
 }
 
-// How many items a list has.
+// The length of a list.
 fn count_of(tree: &Value, name: &str) -> u64 {
     match tree.get(name).and_then(Value::as_array) {
         Some(list) => list.len() as u64,
@@ -41,7 +41,7 @@ fn count_of(tree: &Value, name: &str) -> u64 {
     }
 }
 
-// What an option says; one that is absent is within its limits.
+// The value of an option; for an absent one a value within its limits.
 fn option_of(tree: &Value, name: &str) -> u64 {
     tree.get(name).and_then(Value::as_u64).unwrap_or(1)
 }

@@ -6,10 +6,10 @@ use vll_record::Mode;
 use vll_sca::Placing;
 use vll_scenario::{Scenario, ScenarioParts};
 
-// How many procedures are told.
+// The number of procedures that are listed.
 const MOST_TOLD: u32 = 16;
 
-// How much there is of each part of a scenario, and its procedures with their keys.
+// The size of each part of a scenario, its settings, and its procedures with their keys.
 pub(crate) fn summary_of(alloc: Global, scenario: Scenario) -> Result<String, AllocError> {
     let ScenarioParts {
         records,

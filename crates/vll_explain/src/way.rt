@@ -9,7 +9,7 @@ use serde_json::Value;
 use std::alloc::{AllocError, Global};
 use vll_scenario::Step;
 
-// Appends what is told of the steps from a scenario; behind the second one stands what is shown of its name.
+// Appends the words of the steps from a scenario; `shown`, the name of the item, follows the second step.
 pub(crate) fn push_way(text: &mut String, steps: &[Step], shown: &str) -> Result<(), AllocError>
     ensures { OnOk result (string_bytes text.new ≡ string_bytes text.old ++ way_words shown.now steps.now) }
 {
@@ -23,7 +23,7 @@ pub(crate) fn push_way(text: &mut String, steps: &[Step], shown: &str) -> Result
     }
 }
 
-// Appends what is told of some steps.
+// Appends the words of some steps.
 fn push_steps(text: &mut String, steps: &[Step]) -> Result<(), AllocError>
     ensures { OnOk result (string_bytes text.new ≡ string_bytes text.old ++ words_of steps.now) }
 {
@@ -34,7 +34,7 @@ fn push_steps(text: &mut String, steps: &[Step]) -> Result<(), AllocError>
     Ok(())
 }
 
-// What is shown of the name of the procedure into which steps lead, nothing if they lead into none or it has no name.
+// The name, as shown, of the procedure into which steps lead, nothing if they lead into none or it has no name.
 pub(crate) fn shown_name(
     alloc: Global,
     tree: &Value,

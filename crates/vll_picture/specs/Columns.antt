@@ -1,4 +1,4 @@
--- The columns of a drawing: a step of the plain machine in each.
+-- The columns of a drawing, each for a step of the plain machine.
 use Rattle.std.specs.Prelude.{◌≡◌, ℕ, ◌<◌, List, [], ◌∷◌, length, take, drop, Option, Some, None, Ok, Err, IfSome}
 use Rattle.vll_record.specs.declared.claim.Claim.{Claim}
 use Rattle.vll_core.specs.declared.event.Event.{Event}
@@ -19,7 +19,7 @@ ticket_in (event.Release t) = Some t
 ticket_in (event.Finish t) = Some t
 ticket_in other = None
 
--- the ticket of the call that an event was of, by what it saw; the call of the open turn gets the next one
+-- the ticket of an event's call, by what the event saw; the call of the open turn gets the next one
 abbrev pub ticket_seen : ℕ → Event → Seen → Option ℕ
 ticket_seen next e seen.Opened = Some next
 ticket_seen next e (seen.Claimed old granted) = Some next
@@ -28,20 +28,21 @@ ticket_seen next e (seen.Blocked t) = Some t
 ticket_seen next e (seen.Run t) = Some t
 ticket_seen next e other = ticket_in e
 
--- the ticket of the call that a step was of; none if it was refused
+-- the ticket of a step's call; none if the step was refused
 abbrev pub ticket_of : Step → Option ℕ
 ticket_of s = elim s.answer [ Err why ↦ None | Ok seen ↦ ticket_seen (length s.after.entries) s.event seen ]
 
--- the claim that a step was of; none if it was refused
+-- the claim that a step concerned; none if the step was refused
 abbrev pub claim_of_step : Step → Option Claim
 claim_of_step s = elim s.answer [ Err why ↦ None | Ok seen ↦ claim_of s.before s.event ]
 
--- what a record has in a state
+-- the words of a record in a state
 pub record AreWordsOf (b : Base) (s : State) (r : ℕ) (words : RecordWords) : Type 0 where
   pub value : words.value ≡ value b s r
   pub pair : words.pair ≡ counter s r
 
--- a column has the event of a step, what it was answered, the call and the claim that it was of, and what the claim's record has after it
+-- a column has the event of a step, its answer, its call's ticket and its claim, and the words of the claim's record
+-- after it
 pub record IsColumn (b : Base) (s : Step) (c : Column) : Type 0 where
   pub event : c.event ≡ s.event
   pub answer : c.answer ≡ s.answer
@@ -55,6 +56,6 @@ AreColumns b [] [] = Unit {0}
 AreColumns b (s ∷ ss) (c ∷ cs) = IsColumn b s c × AreColumns b ss cs
 AreColumns b ss cs = ⊥
 
--- the steps from one on, at most so many
+-- at most `count` of the steps, from step `from` on
 abbrev pub window : ℕ → ℕ → List Step → List Step
 window from count ss = take count (drop from ss)

@@ -1,4 +1,4 @@
-//! A band: some columns beside one another, with the lanes that have part in them.
+//! A band: some columns side by side, with the lanes that have a part in them.
 use crate::column::Column;
 use crate::markup::{
     Area, BAND, STEP, WIDTH, close_mark, left_of, open_mark, push_area, push_upright, push_words,
@@ -11,7 +11,7 @@ use std::alloc::{AllocError, Global};
 use vll_core::{Event, Seen, Ticket};
 use vll_replay::refusal_words;
 
-/// Some columns beside one another, and the index of the first of them.
+/// Some columns side by side, and the index of the first of them.
 #[derive(Clone, Copy)]
 pub(crate) struct Band<'a> {
     pub(crate) start: usize,
@@ -19,13 +19,13 @@ pub(crate) struct Band<'a> {
 }
 
 impl Band<'_> {
-    /// How many columns there are.
+    /// Returns the number of columns.
     pub(crate) fn len(&self) -> usize {
         self.columns.len()
     }
 }
 
-/// Appends a band, as what stands before it and its events tell.
+/// Appends a band, drawn from the state before it and its events.
 pub(crate) fn push_band(
     page: &mut String,
     scene: &Scene<'_>,
@@ -59,7 +59,7 @@ pub(crate) fn push_band(
     page.push_str("</svg>\n</figure>\n")
 }
 
-// Appends what the band shows, and what has no lane in it.
+// Appends which events the band shows, and how many calls and records have no lane in it.
 fn push_caption(
     page: &mut String,
     scene: &Scene<'_>,
@@ -85,7 +85,7 @@ fn push_caption(
     page.push_str("</figcaption>\n")
 }
 
-// Appends the ground, with a line before each column.
+// Appends the background, with a line before each column.
 fn push_ground(page: &mut String, band: Band<'_>, height: usize) -> Result<(), AllocError> {
     let all = Area {
         left: 0,
@@ -102,7 +102,7 @@ fn push_ground(page: &mut String, band: Band<'_>, height: usize) -> Result<(), A
     page.push_str("\"/>\n")
 }
 
-// Appends the number and the words of each event, and tells how high they are.
+// Appends the number and the words of each event, and returns their height.
 fn push_events(body: &mut String, scene: &Scene<'_>, band: Band<'_>) -> Result<usize, AllocError> {
     let alloc = scene.alloc;
     let mut longest: usize = 0;
@@ -126,7 +126,7 @@ fn push_events(body: &mut String, scene: &Scene<'_>, band: Band<'_>) -> Result<u
     Ok(height)
 }
 
-// Appends the number of an event. Of long ones that stand beside one another every other is left out.
+// Appends the number of an event. Every other long number is left out.
 fn push_event_number(
     body: &mut String,
     left: usize,
@@ -164,17 +164,17 @@ fn worded(alloc: Global, word: &str, ticket: Ticket) -> Result<String, AllocErro
     format!(in alloc; "{word} {number}")
 }
 
-// How much room words of so many letters take that run upwards.
+// The room that `letters` letters take if they run upwards.
 fn upright_height(letters: usize) -> usize {
     letters.saturating_mul(6).saturating_add(8)
 }
 
-// What is told of an event in words of its own.
+// What is shown of an event in a lane of its own.
 #[derive(Clone, Copy)]
 enum Told {
     // Why it was refused.
     Refused,
-    // Which value it has found.
+    // The value that it has found.
     Found,
 }
 
@@ -186,7 +186,7 @@ impl Told {
         }
     }
 
-    // The words, if there are some.
+    // The words, if there are any.
     fn words(self, alloc: Global, column: &Column) -> Result<Option<String>, AllocError> {
         match (self, &column.answer) {
             (Told::Refused, Err(why)) => {
@@ -202,7 +202,7 @@ impl Told {
     }
 }
 
-// Appends the lane of the events of which this is told, if there are any, and tells where the next lane begins.
+// Appends the lane of the events for which this is shown, if there are any, and returns where the next lane begins.
 fn push_told(
     body: &mut String,
     scene: &Scene<'_>,
@@ -231,7 +231,7 @@ fn push_told(
     Ok(top.saturating_add(height))
 }
 
-// How many letters the longest of these words have, if there are some.
+// The number of letters in the longest of these words, if there are any.
 fn longest_told(alloc: Global, band: Band<'_>, told: Told) -> Result<Option<usize>, AllocError> {
     let mut longest: Option<usize> = None;
     for column in band.columns {

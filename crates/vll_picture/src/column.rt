@@ -15,16 +15,16 @@ impl RecordWords {
     }
 }
 
-/// An event of a replay, and what the machine showed of it.
+/// An event of a replay, and what the machine showed for it.
 #[derive(Clone, Copy)]
 pub struct Column {
     pub event: Event,
     pub answer: Result<Seen, Refusal>,
-    /// The ticket of the call that the event was of, or that the call of the open turn gets. None if it was refused,
-    /// or was of no call that has begun to enter.
+    /// The ticket of the event's call, or the one that the call of the open turn gets. None if the event was refused,
+    /// or belongs to no call that has begun to enter.
     pub ticket: Option<usize>,
-    /// The claim that it was of, if it was of one and was not refused.
+    /// The claim that the event concerned, if it concerned one and was not refused.
     pub claim: Option<Claim>,
-    /// What this claim's record has after it, and 0 if there is none.
+    /// The words of this claim's record after the event, 0 if there is no claim.
     pub words: RecordWords,
 }

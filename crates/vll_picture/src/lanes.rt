@@ -3,27 +3,28 @@ use crate::column::Column;
 use crate::scene::{Phase, Standing, id_of, number_of};
 use std::alloc::{AllocError, Global};
 
-/// How many lanes of one kind a band has at most. A band has fewer columns, so those of its events always have one.
+/// The most lanes of one kind in a band. A band has fewer columns, so those of its events always have one.
 pub(crate) const MOST_LANES: usize = 40;
 
-/// The numbers of those that have a lane, rising, and how many more would have one.
+/// The numbers of the calls or records that have a lane, in rising order, and how many more would have one.
 #[derive(Drop)]
 pub(crate) struct Lanes {
     pub(crate) shown: Vec<usize>,
     pub(crate) left_out: usize,
 }
 
-// What part a call or a record has in a band.
+// The part that a call or a record has in a band.
 #[derive(Clone, Copy, PartialEq, Eq)]
 enum Part {
     None,
     // The call runs or waits, or the record has open claims.
     Open,
-    // There is an event of it.
+    // An event concerns it.
     Event,
 }
 
-/// The tickets that have a lane: those of the events, and as there is room those of calls that run or wait.
+/// Returns the tickets that have a lane: those of the events, and, while lanes are left, those of calls that run or
+/// wait.
 pub(crate) fn tickets(
     alloc: Global,
     standing: &Standing,
@@ -44,7 +45,7 @@ pub(crate) fn tickets(
     choose(alloc, parts.as_slice())
 }
 
-/// The records that have a lane: those of the events, and as there is room those with open claims.
+/// Returns the records that have a lane: those of the events, and, while lanes are left, those with open claims.
 pub(crate) fn records(
     alloc: Global,
     standing: &Standing,
@@ -69,7 +70,7 @@ fn set_event(parts: &mut Vec<Part>, number: usize) {
     }
 }
 
-// Those with an event, and of the open ones as many as there is room for.
+// Those with an event, and the open ones while lanes are left.
 fn choose(alloc: Global, parts: &[Part]) -> Result<Lanes, AllocError> {
     let mut room = room_beside_events(parts);
     let mut shown = Vec::new(alloc);

@@ -1,26 +1,26 @@
-//! Pieces of markup. Each is appended to a text; after an error a beginning of it may be there.
+//! Pieces of markup. Each is appended to a text; after an error a prefix of it may have been appended.
 use crate::column::Column;
 use std::alloc::AllocError;
 use vll_replay::push_answer;
 
-/// How wide the names of the lanes are, and how wide a column is.
+/// The width of the lanes' names, and the width of a column.
 pub(crate) const LABELS: usize = 112;
 
 pub(crate) const STEP: usize = 24;
 
-/// How many columns stand beside one another.
+/// The number of columns side by side.
 pub(crate) const BAND: usize = 36;
 
-/// How wide a band is.
+/// The width of a band.
 pub(crate) const WIDTH: usize = 980;
 
-/// Where a column begins.
+/// Returns the left edge of a column.
 pub(crate) fn left_of(column: usize) -> usize {
     column.saturating_mul(STEP).saturating_add(LABELS)
 }
 
-/// Appends a text that comes from outside, cut off after so many characters. Nothing of it is markup, and what could
-/// change how the text around it is read is a dot.
+/// Appends a text from outside, cut off after `most` characters. None of it becomes markup, and characters that could
+/// change how the text around it is read become dots.
 pub(crate) fn push_escaped(page: &mut String, text: &str, most: usize) -> Result<(), AllocError> {
     for (index, c) in text.chars().enumerate() {
         if index >= most {
@@ -43,7 +43,8 @@ fn push_char(page: &mut String, c: char) -> Result<(), AllocError> {
     }
 }
 
-// Whether a character is shown as it is: it is no control character, sets no direction, and is no noncharacter.
+// Whether a character is shown as it is: it is not a control character, does not set a direction, and is not a
+// noncharacter.
 fn is_shown(c: char) -> bool {
     !matches!(
         c,
@@ -52,7 +53,7 @@ fn is_shown(c: char) -> bool {
     )
 }
 
-/// Appends the beginning of the mark of an event: a link to its line, with that line as its title.
+/// Appends the opening of an event's mark: a link to its line, with that line as its title.
 pub(crate) fn open_mark(
     page: &mut String,
     number: usize,
@@ -67,7 +68,7 @@ pub(crate) fn close_mark(page: &mut String) -> Result<(), AllocError> {
     page.push_str("</a>\n")
 }
 
-/// A place in a band, and how large it is.
+/// A place in a band, and its size.
 #[derive(Clone, Copy)]
 pub(crate) struct Area {
     pub(crate) left: usize,
@@ -88,7 +89,7 @@ pub(crate) fn push_area(page: &mut String, class: &str, area: Area) -> Result<()
     write!(page, " width=\"{width}\" height=\"{height}\"/>")
 }
 
-/// Appends words whose left end, middle or right end, as the class says, stands at a place.
+/// Appends words that begin at a place, are centred on it or end at it, as the class says.
 pub(crate) fn push_words(
     page: &mut String,
     class: &str,
@@ -101,7 +102,7 @@ pub(crate) fn push_words(
     page.push_str("</text>")
 }
 
-/// How many characters of words are shown at most.
+/// The greatest number of characters of words that are shown.
 pub(crate) const MOST_SHOWN: usize = 40;
 
 /// Appends words that run upwards from a place.

@@ -3,13 +3,13 @@
 use crate::style;
 use std::alloc::AllocError;
 
-/// What the page says of a replay before it is drawn.
+/// What the page says about a replay above the drawings.
 #[derive(Clone, Copy)]
 pub struct Counts {
     pub calls: usize,
     pub records: usize,
     pub events: usize,
-    /// The number of the first event that is drawn, and how many are.
+    /// The number of the first event that is drawn, and how many are drawn.
     pub first: usize,
     pub drawn: usize,
 }
@@ -25,7 +25,7 @@ const LEGEND: &str = "<dl>
 <p>Each mark tells its event on hovering, and leads to the event's line below.</p>
 ";
 
-/// Appends the page up to its drawings. After `AllocError` a beginning of that may be there.
+/// Appends the page up to its drawings. After `AllocError` a prefix of it may have been appended.
 pub fn push_head(page: &mut String, counts: Counts) -> Result<(), AllocError> {
     page.push_str("<!DOCTYPE html>\n<html lang=\"en\">\n<head>\n<meta charset=\"utf-8\"/>\n")?;
     page.push_str("<meta name=\"viewport\" content=\"width=device-width, initial-scale=1\"/>\n")?;
@@ -75,7 +75,7 @@ fn push_window(page: &mut String, counts: Counts) -> Result<(), AllocError> {
     )
 }
 
-/// Appends what stands between the drawings and the list. After `AllocError` a beginning of it may be there.
+/// Appends what is between the drawings and the list. After `AllocError` a prefix of it may have been appended.
 pub fn push_heading(page: &mut String) -> Result<(), AllocError> {
     page.push_str("<h2>Lines</h2>\n")
 }

@@ -7,12 +7,12 @@ use crate::markup::{
 use crate::scene::{Scene, Standing, id_of};
 use std::alloc::{AllocError, Global};
 
-// How high a row is, and the lane of its three rows.
+// The height of a row, and of the lane of its three rows.
 const ROW: usize = 19;
 
 const LANE: usize = 62;
 
-// How wide a digit is at most, and the least that is between two numbers.
+// The greatest width of a digit, and the least gap between two numbers.
 const DIGIT: usize = 6;
 
 // What a row of the lane shows.
@@ -48,7 +48,7 @@ impl Row {
         }
     }
 
-    // How high a number stands in the row; counters over four are as high as four.
+    // The height of a number's bar in the row; counters over four are as high as four.
     fn height(self, number: u64) -> usize {
         match (self, number) {
             (Row::Value, _) => ROW - 3,
@@ -61,7 +61,7 @@ impl Row {
     }
 }
 
-/// Appends the lane of a record, and tells where the next lane begins.
+/// Appends the lane of a record, and returns where the next lane begins.
 pub(crate) fn push_record(
     body: &mut String,
     scene: &Scene<'_>,
@@ -99,7 +99,7 @@ struct Lane {
     top: usize,
 }
 
-// Columns in which a number stays as it is. If it is new, the event of the first one has made it.
+// Columns in which a number stays the same. If it is new, the event of the first column has made it.
 #[derive(Clone, Copy)]
 struct Stretch {
     since: usize,
@@ -109,13 +109,13 @@ struct Stretch {
 }
 
 impl Stretch {
-    // How wide it is.
+    // Its width.
     fn width(self) -> usize {
         self.end.saturating_sub(self.since).saturating_mul(STEP)
     }
 }
 
-// Appends a row, from what stands before the band on.
+// Appends a row, starting with what holds before the band.
 fn push_row(
     body: &mut String,
     scene: &Scene<'_>,
@@ -154,7 +154,7 @@ fn push_row(
     push_stretch(body, scene, band, lane, stretch)
 }
 
-// Appends the columns in which a number stays as it is.
+// Appends the columns in which a number stays the same.
 fn push_stretch(
     body: &mut String,
     scene: &Scene<'_>,
@@ -196,7 +196,7 @@ fn push_cell(body: &mut String, lane: Lane, stretch: Stretch) -> Result<(), Allo
     push_area(body, "cell", cell)
 }
 
-// Appends the number of a stretch, as many digits of it as there is room for.
+// Appends the number of a stretch, with as many digits as fit.
 fn push_number(
     alloc: Global,
     body: &mut String,
@@ -205,7 +205,7 @@ fn push_number(
 ) -> Result<(), AllocError> {
     let number = stretch.number;
     let height = lane.row.height(number);
-    // A low bar has its number above it, and a high one in it.
+    // A low bar has its number above it, and a high one inside it.
     let above = if height > 8 { 3 } else { height };
     let base = lane.top.saturating_add(ROW - 3).saturating_sub(above);
     let left = left_of(stretch.since).saturating_add(3);

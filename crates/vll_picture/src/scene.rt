@@ -1,4 +1,4 @@
-//! What is drawn: the events of the window, and the calls that they were of.
+//! What is drawn: the events of the window, and their calls.
 use crate::band::{Band, push_band};
 use crate::column::{Column, RecordWords};
 use crate::markup::BAND;
@@ -7,17 +7,17 @@ use vll_check::Library;
 use vll_core::{Line, Seen};
 use vll_record::{RecordId, pair_word, value_word};
 
-/// The record with this number.
+/// Returns the id of the record with this number.
 pub(crate) fn id_of(record: usize) -> RecordId {
     RecordId(u32::try_from(record).unwrap_or(u32::MAX))
 }
 
-/// The number of a record.
+/// Returns the number of a record.
 pub(crate) fn number_of(id: RecordId) -> usize {
     id.0 as usize
 }
 
-/// Where a call is on its way.
+/// How far a call has come.
 #[derive(Clone, Copy, PartialEq, Eq, Debug)]
 pub enum Phase {
     /// It has not entered.
@@ -32,24 +32,24 @@ pub enum Phase {
 /// What is drawn.
 #[derive(Clone, Copy)]
 pub struct Scene<'a> {
-    /// What the drawing takes memory from.
+    /// The allocator for the drawing.
     pub alloc: Global,
     /// The number of the first event.
     pub first: usize,
     pub columns: &'a [Column],
-    /// All calls that have entered, and behind them the one whose turn is open.
+    /// All calls that have entered, followed by the one whose turn is open.
     pub journal: &'a [Line],
     pub library: &'a Library,
 }
 
 impl Scene<'_> {
-    /// The number of the event in a column.
+    /// Returns the number of the event in a column.
     pub(crate) fn number(&self, index: usize) -> usize {
         self.first.saturating_add(index)
     }
 }
 
-/// The words of the machine, and where each call is, at some time.
+/// The words of the machine, and the phase of each call, at some time.
 #[derive(Drop)]
 pub struct Standing {
     pub words: Vec<u64>,
@@ -61,14 +61,14 @@ impl Standing {
         self.phases.get(ticket).copied().unwrap_or(Phase::Outside)
     }
 
-    /// What a record has.
+    /// Returns a record's words.
     pub(crate) fn record(&self, id: RecordId) -> RecordWords {
         let value = self.words.get(value_word(id)).copied().unwrap_or(0);
         let pair = self.words.get(pair_word(id)).copied().unwrap_or(0);
         RecordWords { value, pair }
     }
 
-    // Goes past an event.
+    // Moves past an event.
     fn pass(&mut self, column: &Column) {
         if let Some(claim) = column.claim {
             if let Some(word) = self.words.get_mut(value_word(claim.id)) {
@@ -86,7 +86,7 @@ impl Standing {
     }
 }
 
-/// Where a call is after an event of it, if that changes it.
+/// Returns the phase of a call after an event of it, if the event changes it.
 pub(crate) fn phase_after(column: &Column) -> Option<Phase> {
     match &column.answer {
         Ok(Seen::Opened) => Some(Phase::Turn),
@@ -97,8 +97,8 @@ pub(crate) fn phase_after(column: &Column) -> Option<Phase> {
     }
 }
 
-/// Appends the drawings, band by band, from what stood before the first event on. After `AllocError` a beginning of them
-/// may be there.
+/// Appends the drawings, band by band, starting from the state `before` the first event. After `AllocError` a prefix of
+/// them may have been appended.
 pub fn push_bands(
     page: &mut String,
     scene: &Scene<'_>,

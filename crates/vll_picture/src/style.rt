@@ -1,7 +1,7 @@
 //! How the page and its drawings look.
 
-/// The colours and shapes of a drawing. They stand in the first drawing, so that it is a picture of its own, and they
-/// serve the whole page.
+/// The colours and shapes of a drawing. They are in the first drawing, so that it is a picture by itself, and they
+/// apply to the whole page.
 pub(crate) const DRAWING: &str = "<style>
 :root { --paper: #ffffff; --ink: #1c2024; --soft: #5b6570; --line: #d9dee3; --band: #f3f5f7; --turn: #e6e1f5;
   --wait: #fbe6b8; --run: #cfe5fb; --good: #1a7f45; --bad: #c02a37; --value: #d9efe1; --write: #f6c9b4; --read: #cfd6f6; }

@@ -10,12 +10,12 @@ use vll_core::{Event, Seen};
 use vll_proc::Reply;
 use vll_record::{Claim, Mode};
 
-// How high the lane is, and the bar in it.
+// The height of the lane, and of the bar in it.
 const LANE: usize = 38;
 
 const BAR: usize = 20;
 
-/// Appends the lane of a call, and tells where the next lane begins.
+/// Appends the lane of a call, and returns where the next lane begins.
 pub(crate) fn push_ticket(
     body: &mut String,
     scene: &Scene<'_>,
@@ -61,7 +61,7 @@ fn push_name(
     body.push_str("</text>\n")
 }
 
-// Appends a bar for each time in which the call had its turn, waited or ran.
+// Appends a bar for each period in which the call had its turn, waited or ran.
 fn push_bars(
     body: &mut String,
     standing: &Standing,
@@ -74,7 +74,7 @@ fn push_bars(
     for (index, column) in band.columns.iter().enumerate() {
         if column.ticket == Some(ticket) {
             if let Some(after) = phase_after(column) {
-                // The last step belongs to the call, too.
+                // The last step still belongs to the call.
                 let end = if after == Phase::Gone {
                     index.saturating_add(1)
                 } else {
@@ -143,7 +143,7 @@ fn push_step(
     close_mark(body)
 }
 
-// Appends what stands around the sign of a claim.
+// Appends the frame around the sign of a claim.
 fn push_claim_shape(
     body: &mut String,
     column: &Column,
@@ -162,7 +162,7 @@ fn push_claim_shape(
     push_area(body, if *granted { "granted" } else { "denied" }, area)
 }
 
-// Appends the sign of a step: the record where it is of one, and else a word.
+// Appends the sign of a step: its record if it concerns one, else a word.
 fn push_sign(
     body: &mut String,
     column: &Column,
@@ -190,7 +190,7 @@ fn push_claim(body: &mut String, column: &Column, claim: Claim) -> Result<(), Al
     write!(body, "{sign}{record}")
 }
 
-// The word for a step that is of no record.
+// The word for a step that concerns no record.
 fn word_of(column: &Column) -> &'static str {
     match (column.event, &column.answer) {
         (Event::Enter(_), _) => "turn",

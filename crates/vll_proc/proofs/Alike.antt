@@ -11,7 +11,8 @@ use Rattle.vll_proc.specs.Meaning.{Scene, Value, Action, and_then, both, sum, di
 use Rattle.vll_proc.specs.WellFormed.{Locals, all_leaves, operand_leaves, throughout, list_throughout, key_is_below, arg_is_below, set_is_below, any_stmt, local_is_set, both_set, set_behind, list_set_behind, body_set_behind, reads_set, list_reads_set, body_reads_set}
 use Rattle.vll_proc.proofs.Copy.{both_true}
 
--- how the records of two scenes belong together: which number on one side stands for which on the other, and that reads and stores there keep the two alike
+-- how the records of two scenes correspond: which number on one side stands for which on the other,
+-- and that reads and stores there keep the two alike
 pub record Bridge : Type 1 where
   pub keys : ℕ
   pub args : ℕ
@@ -167,7 +168,7 @@ still_set_by_choice : (none : Bool) (set behind : Locals) (i : ℕ) → get_or s
 still_set_by_choice true set behind i before later = before
 still_set_by_choice false set behind i before later = later
 
--- what is surely set before a statement is surely set behind it
+-- what is surely set before a statement is surely set after it
 mutual
   still_set : (st : Stmt) (set : Locals) (i : ℕ) → get_or set i false ≡ true → get_or (set_behind st set) i false ≡ true
   still_set (Let j e) set i h = still_set_by_let set j i h

@@ -188,7 +188,7 @@ cell_place n p c formed made k lt =
     rw (cell_is, claims_named n p c formed made)
     (place_of-stands claims (number_named n args c.found key) claimed.0 (mode_on-claims_of (map (claim_named n args c.found) p.keys) (number_named n args c.found key) ∙ claimed.1))
 
--- the same of the record as a body names it
+-- as `cell_place`, for the record as a body names it
 pub key_place : (p : Proc) (c : Call) (records : List ℕ) → IsWellFormed p → IsCallOf (length records) p c → (k : ℕ) → k < length p.keys
     → IsPlaceFor c.claims (slice_index c.cells k) (slice_index (map (λ (d : KeyDecl). found_at records (record_named (length records) c.args c.found d.at)) p.keys) k)
 key_place p c records formed made k lt = rw (key_record p c records formed made k lt) (cell_place (length records) p c formed made k lt)

@@ -27,7 +27,7 @@ room : (records : List ℕ) (claims : List Claim) → length claims ≤ length (
 unfolding cells_of
 room records claims = omega (arith, length-map claims (λ (c : Claim). slice_index records c.id))
 
--- two ends that one end on cells tells of
+-- two ends on records that follow from one end on cells
 SameEnd : List Claim → After → After → Type 0
 SameEnd claims a b = (a.reply ≡ b.reply) × AgreeAt claims a.records b.records
 

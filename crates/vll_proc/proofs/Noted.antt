@@ -1,4 +1,4 @@
--- What an operator of two operands comes to where the first reason is noted on the way: one statement for all of them.
+-- The result of an operator of two operands when the first reason is noted on the way: one statement for all operators.
 use Rattle.std.proofs.Common.{◌≡◌, ℕ, suc, ◌+◌, ◌*◌, ◌<◌, Bool, true, ◌&&◌, Option, Some, None, Result, Ok, Err, refl, sym, subst, ◌∙◌, arith, ◌⊎◌, ⊎_elim}
 use denote.Hole.Carrier.{hidden}
 use Rattle.vll_proc.specs.declared.call.Reason.{Reason}
@@ -9,7 +9,7 @@ use Rattle.vll_proc.specs.Private.Running.{noted, behind, operation_of}
 use Rattle.vll_proc.specs.WellFormed.{all_leaves, nodes}
 use Rattle.vll_proc.proofs.Copy.{both_true}
 
--- the value behind both operands: a reason of the first hides the second, and a reason noted before hides both
+-- the value after both operands: a reason of the first hides the second, and a reason noted before hides both
 pub noted_both : (f : ℕ → ℕ → Result ℕ Reason) (before between after : Option Reason) (p q r : Result ℕ Reason) (x y : ℕ)
     → noted between x ≡ behind before p → noted after y ≡ behind between q → r ≡ behind after (f x y)
     → r ≡ behind before (and_then p (λ x. and_then q (λ y. f x y)))

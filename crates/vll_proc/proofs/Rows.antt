@@ -87,7 +87,7 @@ take_body = If (Less (Key 0) (Arg 1)) (Abort 7 ∷ []) [] ∷ Set 0 (Sub (Key 0)
 abbrev take : Proc
 take = record { edition = One; name = codes "take"; args = 2; keys = take_keys; body = take_body }
 
--- a local that both lists of an `If` set may be read behind it
+-- a local that both lists of an `If` set may be read after it
 abbrev choose_body : List Stmt
 choose_body =
     Let 0 (Num 40) ∷ If (Arg 0) (If (Equal (Arg 0) (Num 2)) (Let 1 (Num 2) ∷ []) (Let 1 (Num 1) ∷ []) ∷ []) (Let 1 (Num 0) ∷ [])
@@ -208,7 +208,7 @@ moved = refl
 not_found : (call_of 3 0 via (0 ∷ []) None).claims ≡ record { id = 0; mode = Read } ∷ []
 not_found = refl
 
--- a local that one list of an `If` sets is not surely set behind it
+-- a local that one list of an `If` sets is not surely set after it
 reads_half_set : body_reads_set nothing_set (If (Arg 0) (Let 0 (Num 1) ∷ []) [] ∷ Reply (Local 0) ∷ []) ≡ false
 unfolding hidden hidden-the_row-Expr-0 hidden-the_row-Stmt-0
 reads_half_set = refl
@@ -285,7 +285,7 @@ replies_eight_times : apply (of_body (Repeat 8 (Reply (Num 1) ∷ []) ∷ []) �
 unfolding hidden hidden-the_row-Expr-0 hidden-the_row-Stmt-0
 replies_eight_times = refl
 
--- what a list sets is surely set behind its turns, if it has one
+-- what a list sets is surely set after its turns, if it has one
 reads_set_by_no_turn : body_reads_set nothing_set (Repeat 0 (Let 0 (Num 1) ∷ []) ∷ Reply (Local 0) ∷ []) ≡ false
 unfolding hidden hidden-the_row-Expr-0 hidden-the_row-Stmt-0
 reads_set_by_no_turn = refl

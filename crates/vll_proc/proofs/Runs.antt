@@ -200,6 +200,6 @@ told p c cells records r formed made whole e holds =
     let few = claims_few (length records) p c formed made in
     rw (← e) (told_on p c cells records formed made (omega arith) holds)
 
--- the first cells as they were before, and then those that are as they were
+-- the first cells restored, and then those that never changed
 pub put_back : (n : ℕ) (cells then first rest : List ℕ) → first ≡ take n cells → rest ≡ drop n then → drop n then ≡ drop n cells → first ++ rest ≡ cells
 put_back n cells then first rest kept is others = rw (kept, is, others) (take-append-drop n cells)

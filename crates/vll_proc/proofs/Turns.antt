@@ -2,7 +2,7 @@
 use Rattle.std.proofs.Common.{◌≡◌, ℕ, suc, ◌+◌, ◌-◌, ◌*◌, ◌<◌, Ok, refl, ap, ◌∙◌, arith}
 use Rattle.vll_proc.specs.Meaning.{Scene, Action, repeated}
 
--- where it goes on, the others begin at its end
+-- if that turn does not end the call, the others begin where it ends
 pub repeated-left : (n i : ℕ) (act : Action) (s t : Scene) → i < n → act s ≡ Ok t → repeated (n - i) act s ≡ repeated (n - (i + 1)) act t
 repeated-left n i act s t lt goes_on =
     let one : n - i ≡ suc (n - (i + 1)) = omega arith in

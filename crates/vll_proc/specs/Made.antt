@@ -14,12 +14,12 @@ use Rattle.vll_proc.specs.declared.syntax.KeyDecl.{KeyDecl}
 use Rattle.vll_proc.specs.declared.syntax.Proc.{Proc}
 use Rattle.vll_proc.specs.Meaning.{record_named}
 
--- a key position asks for the record that it names, and for none where it names none
+-- a key position asks for the record that it names, and for none if it names none
 abbrev pub asking : Mode → Option ℕ → List Claim → List Claim
 asking m (Some r) others = record { id = r; mode = m } ∷ others
 asking m None others = others
 
--- what key positions ask for, where there are so many records
+-- what key positions ask for among `count` records
 abbrev pub asked_by : ℕ → List ℕ → Option ℕ → List KeyDecl → List Claim
 asked_by count args found [] = []
 asked_by count args found (k ∷ ks) = asking k.mode (record_named count args found k.at) (asked_by count args found ks)
@@ -28,17 +28,18 @@ asked_by count args found (k ∷ ks) = asking k.mode (record_named count args fo
 abbrev pub asked : ℕ → Proc → List ℕ → Option ℕ → List Claim
 asked count p args found = asked_by count args found p.keys
 
--- the place of a record's claim
+-- the index of a record's claim
 abbrev pub place_of : List Claim → ℕ → ℕ
 place_of [] r = 0
 place_of (c ∷ cs) r = if c.id == r then 0 else suc (place_of cs r)
 
--- the place of the claim of a record that a key position names, and 0 where it names none
+-- the index of the claim on the record that a key position names, and 0 if it names none
 abbrev pub place_for : List Claim → Option ℕ → ℕ
 place_for cs (Some r) = place_of cs r
 place_for cs None = 0
 
--- the call of procedure number n with these arguments and this value found, where there are so many records: its claims are those of its key positions
+-- the call of procedure number n with these arguments and this value found,
+-- among `count` records: its claims are those of its key positions
 abbrev pub call_of : ℕ → ℕ → Proc → List ℕ → Option ℕ → Call
 call_of count n p args found = record {
   number = n;
@@ -56,7 +57,7 @@ is_led found (at.Arg i) = true
 is_led None (at.Through i) = false
 is_led (Some v) (at.Through i) = true
 
--- a call that was made for the procedure where there are so many records, and has found what it needs
+-- a call that was made for the procedure among `records` records, and has found what it needs
 pub record IsCallOf (records : ℕ) (p : Proc) (c : Call) : Type 0 where
   pub count : c.arg_count ≡ p.args
   pub made : c ≡ call_of records c.number p (take c.arg_count c.args) c.found

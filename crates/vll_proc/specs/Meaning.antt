@@ -36,7 +36,7 @@ product x y = fitting (x * y)
 abbrev pub quotient : ℕ → ℕ → Result ℕ Reason
 quotient x y = if y == 0 then Err ZeroDivisor else Ok (x / y)
 
--- what the division leaves over, or a zero divisor
+-- the remainder of the division, or a zero divisor
 abbrev pub remainder : ℕ → ℕ → Result ℕ Reason
 remainder x y = if y == 0 then Err ZeroDivisor else Ok (x % y)
 
@@ -48,7 +48,7 @@ lesser x y = Ok (min x y)
 abbrev pub greater : ℕ → ℕ → Result ℕ Reason
 greater x y = Ok (max x y)
 
--- 1 where a test holds, else 0
+-- 1 if a test holds, else 0
 abbrev pub truth : Bool → ℕ
 truth b = if b then 1 else 0
 
@@ -60,7 +60,7 @@ equality x y = Ok (truth (x == y))
 abbrev pub order : ℕ → ℕ → Result ℕ Reason
 order x y = Ok (truth (nat_lt x y))
 
--- where a body stands: the record that each key position names, the arguments, and then what changes
+-- the state of a body: the record that each key position names, the arguments, and then what changes
 pub record Scene : Type 0 where
   pub named : List ℕ
   pub args : List ℕ
@@ -72,11 +72,11 @@ pub record Scene : Type 0 where
 abbrev pub Value : Type 0
 Value = Scene → Result ℕ Reason
 
--- both operands, the left one first; the right one too, unless the left one ends the call
+-- the left operand, then the right one unless the left one ends the call, and then the operator on both
 abbrev pub both : (ℕ → ℕ → Result ℕ Reason) → Value → Value → Value
 both f a b s = and_then (a s) (λ x. and_then (b s) (λ y. f x y))
 
--- 1 where the operand is 0, else 0
+-- 1 if the operand is 0, else 0
 abbrev pub negated : Value → Value
 negated a s = and_then (a s) (λ x. Ok (truth (x == 0)))
 
@@ -103,7 +103,7 @@ abbrev mutual
   operand end_of-Expr s = Ok 0
   operand (more_of-Expr e rest) s = value_of e s
 
--- what a statement means: from a scene the scene behind it, or the reason that ends the call
+-- what a statement means: from a scene the scene after it, or the reason that ends the call
 abbrev pub Action : Type 0
 Action = Scene → Result Scene Reason
 
@@ -132,23 +132,24 @@ abbrev mutual
   list_effect end_of-Stmt s = Ok s
   list_effect (more_of-Stmt st rest) s = and_then (effect st s) (list_effect rest)
 
--- the record that a value leads to, where there are so many records: its remainder by their number
+-- the record that a value leads to among `count` records: the value modulo their number
 abbrev pub led_to : ℕ → Option ℕ → Option ℕ
 led_to count None = None
 led_to count (Some v) = Some (v % count)
 
--- the record that a key position names, where there are so many records, and `None` where it names none: an indirect one names the record that the value found leads to, and none while nothing is found
+-- the record that a key position names among `count` records, and `None` if it names none:
+-- an indirect one names the record that the value found leads to, and none until a value is found
 abbrev pub record_named : ℕ → List ℕ → Option ℕ → KeyAt → Option ℕ
 record_named count args found (at.Fixed r) = Some r
 record_named count args found (at.Arg i) = slice_get args i
 record_named count args found (at.Through i) = led_to count found
 
--- where a body finds that record: behind the last where there is none, and there it reads 0 and drops what it stores
+-- the index at which a body finds that record: past the last if there is none, where reads give 0 and stores do nothing
 abbrev pub found_at : List ℕ → Option ℕ → ℕ
 found_at records (Some r) = r
 found_at records None = length records
 
--- where the body of a procedure begins, for a call
+-- the scene in which the body of a procedure begins, for a call
 abbrev pub opening_scene : Proc → Call → List ℕ → Scene
 opening_scene p c records = record {
   named = map (λ (k : KeyDecl). found_at records (record_named (length records) c.args c.found k.at)) p.keys;
@@ -158,7 +159,7 @@ opening_scene p c records = record {
   outputs = [];
 }
 
--- the key position by whose record's value a position finds its own
+-- the key position by whose record's value a position finds its own record
 abbrev pub source_at : KeyAt → Option ℕ
 source_at (at.Fixed r) = None
 source_at (at.Arg i) = None
@@ -169,18 +170,18 @@ abbrev pub or_else : Option ℕ → Option ℕ → Option ℕ
 or_else None b = b
 or_else (Some x) b = Some x
 
--- the key position by whose record's value another one finds its own, if there is one
+-- the key position by whose record's value another one finds its own record, if there is one
 abbrev pub source_of : List KeyDecl → Option ℕ
 source_of [] = None
 source_of (k ∷ ks) = or_else (source_at k.at) (source_of ks)
 
--- the value that was found no longer stands in the record of that position
+-- the record of that position no longer holds the value that was found
 abbrev pub has_moved : Option ℕ → Option ℕ → Scene → Bool
 has_moved None found s = false
 has_moved (Some i) None s = false
 has_moved (Some i) (Some v) s = not (slice_index s.records (slice_index s.named i) == v)
 
--- a body begins if what was found still stands, and else ends with `Moved`
+-- a body begins if that record still holds the value that was found, and else ends with `Moved`
 abbrev pub unless_moved : Proc → Call → Action
 unless_moved p c s = if has_moved (source_of p.keys) c.found s then Err Moved else Ok s
 

@@ -21,12 +21,12 @@ after records (Err why) = record { records = records; reply = Aborted why }
 abbrev pub applied : Proc → Call → List ℕ → After
 applied p c records = after records (body p c records)
 
--- a number that no procedure has does nothing; no call that a library makes has one
+-- a call with a number that no procedure has does nothing; a library makes no such call
 abbrev pub applied_at : Option Proc → Call → List ℕ → After
 applied_at (Some p) c records = applied p c records
 applied_at None c records = record { records = records; reply = Committed [] }
 
--- the call applied to the records: what its body means, or nothing where that ends with a reason
+-- the call applied to the records: what its body means, or no change if that ends with a reason
 abbrev pub apply : List Proc → Call → List ℕ → After
 apply procs c records = applied_at (slice_get procs c.number) c records
 
@@ -56,6 +56,6 @@ abbrev pub replies : List Proc → List Made → List ℕ → List Reply
 replies procs [] records = []
 replies procs (made ∷ more) records = (apply procs made.1 records).reply ∷ replies procs more (apply procs made.1 records).records
 
--- a call keeps a property of records: if it is applied to any records that have it, those that it leaves have it
+-- a call keeps a property of records: applied to any records that have it, it leaves records that have it
 abbrev pub Keeps : List Proc → (List ℕ → Type 0) → Made → Type 0
 Keeps procs Has made = (records : List ℕ) → Has records → Has (apply procs made.1 records).records

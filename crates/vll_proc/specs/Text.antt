@@ -1,4 +1,4 @@
--- The words of a reply, as the list of their bytes.
+-- The text of a reply, as a list of bytes.
 use Rattle.std.specs.Prelude.{ℕ, List, [], ◌∷◌, ◌++◌, codes}
 use Rattle.std.specs.List.{flat_map}
 use Rattle.std.specs.Fmt.{decimal}
@@ -7,7 +7,7 @@ use Rattle.vll_proc.specs.declared.call.Reason.TheVariants.{Code, Overflow, Unde
 use Rattle.vll_proc.specs.declared.call.Reply.{Reply}
 use Rattle.vll_proc.specs.declared.call.Reply.TheVariants.{Committed, Aborted}
 
--- the words of a reason
+-- the text of a reason
 abbrev pub reason_text : Reason → List ℕ
 reason_text Overflow = codes "overflow"
 reason_text Underflow = codes "underflow"
@@ -15,16 +15,16 @@ reason_text ZeroDivisor = codes "zero divisor"
 reason_text (Code n) = codes "code " ++ decimal n
 reason_text Moved = codes "moved"
 
--- an output, behind a space
+-- an output, after a space
 abbrev pub output_text : ℕ → List ℕ
 output_text n = 32 ∷ decimal n
 
--- outputs, with a space between two of them
+-- outputs, separated by spaces
 abbrev pub outputs_text : List ℕ → List ℕ
 outputs_text [] = []
 outputs_text (n ∷ ns) = decimal n ++ flat_map output_text ns
 
--- the words of a reply
+-- the text of a reply
 abbrev pub reply_text : Reply → List ℕ
 reply_text (Committed outputs) = codes "committed" ++ flat_map output_text outputs
 reply_text (Aborted why) = codes "aborted " ++ reason_text why

@@ -4,7 +4,8 @@ use Rattle.vll_proc.specs.declared.call.Reason.{Reason}
 use Rattle.vll_proc.specs.declared.syntax.Proc.{Proc}
 use Rattle.vll_proc.specs.Meaning.{Scene}
 
--- two scenes have the same at each declared key position and argument, the same records and outputs, and as many locals, whatever those hold
+-- two scenes agree on each declared key position and argument, and on the records and outputs;
+-- they have equally many locals, whatever those hold
 pub record AgreeOnDeclared (p : Proc) (s t : Scene) : Type 0 where
   pub named : (k : ℕ) → k < length p.keys → slice_index s.named k ≡ slice_index t.named k
   pub args : (i : ℕ) → i < p.args → slice_index s.args i ≡ slice_index t.args i

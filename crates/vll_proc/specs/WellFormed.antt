@@ -12,7 +12,7 @@ use Rattle.vll_proc.specs.declared.syntax.Proc.{Proc}
 use Rattle.vll_proc.specs.declared.syntax.Expr.{Expr, Row_of-Expr, end_of-Expr, more_of-Expr, Arg, Key, Local, Add', Sub', Mul', Div', Rem', Min', Max', Equal', Less', Not'}
 use Rattle.vll_proc.specs.declared.syntax.Stmt.{Stmt, Row_of-Stmt, end_of-Stmt, more_of-Stmt, Let, Set, If', Abort, Reply, Repeat'}
 
--- a key that is placed by an argument names one of the declared arguments
+-- a key whose record is named by an argument uses one of the declared arguments
 abbrev pub argument_is_declared : ℕ → KeyDecl → Bool
 argument_is_declared args k = elim k.at [ at.Fixed r ↦ true | at.Arg i ↦ nat_lt i args | at.Through i ↦ true ]
 
@@ -20,16 +20,16 @@ argument_is_declared args k = elim k.at [ at.Fixed r ↦ true | at.Arg i ↦ nat
 abbrev pub record_is_there : ℕ → KeyDecl → Bool
 record_is_there records k = elim k.at [ at.Fixed r ↦ nat_lt r records | at.Arg i ↦ true | at.Through i ↦ true ]
 
--- a key position that names its record by itself
+-- a key position that names its record directly
 abbrev pub is_direct : Option KeyDecl → Bool
 is_direct None = false
 is_direct (Some k) = elim k.at [ at.Fixed r ↦ true | at.Arg i ↦ true | at.Through i ↦ false ]
 
--- an indirect key position at this place among all finds its record by an earlier one, which names its own by itself
+-- an indirect key position at index `place` finds its record by an earlier one, which names its own directly
 abbrev pub has_source : List KeyDecl → ℕ → KeyDecl → Bool
 has_source all place k = elim k.at [ at.Fixed r ↦ true | at.Arg i ↦ true | at.Through i ↦ nat_lt i place && is_direct (slice_get all i) ]
 
--- the same of the key positions from this place on
+-- as `has_source`, for the key positions from index `place` on
 abbrev pub have_sources : List KeyDecl → ℕ → List KeyDecl → Bool
 have_sources all place [] = true
 have_sources all place (k ∷ ks) = has_source all place k && have_sources all (suc place) ks
@@ -38,7 +38,7 @@ have_sources all place (k ∷ ks) = has_source all place k && have_sources all (
 abbrev pub indirect : KeyDecl → ℕ
 indirect k = elim k.at [ at.Fixed r ↦ 0 | at.Arg i ↦ 0 | at.Through i ↦ 1 ]
 
--- a test holds of each number, argument, key position and local in an expression
+-- a test holds for each number, argument, key position and local in an expression
 abbrev mutual
   pub all_leaves : (Expr → Bool) → Expr → Bool
   all_leaves test (Add' p a q b) = operand_leaves test a && operand_leaves test b
@@ -57,7 +57,8 @@ abbrev mutual
   operand_leaves test end_of-Expr = true
   operand_leaves test (more_of-Expr e rest) = all_leaves test e
 
--- a test of leaves holds of each expression in a statement, and a test of statements of each `Let` and `Set`, with all that is in its lists
+-- a test of leaves holds for each expression in a statement, and a test of statements
+-- for each `Let` and `Set` in it, those in its lists included
 abbrev mutual
   pub throughout : (Expr → Bool) → (Stmt → Bool) → Stmt → Bool
   throughout leaf test (Let i e) = test (Let i e) && all_leaves leaf e
@@ -81,7 +82,7 @@ abbrev pub arg_is_below : ℕ → Expr → Bool
 arg_is_below n (Arg i) = nat_lt i n
 arg_is_below n leaf = true
 
--- a local that is read is one of those there are
+-- a local that is read exists
 abbrev pub local_is_known : Expr → Bool
 local_is_known (Local i) = nat_lt i MOST_LOCALS
 local_is_known leaf = true
@@ -91,7 +92,7 @@ abbrev pub set_is_below : ℕ → Stmt → Bool
 set_is_below n (Set i e) = nat_lt i n
 set_is_below n st = true
 
--- a local that is given a value is one of those there are
+-- a local that is set exists
 abbrev pub let_is_known : Stmt → Bool
 let_is_known (Let i e) = nat_lt i MOST_LOCALS
 let_is_known st = true
@@ -127,13 +128,14 @@ abbrev pub local_is_set : Locals → Expr → Bool
 local_is_set set (Local i) = get_or set i false
 local_is_set set leaf = true
 
--- what both have
+-- the locals that both have set
 abbrev pub both_set : Locals → Locals → Locals
 both_set [] b = []
 both_set (x ∷ xs) [] = []
 both_set (x ∷ xs) (y ∷ ys) = (x && y) ∷ both_set xs ys
 
--- what is surely set behind a statement: `Let` adds its local, an `If` what both of its lists set, and a `Repeat` that has a turn what its list sets
+-- what is surely set after a statement: `Let` adds its local, an `If` what both of its lists set,
+-- and a `Repeat` that has a turn what its list sets
 abbrev mutual
   pub set_behind : Stmt → Locals → Locals
   set_behind (Let i e) set = slice_set set i true
@@ -145,12 +147,13 @@ abbrev mutual
   list_set_behind end_of-Stmt set = set
   list_set_behind (more_of-Stmt st rest) set = list_set_behind rest (set_behind st set)
 
--- the same behind a body
+-- what is surely set after a body
 abbrev pub body_set_behind : List Stmt → Locals → Locals
 body_set_behind [] set = set
 body_set_behind (st ∷ sts) set = body_set_behind sts (set_behind st set)
 
--- each local that a statement reads is surely set before; the list of a `Repeat` reads what is set before its first turn, even if it has none
+-- each local that a statement reads is surely set before; for the list of a `Repeat`,
+-- that means before its first turn, even if it has no turn
 abbrev mutual
   pub reads_set : Locals → Stmt → Bool
   reads_set set (Let i e) = all_leaves (local_is_set set) e
@@ -164,12 +167,12 @@ abbrev mutual
   list_reads_set set end_of-Stmt = true
   list_reads_set set (more_of-Stmt st rest) = reads_set set st && list_reads_set (set_behind st set) rest
 
--- the same of a body, from what is set before it
+-- as `reads_set`, for a body, from what is set before it
 abbrev pub body_reads_set : Locals → List Stmt → Bool
 body_reads_set set [] = true
 body_reads_set set (st ∷ sts) = reads_set set st && body_reads_set (set_behind st set) sts
 
--- how many outputs a statement makes: an `If` the greater number of its two lists, a `Repeat` those of its list in each turn
+-- the number of outputs of a statement: an `If` counts the greater of its two lists, a `Repeat` its list in each turn
 abbrev mutual
   pub replies : Stmt → ℕ
   replies (If' e m first n second) = max (list_replies first) (list_replies second)
@@ -181,7 +184,7 @@ abbrev mutual
   list_replies end_of-Stmt = 0
   list_replies (more_of-Stmt st rest) = replies st + list_replies rest
 
--- how deep an expression is: an operator is one more than its deepest operand
+-- the depth of an expression: an operator is one deeper than its deepest operand
 abbrev mutual
   pub depth : Expr → ℕ
   depth (Add' p a q b) = suc (max (operand_depth a) (operand_depth b))
@@ -200,7 +203,7 @@ abbrev mutual
   operand_depth end_of-Expr = 0
   operand_depth (more_of-Expr e rest) = depth e
 
--- how deep a statement is: one more than the deepest expression and statement in it
+-- the depth of a statement: one more than that of the deepest expression or statement in it
 abbrev mutual
   pub stmt_depth : Stmt → ℕ
   stmt_depth (Let i e) = suc (depth e)
@@ -214,12 +217,12 @@ abbrev mutual
   list_depth end_of-Stmt = 0
   list_depth (more_of-Stmt st rest) = max (stmt_depth st) (list_depth rest)
 
--- how deep a body is: its deepest statement
+-- the depth of a body: that of its deepest statement
 abbrev pub body_depth : List Stmt → ℕ
 body_depth [] = 0
 body_depth (st ∷ sts) = max (stmt_depth st) (body_depth sts)
 
--- how many expressions an expression is, with all in it
+-- the number of expressions in an expression, counting itself
 abbrev mutual
   pub nodes : Expr → ℕ
   nodes (Add' p a q b) = suc (operand_nodes a + operand_nodes b)
@@ -238,7 +241,7 @@ abbrev mutual
   operand_nodes end_of-Expr = 0
   operand_nodes (more_of-Expr e rest) = nodes e
 
--- how many statements and expressions a statement is, with all in it
+-- the number of statements and expressions in a statement, counting itself
 abbrev mutual
   pub stmt_nodes : Stmt → ℕ
   stmt_nodes (Let i e) = suc (nodes e)
@@ -252,7 +255,7 @@ abbrev mutual
   list_nodes end_of-Stmt = 0
   list_nodes (more_of-Stmt st rest) = stmt_nodes st + list_nodes rest
 
--- how much work a statement is: each statement and expression in it counts 1, those in a `Repeat` in each turn
+-- the work of a statement: each statement and expression in it, counting itself, is 1, those in a `Repeat` in each turn
 abbrev mutual
   pub weight : Stmt → ℕ
   weight (Let i e) = suc (nodes e)
@@ -266,12 +269,12 @@ abbrev mutual
   list_weight end_of-Stmt = 0
   list_weight (more_of-Stmt st rest) = weight st + list_weight rest
 
--- a `Repeat` with this number of turns may stand in a procedure of this edition
+-- a `Repeat` with this number of turns is allowed in a procedure of this edition
 abbrev pub may_repeat : Edition → ℕ → Bool
 may_repeat One turns = false
 may_repeat Two turns = nat_le turns MOST_TURNS
 
--- each `Repeat` in a statement may stand in a procedure of this edition
+-- each `Repeat` in a statement is allowed in a procedure of this edition
 abbrev mutual
   pub turns_are_few : Edition → Stmt → Bool
   turns_are_few edition (If' e m first n second) = list_turns_are_few edition first && list_turns_are_few edition second
@@ -282,7 +285,7 @@ abbrev mutual
   list_turns_are_few edition end_of-Stmt = true
   list_turns_are_few edition (more_of-Stmt st rest) = turns_are_few edition st && list_turns_are_few edition rest
 
--- how many key positions a procedure of this edition declares at most
+-- the greatest number of key positions that a procedure of this edition declares
 abbrev pub most_keys : Edition → ℕ
 most_keys One = FIRST_MOST_KEYS
 most_keys Two = MOST_CLAIMS
@@ -295,11 +298,11 @@ has_few_args p = nat_le p.args MOST_ARGS
 abbrev pub has_few_keys : Proc → Bool
 has_few_keys p = nat_le (length p.keys) (most_keys p.edition)
 
--- each argument that places a key is declared
+-- each argument that names a key's record is declared
 abbrev pub has_declared_key_args : Proc → Bool
 has_declared_key_args p = list_all (argument_is_declared p.args) p.keys
 
--- each fixed record is one of the records: the only test that looks at their number
+-- each fixed record is one of the records: the only test that depends on their number
 abbrev pub has_records : ℕ → Proc → Bool
 has_records records p = list_all (record_is_there records) p.keys
 
@@ -315,7 +318,7 @@ has_writable_keys p = list_all (throughout any_leaf (sets_no_read_key p.keys)) p
 abbrev pub has_known_args : Proc → Bool
 has_known_args p = list_all (throughout (arg_is_below p.args) any_stmt) p.body
 
--- each local that is read or given a value is one of those there are
+-- each local that is read or set exists
 abbrev pub has_known_locals : Proc → Bool
 has_known_locals p = list_all (throughout local_is_known let_is_known) p.body
 
@@ -335,7 +338,7 @@ is_shallow p = nat_le (body_depth p.body) MOST_DEPTH
 abbrev pub is_short : Proc → Bool
 is_short p = nat_le (sum_by stmt_nodes p.body) MOST_NODES
 
--- each indirect key position finds its record by an earlier one, which names its own by itself
+-- each indirect key position finds its record by an earlier one, which names its own directly
 abbrev pub has_earlier_sources : Proc → Bool
 has_earlier_sources p = have_sources p.keys 0 p.keys
 
@@ -343,11 +346,11 @@ has_earlier_sources p = have_sources p.keys 0 p.keys
 abbrev pub has_one_indirect_key : Proc → Bool
 has_one_indirect_key p = nat_le (sum_by indirect p.keys) 1
 
--- each `Repeat` in the body may stand in a procedure of its edition
+-- each `Repeat` in the body is allowed in a procedure of its edition
 abbrev pub has_few_turns : Proc → Bool
 has_few_turns p = list_all (turns_are_few p.edition) p.body
 
--- the body is no more work than a body may be
+-- the body has no more work than a body may have
 abbrev pub is_light : Proc → Bool
 is_light p = nat_le (sum_by weight p.body) MOST_WEIGHT
 

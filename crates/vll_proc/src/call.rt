@@ -9,17 +9,17 @@ use vll_record::{Claims, MOST_CLAIMS};
 pub enum Reason {
     /// The procedure's own reason.
     Code(u16),
-    /// A result over 18446744073709551615.
+    /// A result above 18446744073709551615.
     Overflow,
     /// A difference below 0.
     Underflow,
     /// A division by 0.
     ZeroDivisor,
-    /// When the body began, another value stood in the record by whose value a key position's record was found.
+    /// When the body began, the record by whose value a key position's record was found held another value.
     Moved,
 }
 
-/// What a call answers: its outputs, or why it was aborted. An aborted call changes no record.
+/// The reply to a call: its outputs, or why it was aborted. An aborted call changes no record.
 #[derive(Clone, Copy, Debug)]
 pub enum Reply {
     Committed(Outputs),
@@ -29,17 +29,17 @@ pub enum Reply {
 /// A call of a procedure, with the claims it makes. It owns no memory.
 #[derive(Clone, Copy)]
 pub struct Call {
-    /// The procedure, by its place in the library from 0.
+    /// The procedure, by its index in the library, from 0.
     pub number: u32,
     pub arg_count: u8,
-    /// The arguments, and then zeros.
+    /// The arguments, padded with zeros.
     pub args: [u64; MOST_ARGS],
-    /// The value by which the record of an indirect key position was found. `None` where no position is indirect, and
-    /// as long as nothing is found: then that position names no record.
+    /// The value by which the record of an indirect key position was found. `None` if no position is indirect, and
+    /// until a value is found: until then that position names no record.
     pub found: Option<u64>,
-    /// The records that the key positions name, each once.
+    /// Claims on the records that the key positions name, one for each record.
     pub claims: Claims,
-    /// For each key position the place of its claim, and then zeros.
+    /// For each key position the index of its claim, padded with zeros.
     pub cells: [u8; MOST_CLAIMS],
 }
 
@@ -51,7 +51,8 @@ impl PartialEq for Call {
 
     ghost laws = { is_same_call-laws };
 
-    /// Whether the two are the same call: of one procedure, with the same arguments, value found, claims and cells.
+    /// Reports whether the two are the same call: of one procedure, with the same arguments, value found, claims and
+    /// cells.
     fn eq(&self, other: &Call) -> bool
         ensures value { result ≡ is_same_call self.now other.now }
         ensures same { IsTrue result ↔ (self.now ≡ other.now) }

@@ -1,4 +1,4 @@
-// How reasons, outputs and replies are printed: in the words that an outcome has for them.
+// How reasons, outputs and replies are printed: in the words that an outcome uses for them.
 ghost use Rattle.std.specs.Fmt.{DisplaysOnOk};
 ghost use Rattle.std.specs.List.{flat_map};
 ghost use Rattle.std.specs.Prelude.{Some};
@@ -23,7 +23,7 @@ impl fmt::Display for Reason {
     }
 }
 
-// Each of these numbers behind a space.
+// Writes each of these numbers after a space.
 fn write_each<W: fmt::Write>(outputs: &[u64], f: &mut fmt::Formatter<W>) -> fmt::Result
     ensures { DisplaysOnOk W.write_str_gives f.old result (Some (flat_map output_text outputs.now)) f.new }
 {
@@ -33,7 +33,7 @@ fn write_each<W: fmt::Write>(outputs: &[u64], f: &mut fmt::Formatter<W>) -> fmt:
     Ok(())
 }
 
-/// The numbers, with a space between two of them.
+/// The numbers, separated by spaces.
 impl fmt::Display for Outputs {
     ghost output = { λ outputs. Some (outputs_text outputs) };
 
@@ -55,7 +55,7 @@ impl fmt::Debug for Outputs {
     }
 }
 
-/// As the line of a call has it: `committed 70`, or `aborted overflow`.
+/// As in the line of a call: `committed 70`, or `aborted overflow`.
 impl fmt::Display for Reply {
     ghost output = { λ reply. Some (reply_text reply) };
 

@@ -16,10 +16,10 @@ use crate::syntax::Proc;
 use std::marker::Model;
 use vll_record::MOST_CLAIMS;
 
-// How many claims are few: most calls have no more.
+// A small number of claims: most calls have no more.
 const FEW_CLAIMS: usize = 4;
 
-/// The cells of a call, one for each claim that it may have. Contracts see them as their list.
+/// The cells of a call, one for each claim that it may have. Contracts see them as a list.
 #[derive(Clone, Copy)]
 pub struct Frame {
     cells: [u64; MOST_CLAIMS],
@@ -36,7 +36,7 @@ impl Model for Frame {
 }
 
 impl Frame {
-    /// All cells are 0.
+    /// Returns a frame whose cells are all 0.
     pub fn new() -> Frame
         ensures { result ≡ replicate MOST_CLAIMS 0 }
     {
@@ -45,7 +45,7 @@ impl Frame {
         }
     }
 
-    /// The value of a cell, from 0.
+    /// Returns the value of cell `i`, counted from 0.
     pub fn get(&self, i: usize) -> u64
         requires { i < MOST_CLAIMS }
         ensures { result ≡ slice_index self.now i }
@@ -53,7 +53,7 @@ impl Frame {
         self.cells[i]
     }
 
-    /// Gives a cell, from 0, a value.
+    /// Sets cell `i`, counted from 0, to a value.
     pub fn put(&mut self, i: usize, value: u64)
         requires { i < MOST_CLAIMS }
         ensures { self.new ≡ slice_set self.old i value }
@@ -61,16 +61,16 @@ impl Frame {
         self.cells[i] = value;
     }
 
-    /// Runs the body of a well-formed procedure for a call of it, on the values that the frame's
-    /// cells have, one for each of the call's claims, in order. Statements run in order, an `If`
-    /// chooses one of its lists, and operands are evaluated from left to right, each expression
-    /// once. The first reason ends the body: the procedure's own code by `Abort`, `Overflow` by a
-    /// sum or a product, `Underflow` by a difference, `ZeroDivisor` by a quotient or a remainder.
-    /// Where a record was found by a value that its source's cell no longer holds, nothing of the
-    /// body is run, and the reason is `Moved`.
-    /// After `Committed` the cells hold the records' new values, after `Aborted` they are as
-    /// before. The reply, and the values that are left, are those of the body's meaning on any whole list of as many
-    /// records as the call was made for, whose values the cells hold. It takes no memory.
+    /// Runs the body of a well-formed procedure for a call of it, on the values in the frame's cells,
+    /// one for each of the call's claims, in order. Statements run in order, an `If` chooses one of its
+    /// lists, and operands are evaluated from left to right, each expression once. The first reason
+    /// ends the body: the procedure's own code from `Abort`, `Overflow` from a sum or a product,
+    /// `Underflow` from a difference, `ZeroDivisor` from a quotient or a remainder. If a record was
+    /// found by a value that its source's cell no longer holds, none of the body is run, and the reason
+    /// is `Moved`.
+    /// After `Committed` the cells hold the records' new values, after `Aborted` they are unchanged. The reply and
+    /// the resulting values are those of the body's meaning on any full list of records whose values the cells hold,
+    /// of the length that the call was made for. It allocates no memory.
     pub fn run(&mut self, procedure: &Proc, call: &Call) -> Reply
         requires formed { IsWellFormed procedure.now }
         requires made { (n : ℕ) × IsCallOf n procedure.now call.now }
@@ -83,7 +83,7 @@ impl Frame {
         ensures aborted { (why : Reason) → result ≡ Aborted why → self.new ≡ self.old }
         ensures whole { length self.new ≡ MOST_CLAIMS }
     {
-        // A contract sees the list of cells, and how long it is only where they are read.
+        // Contracts see the list of cells, but its length only where the cells are read.
         let _ = &self.cells;
         if self.has_moved(procedure, call) {
             return Reply::Aborted(Reason::Moved);
@@ -95,8 +95,7 @@ impl Frame {
         }
     }
 
-    // Runs the body. It sets none but the first `KEPT` cells, which are kept aside to go back to if the call is
-    // aborted.
+    // Runs the body. It sets only the first `KEPT` cells, which are saved first and restored if the call is aborted.
     #[inline(always)]
     fn run_keeping<const KEPT: usize>(&mut self, procedure: &Proc, call: &Call) -> Reply
         requires formed { IsWellFormed procedure.now }
@@ -129,7 +128,7 @@ impl Frame {
         }
     }
 
-    // Whether the value by which a record was found no longer stands in its source's cell.
+    // Whether the source's cell no longer holds the value by which a record was found.
     fn has_moved(&self, procedure: &Proc, call: &Call) -> bool
         requires formed { IsWellFormed procedure.now }
         requires made { (n : ℕ) × IsCallOf n procedure.now call.now }

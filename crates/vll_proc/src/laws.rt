@@ -1,5 +1,5 @@
-//! What holds of each call of a well-formed procedure, and of calls that run one at a time, stated once for those who
-//! apply calls.
+//! Laws about each call of a well-formed procedure, and about calls that run one at a time, stated once for code that
+//! applies calls.
 
 ghost use Rattle.std.specs.Prelude.{◌≡◌, ◌≢◌, ℕ, ◌+◌, ◌<◌, List, ◌++◌, length, map, All, Some, slice_get, slice_index};
 ghost use Rattle.vll_record.specs.Claim.{mode_on};
@@ -29,8 +29,8 @@ pub fn keeps_the_number_of_records()
         → length (applied p c records).records ≡ length records }
 {}
 
-/// What a call answers, and the values that it leaves in the records of its claims, depend on the
-/// values of those records alone.
+/// A call's reply, and the values that it leaves in the records of its claims, depend only on the
+/// values of those records.
 pub fn depends_on_claimed_records_alone()
     ensures replies { (p : Proc) (c : Call) (m n : List ℕ) → IsWellFormed p → IsCallOf (length m) p c
         → IsCallOf (length n) p c → AgreeAt c.claims m n → (applied p c m).reply ≡ (applied p c n).reply }
@@ -39,15 +39,15 @@ pub fn depends_on_claimed_records_alone()
         → AgreeAt c.claims (applied p c m).records (applied p c n).records }
 {}
 
-/// A well-formed procedure meets no key position and no argument beyond those that it declares, and
-/// no local that it has not set: whatever stands there, its body ends alike.
+/// A well-formed procedure depends on no key position or argument beyond those that it declares, and
+/// on no local that it has not set: whatever these hold, its body ends in the same way.
 pub fn meets_nothing_undeclared()
     ensures { (p : Proc) (s t : Scene) → IsWellFormed p → AgreeOnDeclared p s t
         → EndsAlike (in_turn (map effect p.body) s) (in_turn (map effect p.body) t) }
 {}
 
-/// A serial run of one list of calls, and then of another from where the first ended, answers and ends as the run of
-/// both in a row.
+/// A serial run of one list of calls, and then of a second from where the first ended, gives the same replies and the
+/// same records at the end as a run of both lists in a row.
 pub fn serial_runs_join()
     ensures first { (procs : List Proc) (calls more : List Made) (records : List ℕ) (i : ℕ) → i < length calls
         → answer procs calls records i ≡ answer procs (calls ++ more) records i }
@@ -57,8 +57,8 @@ pub fn serial_runs_join()
         → end procs more (end procs calls records) ≡ end procs (calls ++ more) records }
 {}
 
-/// The replies of all epochs, one epoch's behind the other's, are those of one serial run of all their calls, however
-/// many epochs there are, and so are the records at the end. In such a list of replies each call has its answer.
+/// The replies of all epochs, in a row, are those of one serial run of all their calls, however many epochs there are,
+/// and so are the records at the end. In such a list of replies each call has its answer.
 pub fn epochs_are_one_serial_run()
     ensures replies { (procs : List Proc) (epochs : List (List Made)) (records : List ℕ)
         → replies_by_epochs procs epochs records ≡ replies procs (in_a_row epochs) records }

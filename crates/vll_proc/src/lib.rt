@@ -1,4 +1,15 @@
-//! The procedure language: its syntax, calls of procedures, what they answer, and the frames on which their bodies run.
+//! The language of stored procedures: their syntax, calls of them, the replies, and the frames on which bodies run. The
+//! meaning of a body is defined on the whole list of records; `Frame::run` runs it on the values of the call's claims
+//! alone, and is proved to give the same reply and the same new values. Also proved: a call depends only on the records
+//! that it claims, and changes only those that it claims for writing. Start at `Proc`, whose body is made of `Stmt` and
+//! `Expr`, then at `Call`, `Reply` and `Frame`.
+//!
+//! ```rattle
+//! let mut frame = Frame::new();
+//! frame.put(0, value); // the value of the record of the call's first claim
+//! let reply = frame.run(&procedure, &call);
+//! let new = frame.get(0);
+//! ```
 #![tactic(auto)]
 
 mod call;

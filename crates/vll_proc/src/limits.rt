@@ -1,28 +1,28 @@
-//! The limits of procedures and their calls, this project's choice. In edition Two as many key
-//! positions are declared as a call may have claims.
+//! The limits of procedures and their calls, chosen by this project. A procedure of edition Two may
+//! declare as many key positions as a call may have claims.
 
-/// How many arguments a procedure takes at most.
+/// The greatest number of arguments of a procedure.
 pub const MOST_ARGS: usize = 8;
 
-/// How many key positions a procedure of edition One declares at most.
+/// The greatest number of key positions that a procedure of edition One declares.
 pub const FIRST_MOST_KEYS: usize = 16;
 
-/// How many locals a body has.
+/// The number of locals of a body.
 pub const MOST_LOCALS: usize = 8;
 
-/// How many outputs a call makes at most.
+/// The greatest number of outputs of a call.
 pub const MOST_OUTPUTS: usize = 8;
 
-/// How deep a body is at most: a statement is one more than the deepest expression and statement in it.
+/// The greatest depth of a body: a statement is one deeper than the deepest expression or statement in it.
 pub const MOST_DEPTH: u32 = 32;
 
-/// How many statements and expressions a body has at most.
+/// The greatest number of statements and expressions in a body.
 pub const MOST_NODES: u32 = 1024;
 
-/// How many turns a `Repeat` has at most.
+/// The greatest number of turns of a `Repeat`.
 pub const MOST_TURNS: u8 = 64;
 
-/// How much work a body is at most: each of its statements and expressions, as often as it is run.
+/// The greatest work of a body: each of its statements and expressions counts as often as it is run.
 pub const MOST_WEIGHT: u32 = 65_536;
 
 // As docs/SCENARIO.md says.

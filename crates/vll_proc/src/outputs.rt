@@ -6,7 +6,7 @@ use crate::limits::MOST_OUTPUTS;
 use std::marker::Model;
 use std::slice;
 
-/// What a call replies: up to `MOST_OUTPUTS` numbers, in the order of the reply statements. Contracts see them as their
+/// The outputs of a call: up to `MOST_OUTPUTS` numbers, in the order of the reply statements. Contracts see them as a
 /// list.
 #[derive(Clone, Copy)]
 pub struct Outputs {
@@ -41,7 +41,7 @@ impl Outputs {
         }
     }
 
-    /// How many outputs there are, at most `MOST_OUTPUTS`.
+    /// Returns the number of outputs, at most `MOST_OUTPUTS`.
     pub fn len(&self) -> usize
         ensures value { result ≡ length self.now }
         ensures few { length self.now ≤ MOST_OUTPUTS }
@@ -49,7 +49,7 @@ impl Outputs {
         self.len as usize
     }
 
-    /// The output at a place from 0, and `None` exactly from `len` on.
+    /// Returns the output at index `i`, or `None` exactly if `i` is at least `len`.
     pub fn get(&self, i: usize) -> Option<u64>
         ensures { result ≡ slice_get self.now i }
     {
@@ -60,14 +60,14 @@ impl Outputs {
         }
     }
 
-    /// The outputs, in the order of the reply statements.
+    /// Returns the outputs, in the order of the reply statements.
     pub fn as_slice(&self) -> &[u64]
         ensures { result.now ≡ self.now }
     {
         &self.places[..self.len as usize]
     }
 
-    /// Goes over the outputs, in the order of the reply statements.
+    /// Iterates over the outputs, in the order of the reply statements.
     pub fn iter(&self) -> slice::Iter<'_, u64>
         ensures rest { iter_rest result ≡ self.now }
         ensures runs { IterYieldsInOrder ℕ }
@@ -75,7 +75,7 @@ impl Outputs {
         self.as_slice().iter()
     }
 
-    // Puts an output behind all others.
+    // Appends an output.
     pub(crate) fn push(&mut self, value: u64)
         requires { length self.old < MOST_OUTPUTS }
         ensures { self.new ≡ self.old ++ value ∷ [] }
@@ -95,7 +95,7 @@ impl PartialEq for Outputs {
 
     ghost laws = { Prim.search (comparing, rules) };
 
-    /// Whether the two are the same list of outputs.
+    /// Reports whether the two are the same list of outputs.
     fn eq(&self, other: &Outputs) -> bool
         ensures value { result ≡ pointwise ◌==◌ self.now other.now }
         ensures same { IsTrue result ↔ (self.now ≡ other.now) }

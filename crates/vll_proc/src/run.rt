@@ -11,7 +11,7 @@ use crate::outputs::Outputs;
 use crate::syntax::{Expr, Stmt};
 use vll_record::MOST_CLAIMS;
 
-// What changes while a body runs, beside the cells of its frame.
+// What changes while a body runs, besides the cells of its frame.
 #[derive(Clone, Copy)]
 pub(crate) struct Progress {
     pub(crate) locals: [u64; MOST_LOCALS],
@@ -87,7 +87,7 @@ impl Progress {
         }
     }
 
-    // Runs statements in order a number of times, up to the first reason.
+    // Runs statements in order, `count` times, up to the first reason.
     #[cycle(statement)]
     fn turns(
         &mut self,
@@ -113,7 +113,7 @@ impl Progress {
         Ok(())
     }
 
-    // The value of an expression, or the first reason on the way to it.
+    // The value of an expression, or the first reason met while computing it.
     #[inline(always)]
     fn value(&self, cells: &Frame, expr: &Expr, call: &Call) -> Result<u64, Reason>
         requires cells { HasCells call.now }
@@ -130,8 +130,8 @@ impl Progress {
         }
     }
 
-    // The number that an expression gives. The first reason is noted, and what is computed behind it means nothing: so
-    // no result but a number is handed up from one operator to the next.
+    // The number that an expression evaluates to. The first reason is noted, and what is computed after it means
+    // nothing: so each operator passes a plain number, not a `Result`, up to the next.
     #[cycle(expression)]
     #[tactic(auto, using(crate::proofs::Equations::forms))]
     fn number(&self, cells: &Frame, expr: &Expr, call: &Call, why: &mut Option<Reason>) -> u64
@@ -163,7 +163,7 @@ impl Progress {
         }
     }
 
-    // The same of an operand. A leaf is answered without a call.
+    // As `number`, for an operand. A leaf is evaluated without a function call.
     #[cycle(expression)]
     #[inline(always)]
     fn operand(&self, cells: &Frame, expr: &Expr, call: &Call, why: &mut Option<Reason>) -> u64
@@ -193,7 +193,7 @@ fn value_at(cells: &Frame, i: u8, call: &Call) -> u64
     cells.get(call.cells[i as usize] as usize)
 }
 
-// What the operator of an expression makes of two operands, and 0 if it has no two.
+// The result of an expression's operator on two operands, and 0 if it does not have two.
 #[inline(always)]
 #[tactic(auto, using(crate::proofs::Equations::operators))]
 fn operation(expr: &Expr, x: u64, y: u64) -> Result<u64, Reason>
@@ -213,7 +213,7 @@ fn operation(expr: &Expr, x: u64, y: u64) -> Result<u64, Reason>
     }
 }
 
-// The number of a result. A reason is noted, if it is the first.
+// The number in a result, or 0. A reason is noted, if it is the first.
 #[inline(always)]
 fn number_or_reason(result_of: Result<u64, Reason>, why: &mut Option<Reason>) -> u64
     ensures { noted why.new result ≡ behind why.old result_of }
@@ -227,7 +227,7 @@ fn number_or_reason(result_of: Result<u64, Reason>, why: &mut Option<Reason>) ->
     }
 }
 
-// Notes a reason, if it is the first. Bodies seldom get here.
+// Notes a reason, if it is the first. Bodies rarely get here.
 #[cold]
 #[inline(never)]
 fn note(reason: Reason, why: &mut Option<Reason>)

@@ -10,42 +10,42 @@ use vll_record::Mode;
 pub enum Expr {
     /// A number.
     Num(u64),
-    /// An argument of the call, by its place from 0.
+    /// An argument of the call, by its index from 0.
     Arg(u8),
-    /// The present value of the record that a key position names.
+    /// The current value of the record that a key position names.
     Key(u8),
-    /// A local, by its place from 0, below `MOST_LOCALS`.
+    /// A local, by its index from 0, below `MOST_LOCALS`.
     Local(u8),
-    /// The sum. Over 18446744073709551615 the call is aborted with `Overflow`.
+    /// The sum. Above 18446744073709551615 the call is aborted with `Overflow`.
     Add(Boxed<Expr>, Boxed<Expr>),
-    /// Left minus right. Where right is greater, the call is aborted with `Underflow`.
+    /// Left minus right. If right is greater, the call is aborted with `Underflow`.
     Sub(Boxed<Expr>, Boxed<Expr>),
-    /// The product. Over 18446744073709551615 the call is aborted with `Overflow`.
+    /// The product. Above 18446744073709551615 the call is aborted with `Overflow`.
     Mul(Boxed<Expr>, Boxed<Expr>),
-    /// The quotient, rounded down. Where right is 0, the call is aborted with `ZeroDivisor`.
+    /// The quotient, rounded down. If right is 0, the call is aborted with `ZeroDivisor`.
     Div(Boxed<Expr>, Boxed<Expr>),
-    /// The remainder. Where right is 0, the call is aborted with `ZeroDivisor`.
+    /// The remainder. If right is 0, the call is aborted with `ZeroDivisor`.
     Rem(Boxed<Expr>, Boxed<Expr>),
     /// The lesser operand.
     Min(Boxed<Expr>, Boxed<Expr>),
     /// The greater operand.
     Max(Boxed<Expr>, Boxed<Expr>),
-    /// 1 where the operands are equal, else 0.
+    /// 1 if the operands are equal, else 0.
     Equal(Boxed<Expr>, Boxed<Expr>),
-    /// 1 where left is less than right, else 0.
+    /// 1 if left is less than right, else 0.
     Less(Boxed<Expr>, Boxed<Expr>),
-    /// 1 where the operand is 0, else 0.
+    /// 1 if the operand is 0, else 0.
     Not(Boxed<Expr>),
 }
 
 /// A statement of a procedure's body.
 #[derive(Drop)]
 pub enum Stmt {
-    /// Gives a local, by its place from 0, a value.
+    /// Sets a local, by its index from 0, to a value.
     Let(u8, Expr),
-    /// Gives the record that a key position names a new value.
+    /// Sets the record that a key position names to a new value.
     Set(u8, Expr),
-    /// Runs its first list where the expression is not 0, else its second.
+    /// Runs its first list if the expression is not 0, else its second.
     If(Expr, Items<Stmt>, Items<Stmt>),
     /// Aborts the call with the procedure's own code.
     Abort(u16),
@@ -55,21 +55,21 @@ pub enum Stmt {
     Repeat(u8, Items<Stmt>),
 }
 
-/// Where a key position's record is named.
+/// How a key position names its record.
 #[derive(Clone, Copy, PartialEq, Eq, Debug)]
 pub enum KeyAt {
     /// Always this record.
     Fixed(u32),
-    /// The record whose number is this argument, by its place from 0.
+    /// The record whose number is this argument, by its index from 0.
     Arg(u8),
-    /// The record that is found by the value of another key position's record: that value modulo the number of records.
-    /// The other position, by its place from 0, stands before this one and names its record by itself.
+    /// The record found by the value of another key position's record: that value modulo the number of records. The
+    /// other position, by its index from 0, comes before this one and names its record directly.
     Through(u8),
 }
 
 impl KeyAt {
-    /// The key position by whose record's value this one's record is found, by its place from 0. `None` if this one names
-    /// its record by itself.
+    /// Returns the index, from 0, of the key position by whose record's value this one's record is found, or `None`
+    /// if this one names its record directly.
     pub fn source(&self) -> Option<u8>
         ensures { result ≡ source_at self.now }
     {
@@ -87,8 +87,8 @@ pub struct KeyDecl {
     pub at: KeyAt,
 }
 
-/// The edition of the format in which a procedure is written: it says which statements and how many
-/// key positions the procedure may have.
+/// The edition of the format in which a procedure is written. It determines which statements and
+/// how many key positions the procedure may have.
 #[derive(Clone, Copy, PartialEq, Eq, Debug)]
 pub enum Edition {
     /// No `Repeat`, and at most `FIRST_MOST_KEYS` key positions.
@@ -97,7 +97,7 @@ pub enum Edition {
     Two,
 }
 
-/// A stored procedure: its edition, its name, how many arguments it takes, the keys it declares, and its body.
+/// A stored procedure: its edition, its name, the number of its arguments, the keys it declares, and its body.
 #[derive(Drop)]
 pub struct Proc {
     pub edition: Edition,
@@ -108,7 +108,8 @@ pub struct Proc {
 }
 
 impl Proc {
-    /// The key position by whose record's value another one's record is found, by its place from 0, if there is one.
+    /// Returns the index, from 0, of the key position by whose record's value another one's record is found, if there
+    /// is one.
     pub fn source(&self) -> Option<u8>
         ensures { result ≡ source_of self.now.keys }
     {
@@ -116,7 +117,7 @@ impl Proc {
     }
 }
 
-// The same of a list of key positions.
+// As `Proc::source`, for a list of key positions.
 fn source_of(keys: &[KeyDecl]) -> Option<u8>
     ensures { result ≡ source_of keys.now }
 {
@@ -147,14 +148,14 @@ impl Model for Text {
 }
 
 impl Text {
-    /// The text of a `String`. It takes no memory.
+    /// Wraps a `String`. It allocates no memory.
     pub fn new(text: String) -> Text
         ensures { result ≡ string_bytes text }
     {
         Text { inner: text }
     }
 
-    /// The text, as a `str`.
+    /// Returns the text as a `str`.
     pub fn as_str(&self) -> &str
         ensures { result.now ≡ self.now }
     {

@@ -12,7 +12,7 @@ use vll_proc::{
 };
 use vll_record::{Claim, Claims, MOST_CLAIMS, Mode, RecordId};
 
-// The one key position of `bump`: its argument places the record.
+// The one key position of `bump`: its argument names the record.
 fn key() -> KeyDecl
     ensures { result ≡ record { mode = Mode.Write; at = KeyAt.Arg 0 } }
 {
@@ -22,7 +22,7 @@ fn key() -> KeyDecl
     }
 }
 
-// One more than the record holds.
+// One more than the record's value.
 fn more(alloc: Global) -> Result<Expr, AllocError>
     ensures { IfOk result (λ e. e ≡ Expr.Add (Expr.Key 0) (Expr.Num 1)) }
 {
@@ -31,7 +31,7 @@ fn more(alloc: Global) -> Result<Expr, AllocError>
     Ok(Expr::Add(value, one))
 }
 
-// Adds 1 to a record, and replies the sum.
+// Adds 1 to a record, and replies with the sum.
 fn bump(alloc: Global) -> Result<Proc, AllocError>
     ensures formed { IfOk result (λ p. IsWellFormed p) }
     ensures args { IfOk result (λ p. p.args ≡ 1) }

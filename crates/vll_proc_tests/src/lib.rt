@@ -1,4 +1,4 @@
-//! What calls answer as values, and what the laws of calls ask for: the tests of vll_proc.
+//! The tests of vll_proc: the replies of calls as values, and what the laws about calls require.
 #![tactic(auto)]
 
 #[cfg(test)]

@@ -24,11 +24,11 @@ kept-from_list cs =
     ap (λ (ids : List ℕ). claims_with ids (mask_of cs)) (take_at (ids_of cs) (replicate (MOST_CLAIMS - length (ids_of cs)) 0) (length cs) (length-ids_of cs))
     ∙ claims_with-mask_of cs
 
--- fields in which a list lies keep that list
+-- fields laid out from a list represent that list
 pub kept-lies : (a : Inside) (cs : List Claim) → a ≡ from_list cs → kept a ≡ cs
 kept-lies a cs e = ap kept e ∙ kept-from_list cs
 
--- fields in which a list lies that rises meet the invariant
+-- fields laid out from a rising list meet the invariant
 pub IsCanonical-lies : (a : Inside) (cs : List Claim) → a ≡ from_list cs → length cs ≤ MOST_CLAIMS → IsRising cs → IsCanonical a
 IsCanonical-lies a cs e few rising =
     let is = kept-lies a cs e in
@@ -44,7 +44,7 @@ length-laid n blank xs le =
     let more = length-replicate (n - length xs) blank in
     omega arith
 
--- what lies behind the item of the next place once that place is free
+-- what follows the next place once that place is free
 abbrev behind : {A : Type 0} → ℕ → A → List A → ℕ → List A
 behind n blank xs i = drop i xs ++ replicate (n - suc (length xs)) blank
 

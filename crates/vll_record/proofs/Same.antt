@@ -1,4 +1,4 @@
--- When two lists of claims are one: told by their fields, and by a test of each claim.
+-- When two lists of claims are the same: decided by their fields, and by a test of each claim.
 use Rattle.std.proofs.Common.{◌≡◌, ◌↔◌, ℕ, Bool, true, false, IsTrue, List, refl, sym, ap, ◌∙◌, subst, ◌&&◌, ◌==◌}
 use Rattle.std.specs.Bool.{Decides, beq}
 use Rattle.std.specs.Cmp.{booleans_Decides}
@@ -23,7 +23,7 @@ same-from_fields a b cs ds p q len writes ids =
     let three : ◌≡◌ {A = Inside} (record { ids = b.ids; modes = b.modes; len = a.len }) b = ap (λ (x : ℕ). let i : Inside = record { ids = b.ids; modes = b.modes; len = x } in i) len in
     sym p ∙ ap kept (one ∙ two ∙ three) ∙ q
 
--- and one list lies in the same fields
+-- and the same list has the same fields
 pub fields_from_same : (a b : Inside) (cs ds : List Claim) → IsCanonical a → IsCanonical b → kept a ≡ cs → kept b ≡ ds → cs ≡ ds → a ≡ b
 fields_from_same a b cs ds h k p q e = lies-kept a ds h (p ∙ e) ∙ sym (lies-kept b ds k q)
 
@@ -57,7 +57,7 @@ is_same_claim-Decides c d = (
 pub same_claims-Decides : (cs ds : List Claim) → Decides (pointwise is_same_claim cs ds) (cs ≡ ds)
 same_claims-Decides cs ds = slice_eq-Decides is_same_claim-Decides cs ds (pointwise is_same_claim cs ds) refl
 
--- an answer that tells whether the lists are one is the test
+-- an answer that decides whether the lists are the same is the test's
 pub same_answer : (r : Bool) (cs ds : List Claim) → IsTrue r ↔ (cs ≡ ds) → r ≡ pointwise is_same_claim cs ds
 same_answer true cs ds tells = sym ((same_claims-Decides cs ds).1 (tells.0 refl))
 same_answer false cs ds tells = none (pointwise is_same_claim cs ds) refl

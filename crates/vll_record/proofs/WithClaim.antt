@@ -149,7 +149,7 @@ apart_from_other r o c e ne d is same =
 pub apart_from_none : (r : ℕ) (o : Option Claim) → o ≡ None → (d : Claim) → o ≡ Some d → d.id ≢ r
 apart_from_none r o e d is same = none-some d (sym e ∙ is)
 
--- a record with no claim at its place has none, so what is asked before a claim is added is room
+-- a record with no claim at its place has none at all, so adding a claim needs room
 pub room_from_absent : (n r : ℕ) (cs : List Claim) (at : ℕ) → IsRising cs → IsPlaceOf r cs at → ((d : Claim) → slice_get cs at ≡ Some d → d.id ≢ r) → (length cs < n) ⊎ IsSome (mode_on cs r) → length cs < n
 room_from_absent n r cs at h p apart (inl room) = room
 room_from_absent n r cs at h p apart (inr held) = absurd (false≢true (subst IsSome (mode_on-absent r cs at h p apart) held))

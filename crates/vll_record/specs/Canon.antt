@@ -1,4 +1,4 @@
--- How a short list lies in an array: its items first, and then a filler.
+-- How a short list is stored in an array: its items first, then a filler.
 use Rattle.std.specs.Prelude.{ℕ, ◌-◌, List, ◌++◌, length, replicate}
 
 -- the array of n places that holds a list

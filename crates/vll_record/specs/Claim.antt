@@ -12,24 +12,24 @@ use Rattle.vll_record.specs.declared.claim.Claim.{Claim}
 abbrev pub is_write : Claim → Bool
 is_write c = elim c.mode [ Read ↦ false | Write ↦ true ]
 
--- two claims are one: of one record, in one mode
+-- two claims are the same: of one record, in one mode
 abbrev pub is_same_claim : Claim → Claim → Bool
 is_same_claim = eq_of_both (on (λ (c : Claim). c.id) ◌==◌) (on is_write beq)
 
--- two claims conflict where they name one record and at least one is Write
+-- two claims conflict if they name the same record and at least one is Write
 abbrev pub conflicts : Claim → Claim → Bool
 conflicts a b = (a.id == b.id) && (is_write a || is_write b)
 
--- two lists of claims conflict where a claim of one conflicts with a claim of the other
+-- two lists of claims conflict if a claim of one conflicts with a claim of the other
 abbrev pub conflict : List Claim → List Claim → Bool
 conflict xs ys = list_any (λ x. list_any (conflicts x) ys) xs
 
--- the stronger of two modes is Write where either is
+-- the stronger of two modes: Write if either is
 abbrev pub stronger : Mode → Mode → Mode
 stronger Write m = Write
 stronger Read m = m
 
--- the stronger of a mode and another one, if there is another one
+-- the stronger of a mode and a second one, if there is one
 abbrev pub stronger_of : Mode → Option Mode → Option Mode
 stronger_of m None = Some m
 stronger_of m (Some n) = Some (stronger m n)
@@ -43,12 +43,12 @@ mode_on (c ∷ cs) r = if c.id == r then stronger_of c.mode (mode_on cs r) else 
 abbrev pub IsRising : List Claim → Type 0
 IsRising cs = IsStrictlyIncreasing (map (λ (c : Claim). c.id) cs)
 
--- the claims of what was asked for: each record once, as strongly as it was asked for, in rising order
+-- the claims for what was asked: each record once, in the strongest mode in which it was asked for, in ascending order
 pub record AreClaimsOf (asked cs : List Claim) : Type 0 where
   pub rising : IsRising cs
   pub each : (r : ℕ) → mode_on cs r ≡ mode_on asked r
 
--- a claim put in its place; a record that is there keeps one claim, Write where either is
+-- a claim inserted in order; a record that already has a claim keeps one, Write if either is
 abbrev pub with_claim : Claim → List Claim → List Claim
 with_claim c [] = c ∷ []
 with_claim c (d ∷ ds) =

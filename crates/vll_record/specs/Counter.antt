@@ -6,7 +6,7 @@ use Rattle.vll_record.specs.declared.claim.Claim.{Claim}
 use Rattle.vll_record.specs.declared.pair.Pair.{Pair}
 use Rattle.vll_record.specs.Claim.{is_write}
 
--- what a request adds to a pair word, and a release takes from it: 2^32 for Write, 1 for Read
+-- what a request adds to a pair word and a release subtracts: 2^32 for Write, 1 for Read
 abbrev pub delta_of : Mode → ℕ
 delta_of Read = 1
 delta_of Write = 2 ^ 32
@@ -15,11 +15,11 @@ delta_of Write = 2 ^ 32
 abbrev pub claims_on : ℕ → List Claim → List Claim
 claims_on r cs = filter (λ (c : Claim). c.id == r) cs
 
--- the pair word of a list of claims: the number of its Write claims times 2^32, and that of its Read claims
+-- the pair word of a list of claims: the number of its Write claims times 2^32, plus the number of its Read claims
 abbrev pub pair_word_of : List Claim → ℕ
 pair_word_of cs = count_by is_write cs * 2 ^ 32 + count_by (λ c. not (is_write c)) cs
 
--- the pair that a word holds: CX above, CS in the low 32 bits
+-- the pair that a word holds: CS in the low 32 bits, CX above them
 abbrev pub pair_of : ℕ → Pair
 pair_of word = record { cx = word / 2 ^ 32; cs = word % 2 ^ 32 }
 
@@ -27,7 +27,7 @@ pair_of word = record { cx = word / 2 ^ 32; cs = word % 2 ^ 32 }
 abbrev pub word_of : Pair → ℕ
 word_of p = p.cx * 2 ^ 32 + p.cs
 
--- a request is granted by the word that it found: an exclusive one where that was 0, a shared one where its CX was 0
+-- whether a request is granted, given the word it found: an exclusive one if that was 0, a shared one if its CX was 0
 abbrev pub is_granted : Mode → ℕ → Bool
 is_granted Read old = nat_lt old (2 ^ 32)
 is_granted Write old = old == 0

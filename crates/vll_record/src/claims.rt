@@ -12,13 +12,13 @@ mod modes;
 pub use iter::ClaimsIter;
 use modes::Modes;
 
-/// How many claims a call has at most.
+/// The greatest number of claims of a call.
 pub const MOST_CLAIMS: usize = 32;
 
 // As docs/SCENARIO.md says.
 const _: () = prove!(MOST_CLAIMS == 32);
 
-/// Up to `MOST_CLAIMS` claims, strictly rising by record number. Contracts see them as their list.
+/// Up to `MOST_CLAIMS` claims, in strictly ascending order of record number. Contracts see them as a list.
 #[derive(Clone, Copy)]
 pub struct Claims {
     ids: [RecordId; MOST_CLAIMS],
@@ -44,7 +44,7 @@ impl Model for Claims {
 }
 
 impl Claims {
-    /// No claims.
+    /// Returns an empty list of claims.
     pub fn new() -> Claims
         ensures { result ≡ [] }
     {
@@ -55,7 +55,7 @@ impl Claims {
         }
     }
 
-    /// How many claims there are, at most `MOST_CLAIMS`. They rise strictly by record number.
+    /// Returns the number of claims, at most `MOST_CLAIMS`. They are in strictly ascending order of record number.
     pub fn len(&self) -> usize
         ensures value { result ≡ length self.now }
         ensures few { length self.now ≤ MOST_CLAIMS }
@@ -64,7 +64,7 @@ impl Claims {
         self.len as usize
     }
 
-    /// The claim at a place from 0, and `None` exactly from `len` on.
+    /// Returns the claim at index `i`, or `None` exactly if `i` is at least `len`.
     pub fn get(&self, i: usize) -> Option<Claim>
         ensures { result ≡ slice_get self.now i }
     {
@@ -78,15 +78,15 @@ impl Claims {
         }
     }
 
-    /// The claims, in rising order of their records.
+    /// Returns an iterator over the claims, in ascending order of record number.
     pub fn iter(&self) -> ClaimsIter<'_>
         ensures { result ≡ self.now }
     {
         ClaimsIter::new(self)
     }
 
-    /// Puts a claim in its place. A record that is there keeps one claim, Write where either is.
-    /// A record that is not there needs room: fewer than `MOST_CLAIMS` claims so far.
+    /// Inserts a claim in order. A record that already has a claim keeps one, Write if either is.
+    /// A record that has none needs room: fewer than `MOST_CLAIMS` claims so far.
     pub fn add(&mut self, claim: Claim)
         requires { (length self.old < MOST_CLAIMS) ⊎ IsSome (mode_on self.old claim.id) }
         ensures { self.new ≡ with_claim claim self.old }
@@ -98,7 +98,7 @@ impl Claims {
         }
     }
 
-    // Where the record's claim stands, or would stand.
+    // The index of the record's claim, or the one at which it would be inserted.
     fn place_of(&self, id: RecordId) -> usize
         ensures place { result ≡ place_in self.now id }
         ensures rising { IsRising self.now }
@@ -109,7 +109,7 @@ impl Claims {
             .unwrap_or(len)
     }
 
-    // The claim at the place is Write where it was or the mode is.
+    // Makes the claim at `place` Write if it was or `mode` is.
     fn strengthen(&mut self, place: usize, mode: Mode)
         requires within { place < length self.old }
         ensures { (held : Claim) → slice_get self.old place ≡ Some held
@@ -118,7 +118,7 @@ impl Claims {
         self.modes.strengthen(place, mode);
     }
 
-    // The claims from the place on move up by one.
+    // Inserts the claim at `place`; the claims from there on move up by one.
     fn insert(&mut self, place: usize, claim: Claim)
         requires room { length self.old < MOST_CLAIMS }
         requires within { place ≤ length self.old }
@@ -143,7 +143,7 @@ impl PartialEq for Claims {
 
     ghost laws = { Prim.search (comparing, rules) };
 
-    /// Whether the two are the same list of claims.
+    /// Reports whether the two are the same list of claims.
     fn eq(&self, other: &Claims) -> bool
         ensures value { result ≡ pointwise is_same_claim self.now other.now }
         ensures same { IsTrue result ↔ (self.now ≡ other.now) }

@@ -1,4 +1,15 @@
-//! Record numbers, the claims that calls make on records, and the words that count open claims.
+//! Record numbers, the claims that calls make on records, and the words that count open claims. A record's pair word
+//! counts its open Write and Read claims, so that one addition requests a claim and shows whether it is granted.
+//! Proved: a request is granted exactly if no open claim conflicts with it, and what a call asks for has one list of
+//! claims, each record once in its strongest mode. Start at `Claim`, `Claims` (the claims of a call) and `Pair`;
+//! `delta` and `granted` do the counting, and `value_word` and `pair_word` place a record's words.
+//!
+//! ```rattle
+//! let word = pair_word(claim.id);
+//! let old = words[word];
+//! words[word] = old + delta(claim.mode);
+//! let free = granted(claim.mode, old);
+//! ```
 #![tactic(auto)]
 
 mod claim;

@@ -6,9 +6,9 @@ use crate::claim::Mode;
 // One Write claim, as a pair word counts it.
 const ONE_WRITE: u64 = 1 << 32;
 
-/// How many claims are open on a record: CX counts the Write claims, CS the Read claims.
+/// The numbers of open claims on a record: CX counts the Write claims, CS the Read claims.
 ///
-/// Both counters stand in one word, `CX * 2^32 + CS`, so that one step changes and reads both.
+/// Both counters share one word, `CX * 2^32 + CS`, so that one step changes and reads both.
 #[derive(Clone, Copy, PartialEq, Eq, Debug)]
 pub struct Pair {
     /// Open Write claims.
@@ -37,7 +37,7 @@ impl Pair {
     }
 }
 
-/// What a request of this mode adds to a record's pair word, and its release takes away.
+/// Returns what a request of this mode adds to a record's pair word, and its release subtracts.
 pub fn delta(mode: Mode) -> u64
     ensures { result ≡ delta_of mode }
 {
@@ -47,8 +47,8 @@ pub fn delta(mode: Mode) -> u64
     }
 }
 
-/// Whether a request of this mode is granted, by the pair word that stood before it: an exclusive
-/// request where no claim was open, a shared one where no Write claim was.
+/// Reports whether a request of this mode is granted, given the pair word before it: an exclusive
+/// request if no claim was open, a shared one if no Write claim was.
 pub fn granted(mode: Mode, old: u64) -> bool
     ensures { result ≡ is_granted mode old }
 {

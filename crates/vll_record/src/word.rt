@@ -3,15 +3,15 @@ ghost use Rattle.vll_record.specs.Word.{value_word_of, pair_word_of_record};
 
 use crate::claim::RecordId;
 
-/// The place of a record's value word. Word 0 is the turn word, and each record has two words
-/// after it: its value, then its pair.
+/// Returns the index of a record's value word. Word 0 is the turn word; after it each record has two
+/// words, its value word and then its pair word.
 pub fn value_word(id: RecordId) -> usize
     ensures { result ≡ value_word_of id }
 {
     1 + 2 * id.0 as usize
 }
 
-/// The place of a record's pair word, right after its value word.
+/// Returns the index of a record's pair word, directly after its value word.
 pub fn pair_word(id: RecordId) -> usize
     ensures { result ≡ pair_word_of_record id }
 {

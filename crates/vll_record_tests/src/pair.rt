@@ -1,7 +1,8 @@
 use crate::asserts::{equal, equal_at, holds};
 use vll_record::{Mode, Pair, delta, granted};
 
-// The mode of a request, the pair word before it, and whether it is granted: a read beside reads alone, a write alone.
+// The mode of a request, the pair word before it, and whether it is granted: a read if only reads are open, a write if
+// nothing is.
 const REQUESTS: [(Mode, u64, bool); 9] = [
     (Mode::Read, 0, true),
     (Mode::Read, 1, true),

@@ -1,18 +1,18 @@
-/// What a call returned, and whether all else is as it should be then.
+/// What a function returned, and whether all else is then as it should be.
 #[derive(Clone, Copy, PartialEq, Eq, Debug)]
 pub(crate) enum Answer {
     /// What it returns with ample memory.
     Ample,
-    /// Its own `NoMemory`. Nothing was written, and what it hands back is as it came.
+    /// Its own `NoMemory`. Nothing was written, and what it gives back is unchanged.
     NoMemory,
-    /// No thread could be started. Nothing was written, and what it hands back is as it came.
+    /// No thread could be started. Nothing was written, and what it gives back is unchanged.
     Spawn,
     /// Anything else.
     Wrong,
 }
 
 impl Answer {
-    /// The line that is printed.
+    /// The line to print.
     pub(crate) fn word(self) -> &'static str {
         match self {
             Answer::Ample => "ample",
@@ -30,7 +30,7 @@ impl Answer {
         }
     }
 
-    /// This answer if all else is as it should be.
+    /// Returns this answer if all else is as it should be, which `holds` says, else `Wrong`.
     pub(crate) fn only_if(self, holds: bool) -> Answer {
         if holds { self } else { Answer::Wrong }
     }

@@ -1,5 +1,5 @@
-//! Makes one of the calls that take memory, on a small input, and says whether its answer is lawful, also if memory
-//! is refused. tools/trials refuses it each allocation in turn.
+//! Calls one of the functions that allocate, on a small input, and reports whether its answer is right, also if an
+//! allocation fails. tools/trials makes each allocation fail in turn.
 #![tactic(auto)]
 
 mod answer;
@@ -34,7 +34,7 @@ fn main(rt: HostRuntime) -> ExitCode {
     }
 }
 
-// What the call returns that the command line names, if it names one.
+// Returns the answer of the call that the command line names, if it names one.
 fn answer_of<R: Env + Print + AllocGlobal + Threads + Wait + Sync>(
     rt: &R,
 ) -> Result<Option<Answer>, Unready> {
@@ -72,12 +72,12 @@ fn usage(rt: &impl Print) -> Result<Option<Answer>, Unready> {
     Ok(None)
 }
 
-// Says that the call begins here. Allocations are counted from this line on.
+// Prints that the call begins. Allocations are counted from this line on.
 fn begin(rt: &impl Print) -> io::Result<()> {
     println!(rt; "begin")
 }
 
-// Says that the call has ended.
+// Prints that the call has ended.
 fn end(rt: &impl Print) -> io::Result<()> {
     println!(rt; "end")
 }

@@ -1,4 +1,4 @@
-//! An engine that goes on from its records.
+//! An engine that is reopened over its records.
 ghost use Rattle.std.specs.Prelude.{◌≡◌, ◌≤◌, IfOk, OnOk, length, vec_capacity};
 
 use crate::answer::Answer;
@@ -43,7 +43,7 @@ pub(crate) fn reopen<R: Print + AllocGlobal + Wait>(rt: &R) -> Result<Answer, Un
     })
 }
 
-// Has a client's calls made, and the engine reopened. The list for its journal comes with the line of a call.
+// Makes a client's calls and reopens the engine. The list for the journal already holds a line.
 #[derive(Drop)]
 struct Reopening<'a, R> {
     rt: &'a R,
@@ -77,7 +77,7 @@ impl<'a, R: Print + Wait> Service for Reopening<'a, R> {
     }
 }
 
-// One client makes its calls, and all clients are back.
+// Makes one client's calls, after which all clients are back.
 fn make_all<N: Name>(
     rt: &impl Wait,
     engine: &Engine<N, Placing>,
@@ -94,7 +94,7 @@ fn make_all<N: Name>(
     }
 }
 
-// A client makes its calls.
+// Makes a client's calls.
 fn make_calls<N: Name>(
     rt: &impl Wait,
     engine: &Engine<N, Placing>,
@@ -107,7 +107,7 @@ fn make_calls<N: Name>(
     Ok(client)
 }
 
-// A list that has room for all calls, and a line of no client of the engine.
+// A list with room for all calls, which holds a line of no client of the engine.
 fn list_with_a_line<N: Name>(
     alloc: Global,
     engine: &Engine<N, Placing>,
@@ -127,7 +127,7 @@ fn marked<N: Name>(engine: &Engine<N, Placing>) -> Result<Line, Unready> {
     })
 }
 
-// Whether a list has that line alone.
+// Whether a list has only that line.
 fn is_marked(journal: &[Line]) -> bool {
     match journal {
         [line] => line.client == MARK,
@@ -135,12 +135,12 @@ fn is_marked(journal: &[Line]) -> bool {
     }
 }
 
-// Whether all calls are in the journal, and their record is handed back.
+// Whether all calls are in the journal, and the record is as they leave it.
 fn is_closed(closed: &Closed) -> bool {
     counts_up(closed.journal.as_slice(), CALLS as usize) && holds(closed, u64::from(CALLS))
 }
 
-// What is answered of an engine that was not reopened: it is closed, and the list is handed back.
+// The answer for an engine that was not reopened: it is closed, and the list is returned.
 fn of_refused<N: Name>(refused: &NotReopened<N, Placing>) -> Answer {
     match &refused.left {
         Ok(closed) => {
@@ -151,7 +151,7 @@ fn of_refused<N: Name>(refused: &NotReopened<N, Placing>) -> Answer {
     }
 }
 
-// What is answered of an engine that goes on: the next one has the record, and has taken no call yet.
+// The answer for a reopened engine: the next one has the record, and has taken no call yet.
 fn of_next(next: Reopened<Placing>) -> Answer {
     let is_all = counts_up(next.journal.as_slice(), CALLS as usize);
     Answer::Ample.only_if(is_all && next.opening.serve(Closing))

@@ -1,4 +1,4 @@
-//! The calls that take room and make nothing else.
+//! The functions that only allocate.
 ghost use Rattle.std.specs.Prelude.{◌≡◌, length};
 
 use crate::answer::Answer;
@@ -72,7 +72,7 @@ pub(crate) fn words(rt: &(impl Print + AllocGlobal)) -> Result<Answer, Unready> 
     })
 }
 
-// How many sessions' seats four clients have beside the words of these records.
+// The number of sessions' seats that are made with the words of these records for four clients.
 fn number_of_seats(alloc: Global, records: &[u64], library: &Library) -> Result<usize, AllocError>
     requires { library.now.records ≡ length records.now }
 {
@@ -97,7 +97,7 @@ pub(crate) fn opening(rt: &(impl Print + AllocGlobal)) -> Result<Answer, Unready
     })
 }
 
-// The input has the sizes that can be opened.
+// The answer for a fault: only `NoMemory` can occur, since the input can be opened.
 fn of_fault(fault: OpenFault) -> Answer {
     match fault {
         OpenFault::NoMemory => Answer::NoMemory,

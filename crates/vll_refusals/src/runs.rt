@@ -21,12 +21,12 @@ use vll_workers::{OpenGate, RunFault, Token, run, run_limited};
 
 pub(crate) const CLIENTS: usize = 4;
 
-/// How many calls each client makes.
+/// The number of calls each client makes.
 pub(crate) const CALLS: u32 = 3;
 
 const WORKERS: u32 = 8;
 
-/// How many starts of a thread `run_limited` may try: if the only one is refused, it returns `Spawn`.
+/// The number of thread starts that `run_limited` may try: if the only one fails, it returns `Spawn`.
 pub(crate) const STARTS: u32 = 1;
 
 // Four clients that change one record three times each.
@@ -44,7 +44,7 @@ pub(crate) fn four_clients(alloc: Global) -> Result<Scenario, ScenarioFault> {
     read_scenario(alloc, &mut Plain::new(FOUR_CLIENTS.as_bytes()))
 }
 
-/// Has the four clients' calls made, by `run_limited` if the starts have a bound, and else by `run`.
+/// Runs the calls of the four clients, with `run_limited` if the starts have a bound, else with `run`.
 pub(crate) fn run_clients<R: Print + AllocGlobal + Threads + Wait + Sync>(
     rt: &R,
     starts: Option<u32>,
@@ -54,7 +54,7 @@ pub(crate) fn run_clients<R: Print + AllocGlobal + Threads + Wait + Sync>(
     run_named::<Brand, R>(rt, rt.alloc(), opening, scripts, starts)
 }
 
-// The run in an engine of this name.
+// Runs them in an engine of this name.
 fn run_named<N: Name + Send + Sync, R: Print + Threads + Wait + Sync>(
     rt: &R,
     alloc: Global,
@@ -108,8 +108,7 @@ fn are_through(tokens: &[Token]) -> bool {
     tokens.len() == CLIENTS
 }
 
-// Whether the tokens are in the order in which they were handed in, the last client's first, and none has entered a
-// call.
+// Whether the tokens are in the order in which they were passed, the last client's first, and none has entered a call.
 fn are_as_they_came(tokens: &[Token]) -> bool {
     for (client, token) in tokens.iter().rev().enumerate() {
         if token.client() as usize != client || token.next() != 0 {
@@ -124,7 +123,7 @@ fn is_done(closed: &Closed) -> bool {
     counts_up(closed.journal.as_slice(), 12) && holds(closed, 12)
 }
 
-/// Whether so many calls have added 1 each, in the order of entry.
+/// Whether `calls` calls have added 1 each, in the order of entry.
 pub(crate) fn counts_up(journal: &[Line], calls: usize) -> bool {
     for (ticket, line) in journal.iter().enumerate() {
         if !replies(line, ticket as u64) {

@@ -1,4 +1,4 @@
-//! The calls that read or write a text.
+//! The functions that read or write a text.
 use crate::answer::Answer;
 use crate::unready::Unready;
 use crate::{begin, end};
@@ -11,7 +11,7 @@ use vll_server::{
 };
 use vll_workers::{OpenGate, RunFault};
 
-// A transfer, and then a read of both records. What is not called has lists within lists.
+// A transfer, and then a read of both records. A procedure that is not called has nested lists.
 const TRANSFER: &str = r#"{"version":2,"records":[100,50],
  "procs":[
   {"name":"transfer","args":3,"keys":[["write","arg",0],["write","arg",1]],
@@ -111,7 +111,7 @@ pub(crate) fn replayed<R: Print + AllocGlobal>(rt: &R) -> Result<Answer, Unready
     Ok(of_text(answer, taken.as_slice(), left, REPLAYED))
 }
 
-// The answer, if the whole text was written with ample memory, and nothing without.
+// Returns this answer if the whole text was written with ample memory, or nothing without.
 fn of_text(answer: Answer, taken: &[u8], left: usize, text: &str) -> Answer {
     match answer {
         Answer::Ample => answer.only_if(left == 0 && taken == text.as_bytes()),

@@ -5,7 +5,7 @@ use vll_core::OpenFault;
 use vll_engine::EngineFault;
 use vll_server::ScenarioFault;
 
-/// The call could not be made: what it needs was not there.
+/// The function could not be called: what it needs could not be made.
 #[derive(Clone, Copy, Debug, PartialEq, Eq)]
 pub(crate) struct Unready;
 

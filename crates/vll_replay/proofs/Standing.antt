@@ -1,4 +1,4 @@
--- The text of what stands at the end of a replay, call by call and record by record.
+-- The text of the state at the end of a replay, call by call and record by record.
 use Rattle.std.proofs.Common.{◌≡◌, ℕ, zero, suc, ◌+◌, ◌*◌, ◌<◌, ◌≤◌, List, [], ◌∷◌, ◌++◌, map, length, drop, get_or, Option, Some, None, slice_index, refl, sym, ap, ap₂, ◌∙◌, arith, add-zero, zero-add, add-one, append_assoc, drop-cons, if◌then◌else◌}
 use Rattle.std.specs.List.{enumerate_from, flat_map, slice_get}
 use Rattle.std.specs.Option.{option_map}
@@ -17,7 +17,7 @@ use Rattle.vll_replay.specs.ReplayText.{call_words, status_text}
 use Rattle.vll_replay.specs.Private.ReplayText.{standing_text}
 use Rattle.vll_replay.specs.Text.{call_line, record_line}
 
--- the texts of items from one on, each made of what the item and its number give
+-- the texts of the items from one on, each made of the item's result and its number
 abbrev pub texts_from : {A B : Type 0} → (ℕ × B → List ℕ) → (ℕ × A → B) → List A → ℕ → List ℕ
 texts_from f g xs i = flat_map f (enumerate_from i (map g (enumerate_from i (drop i xs))))
 
@@ -36,7 +36,7 @@ texts_from-next f g xs i x words old new whole is told grown so_far =
     ∙ ap (λ t. old ++ t) (sym (texts_from-drop f g xs i x is))
     ∙ so_far
 
--- nothing comes behind the last item
+-- nothing follows the last item
 pub texts_from-end : {A B : Type 0} (f : ℕ × B → List ℕ) (g : ℕ × A → B) (xs : List A) (i : ℕ) (old whole : List ℕ) → length xs ≤ i → old ++ texts_from f g xs i ≡ whole → old ≡ whole
 texts_from-end f g xs i old whole past so_far =
     let nothing : texts_from f g xs i ≡ [] = rw (drop_all i xs past) refl in
@@ -50,7 +50,7 @@ slice_get-enumerated n (x ∷ xs) (suc k) =
     let rest : slice_get (enumerate_from (n + 1) xs) k ≡ option_map (λ y. (n + 1 + k, y)) (slice_get xs k) = slice_get-enumerated (n + 1) xs k in
     rw (← same) rest
 
--- the call that a line of the journal is of
+-- the call to which a line of the journal belongs
 entered_at : (b : Base) (s : State) (t : ℕ) (l : Line) → slice_get (journal_of b s) t ≡ Some l → (e : Entered) × (slice_get s.entries t ≡ Some e) × (l ≡ line_of b s (t, e))
 entered_at b s t l is = there (slice_get s.entries t) refl
   where
@@ -66,7 +66,7 @@ standing Running reply = refl
 standing Waiting reply = refl
 standing Gone reply = refl
 
--- a line of the journal and where its call stands tell what stands for the call
+-- a line of the journal and the status of its call give the words of the call
 call_words-told : (b : Base) (s : State) (t : ℕ) (l : Line) (status : Option Status) (e : Entered) → l ≡ line_of b s (t, e) → status ≡ Some e.status → (l.client, standing_text l.reply status) ≡ call_words b s (t, e)
 call_words-told b s t l status e is stands =
     ap₂ (λ (line : Line) (o : Option Status). (line.client, standing_text line.reply o)) is stands ∙ ap (λ words. (e.client, words)) (standing e.status (reply_at b s t e))

@@ -15,7 +15,7 @@ steps-drop o s events i e is =
     let within : i < length events = slice_get_within events i e is in
     rw (add-one, drop-cons events i e within, get_or_from_slice_get events i e e is) refl
 
--- what was seen so far is some steps, and with those to come they are all
+-- what was seen so far is some steps, and together with those to come they are all the steps
 abbrev pub HasSeen : (List Step → Type 0) → List Step → List Step → Type 0
 HasSeen Saw to_come all = (done : List Step) × Saw done × (done ++ to_come ≡ all)
 

@@ -1,4 +1,4 @@
--- What a replay comes to: the scenario that was read, and the text that its schedule gives.
+-- The result of a replay: the scenario that was read, and the text of its schedule.
 use Rattle.std.specs.Prelude.{ℕ, List, Option, Ok}
 use Rattle.vll_sca.specs.Placing.{placing}
 use Rattle.vll_core.specs.State.{Opening}

@@ -1,4 +1,4 @@
--- The text of a replay: a line for each event of the schedule, and the outcome of what stands at its end.
+-- The text of a replay: a line for each event of the schedule, and the outcome of the state at its end.
 use Rattle.std.specs.Prelude.{ℕ, List, ◌∷◌, [], ◌++◌, map, Result, Ok, Err, Bool, true, false, codes}
 use Rattle.std.specs.List.{flat_map, enumerate_from}
 use Rattle.std.specs.Fmt.{decimal}
@@ -45,7 +45,7 @@ refusal_text NotRunning = codes "not running"
 refusal_text OutOfStep = codes "out of step"
 refusal_text Idle = codes "idle"
 
--- what an event is answered
+-- the answer to an event
 abbrev pub event_text : Result Seen Refusal → Text
 event_text (Ok seen) = seen_text seen
 event_text (Err why) = codes "refused " ++ refusal_text why
@@ -54,22 +54,22 @@ event_text (Err why) = codes "refused " ++ refusal_text why
 abbrev pub event_line : ℕ × Result Seen Refusal → Text
 event_line (i, told) = decimal i ++ 32 ∷ event_text told ++ 10 ∷ []
 
--- what stands for a call: its reply once it is gone, and else its status
+-- the words of a call's state: its reply once it is gone, else its status
 abbrev pub status_text : Status → Reply → Text
 status_text Gone reply = reply_text reply
 status_text Running reply = codes "running"
 status_text Waiting reply = codes "waiting"
 
--- an entered call's client, and what stands for the call
+-- an entered call's client, and the words of the call's state
 abbrev pub call_words : Base → State → ℕ × Entered → ℕ × Text
 call_words b s (t, e) = (e.client, status_text e.status (reply_at b s t e))
 
--- the outcome of what stands in a state
+-- the outcome of a state
 abbrev pub state_text : Base → State → Text
 state_text b s =
     outcome_text (map (call_words b s) (enumerate_from 0 s.entries)) (map (λ (p : ℕ × ℕ). (value b s p.0, counter s p.0)) (enumerate_from 0 b.records))
 
--- a line for each event of the schedule, and the outcome of what stands at its end
+-- a line for each event of the schedule, and the outcome of the state at its end
 abbrev pub replay_text : Opening → List (List Call) → List Event → Text
 replay_text o scripts events =
     flat_map event_line (enumerate_from 0 (answers o (opened scripts) events)) ++ state_text o.base (run o (opened scripts) events)

@@ -5,7 +5,7 @@ ghost use Rattle.vll_replay.specs.ReplayText.{event_line, event_text, grant_text
 use std::alloc::AllocError;
 use vll_core::{Refusal, Seen, Ticket};
 
-// Each of these appends one part of the text of a replay. After an error a beginning of that part may be there.
+// Each of these appends one part of the text of a replay. After an error a prefix of that part may have been appended.
 
 fn push_claimed(text: &mut String, old: u64, granted: bool) -> Result<(), AllocError>
     ensures { OnOk result (string_bytes text.new ≡ string_bytes text.old ++ (codes "claimed " ++ decimal old ++ grant_text granted)) }
@@ -38,7 +38,7 @@ fn push_seen(text: &mut String, seen: &Seen) -> Result<(), AllocError>
     }
 }
 
-/// The words of a refusal.
+/// Returns the words of a refusal.
 pub fn refusal_words(why: Refusal) -> &'static str
     ensures { result.now ≡ refusal_text why }
 {
@@ -54,7 +54,7 @@ pub fn refusal_words(why: Refusal) -> &'static str
     }
 }
 
-/// Appends what an event was answered, or why it was refused. After `AllocError` a beginning of it may be there.
+/// Appends the answer to an event, or why the event was refused. After `AllocError` a prefix may have been appended.
 pub fn push_answer(text: &mut String, told: &Result<Seen, Refusal>) -> Result<(), AllocError>
     ensures { OnOk result (string_bytes text.new ≡ string_bytes text.old ++ event_text told.now) }
 {
@@ -67,8 +67,8 @@ pub fn push_answer(text: &mut String, told: &Result<Seen, Refusal>) -> Result<()
     }
 }
 
-/// Appends the line of an event of a replay, with its number: what it was answered, or why it was refused. After
-/// `AllocError` a beginning of the line may be there.
+/// Appends the line of an event of a replay, with its number: its answer, or why it was refused. After `AllocError` a
+/// prefix of the line may have been appended.
 pub fn push_event_line(
     text: &mut String,
     index: usize,

@@ -10,16 +10,16 @@ use std::alloc::AllocError;
 use vll_core::{Core, Event, Refusal, Seen};
 use vll_sca::Placing;
 
-/// Watches the machine of a replay. Before each event it is shown the machine and the event, and after it the machine
-/// and what that answered; it can change neither. It fails for want of memory alone.
+/// Watches the machine of a replay. Before each event it sees the machine and the event, and after it the machine and
+/// its answer; it can change neither. It fails only if memory runs out.
 pub trait Observer {
-    // What it may be set to do.
+    // What an observer may be set to do.
     ghost Task: { Type 0 };
 
     // It was set to do this, and has seen these steps of a machine with this opening.
     ghost saw: { Task → Opening → List Step → Self → Type 0 };
 
-    // It has also seen the state that the machine has now, and the event that is to come.
+    // It has also seen the machine's current state and the event that comes next.
     ghost looks: { Task → Opening → List Step → State → Event → Self → Type 0 };
 
     /// Looks at the machine before an event.
@@ -27,7 +27,7 @@ pub trait Observer {
         ensures { OnOk result ((task : Task) (past : List Step) → saw task (opening_of placing core.now) past self.old
             → looks task (opening_of placing core.now) past core.now.state event.now self.new) };
 
-    /// Looks at it after the event, and at what it answered.
+    /// Looks at the machine after the event, and at its answer.
     fn after(
         &mut self,
         core: &Core<Placing>,

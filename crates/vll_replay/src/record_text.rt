@@ -4,7 +4,7 @@ ghost use Rattle.vll_replay.specs.Text.{record_line};
 use std::alloc::AllocError;
 
 /// Appends the line of a record of an outcome, with its number, its value and its pair word. After `AllocError` a
-/// beginning of the line may be there.
+/// prefix of the line may have been appended.
 pub fn push_record_line(
     text: &mut String,
     index: usize,

@@ -1,4 +1,4 @@
-// The text of a replay, appended part by part. After an error a beginning of a part may be there.
+// The text of a replay, appended part by part. After an error a prefix of a part may have been appended.
 ghost use Rattle.std.specs.Prelude.{◌≡◌, ◌+◌, ◌*◌, ◌++◌, ℕ, OnOk, length, map, string_bytes};
 ghost use Rattle.std.specs.List.{enumerate_from, flat_map};
 ghost use Rattle.vll_sca.specs.Placing.{placing};
@@ -12,8 +12,8 @@ use std::alloc::AllocError;
 use vll_core::{Core, Line, Ticket};
 use vll_sca::{Placing, Status};
 
-/// Appends the outcome of what stands: a line for each entered call, with its reply, or whether it runs or waits, and
-/// one for each record. After `AllocError` a beginning of it may be there.
+/// Appends the outcome of the machine's current state: a line for each entered call, with its reply, or whether it runs
+/// or waits, and one for each record. After `AllocError` a prefix of it may have been appended.
 pub fn push_state(text: &mut String, core: &Core<Placing>) -> Result<(), AllocError>
     ensures { OnOk result (string_bytes text.new ≡ string_bytes text.old ++ state_text core.now.base core.now.state) }
 {

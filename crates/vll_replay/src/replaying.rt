@@ -1,4 +1,4 @@
-// A replay: a scenario in, and what the machine of atomic steps answers to its schedule out.
+// A replay: reads a scenario, and writes the answers of the machine of atomic steps to its schedule.
 ghost use Rattle.std.specs.Prelude.{◌≡◌, ◌↔◌, [], false, true, Err, IfOk, OnOk, string_bytes};
 ghost use Rattle.std.specs.Io.KnownBytes.{Appends};
 ghost use Rattle.vll_sca.specs.Placing.{placing};
@@ -22,13 +22,13 @@ use vll_core::{Core, Event, OpenFault};
 use vll_sca::Placing;
 use vll_scenario::{Scenario, ScenarioParts, Sink, Source, read_scenario, write_text};
 
-/// Reads a scenario, takes the steps of its schedule one after the other on the machine of atomic steps, and
-/// writes a line for each, refused ones among them, and then the outcome of what stands at the end: a line for
-/// each entered call, and one for each record. docs/SCENARIO.md describes the text.
+/// Reads a scenario, takes the steps of its schedule one after the other on the machine of atomic steps, and writes a
+/// line for each, refused ones included, and then the outcome of the state at the end: a line for each entered call,
+/// and one for each record. docs/SCENARIO.md describes the text.
 ///
-/// The text is made whole before its first byte is written. After `Scenario` and `NoMemory` nothing has been
-/// written, and after `Write` a beginning of the text. `Scenario` is what `read_scenario` answers, `NoMemory` is for
-/// want of memory once a scenario was read, and `Write` comes exactly if the writer has failed.
+/// The whole text is built before its first byte is written. After `Scenario` and `NoMemory` nothing has been written,
+/// and after `Write` a prefix of the text. `Scenario` carries the fault that `read_scenario` returned, `NoMemory` means
+/// that memory ran out after a scenario was read, and `Write` is returned exactly if the writer has failed.
 pub fn replay<S: Source, W: Sink>(
     alloc: Global,
     reader: &mut S,
@@ -52,7 +52,7 @@ pub fn replay<S: Source, W: Sink>(
     write_text(writer, text.as_bytes()).map_err(|_| ReplayFault::Write)
 }
 
-// The text of a scenario's replay that nobody watches.
+// The text of a scenario's replay without an observer.
 fn unwatched_text(alloc: Global, scenario: Scenario) -> Result<String, AllocError>
     ensures { IfOk result (λ text. string_bytes text ≡ text_of_setup scenario) }
 {
@@ -60,8 +60,8 @@ fn unwatched_text(alloc: Global, scenario: Scenario) -> Result<String, AllocErro
     Ok(text)
 }
 
-/// The text of a scenario's replay, and the machine as it stands at its end. The observer is shown each event of the
-/// schedule, and changes nothing of the text.
+/// Returns the text of a scenario's replay, and the machine in its state at the end. The observer is shown each event
+/// of the schedule, and does not change the text.
 pub fn text_of_replay<O: Observer>(
     alloc: Global,
     scenario: Scenario,
@@ -81,7 +81,7 @@ pub fn text_of_replay<O: Observer>(
     Ok((text, core))
 }
 
-/// The machine of a scenario, with nothing entered, and the scenario's schedule.
+/// Returns the machine of a scenario, with no call entered, and the scenario's schedule.
 pub fn core_of(
     alloc: Global,
     scenario: Scenario,

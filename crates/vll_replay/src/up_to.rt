@@ -17,7 +17,7 @@ impl<const MOST: u32> Model for UpTo<MOST> {
 }
 
 impl<const MOST: u32> UpTo<MOST> {
-    /// The number, or `None` if it is 0 or greater than `MOST`.
+    /// Returns the number as an `UpTo`, or `None` if it is 0 or greater than `MOST`.
     pub fn new(number: u32) -> Option<UpTo<MOST>>
         ensures some { IsSome result ↔ ((1 ≤ number) × (number ≤ MOST)) }
         ensures value { IfSome result (λ n. n ≡ number) }
@@ -29,7 +29,7 @@ impl<const MOST: u32> UpTo<MOST> {
         }
     }
 
-    /// The number, from 1 to `MOST`.
+    /// Returns the number, from 1 to `MOST`.
     pub fn get(self) -> u32
         ensures value { result ≡ self.entry }
         ensures least { 1 ≤ result }

@@ -1,4 +1,4 @@
-// The events of a schedule, made one after the other while an observer watches.
+// The events of a schedule, performed one after the other while an observer watches.
 ghost use Rattle.std.specs.Prelude.{◌≡◌, ◌++◌, ◌∷◌, [], List, OnOk, string_bytes};
 ghost use Rattle.std.specs.List.{enumerate_from, flat_map};
 ghost use Rattle.vll_sca.specs.Placing.{placing};
@@ -13,7 +13,7 @@ use std::alloc::AllocError;
 use vll_core::{Core, Event};
 use vll_sca::Placing;
 
-// Makes the events one after the other, shows each to the observer, and appends a line for each.
+// Performs the events one after the other, shows each to the observer, and appends a line for each.
 pub(crate) fn push_event_lines<O: Observer>(
     text: &mut String,
     core: &mut Core<Placing>,
@@ -32,7 +32,7 @@ pub(crate) fn push_event_lines<O: Observer>(
     Ok(())
 }
 
-// Makes an event, shows it to the observer, and appends its line.
+// Performs an event, shows it to the observer, and appends its line.
 fn push_event<O: Observer>(
     text: &mut String,
     core: &mut Core<Placing>,

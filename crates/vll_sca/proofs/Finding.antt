@@ -1,4 +1,4 @@
--- The first entry that may run, as a loop over the entries comes to know it by the marks.
+-- The first entry that may run, as a loop over the entries finds it by the marks.
 use Rattle.std.proofs.Common.{◌≡◌, ℕ, ◌+◌, ◌<◌, ◌≤◌, Bool, true, false, not, ◌&&◌, List, [], length, map, take, get_or, Option, Some, None, unwrap_or, sym, ap, ◌∙◌, zero-add, arith, lt-ltb, le-ltb, inl, inr}
 use Rattle.std.specs.List.{list_any, enumerate_from, position_or_len}
 use Rattle.std.proofs.lemmas.Bool.{cases_eq, cond-true, cond-false}

@@ -1,4 +1,5 @@
--- A scan that finds nothing still finds nothing once a waiting entry runs, or once one that does not wait stands last.
+-- A scan that finds nothing still finds nothing once a waiting entry runs, or once one that does not wait is added at
+-- the end.
 use Rattle.std.proofs.Common.{◌≡◌, ℕ, zero, suc, Bool, true, false, not, ◌&&◌, ◌||◌, cond, List, [], ◌∷◌, ◌++◌, slice_get, slice_set, Option, Some, None, refl, sym, ap, ◌∙◌, subst}
 use Rattle.std.proofs.lemmas.Bool.{true≢false}
 use Rattle.std.proofs.lemmas.Option.{none-some, same_Some}
@@ -52,7 +53,7 @@ module _ (place : ℕ → ℕ) (bits : ℕ) where
       none_with (is_waiting d.status && not (held d || false)) m (first_number place bits (past place bits held d) xs) (first_number place bits (past place bits held d) (slice_set xs i (n, running e)))
       (started (past place bits held d) xs i n e at waits) none
 
-  -- behind all others stands one more that does not wait
+  -- one more that does not wait is added at the end
   pub none_after_push : (xs : List (ℕ × Entry)) (n : ℕ) (e : Entry) → is_waiting e.status ≡ false
       → scan_numbered place bits xs ≡ None → scan_numbered place bits (xs ++ (n, e) ∷ []) ≡ None
   none_after_push xs n e idle none =

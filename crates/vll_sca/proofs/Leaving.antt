@@ -1,4 +1,4 @@
--- Entries that are gone can be left out of a scan wherever they stand: it finds the same entry.
+-- Entries that are gone can be left out of a scan wherever they are: it finds the same entry.
 use Rattle.std.proofs.Common.{◌≡◌, ℕ, suc, ◌+◌, Bool, true, false, not, ◌&&◌, ◌||◌, cond, List, [], ◌∷◌, map, take, slice_get, Option, Some, None, option_map, position, refl, sym, ap, ap₂, ◌∙◌}
 use Rattle.std.proofs.lemmas.Bool.{and_left}
 use Rattle.std.specs.List.{list_any, enumerate_from, filter}
@@ -12,11 +12,11 @@ or_joined true b c = refl
 or_joined false b c = refl
 
 module _ (place : ℕ → ℕ) (bits : ℕ) where
-  -- the entry at place i may run, where some others are held back from the start
+  -- the entry at place i may run, if those for which `held` is true are held back from the start
   abbrev may_run_past : (Entry → Bool) → List Entry → ℕ × Entry → Bool
   may_run_past held entries (i, e) = is_waiting e.status && not (held e || list_any (λ d. holds_back place bits d e) (take i entries))
 
-  -- who is held back once an entry is passed
+  -- which entries are held back once an entry is passed
   abbrev pub past : (Entry → Bool) → Entry → Entry → Bool
   past held e d = held d || holds_back place bits e d
 
@@ -61,7 +61,7 @@ module _ (place : ℕ → ℕ) (bits : ℕ) where
           ∙ (one_later (n, e) xs (position (may_run_past (past held e) (entries_of xs)) (enumerate_from 0 (entries_of xs)))
           ∙ (rest ∙ sym (ap (λ (b : Bool). cond b (Some n) (first_number (past held e) xs)) is)))
 
-  -- who is held back counts by who it is alone
+  -- two tests that hold back the same entries find the same number
   pub held_alike : (h k : Entry → Bool) (xs : List (ℕ × Entry)) → ((d : Entry) → h d ≡ k d) → first_number h xs ≡ first_number k xs
   held_alike h k [] same = refl
   held_alike h k ((n, e) ∷ xs) same =

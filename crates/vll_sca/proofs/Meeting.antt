@@ -93,7 +93,7 @@ marked_then_not : (t old : Bool) → old ≡ false → cond t false (cond t true
 marked_then_not true old clear = refl
 marked_then_not false old clear = clear
 
--- bits that are marked and then cleared are clear, where all were
+-- bits that are marked and then cleared are clear, if all were clear before
 cleared : (ks : List ℕ) (bits : List Bool) → All (λ b. b ≡ false) bits → All (λ b. b ≡ false) (with_bits false ks (with_bits true ks bits))
 cleared ks bits clear =
     All-from_get_or (λ b. b ≡ false) _ false
@@ -168,7 +168,7 @@ among_by : (k : ℕ) (m : Mode) (cs : List Claim) (y : Claim) → IsAmong cs y �
 among_by k Read cs y h = read_step (k == y.id) (is_write y) (list_any (λ j. j == y.id) (written cs)) (list_any (λ j. j == y.id) (read cs)) _ h
 among_by k Write cs y h = write_step (k == y.id) (is_write y) (list_any (λ j. j == y.id) (written cs)) (list_any (λ j. j == y.id) (read cs)) _ h
 
--- that is to be in conflict with one of the claims
+-- which means that it conflicts with one of the claims
 among_is_conflict : (cs : List Claim) (y : Claim) → IsAmong cs y ≡ list_any (λ x. conflicts x y) cs
 among_is_conflict [] y = and_false (is_write y)
 among_is_conflict (x ∷ cs) y = among_by x.id x.mode cs y (among_is_conflict cs y)
@@ -248,7 +248,7 @@ module _ (b : Bool) (h : Claim → Claim) (cs : List Claim) (i : ℕ) (before m 
     room = subst (HasRoom n) (sym marked) (HasRoom-with_claims b (h c ∷ []) n m room);
   }
 
-  -- there is no claim more
+  -- there is no further claim
   pub no_claim_is_left : None ≡ slice_get cs i → m ≡ with_claims b (map h (take i cs)) before → HasRoom n m → new ≡ m → ClaimMarked
   no_claim_is_left past so_far room same = record {
     so_far = same ∙ so_far ∙ sym (ap (λ ds. with_claims b (map h ds) before) (take_past cs i past));

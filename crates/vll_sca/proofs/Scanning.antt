@@ -1,4 +1,4 @@
--- What the scan finds: it waits and is clear, and what is gone at the front only moves the answer.
+-- What the scan finds: it waits and is clear, and entries at the front that are gone only move its index.
 use Rattle.std.proofs.Common.{◌≡◌, ℕ, zero, suc, ◌+◌, ◌<◌, ◌%◌, Bool, true, false, not, ◌&&◌, ◌||◌, ◌==◌, nat_lt, cond, List, [], ◌∷◌, ◌++◌, length, map, take, slice_get, Option, Some, None, option_map, position, All, refl, sym, ap, ap₂, ◌∙◌, zero-add, subst, arith, eq-eqb, lt-ltb, le-ltb, ltb-true, ltb-false}
 use Rattle.std.proofs.lemmas.Bool.{true≢false, both_ways, and_parts, and_from, and_left, or_left, or_right, not-true, false_from_ne_true, eqb-true, cond-true, cond-false}
 use Rattle.std.proofs.lemmas.List.FromFn.{length-enumerate_from, get_or-enumerate_from}
@@ -18,7 +18,7 @@ one_in_map : {X Y : Type 0} (p : X → Bool) (q : Y → Bool) (h : X → Y) (x :
 one_in_map p q h x xs one rest true is found = or_left (q (h x)) _ (one is)
 one_in_map p q h x xs one rest false is found = or_right (q (h x)) _ (rest found)
 
--- where the image of what passes passes, a list that has one that passes has it in its image
+-- if the image of each item that passes passes, a list with an item that passes has an image with one
 any_in_map : {X Y : Type 0} (p : X → Bool) (q : Y → Bool) (h : X → Y) (xs : List X)
     → ((x : X) → p x ≡ true → q (h x) ≡ true) → list_any p xs ≡ true → list_any q (map h xs) ≡ true
 any_in_map p q h [] one found = absurd (true≢false (sym found))
@@ -42,7 +42,7 @@ any_below p [] (suc i) j d below here is = absurd (none-some d here)
 any_below p (x ∷ xs) (suc i) zero d below here is = or_left _ _ (ap p (same_Some x d here) ∙ is)
 any_below p (x ∷ xs) (suc i) (suc j) d below here is = or_right (p x) _ (any_below p xs i j d (omega (arith, below)) here is)
 
--- tests that agree one place apart find one and the same
+-- tests that agree one place apart find the same item
 abbrev pub Shifted : {X : Type 0} → (p q : ℕ × X → Bool) → Type 0
 Shifted {X} p q = (i : ℕ) (x : X) → p (suc i, x) ≡ q (i, x)
 

@@ -1,4 +1,4 @@
--- Whether one of a list passes, as a loop comes to know it item by item.
+-- Whether one of a list passes, as a loop finds it item by item.
 use Rattle.std.proofs.Common.{◌≡◌, ℕ, zero, suc, ◌+◌, Bool, true, false, List, [], ◌∷◌, map, take, slice_get, Some, None, refl, sym, ap, ◌∙◌, subst, arith}
 use Rattle.std.specs.List.{list_any}
 use Rattle.std.proofs.lemmas.Bool.{or_left, or_right, or_from, or_parts}

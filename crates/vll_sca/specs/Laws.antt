@@ -1,4 +1,4 @@
--- What holds of every scan, whatever the places and the number of bits: a collision only holds an entry back.
+-- What holds for every scan, whatever the places and the number of bits: a collision can only hold an entry back.
 use Rattle.std.specs.Prelude.{◌≡◌, ℕ, ◌+◌, ◌<◌, true, false, List, ◌++◌, length, Some, slice_get, option_map, All, not}
 use Rattle.std.specs.List.{filter}
 use Rattle.vll_record.specs.Claim.{conflict}
@@ -31,13 +31,13 @@ ScannedEntryIsClear =
     → scan place bits entries ≡ Some i → slice_get entries i ≡ Some e
     → (j : ℕ) (d : Entry) → j < i → slice_get entries j ≡ Some d → is_gone d.status ≡ false → conflict d.claims e.claims ≡ false
 
--- behind entries that are all gone, the scan finds what it finds in the rest alone
+-- after entries that are all gone, the scan finds what it finds in the rest alone
 abbrev pub GoneBeginningsDoNotMatter : Type 0
 GoneBeginningsDoNotMatter =
     (place : ℕ → ℕ) (bits : ℕ) (xs ys : List Entry) → All (λ (x : Entry). is_gone x.status ≡ true) xs
     → scan place bits (xs ++ ys) ≡ option_map (λ i. length xs + i) (scan place bits ys)
 
--- among entries beside numbers, those that are gone can be left out: the scan finds the same number
+-- among numbered entries, those that are gone can be left out: the scan finds the same number
 abbrev pub GoneEntriesDoNotMatter : Type 0
 GoneEntriesDoNotMatter =
     (place : ℕ → ℕ) (bits : ℕ) (numbered : List (ℕ × Entry))

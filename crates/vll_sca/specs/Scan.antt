@@ -27,6 +27,6 @@ module _ (place : ℕ → ℕ) (bits : ℕ) where
   abbrev pub scan : List Entry → Option ℕ
   scan entries = position (may_run entries) (enumerate_from 0 entries)
 
-  -- the number of the entry that the scan finds, if each entry stands beside a number
+  -- the number of the entry that the scan finds, if each entry has a number
   abbrev pub scan_numbered : List (ℕ × Entry) → Option ℕ
   scan_numbered numbered = elim (scan (map (λ x. x.1) numbered)) [ None ↦ None | Some i ↦ slice_get (map (λ x. x.0) numbered) i ]

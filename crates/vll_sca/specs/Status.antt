@@ -1,4 +1,4 @@
--- Where an entered call stands, as tests.
+-- The status of an entered call, as tests.
 use Rattle.std.specs.Prelude.{Bool, true, false}
 use Rattle.vll_sca.specs.declared.status.Status.{Status}
 use Rattle.vll_sca.specs.declared.status.Status.TheVariants.{Running, Waiting, Gone}

@@ -14,10 +14,10 @@ pub const MOST_BITS: u32 = 1_048_576;
 // As docs/SCENARIO.md says.
 const _: () = prove!(MOST_BITS == 1_048_576);
 
-// Clearing so many bits takes about as long as taking the marks of one entry back.
+// Clearing this many bits takes about as long as clearing the marks of one entry.
 const BITS_OF_AN_ENTRY: u32 = 1_024;
 
-/// The room for a scan: two arrays of bits that records share. Contracts see the number of bits.
+/// The room for scans: two arrays of bits that records share. Contracts see the number of bits.
 #[derive(Drop)]
 pub struct Bits {
     count: u32,
@@ -42,13 +42,13 @@ impl Model for Bits {
 pub enum BitsFault {
     /// The number of bits is not 1 to `MOST_BITS`.
     Size,
-    /// Memory was refused.
+    /// An allocation failed.
     NoMemory,
 }
 
 impl Bits {
-    /// Room for scans over this many bits. `Size` comes exactly if the number is not 1 to `MOST_BITS`, before
-    /// any memory is asked for. The only other fault is `NoMemory`.
+    /// Allocates room for scans over `n` bits. Fails with `Size` exactly if `n` is not 1 to `MOST_BITS`, before any
+    /// memory is requested. The only other fault is `NoMemory`.
     pub fn new(alloc: Global, n: u32) -> Result<Bits, BitsFault>
         ensures size { result ≡ Err BitsFault.Size ↔ ¬ ((1 ≤ n) × (n ≤ MOST_BITS)) }
         ensures made { (result ≡ Ok n) ⊎ (result ≡ Err BitsFault.Size) ⊎ (result ≡ Err BitsFault.NoMemory) }
@@ -60,18 +60,18 @@ impl Bits {
         Ok(Bits { count: n, marks })
     }
 
-    /// The place of the first waiting entry that is in hash conflict with no earlier entry that is running or
-    /// waiting, and `None` if there is none. Two entries are in hash conflict if a claim of one and a
-    /// claim of the other have the same place, modulo the number of bits, and at least one of the two is Write.
-    /// So a collision can only hold an entry back. What an earlier scan left has no effect; no memory is taken.
-    /// What it costs grows with the entries that it passes, and not with the number of bits.
+    /// Returns the index of the first waiting entry that is in hash conflict with no earlier entry that is running or
+    /// waiting, or `None` if there is none. Two entries are in hash conflict if a claim of one and a claim of the other
+    /// have the same place, modulo the number of bits, and at least one of the two is Write. So a collision can only
+    /// hold an entry back. Earlier scans have no effect. Allocates nothing. The cost grows with the number of entries
+    /// passed, not with the number of bits.
     pub fn scan<H: Place, E: Entries>(&mut self, hash: &H, entries: &E) -> Option<usize>
         ensures found { result ≡ scan (H.place_of hash.now) self.old (E.entries_of entries.now) }
         ensures same { self.new ≡ self.old }
     {
         let found = self.marks.first_clear(hash, self.count, entries);
         let passed = found.unwrap_or(entries.len());
-        // Both leave no mark; the one that costs less is taken.
+        // Both leave no mark; the cheaper one is used.
         if passed > (self.count / BITS_OF_AN_ENTRY) as usize {
             self.marks.clear_all();
         } else {

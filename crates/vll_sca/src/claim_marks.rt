@@ -21,7 +21,7 @@ pub(crate) struct ClaimMarks {
 }
 
 impl ClaimMarks {
-    /// Bits for the places below `n`, and none is marked.
+    /// Allocates bits for the places below `n`, none of them marked.
     pub(crate) fn new(alloc: Global, n: usize) -> Result<ClaimMarks, AllocError>
         requires { 1 ≤ n }
         ensures room { IfOk result (HasRoom n) }
@@ -33,8 +33,9 @@ impl ClaimMarks {
         })
     }
 
-    /// The index of the first waiting entry that meets no mark of an earlier one, and `None` if there is none. Each
-    /// entry that is passed is marked after its own test, so that it is met by later entries and not by itself.
+    /// Returns the index of the first waiting entry that meets no mark of an earlier one, or `None` if there is none.
+    /// An entry that is passed is marked after its own test, so that later entries meet its marks and it does not meet
+    /// its own.
     pub(crate) fn first_clear<H: Place, E: Entries>(
         &mut self,
         hash: &H,
@@ -58,7 +59,7 @@ impl ClaimMarks {
         None
     }
 
-    /// Takes back the marks of the first `passed` entries. It tests no mark.
+    /// Clears the marks of the first `passed` entries. It tests no mark.
     pub(crate) fn take_back<H: Place, E: Entries>(
         &mut self,
         hash: &H,
@@ -76,7 +77,7 @@ impl ClaimMarks {
         }
     }
 
-    /// Takes all marks back, in time that grows with the number of bits.
+    /// Clears all marks, in time that grows with the number of bits.
     pub(crate) fn clear_all(&mut self)
         ensures writes { length self.new.writes ≡ length self.old.writes }
         ensures reads { length self.new.reads ≡ length self.old.reads }
@@ -86,7 +87,7 @@ impl ClaimMarks {
         self.reads.clear_all();
     }
 
-    // An entry waits, and none of its claims meets a mark.
+    // Reports whether an entry waits and none of its claims meets a mark.
     fn is_clear<H: Place>(&self, hash: &H, bits: u32, status: Status, claims: &Claims) -> bool
         requires { HasRoom bits self.now }
         ensures { result ≡ (is_waiting status
@@ -95,7 +96,7 @@ impl ClaimMarks {
         matches!(status, Status::Waiting) && !self.meets(hash, bits, claims)
     }
 
-    // Marks the claims of an entry that runs or waits. One that is gone holds none back.
+    // Marks the claims of an entry that runs or waits. One that is gone holds no entry back.
     fn mark<H: Place>(&mut self, hash: &H, bits: u32, status: Status, claims: &Claims)
         requires { HasRoom bits self.old }
         ensures { self.new ≡ with_claims true
@@ -106,7 +107,7 @@ impl ClaimMarks {
         }
     }
 
-    // Takes back what `mark` has marked.
+    // Clears what `mark` has marked.
     fn unmark<H: Place>(&mut self, hash: &H, bits: u32, status: Status, claims: &Claims)
         requires { HasRoom bits self.old }
         ensures { self.new ≡ with_claims false
@@ -117,7 +118,7 @@ impl ClaimMarks {
         }
     }
 
-    // One of these claims meets a mark.
+    // Reports whether one of these claims meets a mark.
     fn meets<H: Place>(&self, hash: &H, bits: u32, claims: &Claims) -> bool
         requires { HasRoom bits self.now }
         ensures { result ≡ list_any (meets self.now) (map (hashed (H.place_of hash.now) bits) claims.now) }

@@ -4,23 +4,23 @@ ghost use Rattle.std.specs.Option.{option_map};
 use crate::status::Status;
 use vll_record::Claims;
 
-/// Entered calls in order, as the analysis reads them, wherever their claims and statuses lie.
+/// Entered calls in order, as the analysis reads them, wherever their claims and statuses are stored.
 pub trait Entries {
     ghost use Rattle.std.specs.Prelude.{List};
     ghost use Rattle.vll_sca.specs.declared.entry.Entry.{Entry};
 
     ghost entries_of: { Self → List Entry };
 
-    /// How many there are.
+    /// Returns the number of entries.
     fn len(&self) -> usize
         ensures { result ≡ length (entries_of self.now) };
 
-    /// Where the one at this index stands.
+    /// Returns the status of the entry at `index`.
     fn status(&self, index: usize) -> Status
         requires { index < length (entries_of self.now) }
         ensures { option_map (λ e. e.status) (slice_get (entries_of self.now) index) ≡ Some result };
 
-    /// The claims of the one at this index.
+    /// Returns the claims of the entry at `index`.
     fn claims(&self, index: usize) -> &Claims
         requires { index < length (entries_of self.now) }
         ensures { option_map (λ e. e.claims) (slice_get (entries_of self.now) index) ≡ Some result.now };

@@ -1,7 +1,7 @@
 use crate::status::Status;
 use vll_record::Claims;
 
-/// An entered call as the analysis sees it: its claims, and where it stands.
+/// An entered call as the analysis sees it: its claims and its status.
 #[derive(Clone, Copy)]
 pub struct Entry {
     pub claims: Claims,

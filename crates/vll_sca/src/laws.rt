@@ -16,13 +16,13 @@ pub fn scanned_entry_waits_and_is_clear()
     ensures clear { ScannedEntryIsClear }
 {}
 
-/// Entries at the front that are gone change nothing but the place of what is found. So they may be left out.
+/// Entries at the front that are gone only change the index of the entry that is found. So they may be left out.
 #[tactic(auto, using(crate::proofs::Scanning::gone_beginnings_do_not_matter))]
 pub fn gone_beginnings_do_not_matter()
     ensures { GoneBeginningsDoNotMatter }
 {}
 
-/// Entries that are gone may be left out wherever they stand: what is found stays the same entry.
+/// Entries that are gone may be left out wherever they are: the scan finds the same entry.
 #[tactic(auto, using(crate::proofs::Leaving::gone_entries_do_not_matter))]
 pub fn gone_entries_do_not_matter()
     ensures { GoneEntriesDoNotMatter }

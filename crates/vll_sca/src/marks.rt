@@ -3,8 +3,8 @@ ghost use Rattle.std.specs.Prelude.{◌≡◌, ◌<◌, ◌≤◌, false, true, 
 use std::alloc::{AllocError, Global};
 use std::marker::Model;
 
-/// A bit for each place, in words of 64. Contracts see them as the list that says of each place whether it is
-/// marked. The list may be longer than what was asked for, by what is left of the last word.
+/// A bit for each place, in words of 64. Contracts see them as the list that says for each place whether it is marked.
+/// The list may be longer than requested, by the rest of the last word.
 #[derive(Drop)]
 pub(crate) struct Marks {
     words: Vec<u64>,
@@ -20,7 +20,7 @@ impl Model for Marks {
 }
 
 impl Marks {
-    /// Bits for the places below `n`, and none is marked.
+    /// Allocates bits for the places below `n`, none of them marked.
     pub(crate) fn new(alloc: Global, n: usize) -> Result<Marks, AllocError>
         ensures room { IfOk result (λ m. n ≤ length m) }
         ensures clear { IfOk result (All (λ b. b ≡ false)) }
@@ -29,7 +29,7 @@ impl Marks {
         Ok(Marks { words })
     }
 
-    /// The place is marked.
+    /// Reports whether the place is marked.
     pub(crate) fn is_set(&self, place: usize) -> bool
         requires { place < length self.now }
         ensures { result ≡ slice_index_or self.now place false }
@@ -46,7 +46,7 @@ impl Marks {
         self.words[place / 64] = word | (1 << (place % 64));
     }
 
-    /// Takes the mark of the place back, if it has one.
+    /// Clears the mark of the place, if it has one.
     pub(crate) fn clear(&mut self, place: usize)
         requires { place < length self.old }
         ensures { self.new ≡ slice_set self.old place false }
@@ -55,7 +55,7 @@ impl Marks {
         self.words[place / 64] = word & !(1 << (place % 64));
     }
 
-    /// Takes all marks back.
+    /// Clears all marks.
     pub(crate) fn clear_all(&mut self)
         ensures room { length self.new ≡ length self.old }
         ensures clear { All (λ b. b ≡ false) self.new }

@@ -4,19 +4,19 @@ use vll_record::RecordId;
 
 /// A hash of records: it gives each record a place.
 ///
-/// The answer is a fixed function of the hash and the record, so that a record never changes its place.
-/// In an array of n bits the record stands at its place modulo n.
+/// The place is a fixed function of the hash and the record, so a record never changes its place. In an array of n bits
+/// the record has the bit at its place modulo n.
 pub trait Place {
     ghost use Rattle.std.specs.Prelude.{ℕ};
 
     ghost place_of: { Self → ℕ → ℕ };
 
-    /// The place of a record. It takes no memory.
+    /// Returns the place of a record. Allocates nothing.
     fn place(&self, r: RecordId) -> u64
         ensures { result ≡ place_of self.now r };
 }
 
-/// Where a record stands among so many places.
+/// Returns a record's place modulo `bits`.
 pub(crate) fn place_modulo<H: Place>(hash: &H, bits: u32, r: RecordId) -> usize
     requires { 1 ≤ bits }
     ensures place { result ≡ H.place_of hash.now r % bits }
@@ -30,7 +30,7 @@ pub(crate) fn place_modulo<H: Place>(hash: &H, bits: u32, r: RecordId) -> usize
 pub enum Placing {
     /// A record's place is its number.
     Modulo,
-    /// Multiplicative hashing: neighbouring records lie far apart.
+    /// Multiplicative hashing: neighbouring records have places far apart.
     Spread,
 }
 
@@ -39,8 +39,8 @@ impl Place for Placing {
 
     ghost place_of = { placing };
 
-    /// The record's number, or the upper half of its product with 11400714819323198485, which is 2^64
-    /// over the golden ratio, modulo 2^64.
+    /// Returns the record's number, or the upper half of its product, modulo 2^64, with 11400714819323198485, which is
+    /// 2^64 over the golden ratio.
     fn place(&self, r: RecordId) -> u64 {
         let number = u64::from(r.0);
         match self {

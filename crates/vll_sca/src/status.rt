@@ -1,4 +1,4 @@
-/// Where an entered call stands.
+/// The status of an entered call.
 #[derive(Clone, Copy, PartialEq, Eq, Debug)]
 pub enum Status {
     /// It has begun, and is not finished.

@@ -5,7 +5,7 @@ use vll_record::{Claim, Claims, RecordId};
 use vll_sca::Status::{self, Gone, Running, Waiting};
 use vll_sca::{Bits, BitsFault, Entries, Entry, Place, Placing};
 
-// An entry with one claim.
+// Returns an entry with one claim.
 fn entry(status: Status, mode: Mode, id: u32) -> Entry {
     let mut claims = Claims::new();
     claims.add(Claim {
@@ -36,7 +36,7 @@ impl Entries for Listed<'_> {
     }
 }
 
-// A hash that gives every record one place.
+// A hash that gives every record the same place.
 #[derive(Clone, Copy)]
 struct Zero;
 

@@ -1,4 +1,4 @@
--- How what is answered for a tree becomes what is answered for its parts, and for its scenario.
+-- How the result for a tree becomes the result for its parts, and for its scenario.
 use Rattle.std.proofs.Common.{◌≡◌, ◌⊎◌, inl, inr, ℕ, suc, Bool, true, false, List, [], ◌∷◌, ◌++◌, length, Option, Some, None, Result, Ok, Err, IfOk, IfErr, IfSome, refl, sym, ap, ◌∙◌, subst, arith, length-append, append-nil, option_map, is_none, if◌then◌else◌, ◌&&◌}
 use Rattle.std.specs.Prelude.{codes}
 use Rattle.serde_json.specs.Data.{Data}

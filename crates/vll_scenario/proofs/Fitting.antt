@@ -46,7 +46,7 @@ found_same o found p e is = sym e ∙ ap (option_map (λ (q : Bor _). q.now)) is
 
 -- ---- scripts
 
--- what the first item gives, and what those behind it give
+-- the result of the first item, and the results of those after it
 split_given : {B F : Type 0} (first : Result B F) (others : Result (List B) F) (ys : List B) → (first >>= (λ y. others >>= (λ zs. Ok (y ∷ zs)))) ≡ Ok ys
     → (y : B) × (zs : List B) × (first ≡ Ok y) × (others ≡ Ok zs) × (y ∷ zs ≡ ys)
 split_given (Ok y) (Ok zs) ys e = (y, zs, refl, refl, cc)

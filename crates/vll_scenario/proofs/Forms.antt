@@ -1,4 +1,4 @@
--- What lists are as forms: their items by number, and none where a list has another length than a form has.
+-- What lists are as forms: their items by number, and none if a list has another length than a form has.
 use Rattle.std.proofs.Common.{◌≡◌, ◌≢◌, ℕ, List, [], ◌∷◌, length, map, get_or, Some, None, Vec, Global, refl, ap, ◌∙◌, arith}
 use Rattle.std.specs.Prelude.{codes}
 use Rattle.std.specs.Str.{bytes_eq}

@@ -1,4 +1,4 @@
--- A way goes from a piece to one that nests less deep, and so it ends.
+-- A way goes from a piece to one that nests less deeply, and so it ends.
 use Rattle.std.proofs.Common.{◌≡◌, ℕ, suc, ◌<◌, ◌≤◌, ◌++◌, ◌==◌, max, Bool, true, false, List, [], ◌∷◌, length, drop, Option, Some, None, Ordering, Less, Equal, Greater, if◌then◌else◌, is_some, option_map, map, refl, sym, ap, subst, subst₂, append-nil, ◌∙◌, ◌+◌, add-one, append_assoc, arith}
 use Rattle.std.specs.Prelude.{⊤, codes}
 use Rattle.std.specs.Ordering.{nat_cmp}
@@ -21,7 +21,7 @@ use Rattle.vll_scenario.specs.Private.Found.{piece_of}
 use Rattle.vll_scenario.specs.Ways.{Leads, LeadsToFault, edition_in, first_faulty}
 use Rattle.vll_scenario.specs.declared.reading.way.Found.{Found}
 
--- how deep a piece nests, and one more; 0 if there is none
+-- one more than how deeply a piece nests; 0 if there is none
 abbrev pub height : Option Piece → ℕ
 height None = 0
 height (Some p) = suc (depth p.value)
@@ -140,7 +140,7 @@ pub next-smaller : (edition : Edition) (now next : Option Found) (f : Found) →
     → height (option_map piece_of next) < height (option_map piece_of now)
 next-smaller edition now next f is found = subst₂ (λ a b. height a < height b) (sym found) (sym (ap (option_map piece_of) is)) (found-less edition (piece_of f))
 
--- a way behind some steps
+-- a way after some steps
 abbrev pub GoesOn : Edition → List Piece → List Step → List Piece → Type 0
 GoesOn edition start steps ps = (rest : List Step) → Leads edition ps rest → Leads edition start (steps ++ rest)
 
@@ -180,7 +180,7 @@ made s k d = record { step = s; kind = k; value = d }
 pub step_is : (list : Kind) (i : ℕ) (s : Step) (k : Kind) (d : Data) → s ≡ item_step list i → Some (made s k d) ≡ Some (made (item_step list i) k d)
 step_is list i s k d is = ap (λ t. Some (made t k d)) is
 
--- ---- what lies behind a word
+-- ---- what follows a word
 
 pub items_len-view : (vs : List Value) → items_len (items_view vs) ≡ length vs
 items_len-view [] = refl

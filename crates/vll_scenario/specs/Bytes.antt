@@ -1,4 +1,4 @@
--- What reading the bytes of a scenario comes to.
+-- The results of reading the bytes of a scenario.
 use Rattle.std.specs.Prelude.{◌≤◌, ℕ, List, length, Option}
 use Rattle.std.specs.Io.KnownBytes.{Consumes, IsAtEnd}
 use Rattle.vll_scenario.specs.declared.reading.bytes.ReadFault.{ReadFault}
@@ -18,7 +18,7 @@ fault_of bytes.NoMemory = scenario.NoMemory
 abbrev pub ReadsSome : Option (List ℕ) → Option (List ℕ) → Type 0
 ReadsSome old new = (bytes : List ℕ) × Consumes old new bytes
 
--- the bytes were read up to the end, and are no more than a scenario may have
+-- the bytes were read to the end, and are no more than a scenario may have
 abbrev pub ReadsAll : Option (List ℕ) → Option (List ℕ) → List ℕ → Type 0
 ReadsAll old new bytes = Consumes old new bytes × IsAtEnd new × (length bytes ≤ MOST_BYTES)
 

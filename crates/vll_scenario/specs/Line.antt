@@ -28,7 +28,7 @@ part_name part.Schedule = codes "schedule"
 abbrev pub spot_words : Spot → List ℕ
 spot_words s = part_name s.part ++ codes " " ++ decimal s.index
 
--- the number of a test of procedures
+-- the printed number of a procedure's fault
 abbrev pub check_number : CheckFault → ℕ
 check_number check.TooManyArgs = 1
 check_number check.TooManyKeys = 2
@@ -47,7 +47,7 @@ check_number check.TwoThrough = 14
 check_number check.Turns = 15
 check_number check.TooMuchWork = 16
 
--- the number of a test of calls
+-- the printed number of a call's fault
 abbrev pub call_number : CallFault → ℕ
 call_number call.UnknownProc = 1
 call_number call.ArgCount = 2

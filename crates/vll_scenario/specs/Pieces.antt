@@ -1,4 +1,4 @@
--- The pieces of a scenario: what each has to be, and which pieces lie in it.
+-- The pieces of a scenario: what each has to be, and the pieces inside it.
 use Rattle.std.specs.Prelude.{ℕ, suc, ◌==◌, Bool, ◌&&◌, List, [], ◌∷◌, ◌++◌, length, Option, Some, None, option_and_then, is_some, unwrap_or, if◌then◌else◌, codes}
 use Rattle.serde_json.specs.Data.{Data, string, array, Items, no_items, item}
 use Rattle.serde_json.specs.Events.{items_len}
@@ -15,7 +15,7 @@ use Rattle.vll_scenario.specs.Shape.{asked_at, edition_of, may_names, must_names
 use Rattle.vll_scenario.specs.Syntax.{Table, code_at, expr_at, find_word, has_exactly, has_members, index_at, key_at, mode_at, proc_at, proc_names, stmt_at, stmts_at}
 use Rattle.vll_scenario.specs.Tree.{list_at, number_at, u32_at, whole}
 
--- a piece: the step to it from the one in which it lies, what it has to be, and what it is
+-- a piece: the step to it from the enclosing piece, what it has to be, and its value
 pub record Piece : Type 0 where
   pub step : Step
   pub kind : Kind
@@ -45,7 +45,7 @@ is_read edition kind.Arguments d = is_some (whole (list_at number_at d))
 is_read edition kind.Schedule d = is_some (whole (list_at event_at d))
 is_read edition kind.Event d = is_some (event_at d)
 
--- what the items of a list have to be, if a piece is a list of any length
+-- what the items of a piece have to be, if it is a list of any length
 abbrev pub item_kind : Kind → Option Kind
 item_kind kind.Records = Some kind.Number
 item_kind kind.Arguments = Some kind.Number
@@ -65,16 +65,16 @@ item_step kind.Keys i = step.Key i
 item_step kind.Statements i = step.Statement i
 item_step _ i = step.Item i
 
--- the items of a list as pieces, where indexes begin at i
+-- the items of a list as pieces, with indexes from i on
 abbrev pub items_from : Kind → Kind → ℕ → Items → List Piece
 items_from list kind i no_items = []
 items_from list kind i (item d ds) = record { step = item_step list i; kind = kind; value = d } ∷ items_from list kind (suc i) ds
 
--- a piece that lies behind the word of a form
+-- a piece that follows the word of a form
 abbrev slot : Step → Kind → Slot
 slot step kind = record { step = step; kind = kind }
 
--- a form with one piece behind its word
+-- a form with one piece after its word
 abbrev one : Step → Kind → List Slot
 one step kind = slot step kind ∷ []
 
@@ -86,52 +86,52 @@ operands = slot step.LeftOperand kind.Expression ∷ slot step.RightOperand kind
 abbrev assignment : List Slot
 assignment = slot step.Index kind.Index ∷ slot step.Value kind.Expression ∷ []
 
--- what the words of expressions are followed by
+-- what follows each word of expressions
 abbrev pub expression_forms : Table (List Slot)
 expression_forms =
     (codes "arg", one step.Index kind.Index) ∷ (codes "key", one step.Index kind.Index) ∷ (codes "local", one step.Index kind.Index) ∷ (codes "not", one step.Operand kind.Expression) ∷
     (codes "add", operands) ∷ (codes "sub", operands) ∷ (codes "mul", operands) ∷ (codes "div", operands) ∷ (codes "rem", operands) ∷
     (codes "min", operands) ∷ (codes "max", operands) ∷ (codes "equal", operands) ∷ (codes "less", operands) ∷ []
 
--- what the words of events are followed by, if by anything
+-- what follows each word of events, if anything does
 abbrev pub event_forms : Table (List Slot)
 event_forms =
     (codes "find", one step.Number kind.Whole) ∷ (codes "enter", one step.Number kind.Whole) ∷ (codes "load", one step.Number kind.Whole) ∷
     (codes "store", one step.Number kind.Whole) ∷ (codes "release", one step.Number kind.Whole) ∷ (codes "finish", one step.Number kind.Whole) ∷ []
 
--- what `repeat` is followed by: edition One does not have it
+-- what follows `repeat`, which edition One does not have
 abbrev pub repeat_form : Edition → List Slot
 repeat_form One = []
 repeat_form Two = slot step.Count kind.Index ∷ slot step.List kind.Statements ∷ []
 
--- what the words of statements are followed by
+-- what follows each word of statements
 abbrev pub statement_forms : Edition → Table (List Slot)
 statement_forms edition =
     (codes "abort", one step.Code kind.Code) ∷ (codes "reply", one step.Value kind.Expression) ∷ (codes "let", assignment) ∷ (codes "set", assignment) ∷
     (codes "if", slot step.Test kind.Expression ∷ slot step.FirstList kind.Statements ∷ slot step.SecondList kind.Statements ∷ []) ∷ (codes "repeat", repeat_form edition) ∷ []
 
--- what a word is followed by, nothing if it is not known
+-- what follows a word, nothing if it is unknown
 abbrev pub word_form : List ℕ → Table (List Slot) → List Slot
 word_form word forms = unwrap_or (find_word word forms) []
 
--- the same of the word of a statement
+-- `word_form` for the word of a statement
 abbrev pub statement_form : Edition → List ℕ → List Slot
 statement_form edition word = word_form word (statement_forms edition)
 
--- what a word is followed by in a piece of a kind
+-- what follows a word in a piece of a kind
 abbrev pub form_of : Edition → Kind → List ℕ → List Slot
 form_of edition kind.Statement word = statement_form edition word
 form_of edition kind.Expression word = word_form word expression_forms
 form_of edition kind.Event word = word_form word event_forms
 form_of edition _ word = []
 
--- what lies behind a word, as pieces
+-- what follows a word, as pieces
 abbrev pub pieces_behind : List Slot → Items → List Piece
 pieces_behind [] ds = []
 pieces_behind (s ∷ slots) no_items = []
 pieces_behind (s ∷ slots) (item d ds) = record { step = s.step; kind = s.kind; value = d } ∷ pieces_behind slots ds
 
--- the pieces of a form, none if it has more or fewer than its word is followed by
+-- the pieces of a form, none if there are more or fewer than its word takes
 abbrev pub pieces_of_slots : List Slot → Items → List Piece
 pieces_of_slots slots ds = if length slots == items_len ds then pieces_behind slots ds else []
 
@@ -165,11 +165,11 @@ pieces_of_scenario d =
     member_piece (codes "limit") step.Limit kind.Whole d ++ member_piece (codes "hash") step.Hash kind.Hash d ++ member_piece (codes "schedule") step.Schedule kind.Schedule d
     else []
 
--- where the places of keys have an index or a record
+-- what follows each word of a key's place: an index or a record
 abbrev pub places : Table (List Slot)
 places = (codes "arg", one step.Index kind.Index) ∷ (codes "through", one step.Index kind.Index) ∷ (codes "fixed", one step.Record kind.Whole) ∷ []
 
--- the pieces behind the mode and the place of a key, if they are words
+-- the pieces after the mode and the place of a key, if both are words
 abbrev pub pieces_of_place : Option (List ℕ) → Option (List ℕ) → Items → List Piece
 pieces_of_place (Some mode) (Some word) ds = if is_some (mode_at mode) then pieces_of_slots (word_form word places) ds else []
 pieces_of_place _ _ ds = []
@@ -179,12 +179,12 @@ abbrev pub pieces_of_key : Data → List Piece
 pieces_of_key (array (item mode (item word ds))) = pieces_of_place (as_str mode) (as_str word) ds
 pieces_of_key _ = []
 
--- the pieces behind a word
+-- the pieces after a word
 abbrev pub pieces_of_words : Edition → Kind → Data → List Piece
 pieces_of_words edition kind (array (item (string word) ds)) = pieces_of_slots (form_of edition kind word) ds
 pieces_of_words edition kind _ = []
 
--- the pieces of what is no list of any length
+-- the pieces of a value that is not a list of any length
 abbrev pub pieces_of_form : Edition → Kind → Data → List Piece
 pieces_of_form edition kind.Procedure d = pieces_of_procedure d
 pieces_of_form edition kind.Call d = pieces_of_call d
@@ -196,7 +196,7 @@ abbrev pub pieces_of_list : Kind → Kind → Option Items → List Piece
 pieces_of_list list kind None = []
 pieces_of_list list kind (Some ds) = items_from list kind 0 ds
 
--- the items of a list of a kind, or the pieces of what is none
+-- the items of a value that has to be a list, or the pieces of any other value
 abbrev pub pieces_by : Edition → Kind → Option Kind → Data → List Piece
 pieces_by edition kind (Some of) d = pieces_of_list kind of (as_array d)
 pieces_by edition kind None d = pieces_of_form edition kind d

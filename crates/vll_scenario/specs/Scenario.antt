@@ -1,4 +1,4 @@
--- The scenario that bytes are, or the fault that is answered for them.
+-- The scenario that bytes describe, or the fault that is returned for them.
 use Rattle.std.specs.Prelude.{◌≡◌, ℕ, suc, max, ◌&&◌, List, [], ◌∷◌, length, sum_by, unwrap_or, Option, Some, None, option_map, Result, Ok, Err, if◌then◌else◌, is_none}
 use Rattle.std.specs.Str.{IsUtf8}
 use Rattle.serde_json.specs.Data.{Data}
@@ -22,17 +22,17 @@ use Rattle.vll_scenario.specs.Setup.{Setup, has_sizes}
 use Rattle.vll_scenario.specs.declared.reading.shape.Parts.{Parts}
 use Rattle.vll_scenario.specs.Shape.{◌>>=◌, shape_of}
 
--- the first of two, if there is one, and else the second
+-- the first of two if it is there, else the second
 abbrev pub or_else : {A : Type 0} → Option A → Option A → Option A
 or_else None b = b
 or_else (Some a) b = Some a
 
--- the fault of the first item that has one; a test is given the item's index, from i on
+-- the fault of the first item that has one; `test` gets each item's index, from i on
 abbrev pub first_fault : {A F : Type 0} → (ℕ → A → Option F) → ℕ → List A → Option F
 first_fault test i [] = None
 first_fault test i (x ∷ xs) = or_else (test i x) (first_fault test (suc i) xs)
 
--- what each item gives, or the fault of the first that has one
+-- the results of f for the items, or the fault of the first item that has one; f gets each item's index, from i on
 abbrev pub each_given : {A B F : Type 0} → (ℕ → A → Result B F) → ℕ → List A → Result (List B) F
 each_given f i [] = Ok []
 each_given f i (x ∷ xs) = do
@@ -40,12 +40,12 @@ each_given f i (x ∷ xs) = do
   ys ← each_given f (suc i) xs
   Ok (y ∷ ys)
 
--- what is there, unless there is a fault
+-- the value, unless there is a fault
 abbrev pub ok_unless : {A F : Type 0} → Option F → A → Result A F
 ok_unless None a = Ok a
 ok_unless (Some why) a = Err why
 
--- the fault of the first procedure that is not well-formed, where numbers begin at i
+-- the fault of the first procedure that is not well-formed, with numbers from i on
 abbrev pub first_check_from : ℕ → ℕ → List Proc → Option ScenarioFault
 first_check_from records i procs = first_fault (λ n p. option_map (fault.Check n) (check_fault records p)) i procs
 
@@ -70,11 +70,11 @@ script_made catalog client script = each_given (call_at catalog client) 0 script
 abbrev pub scripts_made : Catalog → List (List Asked) → Result (List (List Call)) ScenarioFault
 scripts_made catalog scripts = each_given (script_made catalog) 0 scripts
 
--- what is chosen for the machine: if not given, cap 1024, bits 4096, and as the limit the number of calls, at least 1
+-- the machine's settings: by default cap 1024, bits 4096, and as the limit the number of calls, at least 1
 abbrev pub config_of : Parts → Config
 config_of p = record { cap = unwrap_or p.cap CAP; limit = unwrap_or p.limit (max 1 (sum_by length p.scripts)); bits = unwrap_or p.bits BITS }
 
--- the scenario of its parts: the sizes, then the procedures, then their names, then the calls
+-- the scenario made from its parts: the sizes are checked first, then the procedures, their names and the calls
 abbrev pub setup_of : Parts → Result Setup ScenarioFault
 setup_of p =
     if has_sizes p.procs p.scripts p.schedule && is_none (open_fault (length p.records) (config_of p)) then
@@ -85,12 +85,12 @@ setup_of p =
         Ok (record { records = p.records; procs = procs; scripts = scripts; config = config_of p; placing = unwrap_or p.placing Modulo; schedule = p.schedule })))
     else Err fault.Size
 
--- the JSON tree that bytes are, as serde_json reads it, or that they are none
+-- the JSON tree of bytes, as serde_json reads it, or that they have none
 abbrev pub IsTree : List ℕ → Option Data → Type 0
 IsTree bytes (Some d) = IsUtf8 bytes × (read bytes ≡ Some d)
 IsTree bytes None = IsUtf8 bytes → read bytes ≡ None
 
--- a tree, or that the bytes are none
+-- a tree, or the fault `Json` if the bytes have none
 abbrev pub tree_or_json : Option Data → Result Data ScenarioFault
 tree_or_json None = Err fault.Json
 tree_or_json (Some d) = Ok d
@@ -101,7 +101,7 @@ parts_at tree = do
   d ← tree_or_json tree
   shape_of d
 
--- the scenario of a tree: the tests are made in this order, and the first fault is answered
+-- the scenario of a tree: the checks are made in this order, and the first fault is returned
 abbrev pub scenario_at : Option Data → Result Setup ScenarioFault
 scenario_at tree = do
   parts ← parts_at tree

@@ -1,4 +1,4 @@
--- The events of a schedule. A list of another length, and what is not listed here, is none.
+-- The events of a schedule. A list of another length, and anything not listed here, is not an event.
 use Rattle.std.specs.Prelude.{ℕ, List, [], ◌∷◌, Option, None, option_map, codes}
 use Rattle.serde_json.specs.Data.{Data, string, array, no_items, item}
 use Rattle.vll_core.specs.declared.event.Event.{Event}
@@ -6,11 +6,11 @@ use Rattle.vll_core.specs.declared.event.Event.TheVariants.{Find, Enter, Claim, 
 use Rattle.vll_scenario.specs.Tree.{u32_at}
 use Rattle.vll_scenario.specs.Syntax.{◌>>=◌, Table, find_word}
 
--- the words that are events alone
+-- the words that are events by themselves
 abbrev pub words_alone : Table Event
 words_alone = (codes "claim", Claim) ∷ (codes "admit", Admit) ∷ (codes "front", Front) ∷ (codes "scan", Scan) ∷ []
 
--- the words that a client or a ticket follows
+-- the words that are followed by a client or a ticket
 abbrev pub words_with_number : Table (ℕ → Event)
 words_with_number = (codes "find", Find) ∷ (codes "enter", Enter) ∷ (codes "load", Load) ∷ (codes "store", Store) ∷ (codes "release", Release) ∷ (codes "finish", Finish) ∷ []
 

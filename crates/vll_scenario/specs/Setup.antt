@@ -1,4 +1,4 @@
--- What a scenario is: its records, its procedures, each client's calls, what is chosen for the machine, its schedule.
+-- The contents of a scenario: its records, its procedures, each client's calls, the machine's settings, its schedule.
 use Rattle.std.specs.Prelude.{◌≡◌, ℕ, ◌≤◌, Bool, ◌&&◌, nat_le, List, length, map, sum_by, All, None}
 use Rattle.std.specs.Global.{Vec}
 use Rattle.vll_proc.specs.declared.call.Call.{Call}
@@ -12,7 +12,7 @@ use Rattle.vll_core.specs.declared.event.Event.{Event}
 use Rattle.vll_core.specs.Faults.{open_fault}
 use Rattle.vll_scenario.specs.declared.limits.TheConstants.{MOST_CLIENTS, MOST_EVENTS, MOST_PROCS}
 
--- what contracts see of a `Scenario`: records, procedures, calls, choices for the machine, the hash, and the schedule
+-- a `Scenario` in contracts: records, procedures, calls, the machine's settings, the hash, and the schedule
 pub record Setup : Type 0 where
   pub records : List ℕ
   pub procs : List Proc
@@ -25,23 +25,23 @@ pub record Setup : Type 0 where
 abbrev pub lists_of : List (Vec Call) → List (List Call)
 lists_of scripts = map (λ (v : Vec Call). v.items) scripts
 
--- how many procedures, clients, calls and events a scenario may have
+-- whether the numbers of procedures, clients, calls and events are within a scenario's limits
 abbrev pub has_sizes : {C : Type 0} → List Proc → List (List C) → List Event → Bool
 has_sizes procs scripts schedule =
     nat_le (length procs) MOST_PROCS && nat_le (length scripts) MOST_CLIENTS && nat_le (sum_by length scripts) MOST_CALLS && nat_le (length schedule) MOST_EVENTS
 
--- the library of a scenario: its procedures, checked for as many records as there are
+-- the library of a scenario: its procedures, checked for its number of records
 abbrev pub catalog_of : Setup → Catalog
 catalog_of s = record { records = length s.records; procs = s.procs }
 
--- there are no more procedures, clients, calls and events than a scenario may have
+-- the numbers of procedures, clients, calls and events are within a scenario's limits
 pub record HasSizes {C : Type 0} (procs : List Proc) (scripts : List (List C)) (schedule : List Event) : Type 0 where
   pub few_procs : length procs ≤ MOST_PROCS
   pub few_clients : length scripts ≤ MOST_CLIENTS
   pub few_calls : sum_by length scripts ≤ MOST_CALLS
   pub few_events : length schedule ≤ MOST_EVENTS
 
--- what the type of a scenario keeps: its sizes, that a machine opens for it, and that its library makes each call
+-- the invariant of a scenario: its sizes are within limits, a machine opens for it, and its library makes each call
 pub record IsSetup (s : Setup) : Type 0 where
   pub sizes : HasSizes s.procs s.scripts s.schedule
   pub openable : open_fault (length s.records) s.config ≡ None

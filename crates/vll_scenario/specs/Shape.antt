@@ -17,7 +17,7 @@ use Rattle.vll_scenario.specs.Tree.{number_at, u32_at, list_at, whole}
 use Rattle.vll_scenario.specs.Syntax.{Table, both_of, find_word, has_exactly, has_members, member_at, proc_at}
 
 infixl 10 ◌>>=◌
--- goes on where there is no fault
+-- continues unless there is a fault
 abbrev pub ◌>>=◌ : {A B F : Type 0} → Result A F → (A → Result B F) → Result B F
 (Ok a) >>= go = go a
 (Err why) >>= go = Err why
@@ -31,16 +31,16 @@ abbrev pub in_part : {A : Type 0} → Part → Result A ℕ → Result A Scenari
 in_part part (Ok a) = Ok a
 in_part part (Err i) = Err (shape_fault part i)
 
--- what is there, or else a fault at the index 0
+-- the value, or a fault at index 0 if there is none
 abbrev pub or_first : {A : Type 0} → Option A → Result A ℕ
 or_first None = Err 0
 or_first (Some a) = Ok a
 
--- the list that a member is
+-- a member, read as a list
 abbrev pub part_at : {A : Type 0} → Part → List ℕ → (Data → Option A) → Data → Result (List A) ScenarioFault
 part_at part name f d = in_part part (list_at f (member_at name d))
 
--- what a member is, if it is there
+-- the value of a member, if it is present
 abbrev pub option_at : {A : Type 0} → Part → List ℕ → (Data → Option A) → Data → Result (Option A) ScenarioFault
 option_at part name f d = given part (option_map f (get name d))
   where
@@ -57,12 +57,12 @@ placings = (codes "modulo", Modulo) ∷ (codes "spread", Spread) ∷ []
 abbrev pub placing_at : Data → Option Placing
 placing_at d = option_and_then (λ word. find_word word placings) (as_str d)
 
--- the list that a member is, and the empty list where it is not there
+-- a member, read as a list, which is empty if the member is absent
 abbrev pub list_if_there : {A : Type 0} → (Data → Option A) → Option Data → Result (List A) ℕ
 list_if_there f None = Ok []
 list_if_there f (Some d) = list_at f d
 
--- the members that a scenario has to have
+-- the members that a scenario must have
 abbrev pub must_names : List (List ℕ)
 must_names = codes "version" ∷ codes "records" ∷ codes "procs" ∷ codes "clients" ∷ []
 

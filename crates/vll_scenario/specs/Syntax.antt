@@ -1,4 +1,4 @@
--- What a JSON tree is as a part of a procedure. A list of another length, and what is not listed here, is none.
+-- The parts of procedures, as JSON trees. A list of another length, and anything not listed here, is not one.
 use Rattle.std.specs.Prelude.{ℕ, ◌^◌, Bool, false, ◌&&◌, List, [], ◌∷◌, Option, Some, None, option_and_then, option_map, is_some, if◌then◌else◌, codes}
 use Rattle.std.specs.List.{list_all, list_any}
 use Rattle.std.specs.Str.{bytes_eq}
@@ -17,7 +17,7 @@ use Rattle.vll_proc.specs.declared.syntax.Proc.{Proc}
 use Rattle.vll_scenario.specs.Tree.{below, number_at, u32_at, list_at, whole}
 
 infixl 10 ◌>>=◌
--- goes on where something is there
+-- continues if there is a value
 abbrev pub ◌>>=◌ : {A B : Type 0} → Option A → (A → Option B) → Option B
 o >>= go = option_and_then go o
 
@@ -32,20 +32,20 @@ both_of f a b = do
   y ← b
   Some (f x y)
 
--- words, and what each is for
+-- words, each with its meaning
 abbrev pub Table : Type 0 → Type 0
 Table A = List (List ℕ × A)
 
--- what a word is for
+-- the meaning of a word
 abbrev pub find_word : {A : Type 0} → List ℕ → Table A → Option A
 find_word word [] = None
 find_word word (row ∷ rows) = if bytes_eq word row.0 then Some row.1 else find_word word rows
 
--- the words that an index follows
+-- the words that are followed by an index
 abbrev pub leaves : Table (ℕ → Expr)
 leaves = (codes "arg", Arg) ∷ (codes "key", Key) ∷ (codes "local", Local) ∷ []
 
--- the words that two expressions follow
+-- the words that are followed by two expressions
 abbrev pub operations : Table (Expr → Expr → Expr)
 operations =
     (codes "add", Add) ∷ (codes "sub", Sub) ∷ (codes "mul", Mul) ∷ (codes "div", Div) ∷ (codes "rem", Rem) ∷
@@ -108,7 +108,7 @@ abbrev mutual
   stmts_at edition (array ds) = each_stmt edition ds
   stmts_at edition _ = None
 
-  -- all statements of a list, if each is one
+  -- the statements of a list, if each of its items is one
   pub each_stmt : Edition → Items → Option (List Stmt)
   each_stmt edition no_items = Some []
   each_stmt edition (item d ds) = both_of (λ x xs. x ∷ xs) (stmt_at edition d) (each_stmt edition ds)
@@ -117,7 +117,7 @@ abbrev mutual
 abbrev pub mode_at : List ℕ → Option Mode
 mode_at word = if bytes_eq word (codes "read") then Some Read else (if bytes_eq word (codes "write") then Some Write else None)
 
--- where a key is placed: "arg" or "through" with an index, or "fixed" with a record
+-- the place of a key: "arg" or "through" with an index, or "fixed" with a record
 abbrev pub place_at : List ℕ → Data → Option KeyAt
 place_at word d =
     if bytes_eq word (codes "arg") then option_map at.Arg (index_at d) else
@@ -145,7 +145,7 @@ has_all names ms = list_all (λ name. is_some (get_member name ms)) names
 abbrev pub has_only : List (List ℕ) → Members → Bool
 has_only names ms = list_all (λ name. list_any (bytes_eq name) names) (names_of ms)
 
--- an object that has all of the first members, and none but the second
+-- an object that has all members in `must`, and none outside `may`
 abbrev pub has_members : List (List ℕ) → List (List ℕ) → Data → Bool
 has_members must may (object ms) = has_all must ms && has_only may ms
 has_members must may _ = false
@@ -154,7 +154,7 @@ has_members must may _ = false
 abbrev pub has_exactly : List (List ℕ) → Data → Bool
 has_exactly names d = has_members names names d
 
--- what a member is, and `null` where there is none
+-- the value of a member, `null` if it is absent
 abbrev pub member_at : List ℕ → Data → Data
 member_at name d = or_null (get name d)
   where

@@ -15,7 +15,7 @@ below limit o = option_and_then (λ n. if nat_lt n limit then Some n else None) 
 abbrev pub u32_at : Data → Option ℕ
 u32_at d = below (2 ^ 32) (number_at d)
 
--- one more item in front, and an index further on
+-- one more item in front, and an index one higher
 abbrev pub in_front : {A : Type 0} → Option A → Result (List A) ℕ → Result (List A) ℕ
 in_front None others = Err 0
 in_front (Some a) (Ok xs) = Ok (a ∷ xs)
@@ -26,16 +26,16 @@ abbrev pub each : {A : Type 0} → (Data → Option A) → Items → Result (Lis
 each f no_items = Ok []
 each f (item d ds) = in_front (f d) (each f ds)
 
--- the same of the items of a list, if there is a list
+-- `each` for the items of a list, or index 0 if there is no list
 abbrev pub each_of : {A : Type 0} → (Data → Option A) → Option Items → Result (List A) ℕ
 each_of f None = Err 0
 each_of f (Some ds) = each f ds
 
--- the readings of a list, or the index of its first faulty item, which is 0 where there is no list
+-- the readings of a list, or the index of its first faulty item, which is 0 if there is no list
 abbrev pub list_at : {A : Type 0} → (Data → Option A) → Data → Result (List A) ℕ
 list_at f d = each_of f (as_array d)
 
--- a list, whatever the index of a faulty item would be
+-- a list, without the index of a faulty item
 abbrev pub whole : {A : Type 0} → Result A ℕ → Option A
 whole (Ok a) = Some a
 whole (Err i) = None

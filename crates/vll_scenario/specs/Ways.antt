@@ -16,12 +16,12 @@ abbrev pub first_faulty : Edition → List Piece → Option Piece
 first_faulty edition [] = None
 first_faulty edition (p ∷ ps) = if is_read edition p.kind p.value then first_faulty edition ps else Some p
 
--- a way leads from some pieces into the first of them that is faulty, and on into its pieces, until none of these is faulty
+-- a way leads from some pieces into the first faulty one, and on through its pieces, until none of them is faulty
 abbrev pub Leads : Edition → List Piece → List Step → Type 0
 Leads edition ps [] = first_faulty edition ps ≡ None
 Leads edition ps (step ∷ rest) = (p : Piece) × (first_faulty edition ps ≡ Some p) × (p.step ≡ step) × Leads edition (pieces_of edition p.kind p.value) rest
 
--- the edition in which a scenario is read, One if its version is none
+-- the edition in which a scenario is read, One if it has no valid version
 abbrev pub edition_in : Data → Edition
 edition_in d = unwrap_or (option_and_then edition_of (option_and_then number_at (get (codes "version") d))) One
 
@@ -29,7 +29,7 @@ edition_in d = unwrap_or (option_and_then edition_of (option_and_then number_at 
 abbrev pub LeadsToFault : Data → List Step → Type 0
 LeadsToFault d way = Leads (edition_in d) (pieces_of_scenario d) way
 
--- what is told of a step
+-- the text of a step
 abbrev pub step_words : Step → List ℕ
 step_words step.Version = codes "version"
 step_words step.Records = codes "records"
@@ -64,7 +64,7 @@ step_words step.LeftOperand = codes ", left operand"
 step_words step.RightOperand = codes ", right operand"
 step_words step.Number = codes ", number"
 
--- what is told of some steps
+-- the text of some steps
 abbrev pub words_of : List Step → List ℕ
 words_of [] = []
 words_of (step ∷ steps) = step_words step ++ words_of steps

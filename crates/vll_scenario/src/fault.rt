@@ -6,10 +6,10 @@ use std::error::Error;
 use std::fmt;
 use vll_check::{CallFault, CheckFault, NameTwice};
 
-/// A part of a scenario. The parts' shapes are tested in this order.
+/// A part of a scenario. The parts' shapes are checked in this order.
 #[derive(Clone, Copy, PartialEq, Eq, Debug)]
 pub enum Part {
-    /// The whole: no object, a member missing, or a member that is not known.
+    /// The whole: not an object, a member missing, or an unknown member.
     Top,
     Version,
     Records,
@@ -22,24 +22,24 @@ pub enum Part {
     Schedule,
 }
 
-/// Where a scenario has another shape: the part, and the index of its first faulty item, from 0.
-/// It is 0 for `top`, for a single value, and if a part that should be a list is none.
+/// Where a scenario has the wrong shape: the part, and the index of its first faulty item, from 0. The index is 0 for
+/// `top`, for a single value, and if a part that should be a list is not one.
 #[derive(Clone, Copy, PartialEq, Eq, Debug)]
 pub struct Spot {
     pub part: Part,
     pub index: u32,
 }
 
-/// Why a scenario was refused; its text is the rest of the line that is printed. Reading and the number of bytes are
-/// tested first, then `Json`, `Shape`, the other sizes, `Check`, `NameTwice` and `Call`. Of several procedures or calls
-/// the lowest is answered.
+/// Why a scenario was refused; its text is the rest of the printed line. Reading and the number of bytes are checked
+/// first, then `Json`, `Shape`, the other sizes, `Check`, `NameTwice` and `Call`. Of several faulty procedures or calls
+/// the lowest is reported.
 #[derive(Clone, Copy, PartialEq, Eq, Debug)]
 pub enum ScenarioFault {
     /// The reader failed.
     Read,
-    /// The bytes are no JSON text.
+    /// The bytes are not a JSON text.
     Json,
-    /// The JSON tree has another shape.
+    /// The JSON tree has the wrong shape.
     Shape(Spot),
     /// A procedure is not well-formed.
     Check {
@@ -57,7 +57,7 @@ pub enum ScenarioFault {
     /// `open_fault` of `vll_core` says.
     Size,
     NoMemory,
-    /// Two procedures have one name.
+    /// Two procedures have the same name.
     NameTwice,
 }
 
@@ -160,7 +160,7 @@ impl fmt::Display for ScenarioFault {
 
 impl Error for ScenarioFault {}
 
-// The number of a test of procedures.
+// The printed number of a procedure's fault.
 fn number_of_check(fault: CheckFault) -> u32
     ensures { result ≡ check_number fault }
 {
@@ -184,7 +184,7 @@ fn number_of_check(fault: CheckFault) -> u32
     }
 }
 
-// The number of a test of calls.
+// The printed number of a call's fault.
 fn number_of_call(fault: CallFault) -> u32
     ensures { result ≡ call_number fault }
 {

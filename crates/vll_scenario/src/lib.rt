@@ -1,4 +1,15 @@
-//! Scenarios: reading one from bytes, and checking it.
+//! Scenarios: the JSON texts that say what the records hold, which procedures there are, which calls each client makes,
+//! and which events a replay takes. The crate reads a scenario from a `Source`, checks it, and writes texts to a
+//! `Sink`; it also finds the piece of a scenario whose shape is at fault. It proves that each scenario or fault that
+//! reading returns, other than `Read` and `NoMemory`, is the one that the specification gives for the bytes read, and
+//! that the library of a scenario makes each of its calls. Start at `read_scenario`, `Scenario` and `ScenarioFault`.
+//!
+//! ```rattle
+//! let mut reader = Plain::new(text.as_bytes());
+//! let scenario = read_scenario(alloc, &mut reader)?;
+//! let parts = scenario.into_parts();
+//! let records = parts.records.as_slice();
+//! ```
 #![tactic(auto)]
 
 mod fault;

@@ -1,4 +1,4 @@
-//! The limits of a scenario's sizes, beside those of the engine that runs it.
+//! The limits on a scenario's sizes, besides those of the engine that runs it.
 
 /// The most bytes that a scenario may have.
 pub const MOST_BYTES: usize = 16_777_216;

@@ -1,4 +1,4 @@
-//! The pieces of a scenario, as they lie in one another.
+//! The pieces of a scenario, and how they nest.
 ghost use Rattle.std.specs.Prelude.{◌≡◌};
 ghost use Rattle.vll_scenario.specs.Pieces.{event_forms, expression_forms, form_of, item_kind, item_step, places, repeat_form, statement_form, word_form};
 
@@ -38,7 +38,7 @@ pub enum Kind {
     Event,
 }
 
-/// A step from a piece of a scenario to one that lies in it. Its text is what is told of it.
+/// A step from a piece of a scenario to a piece inside it. Its text is what an explanation prints for it.
 #[derive(Clone, Copy, PartialEq, Eq, Debug)]
 pub enum Step {
     Version,
@@ -120,14 +120,14 @@ impl fmt::Display for Step {
     }
 }
 
-// A piece that lies behind the word of a form: the step to it, and what it has to be.
+// A piece that follows the word of a form: the step to it, and what it has to be.
 #[derive(Clone, Copy)]
 pub(crate) struct Slot {
     pub(crate) step: Step,
     pub(crate) kind: Kind,
 }
 
-// What the items of a list have to be, if a piece is a list of any length.
+// What the items of a piece have to be, if it is a list of any length.
 pub(crate) fn item_kind(list: Kind) -> Option<Kind>
     ensures { result ≡ item_kind list }
 {
@@ -234,7 +234,7 @@ const RECORD: &[Slot] = &[Slot {
     kind: Kind::Whole,
 }];
 
-// The pieces that have to lie behind a word.
+// The pieces that have to follow a word.
 pub(crate) fn form_of(edition: Edition, kind: Kind, word: &str) -> &'static [Slot]
     ensures { result.now ≡ form_of edition kind word.now }
 {
@@ -288,7 +288,7 @@ fn event_form(word: &str) -> &'static [Slot]
     }
 }
 
-// What the place of a key is followed by.
+// What follows the word of a key's place.
 pub(crate) fn place_form(word: &str) -> &'static [Slot]
     ensures { result.now ≡ word_form word.now places }
 {

@@ -14,7 +14,7 @@ pub struct Plain<T> {
 }
 
 impl<T> Plain<T> {
-    /// A reader or a writer that has not failed.
+    /// Wraps a reader or a writer, which counts as not failed.
     pub fn new(inner: T) -> Plain<T>
         ensures inner { plain_inner result ≡ inner }
         ensures failed { plain_failed result ≡ false }

@@ -30,11 +30,11 @@ use std::alloc::Global;
 
 /// Reads a scenario: one JSON text, whose form docs/SCENARIO.md describes.
 ///
-/// The reader is read until it gives no more bytes; once more than `MOST_BYTES` have come, at most a piece of 8,192
-/// bytes more, it is read no further. If it tells its bytes the answer is that for just these. Of several faults the
-/// first is answered, in the order that `ScenarioFault` tells. `Read` comes exactly if the reader has failed.
-/// `NoMemory` is for want of memory, and can come in the place of any answer but `Read`. Each other answer, `Ok` among
-/// them, is that of the bytes that came.
+/// Reads to the end of `reader`; once more than `MOST_BYTES` bytes have come, at most a piece of 8,192 bytes more, it
+/// reads no further. If the reader's bytes are known to contracts, the result is that of exactly these bytes. Of
+/// several faults the first is returned, in the order given at `ScenarioFault`. `Read` is returned exactly if the
+/// reader has failed. `NoMemory` means that memory ran out, and can replace any result but `Read`. Every other result,
+/// `Ok` included, is that of the bytes that came.
 pub fn read_scenario<S: Source>(alloc: Global, reader: &mut S) -> Result<Scenario, ScenarioFault>
     requires { S.failed reader.old ≡ false }
     ensures answer { Reads scenario_at (S.remaining reader.old) (S.remaining reader.new) result }
@@ -45,16 +45,16 @@ pub fn read_scenario<S: Source>(alloc: Global, reader: &mut S) -> Result<Scenari
     setup_of(alloc, parts)
 }
 
-/// What bytes were read as: their JSON tree, and the scenario that it is, or why it is none.
+/// The result of reading bytes: their JSON tree, and the scenario that it describes, or why it describes none.
 #[derive(Drop)]
 pub struct Reading {
     pub tree: Value,
     pub scenario: Result<Scenario, ScenarioFault>,
 }
 
-/// The JSON tree and the scenario of at most `MOST_BYTES` bytes. Both come at once, so that whoever explains a fault has
-/// the tree in which it lies. An `Err` is `Json` if the bytes are no JSON text, or `NoMemory`, which can also come as
-/// the fault of a scenario.
+/// Reads the JSON tree and the scenario of at most `MOST_BYTES` bytes. Returns both, so that a caller that explains a
+/// fault has the tree in which it lies. An `Err` is `Json` if the bytes are not a JSON text, or `NoMemory`, which can
+/// also be the scenario's fault.
 pub fn reading_of(alloc: Global, bytes: &[u8]) -> Result<Reading, ScenarioFault>
     requires { length bytes.now ≤ MOST_BYTES }
     ensures tree { IfOk result (λ r. IsTree bytes.now (Some (view r.tree))) }
@@ -76,7 +76,7 @@ fn scenario_of(alloc: Global, tree: &Value) -> Result<Scenario, ScenarioFault>
     setup_of(alloc, parts)
 }
 
-// The parts of the scenario that a reader gives.
+// The parts of the scenario that a reader supplies.
 fn read_parts<S: Source>(alloc: Global, reader: &mut S) -> Result<Parts, ScenarioFault>
     requires { S.failed reader.old ≡ false }
     ensures parts { Reads parts_at (S.remaining reader.old) (S.remaining reader.new) result }
@@ -86,7 +86,7 @@ fn read_parts<S: Source>(alloc: Global, reader: &mut S) -> Result<Parts, Scenari
     shape_of(alloc, &tree)
 }
 
-// The JSON tree that a reader gives.
+// The JSON tree that a reader supplies.
 fn read_tree<S: Source>(alloc: Global, reader: &mut S) -> Result<Value, ScenarioFault>
     requires { S.failed reader.old ≡ false }
     ensures tree { Reads tree_or_json (S.remaining reader.old) (S.remaining reader.new)

@@ -9,13 +9,13 @@ use vll_core::{Config, Event, MOST_WAITING};
 use vll_proc::Call;
 use vll_sca::{MOST_BITS, Placing};
 
-/// A scenario: the records' first values, the procedures, each client's script of calls, what is chosen for
-/// the machine, and the events that a replay takes.
+/// A scenario: the records' first values, the procedures, each client's script of calls, the machine's settings, and
+/// the events that a replay takes.
 ///
-/// Only `read_scenario` makes one, and `with_cap` and `with_bits` one of another. It keeps the limits of a
-/// scenario's sizes, each of its procedures is well-formed for its records, and each of its calls was made for one
-/// of its procedures, on records that are there; `into_parts` says so to callers. Contracts see its procedures in
-/// the place of the library, and each of its lists as a list.
+/// Made only by `read_scenario` and `reading_of`, and from another scenario by `with_cap` and `with_bits`. It keeps the
+/// limits on a scenario's sizes, each of its procedures is well-formed for its records, and each of its calls was made
+/// for one of its procedures, on existing records; `into_parts` states this for callers. In contracts its procedures
+/// stand for the library, and each of its lists is a plain list.
 #[derive(Drop)]
 pub struct Scenario {
     pub(crate) records: Vec<u64>,
@@ -43,12 +43,12 @@ impl Model for Scenario {
     ghost invariant = { IsScenario };
 }
 
-/// What a scenario is made of.
+/// The parts of a scenario.
 #[derive(Drop)]
 pub struct ScenarioParts {
     /// The records' first values.
     pub records: Vec<u64>,
-    /// The procedures, checked for as many records.
+    /// The procedures, checked for this number of records.
     pub library: Library,
     /// Each client's calls, in order.
     pub scripts: Vec<Vec<Call>>,
@@ -59,9 +59,9 @@ pub struct ScenarioParts {
 }
 
 impl Scenario {
-    /// What the scenario is made of. No memory is taken.
+    /// Returns the scenario's parts. Allocates no memory.
     ///
-    /// Its sizes and what is chosen are within their limits, and the library makes each call of each script.
+    /// Its sizes and settings are within their limits, and the library makes each call of each script.
     pub fn into_parts(self) -> ScenarioParts
         ensures records { result.records.items ≡ self.records }
         ensures library { result.library ≡ catalog_of self }
@@ -90,8 +90,8 @@ impl Scenario {
         }
     }
 
-    /// The scenario with this cap, which is how many calls may wait at a time, 1 to `MOST_WAITING` of `vll_core`, in
-    /// place of its own. All else stays as it was.
+    /// Returns the scenario with the cap `cap`, the number of calls that may wait at a time, 1 to `MOST_WAITING` of
+    /// `vll_core`. All else is unchanged.
     pub fn with_cap(mut self, cap: u32) -> Scenario
         requires least { 1 ≤ cap }
         requires most { cap ≤ MOST_WAITING }
@@ -101,8 +101,8 @@ impl Scenario {
         self
     }
 
-    /// The scenario with this many places for the contention analysis, 1 to `MOST_BITS` of `vll_sca`, in place of its
-    /// own. All else stays as it was.
+    /// Returns the scenario with `bits` places for the contention analysis, 1 to `MOST_BITS` of `vll_sca`. All else is
+    /// unchanged.
     pub fn with_bits(mut self, bits: u32) -> Scenario
         requires least { 1 ≤ bits }
         requires most { bits ≤ MOST_BITS }

@@ -5,18 +5,17 @@ ghost use Rattle.vll_scenario.specs.Streams.{AppendsBeginning};
 use crate::stream::Sink;
 use thiserror::Error;
 
-/// Why a text was not written whole. After `NoMemory` nothing has been written, and after `Write` a
-/// beginning of it.
+/// Why a text was not written in full. After `NoMemory` nothing has been written, and after `Write` a prefix of it.
 #[derive(Clone, Copy, PartialEq, Eq, Debug, Error)]
 pub enum WriteFault {
     #[error("no memory")]
     NoMemory,
-    /// A write or a flush failed, or a write took nothing.
+    /// A write or a flush failed, or a write took no bytes.
     #[error("write")]
     Write,
 }
 
-/// Writes a text whole, and flushes.
+/// Writes a text in full, and flushes.
 pub fn write_text<W: Sink>(writer: &mut W, text: &[u8]) -> Result<(), WriteFault>
     requires { W.failed writer.old ≡ false }
     ensures ok { OnOk result

@@ -1,4 +1,4 @@
-//! What reading a scenario gives that no printed line shows: the tests of vll_scenario.
+//! Tests of vll_scenario, for what reading a scenario yields that no printed line shows.
 #![tactic(auto)]
 
 #[cfg(test)]

@@ -8,7 +8,7 @@ use vll_record::{MOST_CLAIMS, Mode, RecordId};
 use vll_sca::Placing;
 use vll_test_procedures::parts;
 
-// A scenario of two calls with these members beside the required ones.
+// A scenario of two calls with these members besides the required ones.
 fn text_with(alloc: Global, more: &str) -> Result<String, AllocError> {
     format!(in alloc;
         r#"{{"version":1,"records":[5],"procs":[{{"name":"seven","args":0,"keys":[],"body":[["reply",7]]}}],
@@ -16,13 +16,13 @@ fn text_with(alloc: Global, more: &str) -> Result<String, AllocError> {
     )
 }
 
-// What the scenario that a text is chooses for the machine.
+// The machine settings of the scenario that a text describes.
 fn config_of(alloc: Global, text: &str) -> Result<Config, Fail> {
     let parts = parts(alloc, text)?;
     Ok(parts.config)
 }
 
-// What is chosen has these numbers.
+// Checks that the settings have these numbers.
 fn check_config(rt: &impl Abort, config: Config, cap: u32, limit: u32, bits: u32) {
     equal(rt, config.cap, cap);
     equal(rt, config.limit, limit);

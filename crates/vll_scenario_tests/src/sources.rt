@@ -6,7 +6,7 @@ use vll_scenario::{Plain, ScenarioFault, Source, read_scenario};
 
 const TEXT: &str = r#"{"version":1,"records":[7,5],"procs":[],"clients":[]}"#;
 
-/// Gives its text a byte at a time, and then ends or fails.
+/// A reader that supplies its text a byte at a time, and then ends or fails.
 #[derive(Drop)]
 struct Slow<'a> {
     text: &'a [u8],

@@ -15,9 +15,9 @@ use vll_scenario::{MOST_CLIENTS, Scenario, ScenarioParts};
 use vll_server::number_of_calls;
 use vll_workers::Token;
 
-/// An engine over a scenario's records and procedures, which has no name yet, and the scripts. The engine has the
-/// scenario's cap, bits and hash, a client for each script, and takes as many calls as the scripts have. All its
-/// memory is taken here, and for want of it the call fails.
+/// Opens an engine over a scenario's records and procedures, which has no name yet, and returns it with the scripts.
+/// The engine has the scenario's cap, bits and hash, a client for each script, and takes as many calls as the scripts
+/// have. All its memory is allocated here; it fails if the allocation fails.
 pub fn opening(
     alloc: Global,
     scenario: Scenario,
@@ -51,8 +51,8 @@ pub fn opening(
     }
 }
 
-/// A token for each client, the last one's first, with its session and its script. The sessions are those with which
-/// an engine of this name starts, one for each script, in order. It fails for want of memory.
+/// Makes a token for each client, the last one's first, with its session and its script. The sessions are those with
+/// which an engine of this name starts, one for each script, in order. It fails if an allocation fails.
 pub fn tokens<N: Name>(
     alloc: Global,
     sessions: Vec<Session>,

@@ -59,7 +59,7 @@ finds : serial_text procs (2 ∷ 0 ∷ 7 ∷ []) ((0, call_of 3 3 via (0 ∷ [])
 unfolding line digits hidden hidden-the_row-Expr-0 hidden-the_row-Stmt-0
 finds = refl
 
--- another value stands by then where a call found its record
+-- by then, the record in which a call found its record holds another value
 moves : serial_text procs (1 ∷ 10 ∷ 20 ∷ []) ((1, call_of 3 1 bump (0 ∷ []) None) ∷ (0, call_of 3 3 via (0 ∷ []) (Some 1)) ∷ [])
     ≡ line (codes "call 0 client 1 committed 2") ++ line (codes "call 1 client 0 aborted moved")
     ++ line (codes "record 0 value 2 pair 0") ++ line (codes "record 1 value 10 pair 0") ++ line (codes "record 2 value 20 pair 0")

@@ -20,7 +20,7 @@ use Rattle.vll_server.specs.Serve.{IsServed, base_of}
 use Rattle.vll_replay.specs.Text.{outcome_text}
 use Rattle.vll_server.specs.Text.{answer_text, closed_text, line_words, serial_text}
 
--- the lines from one on tell the replies of the serial run
+-- the lines from one on have the replies of the serial run
 lines_tell : (procs : List Proc) (calls : List Made) (records : List ℕ) (k : ℕ) (lines : List Line) → ((t : ℕ) (l : Line) → slice_get lines t ≡ Some l → l.reply ≡ answer procs calls records (k + t))
     → map line_words lines ≡ map (λ (p : ℕ × Made). (p.1.0, answer_text (answer procs calls records p.0))) (enumerate_from k (calls_in lines))
 lines_tell procs calls records k [] told = refl

@@ -1,4 +1,4 @@
--- A scenario as it is served if options are given.
+-- A scenario as it is served with options.
 use Rattle.std.specs.Prelude.{unwrap_or}
 use Rattle.vll_scenario.specs.Setup.{Setup}
 use Rattle.vll_server.specs.declared.options.RunOptions.{RunOptions}

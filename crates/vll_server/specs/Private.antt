@@ -1,2 +1,2 @@
--- What private contracts and what types keep cite: no contract of an exported item does.
+-- Cited by private contracts and by the views and invariants of types; no contract of an exported item cites it.
 pub mod Serving

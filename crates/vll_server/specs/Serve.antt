@@ -1,4 +1,4 @@
--- What serving a scenario comes to: the scripts' calls in the order in which they entered, and the text that they give.
+-- The result of serving a scenario: the scripts' calls in the order in which they entered, and the text that they give.
 use Rattle.std.specs.Prelude.{◌≡◌, ℕ, Some, map, slice_get}
 use Rattle.vll_proc.specs.Serial.{answer, end}
 use Rattle.vll_core.specs.declared.line.Line.{Line}
@@ -15,8 +15,9 @@ use Rattle.vll_server.specs.Text.{closed_text}
 abbrev pub base_of : Setup → Base
 base_of s = record { procs = s.procs; records = s.records }
 
--- what a run of a scenario leaves: the journal merges the scripts, each of its lines has the reply and the records have the values that its calls
--- give, run one at a time in this order, every pair word is 0, and each value found was in its source
+-- what a run of a scenario leaves: the journal merges the scripts, each of its lines has the reply and the records have
+-- the values that its calls give, run one at a time in this order, every pair word is 0, and each value found was in
+-- its source
 pub record IsServed (s : Setup) (c : Closed) : Type 0 where
   pub merge : IsMerge (catalog_of s) (calls_in c.journal.items) s.scripts
   pub answered : (t : ℕ) (l : Line) → slice_get c.journal.items t ≡ Some l → l.reply ≡ answer s.procs (calls_in c.journal.items) s.records t

@@ -9,7 +9,7 @@ use Rattle.vll_core.specs.declared.line.Line.{Line}
 use Rattle.vll_engine.specs.declared.closed.Closed.{Closed}
 use Rattle.vll_replay.specs.Text.{Text, outcome_text}
 
--- a reply, or nothing where there is none
+-- a reply, or nothing if there is none
 abbrev pub answer_text : Option Reply → Text
 answer_text None = []
 answer_text (Some r) = reply_text r
@@ -18,8 +18,8 @@ answer_text (Some r) = reply_text r
 abbrev pub line_words : Line → ℕ × Text
 line_words l = (l.client, answer_text l.reply)
 
--- the text of what a run leaves: a line for each call, and one for each record that has a pair word beside it.
--- Of records and pair words that are not as many, those that one list has more than the other are told in no line
+-- the text of what a run leaves: a line for each call, and one for each record that has a pair word beside it. If one
+-- of the lists of records and of pair words is longer, its further items appear in no line
 abbrev pub closed_text : Closed → Text
 closed_text c = outcome_text (map line_words c.journal.items) (zip c.records.items c.pairs.items)
 

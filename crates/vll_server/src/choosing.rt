@@ -1,4 +1,4 @@
-//! A run of a scenario with what options choose.
+//! A run of a scenario with the given options.
 ghost use Rattle.std.specs.Prelude.{◌≡◌, ◌<◌, ◌≤◌, ◌+◌, ◌↔◌, ℕ, false, true, IfErr, OnOk};
 ghost use Rattle.std.specs.Io.KnownBytes.{Appends};
 ghost use Rattle.vll_scenario.specs.Streams.{AppendsBeginning};
@@ -15,8 +15,8 @@ use std::thread::Threads;
 use vll_scenario::{Scenario, Sink};
 use vll_workers::{Gate, MOST_WORKERS};
 
-/// Does what `serve` does, of the scenario with the cap and the number of bits that the options give, and by as many
-/// worker threads as they say. The gate is told of each call that is executed.
+/// As `serve`, for the scenario with the cap and the number of bits that the options give, and with their number of
+/// worker threads. The gate is called for each call that is executed.
 pub fn serve_as<R: Threads + Wait + Sync, G: Gate + Sync, S: Sink>(
     rt: &R,
     alloc: Global,
@@ -38,7 +38,7 @@ pub fn serve_as<R: Threads + Wait + Sync, G: Gate + Sync, S: Sink>(
     serve(rt, rt, alloc, scenario, workers, gate, writer)
 }
 
-// The scenario with the cap and the number of bits that the options give, and how many workers run it.
+// Returns the scenario with the cap and the number of bits that the options give, and how many workers run it.
 fn chosen(scenario: Scenario, options: RunOptions) -> (Scenario, u32)
     ensures scenario { result.0 ≡ with_options options scenario }
     ensures workers { result.1 ≡ options.workers }

@@ -2,20 +2,20 @@ use std::alloc::AllocError;
 use thiserror::Error;
 use vll_workers::RunFault;
 
-/// Why a scenario was not served. After `Write` a beginning of the outcome has been written, and after any other
-/// fault nothing.
+/// Why a scenario was not served. After `Write`, a prefix of the outcome has been written, and after any other fault
+/// nothing.
 #[derive(Clone, Copy, PartialEq, Eq, Debug, Error)]
 pub enum ServeFault {
-    /// The workers' run did not end well; this is what it answered.
+    /// The workers' run did not end well; this is the fault that it returned.
     #[error("{0}")]
     Run(RunFault),
-    /// After the run calls were left in the engine, so many running and so many waiting.
+    /// After the run, calls were left in the engine, of which `running` run and `waiting` wait.
     #[error("unfinished {running} {waiting}")]
     Unfinished { running: u32, waiting: u32 },
-    /// Memory was wanting outside the workers' run.
+    /// An allocation outside the workers' run failed.
     #[error("no memory")]
     NoMemory,
-    /// The outcome was not written whole.
+    /// The outcome was not written completely.
     #[error("write")]
     Write,
 }

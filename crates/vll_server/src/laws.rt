@@ -1,4 +1,4 @@
-//! What the text of a served scenario is.
+//! The text of a served scenario.
 
 ghost use Rattle.std.specs.Prelude.{◌≡◌};
 ghost use Rattle.vll_counters.specs.Views.{calls_in};
@@ -7,7 +7,7 @@ ghost use Rattle.vll_scenario.specs.Setup.{Setup};
 ghost use Rattle.vll_server.specs.Serve.{IsServed};
 ghost use Rattle.vll_server.specs.Text.{closed_text, serial_text};
 
-/// The text of what a run of a scenario leaves is that of its journal's calls, run one at a time.
+/// The text of what a run of a scenario leaves is the text of its journal's calls, run one at a time.
 #[tactic(auto, using(crate::proofs::Served::served_text))]
 pub fn served_texts_are_serial()
     ensures { (s : Setup) (c : Closed) → IsServed s c

@@ -1,4 +1,15 @@
-//! Scenarios in, outcomes out: running a scenario's scripts, and writing what came of it.
+//! Scenarios in, outcomes out: it runs a scenario's scripts with worker threads, and writes the outcome as text. It is
+//! what the program `vll` calls, and also exports what reads, checks and replays scenarios. Proved: the text that is
+//! written is that of the journal's calls, run one at a time in the order in which they entered, and the journal merges
+//! the scripts. Start at `serve`, or at `serve_as` with `RunOptions`; `run_scenario` returns what a run leaves, a
+//! `Closed`, and `ServeFault` says why a scenario was not served.
+//!
+//! ```rattle
+//! let scenario = read_scenario(alloc, &mut Plain::new(text.as_bytes()))?;
+//! let mut outcome = Vec::new(alloc);
+//! let mut writer = Plain::new(&mut outcome);
+//! serve(rt, rt, alloc, scenario, workers, &OpenGate, &mut writer)?;
+//! ```
 #![tactic(auto)]
 
 mod choosing;

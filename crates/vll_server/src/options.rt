@@ -8,9 +8,9 @@ use vll_workers::MOST_WORKERS;
 pub struct RunOptions {
     /// How many worker threads make the calls.
     pub workers: Workers,
-    /// How many calls may wait at a time. None: as many as the scenario says.
+    /// How many calls may wait at a time. None: the scenario's cap.
     pub cap: Option<Cap>,
-    /// How many places the contention analysis has for the records. None: as many as the scenario says.
+    /// How many places the contention analysis has for the records. None: the scenario's number.
     pub bits: Option<Bits>,
 }
 

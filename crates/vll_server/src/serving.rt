@@ -29,13 +29,13 @@ use vll_sca::Placing;
 use vll_scenario::{MOST_CLIENTS, Scenario, ScenarioParts, Sink, WriteFault};
 use vll_workers::{Gate, MOST_WORKERS, RunError, RunFault};
 
-/// Has a scenario's scripts run by `run_scenario`, and writes the text of the outcome: a line for each call in the
-/// order in which the calls entered, and then one for each record.
+/// Runs a scenario's scripts with `run_scenario`, and writes the text of the outcome: a line for each call in the order
+/// in which the calls entered, and then one for each record.
 ///
-/// Nothing is written before the run has ended well and the engine is closed. `Run`, `Unfinished` and `NoMemory` come
-/// before that, and leave the writer as it was; `NoMemory` comes too if the text cannot be made, which is before its
-/// first byte is written. `Write` comes exactly if the writer has failed; a beginning of the text has been written
-/// then. What `Run` and `Unfinished` tell is told by `run_scenario`.
+/// Nothing is written before the run has ended well and the engine is closed. `Run`, `Unfinished` and `NoMemory` are
+/// returned before that, and leave the writer as it was; `NoMemory` is also returned if the text cannot be made, which
+/// is before its first byte is written. `Write` is returned exactly if the writer has failed; then a prefix of the text
+/// has been written. `run_scenario` says what `Run` and `Unfinished` report.
 pub fn serve<R: Threads + Wait + Sync, W: Wait + Sync, G: Gate + Sync, S: Sink>(
     rt: &R,
     wait: &W,
@@ -63,15 +63,16 @@ pub fn serve<R: Threads + Wait + Sync, W: Wait + Sync, G: Gate + Sync, S: Sink>(
     }
 }
 
-/// Has a scenario's scripts run by so many worker threads, 1 to `MOST_WORKERS` of `vll_workers`, and answers what they
-/// leave. The gate is told of each call that is executed. The scenario's cap, bits and hash are the engine's; its limit
-/// and its schedule are not read, since the engine takes as many calls as the scripts have.
+/// Runs a scenario's scripts with `workers` worker threads, 1 to `MOST_WORKERS` of `vll_workers`, and returns what they
+/// leave. The gate is called for each call that is executed. The engine has the scenario's cap, bits and hash; the
+/// scenario's limit and its schedule are not read, since the engine takes as many calls as the scripts have.
 ///
-/// The journal has the calls in the order in which they entered: each script's in its order, and no others. The replies
-/// and records are those of these calls made one at a time, in this order, and each pair word is 0.
+/// The journal has the calls in the order in which they entered: those of each script in its order, and no others. The
+/// replies and records are those of these calls made one at a time, in this order, and each pair word is 0.
 ///
-/// `Run` tells what the workers' run answered, which is never that the engine is spent. `Unfinished` tells how many
-/// calls were left in the engine after the run: some were. `NoMemory` is for want of memory outside the workers' run.
+/// `Run` has the fault that the workers' run returned, which is never that the engine is spent. `Unfinished` reports
+/// how many calls were left in the engine after the run: some were. `NoMemory` is for failed allocations outside the
+/// workers' run.
 pub fn run_scenario<R: Threads + Wait + Sync, W: Wait + Sync, G: Gate + Sync>(
     rt: &R,
     wait: &W,
@@ -90,9 +91,9 @@ pub fn run_scenario<R: Threads + Wait + Sync, W: Wait + Sync, G: Gate + Sync>(
     run_named::<Brand, R, W, G>(rt, wait, alloc, opening, scripts, workers, gate)
 }
 
-// An engine over a scenario's records and procedures, which has no name yet, and the scripts. The engine has the
-// scenario's cap, bits and hash, a client for each script, and takes as many calls as the scripts have. All its
-// memory is taken here.
+// Opens an engine over a scenario's records and procedures, which has no name yet, and returns it with the scripts. The
+// engine has the scenario's cap, bits and hash, a client for each script, and takes as many calls as the scripts have.
+// All its memory is allocated here.
 fn opening_of(
     alloc: Global,
     scenario: Scenario,
@@ -128,7 +129,7 @@ fn opening_of(
     }
 }
 
-/// How many calls all scripts have together, at most 65,536.
+/// The number of calls of all scripts together, at most 65,536.
 pub fn number_of_calls(scripts: &[Vec<Call>]) -> u32
     requires { sum_by length (lists_of scripts.now) ≤ MOST_CALLS }
     ensures { result ≡ sum_by length (lists_of scripts.now) }
@@ -140,7 +141,7 @@ pub fn number_of_calls(scripts: &[Vec<Call>]) -> u32
     count
 }
 
-// Has the scripts run in an engine of this name, and answers what it leaves.
+// Runs the scripts in an engine of this name, and returns what it leaves.
 fn run_named<N: Name + Send + Sync, R: Threads + Wait + Sync, W: Wait + Sync, G: Gate + Sync>(
     rt: &R,
     wait: &W,
@@ -170,7 +171,7 @@ fn run_named<N: Name + Send + Sync, R: Threads + Wait + Sync, W: Wait + Sync, G:
         Ok(tokens) => close(engine, into_sessions(tokens, room)),
         Err(error) => match error.fault {
             RunFault::Spent => match close(engine, into_sessions(error.tokens, room)) {
-                // The journal would have as many calls as all scripts, and yet lack one of them.
+                // The journal would have as many calls as all scripts together, and yet lack one of them.
                 Ok(_) => unreachable!(),
                 Err(fault) => Err(fault),
             },
@@ -179,14 +180,14 @@ fn run_named<N: Name + Send + Sync, R: Threads + Wait + Sync, W: Wait + Sync, G:
     }
 }
 
-// What is answered if the workers' run did not end well.
+// The fault to return if the workers' run did not end well.
 fn run_fault(error: RunError) -> ServeFault
     ensures { result ≡ ServeFault.Run error.fault }
 {
     ServeFault::Run(error.fault)
 }
 
-// What the engine leaves, or how many calls are left in it.
+// Closes the engine and returns what it leaves, or how many calls are left in it.
 fn close<N: Name>(engine: Engine<N, Placing>, sessions: Vec<Session>) -> Result<Closed, ServeFault>
     requires { All (λ s. s.table ≡ N.engine.table) sessions.items }
     ensures serial { IfOk result (IsSerial N.engine) }
@@ -199,7 +200,7 @@ fn close<N: Name>(engine: Engine<N, Placing>, sessions: Vec<Session>) -> Result<
     }
 }
 
-// What is answered if calls were left in the engine.
+// The fault to return if calls were left in the engine.
 fn unfinished<N: Name>(left: NotClosed<N, Placing>) -> ServeFault
     ensures { result ≡ ServeFault.Unfinished left.running left.waiting }
 {

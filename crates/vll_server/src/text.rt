@@ -10,7 +10,7 @@ use vll_core::Line;
 use vll_engine::Closed;
 use vll_replay::push_record_line;
 
-// Each of these appends one part of the outcome. After an error a beginning of that part may be there.
+// Each of these appends one part of the outcome. After an error, a prefix of that part may have been appended.
 
 fn push_call_line(text: &mut String, ticket: usize, line: &Line) -> Result<(), AllocError>
     ensures { OnOk result (string_bytes text.new
@@ -44,7 +44,7 @@ fn push_record_lines(text: &mut String, records: &[u64], pairs: &[u64]) -> Resul
     Ok(())
 }
 
-// The text of what a run leaves.
+// Makes the text of what a run leaves.
 pub(crate) fn closed_text_of(alloc: Global, closed: &Closed) -> Result<String, AllocError>
     ensures { IfOk result (λ text. string_bytes text ≡ closed_text closed.now) }
 {

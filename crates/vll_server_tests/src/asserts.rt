@@ -4,19 +4,19 @@ ghost use Rattle.std.specs.Prelude.{IsTrue};
 use std::fmt::Debug;
 use std::process::Abort;
 
-// The two are the same.
+// Asserts that the two are equal.
 pub(crate) fn equal<T: PartialEq + Debug + Drop>(rt: &impl Abort, found: T, wanted: T) {
     assert_eq!(rt; found, wanted);
 }
 
-// This holds, and is known afterwards.
+// Asserts that this holds, which is known afterwards.
 pub(crate) fn holds(rt: &impl Abort, condition: bool)
     ensures { IsTrue condition }
 {
     assert!(rt; condition);
 }
 
-// This holds, in this row of a table.
+// Asserts that this holds, in this row of a table.
 pub(crate) fn holds_at<R: Debug + Drop>(rt: &impl Abort, row: R, condition: bool) {
     assert!(rt; condition, "at {row:?}");
 }

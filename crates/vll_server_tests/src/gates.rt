@@ -9,13 +9,13 @@ use vll_core::Ticket;
 use vll_server::{Plain, RunOptions, UpTo, read_scenario, serve_as};
 use vll_workers::Gate;
 
-// Two clients that change a record each.
+// Two clients, each of which changes a record of its own.
 const TWO_CLIENTS: &str = r#"{"version":1,"records":[0,0],
  "procs":[{"name":"bump","args":1,"keys":[["write","arg",0]],
    "body":[["set",0,["add",["key",0],1]],["reply",["key",0]]]}],
  "clients":[[{"proc":"bump","args":[0]}],[{"proc":"bump","args":[1]}]]}"#;
 
-// Six of them.
+// Six such clients.
 const SIX_CLIENTS: &str = r#"{"version":1,"records":[0,0,0,0,0,0],
  "procs":[{"name":"bump","args":1,"keys":[["write","arg",0]],
    "body":[["set",0,["add",["key",0],1]],["reply",["key",0]]]}],
@@ -25,7 +25,7 @@ const SIX_CLIENTS: &str = r#"{"version":1,"records":[0,0,0,0,0,0],
 // How long a call is held back at most.
 const MOST_TURNS: u64 = 100_000_000;
 
-// Whether the scenario is served by so many workers.
+// Whether the scenario is served by `workers` workers.
 fn is_served<R: Threads + Wait + Sync, G: Gate + Sync>(
     rt: &R,
     alloc: Global,
@@ -50,7 +50,7 @@ fn is_served<R: Threads + Wait + Sync, G: Gate + Sync>(
     serve_as(rt, alloc, scenario, options, gate, &mut writer).is_ok()
 }
 
-// Waits until a counter is as high, for so many turns at most. Answers whether it became so.
+// Waits until a counter is at least `number`, for `turns` turns at most. Returns whether it got there.
 fn comes_to(counter: &AtomicU64, number: u64, turns: u64) -> bool {
     for _ in 0..turns {
         if counter.load(Ordering::SeqCst) >= number {
@@ -61,7 +61,7 @@ fn comes_to(counter: &AtomicU64, number: u64, turns: u64) -> bool {
     false
 }
 
-// Holds ticket 0 back until so many others have their replies, and, if there are several, the first of those until
+// Holds ticket 0 back until `others` others have their replies, and, if there are several, the first of those until
 // another one begins.
 #[derive(Drop)]
 struct Behind {
@@ -108,9 +108,9 @@ fn later_call_is_done_while_the_first_is_held_back(rt: HostRuntime) {
     equal(&rt, gate.met.load(Ordering::SeqCst), 1);
 }
 
-// A scenario whose first call is on record 0, whichever client's it is. Two clients have nothing but such calls.
-// The other one then changes record 4 twice, and record 1. By 4 bits records 0 and 4 have one place under modulo,
-// the place 0, and two under spread, 0 and 1.
+// A scenario whose first call is on record 0, whichever client makes it. Two clients make only such calls. The other
+// one then changes record 4 twice, and record 1. With 4 bits, records 0 and 4 have one place under modulo, place 0, and
+// two under spread, 0 and 1.
 fn on_records_0_and_4(alloc: Global) -> Result<String, AllocError> {
     let mut text = String::from_str(
         alloc,
@@ -135,8 +135,8 @@ fn push_calls_on_record_0(text: &mut String) -> Result<(), AllocError> {
     text.push_str("]")
 }
 
-// Ticket 0 holds record 0. The first call on record 4 is held back until the call on record 1 begins, so the second
-// one on record 4 is blocked. Once the first is gone it can run only if the scan finds it.
+// Ticket 0 holds record 0. The first call on record 4 is held back until the call on record 1 begins, so the second one
+// on record 4 is blocked. Once the first is gone, it can run only if the scan finds it.
 #[test]
 fn scan_goes_by_the_hash_of_the_scenario(rt: HostRuntime) -> Result<(), Fail> {
     let text = on_records_0_and_4(rt.alloc())?;
@@ -147,7 +147,7 @@ fn scan_goes_by_the_hash_of_the_scenario(rt: HostRuntime) -> Result<(), Fail> {
     Ok(())
 }
 
-// Holds each call back until so many are held back at one time, for so many turns at most.
+// Holds each call back until `wanted` are held back at one time, for `turns` turns at most.
 #[derive(Drop)]
 struct Together {
     wanted: u64,

@@ -57,7 +57,7 @@ fn closed(alloc: Global) -> Result<Closed, AllocError> {
     })
 }
 
-// What `write_outcome` answers of it.
+// What `write_outcome` returns for it.
 fn written(alloc: Global, narrow: &mut Narrow<'_>, closed: &Closed) -> Result<(), WriteFault> {
     let mut writer = Plain::new(narrow);
     write_outcome(alloc, &mut writer, closed)
@@ -99,7 +99,7 @@ fn repeated(alloc: Global, number: u64, count: usize) -> Result<Vec<u64>, AllocE
     Ok(numbers)
 }
 
-// What is without calls, with so many records of 5 and so many pair words of 0.
+// What a run without calls leaves, with `records` records of 5 and `pairs` pair words of 0.
 fn without_calls(alloc: Global, records: usize, pairs: usize) -> Result<Closed, AllocError> {
     let records = repeated(alloc, 5, records)?;
     let pairs = repeated(alloc, 0, pairs)?;

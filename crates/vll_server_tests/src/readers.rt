@@ -6,7 +6,7 @@ use std::io;
 use std::test::Fail;
 use vll_server::{Plain, ReplayFault, ScenarioFault, read_scenario, replay};
 
-// What `read_scenario` answers to a text that is given a byte at a time.
+// What `read_scenario` returns for a text that is given a byte at a time.
 fn read(alloc: Global, text: &[u8], breaks: bool) -> Result<(), ScenarioFault> {
     let mut reader = Plain::new(Slow { text, breaks });
     match read_scenario(alloc, &mut reader) {
@@ -15,20 +15,20 @@ fn read(alloc: Global, text: &[u8], breaks: bool) -> Result<(), ScenarioFault> {
     }
 }
 
-// What `replay` answers to it. The writer has no room, so that not a byte may be written.
+// What `replay` returns for it. The writer has no room, so that not a byte may be written.
 fn replayed(alloc: Global, text: &[u8], breaks: bool) -> Result<(), ReplayFault> {
     let mut reader = Plain::new(Slow { text, breaks });
     let mut writer = Plain::new(Narrow::new("", 0, Full::Fails, false));
     replay(alloc, &mut reader, &mut writer)
 }
 
-// Whether both answer this fault.
+// Whether both return this fault.
 fn is_refused(alloc: Global, text: &[u8], breaks: bool, fault: ScenarioFault) -> bool {
     read(alloc, text, breaks) == Err(fault)
         && replayed(alloc, text, breaks) == Err(ReplayFault::Scenario(fault))
 }
 
-// How many of a text's beginnings, from the empty one on, are refused for this fault, one after the other.
+// How many prefixes of a text in a row, from the empty one on, are refused with this fault.
 fn refused_beginnings(alloc: Global, text: &[u8], breaks: bool, fault: ScenarioFault) -> usize {
     for count in 0..text.len() {
         if !is_refused(alloc, &text[..count], breaks, fault) {
@@ -54,7 +54,7 @@ fn failure_is_told_first(rt: HostRuntime) {
     holds(&rt, is_refused(rt.alloc(), text, true, ScenarioFault::Read));
 }
 
-// The text with a byte that stands in no JSON text, at this place.
+// Returns the text with a byte at this place that occurs in no JSON text.
 fn with_255_at(alloc: Global, text: &[u8], place: usize) -> Result<Vec<u8>, AllocError> {
     let mut bytes = Vec::new(alloc);
     for (index, byte) in text.iter().enumerate() {

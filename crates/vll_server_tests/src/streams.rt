@@ -1,4 +1,4 @@
-// A reader and a writer that take a byte at a time, and stop where they are told.
+// A reader and a writer that take a byte at a time, and stop at a given place.
 use std::io;
 use std::io::{Read, Write};
 
@@ -26,19 +26,19 @@ impl<'a> Read for Slow<'a> {
 /// Takes a byte at a time while there is room, and compares what it takes with a text.
 #[derive(Drop)]
 pub(crate) struct Narrow<'a> {
-    /// What is still to come of the text.
+    /// The rest of the text, which is still to come.
     rest: &'a [u8],
     /// How many bytes it still takes.
     room: usize,
-    /// What becomes of a write when there is no room.
+    /// What happens to a write when there is no room.
     full: Full,
     /// Whether a flush succeeds.
     flushes: bool,
-    /// Whether a byte came that is not the text's.
+    /// Whether a byte came that differs from the text.
     strayed: bool,
 }
 
-/// What becomes of a write to a writer without room.
+/// What happens to a write to a writer without room.
 #[derive(Clone, Copy)]
 pub(crate) enum Full {
     Fails,
@@ -46,7 +46,7 @@ pub(crate) enum Full {
 }
 
 impl<'a> Narrow<'a> {
-    /// A writer that has room for so many bytes, and compares what it takes with a text.
+    /// Makes a writer that has room for `room` bytes, and compares what it takes with a text.
     pub(crate) fn new(text: &'a str, room: usize, full: Full, flushes: bool) -> Narrow<'a> {
         Narrow {
             rest: text.as_bytes(),
@@ -57,7 +57,7 @@ impl<'a> Narrow<'a> {
         }
     }
 
-    /// Whether all that was taken is the text, but for so many bytes at its end.
+    /// Whether all that was taken is the text without its last `count` bytes.
     pub(crate) fn lacks(&self, count: usize) -> bool {
         self.rest.len() == count && !self.strayed
     }

@@ -7,7 +7,7 @@ use std::thread::Threads;
 use vll_server::{Plain, ReplayFault, ServeFault, read_scenario, replay, serve};
 use vll_workers::OpenGate;
 
-// What `serve` answers of the transfer, which is read a byte at a time. None: it was not read.
+// What `serve` returns for the transfer, which is read a byte at a time. None: it was not read.
 fn served<R: Threads + Wait + Sync>(
     rt: &R,
     alloc: Global,
@@ -24,7 +24,7 @@ fn served<R: Threads + Wait + Sync>(
     Some(serve(rt, rt, alloc, scenario, 1, &OpenGate, &mut writer))
 }
 
-// What `replay` answers of the blocked call, which is read a byte at a time.
+// What `replay` returns for the blocked call, which is read a byte at a time.
 fn replayed(alloc: Global, narrow: &mut Narrow<'_>) -> Result<(), ReplayFault> {
     let mut reader = Plain::new(Slow {
         text: BLOCKED.as_bytes(),
@@ -34,8 +34,8 @@ fn replayed(alloc: Global, narrow: &mut Narrow<'_>) -> Result<(), ReplayFault> {
     replay(alloc, &mut reader, &mut writer)
 }
 
-// Up to which room, from 0 on, a writer that is full takes what it has room for of the transfer's text, and makes
-// `serve` answer `Write`.
+// Up to which capacity, from 0 on, a writer that gets full takes what it has room for of the transfer's text, and makes
+// `serve` return `Write`.
 fn served_short<R: Threads + Wait + Sync>(rt: &R, alloc: Global, full: Full) -> usize {
     let whole = TRANSFER_TEXT.len();
     for room in 0..whole {
@@ -48,7 +48,7 @@ fn served_short<R: Threads + Wait + Sync>(rt: &R, alloc: Global, full: Full) -> 
     whole
 }
 
-// The same of the replay's text.
+// As `served_short`, for the replay's text.
 fn replayed_short(alloc: Global, full: Full) -> usize {
     let whole = BLOCKED_TEXT.len();
     for room in 0..whole {

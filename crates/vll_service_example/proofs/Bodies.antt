@@ -10,7 +10,7 @@ use Rattle.vll_proc.specs.Meaning.{Action, Scene, and_then, effect, in_turn, tru
 use Rattle.vll_proc.specs.Serial.{after}
 use Rattle.vll_service_example.specs.Bank.{deposit_body, transfer_body}
 
--- what is taken from one place is put to another
+-- what is taken from one place is added to another
 moved : (xs : List ℕ) (i j a : ℕ) → i < length xs → j < length xs → a ≤ slice_index xs i
     → sum (slice_set (slice_set xs i (slice_index xs i - a)) j (slice_index (slice_set xs i (slice_index xs i - a)) j + a)) ≡ sum xs
 moved xs i j a from to enough =

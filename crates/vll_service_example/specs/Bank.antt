@@ -9,7 +9,7 @@ use Rattle.vll_proc.specs.declared.syntax.Proc.{Proc}
 use Rattle.vll_proc.specs.declared.syntax.Stmt.{Stmt, Set, If, Abort, Reply}
 use Rattle.vll_service_example.specs.declared.procedures.TheConstants.{MOST_DEPOSIT, TOO_LITTLE, TOO_MUCH}
 
--- a key that writes the account which is this argument
+-- a key that writes the account given by this argument
 abbrev pub written : ℕ → KeyDecl
 written i = record { mode = Write; at = at.Arg i }
 
@@ -21,7 +21,7 @@ read r = record { mode = Read; at = at.Fixed r }
 abbrev pub transfer_body : List Stmt
 transfer_body = If (Less (Key 0) (Arg 2)) (Abort TOO_LITTLE ∷ []) [] ∷ Set 0 (Sub (Key 0) (Arg 2)) ∷ Set 1 (Add (Key 1) (Arg 2)) ∷ Reply (Key 0) ∷ []
 
--- moves an amount from one account to another, and replies what is left of the first
+-- moves an amount from one account to another, and replies what is left in the first
 abbrev pub transfer : Proc
 transfer = record { edition = Two; name = codes "transfer"; args = 3; keys = written 0 ∷ written 1 ∷ []; body = transfer_body }
 
@@ -50,6 +50,6 @@ read_all = record { edition = Two; name = codes "read_all"; args = 0; keys = rea
 abbrev pub procedures : List Proc
 procedures = transfer ∷ deposit ∷ read_all ∷ []
 
--- so many accounts hold this much together
+-- this many accounts hold this much in total
 abbrev pub HoldInTotal : ℕ → ℕ → List ℕ → Type 0
 HoldInTotal accounts total now = (length now ≡ accounts) × (sum now ≡ total)

@@ -23,12 +23,13 @@ is_aborted l = of_reply l.reply
     of_reply (Some (Aborted why)) = true
     of_reply None = false
 
--- the reply has so much in total; one that aborts has nothing
+-- the outputs of the reply add up to this total; an aborted call has none
 abbrev pub replies_total : ℕ → Reply → Bool
 replies_total total (Committed outputs) = sum outputs == total
 replies_total total (Aborted why) = false
 
--- what a call of this number replies is wrong: it is nothing, or another total than this if the call reads all accounts
+-- the reply of a call of this procedure is wrong: there is none, or the call reads all accounts and replies another
+-- total than this
 abbrev pub is_wrong : ℕ → ℕ → Option Reply → Bool
 is_wrong total number (Some reply) = (number == READ_ALL) && not (replies_total total reply)
 is_wrong total number None = true

@@ -1,16 +1,16 @@
 ghost use Rattle.std.specs.Prelude.{◌<◌};
 
-/// Numbers as if drawn at random, the same ones each time: Knuth's linear congruence.
+/// Pseudorandom numbers, the same ones each time: Knuth's linear congruential generator.
 #[derive(Drop)]
 pub(crate) struct Draw(u64);
 
 impl Draw {
-    /// Numbers that begin with a seed.
+    /// A generator with this seed.
     pub(crate) fn new(seed: u64) -> Draw {
         Draw(seed)
     }
 
-    /// A number below a bound.
+    /// Draws a number below `bound`.
     pub(crate) fn below(&mut self, bound: u64) -> u64
         requires { 0 < bound }
         ensures { result < bound }

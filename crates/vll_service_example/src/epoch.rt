@@ -13,17 +13,17 @@ use vll_core::Line;
 use vll_engine::{Client, Clients, Engine, EngineFault, Name, Opening, Reopened};
 use vll_sca::Placing;
 
-/// How many clients the bank has, each on a thread of its own.
+/// The number of clients of the bank, each on a thread of its own.
 pub(crate) const CLIENTS: u32 = 4;
 
-/// How many calls are made in an epoch. An engine takes at most 65,536.
+/// The number of calls in an epoch. An engine takes at most 65,536.
 pub(crate) const LIMIT: u32 = 50_000;
 
-// More is moved by no transfer.
+// The most that a transfer moves.
 const MOST_MOVED: u64 = 100;
 
-/// An epoch: so many calls, and then the engine of the next one, over the accounts as they stand. The list is for the
-/// journal that the next epoch leaves: an empty one, or a journal that is done with.
+/// An epoch: `calls` calls, and then the engine of the next one, over the accounts as they stand. The list `room` is
+/// for the journal that the next epoch leaves: an empty one, or a journal that is done with.
 pub(crate) fn run_epoch<N: Name + Send + Sync, R: Threads + Wait + Sync>(
     rt: &R,
     alloc: Global,
@@ -50,7 +50,7 @@ pub(crate) fn run_epoch<N: Name + Send + Sync, R: Threads + Wait + Sync>(
     Ok(next)
 }
 
-// Each client makes its share of an epoch's calls, on a thread of its own.
+// Makes each client's share of an epoch's calls, on a thread of its own.
 fn make_calls<N: Name + Send + Sync, R: Threads + Wait + Sync>(
     rt: &R,
     alloc: Global,
@@ -70,7 +70,7 @@ fn make_calls<N: Name + Send + Sync, R: Threads + Wait + Sync>(
     Ok(())
 }
 
-// A client makes its share of an epoch's calls, one after the other.
+// Makes a client's share of an epoch's calls, one after the other.
 fn make_share<N: Name>(
     rt: &impl Wait,
     engine: &Engine<N, Placing>,
@@ -88,7 +88,7 @@ fn make_share<N: Name>(
     Ok(client)
 }
 
-// A client makes a call: of ten some seven are transfers, two are deposits, half of which are too large, and one reads
+// Makes a call of a client: of ten, about seven are transfers, two are deposits, half of them too large, and one reads
 // all accounts.
 fn make_call<N: Name>(
     rt: &impl Wait,

@@ -1,4 +1,4 @@
-//! A service with the engine inside: four threads make the calls of a bank's clients, in epochs.
+//! A service with an embedded engine: four threads make the calls of a bank's clients, in epochs.
 #![tactic(auto)]
 
 mod drawing;
@@ -16,7 +16,7 @@ use vll_engine::EngineFault;
 const USAGE: &str = "usage: vll_service_example [CALLS]
 CALLS: how many calls are made in all; 1000000 without it";
 
-// How many calls are made if the command line does not say.
+// The default number of calls.
 const CALLS: u32 = 1_000_000;
 
 fn main(rt: HostRuntime) -> Result<(), EngineFault> {
@@ -27,7 +27,7 @@ fn main(rt: HostRuntime) -> Result<(), EngineFault> {
     Ok(())
 }
 
-// The number of calls that the command line asks for; `None` if it is none.
+// The number of calls that the command line asks for, by default `CALLS`; `None` if its arguments are wrong.
 fn calls_asked<R: Env + AllocGlobal>(rt: &R) -> Result<Option<u32>, EngineFault> {
     let words: Vec<String> = env::args(rt)?.collect(rt.alloc())?;
     Ok(match words.as_slice() {
@@ -37,7 +37,7 @@ fn calls_asked<R: Env + AllocGlobal>(rt: &R) -> Result<Option<u32>, EngineFault>
     })
 }
 
-// Prints what depends on no schedule.
+// Prints what does not depend on the schedule.
 fn print(rt: &impl Print, served: &Served) -> io::Result<()> {
     let tally = &served.tally;
     println!(rt; "calls {}", tally.calls)?;

@@ -13,10 +13,10 @@ use vll_engine::EngineFault;
 use vll_proc::{Edition, Expr, KeyAt, KeyDecl, Proc, Stmt, Text};
 use vll_record::Mode;
 
-/// How many accounts the bank has. The first one is its till.
+/// The number of accounts of the bank. The first one is its till.
 pub(crate) const ACCOUNTS: u32 = 8;
 
-/// The most that is taken in one deposit.
+/// The largest deposit.
 pub(crate) const MOST_DEPOSIT: u64 = 100;
 
 /// The code with which a transfer aborts if its first account holds less than the amount.
@@ -28,7 +28,7 @@ const TOO_MUCH: u16 = 2;
 /// The number of `read_all` in the library.
 pub(crate) const READ_ALL: u32 = 2;
 
-// A key that writes the account which is the argument of this place.
+// A key that writes the account given by this argument.
 fn written(argument: u8) -> KeyDecl
     ensures { result ≡ record { mode = Write; at = at.Arg argument } }
 {
@@ -74,7 +74,7 @@ fn abort_if_less(alloc: Global, left: Expr, right: Expr, code: u16) -> Result<St
     Ok(Stmt::If(is_less, Items::from_vec(then), Items::new(alloc)))
 }
 
-// Takes the amount, which is this argument, from the account of the first key.
+// Subtracts the amount, given by this argument, from the account of the first key.
 fn take(alloc: Global, amount: u8) -> Result<Stmt, AllocError>
     ensures { IfOk result (λ s. s ≡ Set 0 (Sub (Key 0) (Arg amount))) }
 {
@@ -82,7 +82,7 @@ fn take(alloc: Global, amount: u8) -> Result<Stmt, AllocError>
     Ok(Stmt::Set(0, Expr::Sub(left, Boxed::new(alloc, Expr::Arg(amount))?)))
 }
 
-// Puts it to the account of the second key.
+// Adds it to the account of the second key.
 fn put(alloc: Global, amount: u8) -> Result<Stmt, AllocError>
     ensures { IfOk result (λ s. s ≡ Set 1 (Add (Key 1) (Arg amount))) }
 {
@@ -90,7 +90,7 @@ fn put(alloc: Global, amount: u8) -> Result<Stmt, AllocError>
     Ok(Stmt::Set(1, Expr::Add(left, Boxed::new(alloc, Expr::Arg(amount))?)))
 }
 
-// Moves an amount from one account to another, and replies what is left of the first. It aborts if that holds less.
+// Moves an amount from one account to another, and replies what is left in the first. Aborts if that holds less.
 fn transfer(alloc: Global) -> Result<Proc, AllocError>
     ensures { IfOk result (λ p. p ≡ transfer) }
 {
@@ -108,8 +108,8 @@ fn transfer(alloc: Global) -> Result<Proc, AllocError>
     })
 }
 
-// Moves an amount from the till to an account, and replies what that holds then. It aborts if the amount is more than
-// is taken in one deposit.
+// Moves an amount from the till to an account, and replies what that holds then. Aborts if the amount is more than
+// `MOST_DEPOSIT`.
 fn deposit(alloc: Global) -> Result<Proc, AllocError>
     ensures { IfOk result (λ p. p ≡ deposit) }
 {

@@ -16,7 +16,7 @@ use vll_core::Config;
 use vll_engine::{EngineFault, Opening};
 use vll_sca::Placing;
 
-/// What each account holds at first. No transfer is short of it, since no call moves more than 100 of it.
+/// What each account holds at first. No transfer runs short of it, since no call moves more than 100 of it.
 const EACH: u64 = 100_000_000;
 
 /// What a service has done, and what its accounts hold in total at the opening and at the end.
@@ -27,8 +27,8 @@ pub(crate) struct Served {
     pub(crate) after: u64,
 }
 
-/// Serves so many calls. The lists of the engine and the journal are made before the first call, and each epoch uses
-/// them again.
+/// Serves `calls` calls. The lists of the engine and the journal are made before the first call, and each epoch reuses
+/// them.
 pub(crate) fn serve<R: Threads + Wait + Sync>(
     rt: &R,
     alloc: Global,

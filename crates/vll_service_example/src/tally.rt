@@ -12,7 +12,7 @@ pub(crate) struct Tally {
     pub(crate) calls: u32,
     pub(crate) committed: u32,
     pub(crate) aborted: u32,
-    /// Calls without a reply, and reads of all accounts that replied another total than the opening's.
+    /// The number of calls without a reply, and of reads of all accounts that replied another total than the opening's.
     pub(crate) faults: u32,
     ghost committed_calls: { committed ≤ calls },
     ghost aborted_calls: { aborted ≤ calls },
@@ -20,7 +20,7 @@ pub(crate) struct Tally {
 }
 
 impl Tally {
-    /// Nothing is done.
+    /// An empty tally.
     pub(crate) fn new() -> Tally
         ensures epochs { result.epochs ≡ 0 }
         ensures calls { result.calls ≡ 0 }
@@ -35,7 +35,7 @@ impl Tally {
         }
     }
 
-    /// The same, and an epoch more, by its journal. At the opening the accounts held so much in total.
+    /// Returns this tally with one more epoch, by its journal. At the opening the accounts held `total` in total.
     pub(crate) fn with_epoch(self, journal: &[Line], total: u64) -> Tally
         requires epochs { self.epochs + 1 < 2 ^ 32 }
         requires calls { self.calls + length journal.now < 2 ^ 32 }
@@ -104,7 +104,7 @@ fn replies_total(reply: &Reply, total: u64) -> bool
     }
 }
 
-// Whether these are so much in total.
+// Whether these amounts add up to `total`.
 fn is_total(amounts: &[u64], total: u64) -> bool
     ensures { result ≡ (sum amounts.now == total) }
 {

@@ -32,7 +32,7 @@ impl Service for Total {
     }
 }
 
-/// What these are in total.
+/// The sum of these amounts.
 pub(crate) fn total_of(amounts: &[u64]) -> u64
     requires { sum amounts.now < 2 ^ 64 }
     ensures { result ≡ sum amounts.now }

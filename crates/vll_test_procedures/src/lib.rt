@@ -1,4 +1,14 @@
-//! Scenarios from JSON text, and the procedures that the tests of several crates call.
+//! The procedures that the tests of several crates call, and scenarios from JSON text for such tests. `library` makes a
+//! checked library of seven small procedures for any number of records from 1, and `parts` reads the parts of any
+//! scenario that a test writes as text. The crate proves that a library is for the number of records asked for, and
+//! that the library of a scenario makes each call of its scripts. Start at `library` and `parts`.
+//!
+//! ```rattle
+//! let library = library(rt.alloc(), 2)?;
+//! let procedure = library.proc(0);
+//! let parts = parts(rt.alloc(), text.as_str())?;
+//! let scripts = parts.scripts.as_slice();
+//! ```
 #![tactic(auto)]
 
 ghost use Rattle.std.specs.Prelude.{◌≡◌, All, IfOk, length};
@@ -29,7 +39,7 @@ const PROCEDURES: &str = r#"{"version":1,"clients":[],"procs":[
   "body":[["set",1,["add",["key",1],1]],["reply",["key",1]]]}],
  "records":["#;
 
-/// What the scenario is made of that a text is. It fails where `read_scenario` refuses the text.
+/// Returns the parts of the scenario that `text` describes. Fails if `read_scenario` refuses the text.
 pub fn parts(alloc: Global, text: &str) -> Result<ScenarioParts, Fail>
     ensures records { IfOk result (λ p. p.library.records ≡ length p.records.items) }
     ensures fits { IfOk result (λ p. All (λ script. All (Fits p.library) script.items) p.scripts.items) }
@@ -39,11 +49,11 @@ pub fn parts(alloc: Global, text: &str) -> Result<ScenarioParts, Fail>
     Ok(scenario.into_parts())
 }
 
-/// A library for a number of records, from 1. Its procedures are in order: `transfer` of an amount from a record to
-/// another one, which replies what is left; `bump`, which adds 1 to a record and replies the sum; `sum2`, which
+/// Returns a library for `records` records, at least 1. Its procedures are, in order: `transfer` of an amount from one
+/// record to another, which replies what is left; `bump`, which adds 1 to a record and replies the sum; `sum2`, which
 /// replies the sum of two records; `read`, which replies a record; `take` of an amount from a record, which replies
 /// what is left, and aborts with code 7 if there is less; `seven`, which replies 7; and `via`, which adds 1 to the
-/// record that another one's value leads to, and replies the sum.
+/// record that another record's value leads to, and replies the sum.
 pub fn library(alloc: Global, records: u32) -> Result<Library, Fail>
     ensures { IfOk result (λ l. l.records ≡ records) }
 {
@@ -56,7 +66,7 @@ pub fn library(alloc: Global, records: u32) -> Result<Library, Fail>
     Ok(library)
 }
 
-// The text of a scenario of these procedures, in which so many records hold 0.
+// The text of a scenario of these procedures with `records` records, each of which holds 0.
 fn text_for(alloc: Global, records: u32) -> Result<String, AllocError> {
     let mut text = String::from_str(alloc, PROCEDURES)?;
     for _ in 1..records {

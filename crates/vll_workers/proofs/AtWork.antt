@@ -30,7 +30,7 @@ as_before handed table old new ts at kept same is = record {
   part = subst (λ (v : Hand). 0 < v.parts) (sym is) at.part;
 }
 
--- one of them leaves its stack, and others lie on the next one
+-- one of them leaves its stack, and others are on the next one
 pub popped : (handed : List TokenShown) (table : TableId) (w : Working) (before ts others : List TokenShown) (t : TokenShown) → IsAtWork handed table w (before ++ others) → before ≡ t ∷ ts
     → IsAtWork handed table w (t ∷ (ts ++ others))
 popped handed table w before ts others t at is = subst (λ (l : List TokenShown). IsAtWork handed table w (l ++ others)) is at

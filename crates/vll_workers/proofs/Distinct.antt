@@ -1,4 +1,4 @@
--- Clients of which none stands twice.
+-- Clients none of which occurs twice.
 use Rattle.std.proofs.Common.{◌≡◌, ◌<◌, ◌≤◌, ℕ, suc, List, [], ◌∷◌, ◌++◌, false, refl, sym, subst, ◌∙◌, ap, arith, nat_eq, length}
 use Rattle.std.specs.Prelude.{All, IsPermutation}
 use Rattle.std.specs.Cmp.{nat_eq_equiv}
@@ -50,7 +50,7 @@ above_push n m tokens new t next client is above =
     let below : (u : TokenShown) → n ≤ u.client → m ≤ u.client = λ u le. omega (arith, next, le) in
     subst (All (λ (u : TokenShown). m ≤ u.client)) (sym is) (All-push (λ (u : TokenShown). m ≤ u.client) tokens t (All-weaker (λ (u : TokenShown). n ≤ u.client) (λ (u : TokenShown). m ≤ u.client) below tokens above) (omega (arith, client)))
 
--- a token behind others, whose client is below theirs
+-- a token after others, whose client is below theirs
 pub distinct_push : (n : ℕ) (tokens new : List TokenShown) (t : TokenShown) → n ≡ suc t.client → new ≡ tokens ++ t ∷ [] → All (λ (u : TokenShown). n ≤ u.client) tokens → IsDistinct nat_eq (clients_of tokens) → IsDistinct nat_eq (clients_of new)
 distinct_push n tokens new t next is above distinct =
     let less : (u : TokenShown) → n ≤ u.client → t.client < u.client = λ u le. omega (arith, next, le) in

@@ -51,7 +51,7 @@ none_hold h (x ∷ xs) none idle =
     let empty : held h x ≡ 0 = ap (sum_by h) (idle 0 x refl (omega (arith, p, none))) in
     let r = none_hold h xs (omega (arith, p, none)) (λ j. idle (suc j)) in omega (arith, q, empty, r)
 
--- who has every part has all that is in a hand
+-- the pass that has every part has all that is in any hand
 alone : (h : ℕ → ℕ) (views : List Hand) (pass : ℕ) (v : Hand) → get_elem? views pass ≡ some v → sum_by parts_of views ≡ v.parts → IdleIsEmpty views → sum_by (held h) views ≡ held h v
 alone h [] pass v at all idle = absurd (some-ne-none v (sym at))
 alone h (x ∷ xs) zero v at all idle =
@@ -65,7 +65,7 @@ alone h (x ∷ xs) (suc pass) v at all idle =
     let empty : held h x ≡ 0 = ap (sum_by h) (idle 0 x refl (omega (arith, p, least, all))) in
     let r = alone h xs pass v at (omega (arith, p, least, all)) (λ j. idle (suc j)) in omega (arith, q, empty, r)
 
--- a token behind others
+-- a token after others
 clients_push : (h : ℕ → ℕ) (items : List TokenShown) (x : TokenShown) → sum_by h (clients_of (items ++ x ∷ [])) ≡ sum_by h (clients_of items) + h x.client
 clients_push h items x = ap (sum_by h) (map-append (λ (t : TokenShown). t.client) items (x ∷ [])) ∙ sum_by_push h (clients_of items) x.client
 

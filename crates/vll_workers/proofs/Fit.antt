@@ -5,6 +5,6 @@ use Rattle.vll_engine.specs.Shown.{Named}
 use Rattle.vll_workers.specs.Shown.{TokenShown}
 use Rattle.vll_workers.specs.Tokens.{AreFit, IsFit}
 
--- a token that fits, behind tokens that fit
+-- a token that fits, after tokens that fit
 pub fit_push : (e : Named) (tokens new : List TokenShown) (t : TokenShown) → new ≡ tokens ++ t ∷ [] → AreFit e tokens → IsFit e t → AreFit e new
 fit_push e tokens new t is old fit = subst (AreFit e) (sym is) (All-push (IsFit e) tokens t old fit)

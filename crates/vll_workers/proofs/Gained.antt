@@ -120,7 +120,7 @@ same_of handed i t at = record {
   gained = subst (Gained t.session.session t.session.session) (sym (between_none t.next t.script)) (gained_none t.session.session);
 }
 
--- those that were handed in are themselves such
+-- the tokens that were passed in are themselves such
 pub all_of : (handed : List TokenShown) → All (IsOf handed) handed
 all_of handed i d within = same_of handed i (get_or handed i d) (slice_get-get_or handed i d within)
 

@@ -48,7 +48,7 @@ more_held table p t rest kept hand = record {
       hand.holds h ∙ ap (λ (l : List ℕ). sum_by h (t.client ∷ l)) both ∙ sym (same_front t.client (clients_of rest) (clients_of kept) h);
 }
 
--- the same tokens, with one of them behind the others
+-- the same tokens, with one of them after the others
 to_back : (t : TokenShown) (rest kept : List TokenShown) → AreSame (clients_of (t ∷ (rest ++ kept))) (clients_of (rest ++ (kept ++ t ∷ [])))
 to_back t rest kept h =
     let client = λ (u : TokenShown). u.client in

@@ -41,7 +41,7 @@ rises xs up (suc i) within =
     let next : i + 1 ≡ suc i = omega arith in
     subst (λ n. suc i ≤ slice_index xs n) next (omega (arith, before, step))
 
--- and, where all are below their number, no larger: k places from the end
+-- and, if all are below their number, no larger: k places from the end
 falls_short : (xs : List ℕ) (n : ℕ) → length xs ≡ n → IsStrictlyIncreasing xs → ((i : ℕ) → i < n → slice_index xs i < n) → (k i : ℕ) → i + k + 1 ≡ n → slice_index xs i + k < n
 falls_short xs n count up below zero i last = let bound = below i (omega arith) in omega (arith, bound)
 falls_short xs n count up below (suc k) i last =
@@ -68,7 +68,7 @@ count_back e scripts handed back for h =
     sym (length-map back (λ (t : TokenShown). t.client)) ∙ length_permutation (clients_of handed) (clients_of back) h.same
     ∙ length-map handed (λ (t : TokenShown). t.client) ∙ for.count
 
--- a client's token that came back: its session has seen, of the client's calls, just those of its script that have entered
+-- a client's token that came back: of the client's calls, its session has seen just those of its script that entered
 record IsHome (e : Named) (scripts : List (List Call)) (t : TokenShown) : Type 0 where
   table : t.session.table ≡ e.table
   whose : t.session.session.client ≡ t.client
@@ -136,7 +136,7 @@ are_own e scripts handed back for h = all_from (λ (t : TokenShown). t.session.t
 
 -- ---- the journal
 
--- of the client of a token that came back the journal has just the calls of its script that have entered
+-- of the calls of a client whose token came back, the journal has just those of its script that have entered
 entered_by : (e : Named) (scripts : List (List Call)) (back : List TokenShown) (closed : Closed) → AreHome e scripts back → IsClosedWith e back closed
     → (i : ℕ) (t : TokenShown) → slice_get back i ≡ Some t → bares (calls_by i (calls_in closed.journal.items)) ≡ bares (take t.next t.script)
 entered_by e scripts back closed homes with i t at =
@@ -149,7 +149,7 @@ entered_by e scripts back closed homes with i t at =
     ∙ ap (λ n. bares (calls_by n t.session.session.seen)) home.whose
     ∙ home.own
 
--- where each call is of a client below a number, one from there on has no calls
+-- if each call is of a client below a number, a client from that number on has no calls
 no_calls : (clients c : ℕ) (lines : List Line) → clients ≤ c → All (λ (l : Line). l.client < clients) lines → calls_by c (calls_in lines) ≡ []
 no_calls clients c [] past all = refl
 no_calls clients c (l ∷ lines) past all =
@@ -158,7 +158,7 @@ no_calls clients c (l ∷ lines) past all =
     ap (λ (ms : List Made). map (λ (m : Made). m.1) ms) (cond-false (l.client == c) _ _ (ne_eqb l.client c other))
     ∙ no_calls clients c lines past (λ i d within. all (suc i) d (omega (arith, within)))
 
--- where each call is ready, each of a client's is
+-- if each call is ready, each of a client's calls is
 ready_by : (library : Catalog) (c : ℕ) (lines : List Line) → All (λ (l : Line). IsReady library l.call) lines → All (IsReady library) (calls_by c (calls_in lines))
 ready_by library c [] all = λ i d within. absurd (omega (arith, within))
 ready_by library c (l ∷ lines) all = by_client (l.client == c) (all 0 l (omega arith)) (ready_by library c lines (λ i d within. all (suc i) d (omega (arith, within))))
@@ -295,7 +295,7 @@ one_more m calls client (script ∷ scripts) =
           (own_or_not m calls client),
     )
 
--- where each call is of one of the clients, they have all calls
+-- if each call is of one of the clients, they have all calls
 all_shared : (lines : List Line) (scripts : List (List Call)) → All (λ (l : Line). l.client < length scripts) lines → length (calls_in lines) ≤ shares (calls_in lines) 0 scripts
 all_shared [] scripts all = omega arith
 all_shared (l ∷ lines) scripts all =

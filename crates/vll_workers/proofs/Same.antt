@@ -40,7 +40,7 @@ is_itself x = ⊎_elim
     (λ (apart : ((x == x) ≡ false) × (x ≢ x)). absurd (apart.1 refl))
     (eqb_tells x x)
 
--- where a client stands
+-- the place of a client
 record Split (x : ℕ) (xs : List ℕ) : Type 0 where
   before : List ℕ
   behind : List ℕ

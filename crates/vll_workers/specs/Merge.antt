@@ -1,4 +1,4 @@
--- What the journal has of the scripts that a run was handed.
+-- What the journal contains of the scripts that were passed to a run.
 use Rattle.std.specs.Prelude.{◌≡◌, ◌++◌, ℕ, List, [], All, Some, length, slice_get, unwrap_or}
 use Rattle.vll_proc.specs.declared.call.Call.{Call}
 use Rattle.vll_proc.specs.Serial.{Made}
@@ -31,12 +31,13 @@ pub record AreForScripts (e : Named) (scripts : List (List Call)) (tokens : List
   pub fit : AreFit e tokens
   pub start : All (IsAtStart scripts) tokens
 
--- what the engine leaves that was closed with the sessions of these tokens
+-- what the engine leaves when it is closed with the sessions of these tokens
 pub record IsClosedWith (e : Named) (tokens : List TokenShown) (closed : Closed) : Type 0 where
   pub serial : IsSerial e closed
   pub seen : All (λ (t : TokenShown). HasItsCalls (calls_in closed.journal.items) t.session.session) tokens
 
--- behind the calls of its client that a session had seen, it has seen these calls of a script, each with a value found if it has an indirect key
+-- after the calls of its client that a session had seen, it has seen these calls of a script, each with a value found
+-- if it has an indirect key
 pub record HasFound (library : Catalog) (old new : SessionView) (calls : List Call) : Type 0 where
   pub entered : List Call
   pub seen : calls_by old.client new.seen ≡ calls_by old.client old.seen ++ entered

@@ -10,6 +10,6 @@ pub record TokenShown : Type 0 where
   pub next : ℕ
   pub session : SessionShown
 
--- a client's token of which so many calls have entered
+-- a client's token of which `next` calls have entered
 abbrev pub token : ℕ → List Call → ℕ → SessionShown → TokenShown
 token client script next session = record { client = client; script = script; next = next; session = session }

@@ -1,8 +1,8 @@
--- What the counts of several workers come to.
+-- The counts of several workers, added.
 use Rattle.std.specs.Prelude.{ℕ, ◌+◌, ◌-◌, ◌^◌, min}
 use Rattle.vll_workers.specs.declared.tally.Tally.{Tally}
 
--- the sum of two counts, or the largest that there is
+-- the sum of two counts, or the largest number if that is less
 abbrev pub added : ℕ → ℕ → ℕ
 added a b = min (a + b) (2 ^ 64 - 1)
 

@@ -1,4 +1,4 @@
--- The tokens that a run is handed, and those that come back.
+-- The tokens that are passed to a run, and those that come back.
 use Rattle.std.specs.Prelude.{◌≡◌, ◌<◌, ◌≤◌, ℕ, ◌-◌, List, ◌++◌, All, drop, length, map, take, Some, slice_get, IsPermutation}
 use Rattle.std.specs.List.Sorted.{IsStrictlyIncreasing}
 use Rattle.vll_proc.specs.declared.call.Call.{Call}
@@ -13,7 +13,7 @@ pub record IsFit (e : Named) (t : TokenShown) : Type 0 where
   pub session : t.session.table ≡ e.table
   pub fits : All (Fits (library_of e)) t.script
 
--- each of these tokens is
+-- each of these tokens fits
 abbrev pub AreFit : Named → List TokenShown → Type 0
 AreFit e tokens = All (IsFit e) tokens
 
@@ -21,13 +21,13 @@ AreFit e tokens = All (IsFit e) tokens
 abbrev pub calls_between : ℕ → ℕ → List Call → List Call
 calls_between from to script = take (to - from) (drop from script)
 
--- of its client's calls, a session has seen just these enter since it was that one, each with what it has found
+-- of its client's calls, a session has seen just these enter since it was `old`, each with what it has found
 pub record Gained (old new : SessionView) (calls : List Call) : Type 0 where
   pub begins : Begins old.seen new.seen
   pub own : bares (calls_by old.client new.seen) ≡ bares (calls_by old.client old.seen ++ calls)
 
--- a token of those that were handed in: its client's, with its script; the calls of its client that have entered since are those of the
--- script from the old next one to the new one, in order
+-- one of the tokens that were passed in, with the same client and script; the calls of its client that have entered
+-- since are those of the script from the old `next` to the new one, in order
 pub record IsOf (handed : List TokenShown) (t : TokenShown) : Type 0 where
   pub index : ℕ
   pub old : TokenShown
@@ -39,11 +39,11 @@ pub record IsOf (handed : List TokenShown) (t : TokenShown) : Type 0 where
   pub whose : t.session.session.client ≡ old.session.session.client
   pub gained : Gained old.session.session t.session.session (calls_between old.next t.next old.script)
 
--- whose tokens they are
+-- the clients whose tokens they are
 abbrev pub clients_of : List TokenShown → List ℕ
 clients_of tokens = map (λ (t : TokenShown). t.client) tokens
 
--- the tokens are back: each one's client once, in rising order, with its script
+-- the tokens are back: each one's client once, in ascending order, with its script
 pub record AreBack (handed back : List TokenShown) : Type 0 where
   pub rising : IsStrictlyIncreasing (clients_of back)
   pub same : IsPermutation (clients_of handed) (clients_of back)

@@ -8,8 +8,8 @@ use std::alloc::{AllocError, Global};
 use vll_core::Ticket;
 use vll_engine::Released;
 
-// What a worker has under way: the tokens that it has taken, passes of calls that may run, calls that were executed, and
-// the tickets of those that are finished and not told of yet.
+// What a worker has under way: the tokens that it has taken, passes of calls that may run, calls that were executed,
+// and the tickets of those that are finished and not yet reported to the gate.
 pub(crate) struct Batch {
     pub(crate) taken: Taken,
     pub(crate) passes: Passes,
@@ -29,7 +29,7 @@ pub(crate) struct BatchRoom {
 }
 
 impl BatchRoom {
-    // Room for what one of so many workers has under way that takes at most so many tokens before a hold.
+    // Allocates room for what one of `workers` workers has under way, which takes at most `most` tokens before a hold.
     pub(crate) fn new(alloc: Global, workers: u32, most: usize) -> Result<BatchRoom, AllocError> {
         let taken = Taken::new(alloc)?;
         let finished = Stack::new(alloc)?;
@@ -51,7 +51,7 @@ impl BatchRoom {
         }
     }
 
-    // Nothing is under way yet.
+    // Opens the batch: nothing is under way yet.
     pub(crate) fn open(self) -> Batch
         ensures untried { result.taken.untried ≡ [] }
         ensures tried { result.taken.tried ≡ [] }
@@ -72,7 +72,7 @@ impl Drop for BatchRoom {
 }
 
 impl Batch {
-    // Nothing is under way any more.
+    // Ends the batch: nothing is under way any more.
     pub(crate) fn end(self)
         requires passes { self.passes ≡ [] }
         requires released { self.released ≡ [] }

@@ -6,10 +6,10 @@ use thiserror::Error;
 /// Why a run did not end well.
 #[derive(Clone, Copy, PartialEq, Eq, Debug, Error)]
 pub enum RunFault {
-    /// For want of memory the run did not begin: the tokens are as they came.
+    /// The run did not begin for lack of memory: the tokens are as they were passed.
     #[error("no memory")]
     NoMemory,
-    /// No worker could be started: the tokens are as they came.
+    /// No worker could be started: the tokens are as they were passed.
     #[error("spawn")]
     Spawn,
     /// The engine took no more calls, so that some have not entered. All tokens are back.
@@ -17,7 +17,7 @@ pub enum RunFault {
     Spent,
 }
 
-/// A run that did not end well, and the tokens.
+/// Why a run did not end well, with its tokens.
 #[derive(Drop)]
 pub struct RunError {
     pub fault: RunFault,

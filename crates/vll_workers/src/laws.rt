@@ -1,4 +1,4 @@
-//! What the journal has once a run's tokens are back and the engine is closed with their sessions.
+//! What the journal contains once a run's tokens are back and the engine is closed with their sessions.
 
 ghost use Rattle.std.specs.Prelude.{◌≡◌, ◌<◌, ℕ, All, List, Some, length, slice_get, sum_by};
 ghost use Rattle.vll_proc.specs.declared.call.Call.{Call};
@@ -9,7 +9,7 @@ ghost use Rattle.vll_workers.specs.Merge.{AreForScripts, HasFound, IsClosedWith,
 ghost use Rattle.vll_workers.specs.Shown.{TokenShown};
 ghost use Rattle.vll_workers.specs.Tokens.{AreBack, AreFit, IsOf, IsThrough, OneIsSpent, calls_between};
 
-/// Of an engine with any hash and any number of clients: if a run was handed a token for each client's script, its
+/// For an engine with any hash and any number of clients: if a run was passed a token for each client's script, its
 /// tokens are back with every call entered, and the engine was closed with their sessions, then the journal merges the
 /// scripts.
 pub fn journals_merge_the_scripts()
@@ -25,9 +25,9 @@ pub fn spent_engines_took_fewer_calls()
         → e.config.limit < sum_by length scripts }
 {}
 
-/// What a token's session has gained since it was handed in, by any run of any engine that was closed with it, are the
-/// calls of the token's script that have entered since, each with a value found if it has an indirect key, and else
-/// just as it is.
+/// What a token's session has gained since it was passed in, by any run of any engine that was closed with it, is the
+/// calls of the token's script that have entered since, each with a value found if it has an indirect key, and
+/// otherwise just as it is.
 pub fn sessions_gain_found_calls()
     ensures { (e : Named) (handed back : List TokenShown) (closed : Closed) → AreFit e handed → IsClosedWith e back closed
         → (i : ℕ) (t : TokenShown) → slice_get back i ≡ Some t → (of : IsOf handed t)

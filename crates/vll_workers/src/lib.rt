@@ -1,4 +1,16 @@
-//! Worker threads: they enter the calls of the clients' scripts in an engine, and bring them to their replies.
+//! Worker threads over an engine: they enter the calls of the clients' scripts, and bring each to its reply. A run
+//! takes a token for each client, with its session and its script, and returns the tokens once the workers have ended.
+//! Proved: every token comes back, and of its client's calls its session has seen just those of its script enter, in
+//! order; once all have entered, the journal of an engine that is closed with these sessions merges the scripts. Start
+//! at `run` and `Token`; `RunError` says why a run did not end well, and a `Gate` observes the calls and receives each
+//! worker's `Tally`.
+//!
+//! ```rattle
+//! let token = Token::new(session.client(), session, script);
+//! tokens.push(token)?;
+//! let ran = run(rt, rt, alloc, &engine, tokens, workers, &OpenGate);
+//! let tokens = ran.map_err(|error| Fault::Run(error.fault))?;
+//! ```
 #![tactic(auto)]
 
 mod batch;

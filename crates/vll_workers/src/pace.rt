@@ -6,47 +6,47 @@ use std::thread::yield_now;
 // The longest pause of few workers, in turns of a spin loop.
 const LONGEST_OF_FEW: u32 = 1_024;
 
-// The longest pause of many workers, most of whom have to let the others run.
+// The longest pause of many workers, most of which have to let the others run.
 const LONGEST_OF_MANY: u32 = 16_384;
 
-// The longest pause has so many turns for each worker, within these bounds.
+// The turns of the longest pause for each worker, within these bounds.
 const TURNS_A_WORKER: u32 = 256;
 
 // The first pause, in turns.
 const FIRST_PAUSE: u32 = 32;
 
-// A pause lets another thread run after so many turns.
+// A pause lets another thread run once in this many turns.
 const TURNS_A_YIELD: u32 = 64;
 
-// The most calls that are to be ready before a hold: as many as a batch has room for.
+// The most calls that are to be ready before a hold: the capacity of a batch.
 const MOST_CALLS: u32 = MOST_BATCH as u32;
 
-// So many rounds in a row a worker keeps its tokens in hand before they go back to the pool.
+// How many rounds in a row a worker keeps its tokens in hand before they go back to the pool.
 const ROUNDS_IN_HAND: u32 = 16;
 
-// Behind a call that was held back under a hold each call is looked at once more in so many rounds.
+// After a call was held back under a hold, each call is looked at once more in this many rounds.
 const HEAT_OF_ONE: u32 = 8;
 
-// Such calls add up to so many rounds.
+// Such calls add up to this many rounds at most.
 const MOST_HEAT: u32 = 64;
 
-// So many rounds in a row may find no token before a worker leaves.
+// How many rounds in a row may find no token before a worker leaves.
 const MOST_IDLE: u32 = 16;
 
-// What holds a call back that is to begin.
+// What holds back a call that is to begin.
 #[derive(Clone, Copy)]
 pub(crate) enum HeldBy {
     // It does not look free.
     Look,
-    // A claim of it is denied, and it waits.
+    // One of its claims is denied, and it waits.
     Claim,
-    // As many calls wait as the cap.
+    // The number of waiting calls is at the cap.
     Cap,
 }
 
 // How many tokens a worker takes before a hold and how many calls it begins, for how many rounds it keeps the tokens in
-// hand, and how long it waits after a round that came to nothing; and what it did so far.
-// It is a matter of speed alone.
+// hand, and how long it waits after a round that found no call that may run; and what it has done so far. It affects
+// speed alone.
 #[derive(Clone, Copy)]
 pub(crate) struct Pace {
     most: usize,
@@ -56,15 +56,15 @@ pub(crate) struct Pace {
     idle: u32,
     had_front: bool,
     keeps: bool,
-    // So many more rounds the tokens stay in hand.
+    // The tokens stay in hand for this many more rounds.
     rounds: u32,
-    // In so many more rounds that begin calls, each is looked at once more under the hold.
+    // In this many more rounds that begin calls, each is looked at once more under the hold.
     heat: u32,
     tally: Tally,
 }
 
 impl Pace {
-    // The pace of one of so many workers, which takes at most so many tokens before a hold.
+    // The pace of one of `workers` workers, which takes at most `most` tokens before a hold.
     pub(crate) fn new(workers: u32, most: usize) -> Pace {
         let longest = workers.saturating_mul(TURNS_A_WORKER);
         Pace {
@@ -81,22 +81,22 @@ impl Pace {
         }
     }
 
-    // What the worker did so far.
+    // What the worker has done so far.
     pub(crate) fn tally(&self) -> Tally {
         self.tally
     }
 
-    // The engine's lock is to be taken.
+    // Notes that the engine's lock is about to be taken.
     pub(crate) fn takes_hold(&mut self) {
         self.tally.holds = self.tally.holds.saturating_add(1);
     }
 
-    // Whether calls were held back under holds of late, so that each is to be looked at once more before it begins.
+    // Whether calls were held back under holds recently, so that each is to be looked at once more before it begins.
     pub(crate) fn is_hot(&self) -> bool {
         self.heat > 0
     }
 
-    // A call was held back under a hold.
+    // Notes that a call was held back under a hold.
     pub(crate) fn saw_held(&mut self, by: HeldBy) {
         match by {
             HeldBy::Look => {}
@@ -106,12 +106,12 @@ impl Pace {
         self.heat = MOST_HEAT.min(self.heat.saturating_add(HEAT_OF_ONE));
     }
 
-    // Whether tokens are ever taken before a hold, and not under it alone.
+    // Whether tokens are ever taken before a hold, and not only under it.
     pub(crate) fn takes_ahead(&self) -> bool {
         self.most > 0
     }
 
-    // How many tokens may be in hand before a hold, with those whose calls are put off.
+    // How many tokens may be in hand before a hold, including those whose calls are put off.
     pub(crate) fn most(&self) -> usize {
         self.most
     }
@@ -126,18 +126,18 @@ impl Pace {
         }
     }
 
-    // Whether the front was found.
+    // Notes whether the front was found.
     pub(crate) fn saw_front(&mut self, had_front: bool) {
         self.had_front = had_front;
         self.tally.front = self.tally.front.saturating_add(u64::from(had_front));
     }
 
-    // Whether the scan found a call.
+    // Notes whether the scan found a call.
     pub(crate) fn saw_scan(&mut self, had_call: bool) {
         self.tally.scan = self.tally.scan.saturating_add(u64::from(had_call));
     }
 
-    // So many calls began that may run, and whether another one was held back.
+    // Notes that `free` calls that may run began, and whether another one was held back.
     pub(crate) fn began(&mut self, free: u32, was_held: bool) {
         if free > 0 {
             self.heat = self.heat.saturating_sub(1);
@@ -149,7 +149,7 @@ impl Pace {
         }
     }
 
-    // The worker may keep tokens in hand, if there are enough for all.
+    // Lets the worker keep tokens in hand, if there are enough for all.
     pub(crate) fn keep_tokens(&mut self) {
         self.keeps = self.takes_ahead();
     }
@@ -164,7 +164,7 @@ impl Pace {
         self.keeps
     }
 
-    // A call that may run was found.
+    // Notes that a call that may run was found.
     pub(crate) fn went_well(&mut self) {
         self.pause = 0;
         self.idle = 0;
@@ -175,8 +175,8 @@ impl Pace {
         !had_token && (!self.takes_ahead() || self.idle >= MOST_IDLE)
     }
 
-    // Waits after a round that found no call that may run, longer each time. Tells whether to go on: a worker leaves
-    // after rounds that had no token, and rests less long between these.
+    // Waits after a round that found no call that may run, longer each time. Reports whether to go on: a worker leaves
+    // after rounds that had no token, and rests for less time between these.
     pub(crate) fn rest(&mut self, had_token: bool) -> bool {
         if self.is_leaving(had_token) {
             return false;

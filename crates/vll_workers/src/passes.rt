@@ -12,8 +12,8 @@ use vll_engine::{BegunOnto, Engine, Hold, Name, Pass, Released, Session};
 use vll_proc::Call;
 use vll_sca::Place;
 
-// The passes of calls that may run, up to MOST_BATCH. Each lies where it was made until its call is executed, so that
-// its call is copied once. All room is taken when the list is made. To a contract it is the list of the passes.
+// The passes of calls that may run, up to MOST_BATCH. Each stays where it was made until its call is executed, so that
+// its call is copied once. All memory is allocated when the list is made. A contract sees the list of the passes.
 pub(crate) struct Passes {
     items: Vec<Pass>,
 }
@@ -53,7 +53,7 @@ impl Passes {
         self.items.is_empty()
     }
 
-    // A session's client begins a call.
+    // Begins a call of the session's client.
     #[inline(always)]
     pub(crate) fn begin<N: Name, H: Place + Send + Drop>(
         &mut self,
@@ -71,7 +71,7 @@ impl Passes {
         hold.begin_onto(session, call, &mut self.items)
     }
 
-    // The front, if it waits. Tells whether there is one.
+    // Adds the pass of the front, if it waits, and reports whether there is one.
     #[inline(always)]
     pub(crate) fn find_front<N: Name, H: Place + Send + Drop>(
         &mut self,
@@ -83,7 +83,7 @@ impl Passes {
         hold.next_front_onto(&mut self.items)
     }
 
-    // What the scan finds. Tells whether there is something.
+    // Adds the pass that the scan finds, and reports whether there is one.
     pub(crate) fn find_by_scan<N: Name, H: Place + Send + Drop>(
         &mut self,
         hold: &mut Hold<'_, N, H>,
@@ -94,7 +94,7 @@ impl Passes {
         hold.next_scan_onto(&mut self.items)
     }
 
-    // Executes the call of the last pass and releases its claims. The gate is told of it before.
+    // Calls the gate's `before` for the last pass, executes its call, and releases its claims.
     #[inline(always)]
     pub(crate) fn run_last<N: Name, H: Place + Send + Drop, G: Gate>(
         &mut self,
@@ -110,7 +110,7 @@ impl Passes {
         engine.run_last(&mut self.items)
     }
 
-    // The gate is told of the last pass.
+    // Calls the gate's `before` for the last pass.
     #[inline(always)]
     fn tell_last<G: Gate>(&self, gate: &G) {
         if let Some(pass) = self.items.last() {
@@ -118,7 +118,7 @@ impl Passes {
         }
     }
 
-    // The end of an empty list of passes, which may not be dropped.
+    // Destroys an empty list of passes, which may not be dropped.
     pub(crate) fn destroy(self)
         requires { self ≡ [] }
     {

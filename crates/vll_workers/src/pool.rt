@@ -13,7 +13,7 @@ use std::marker::{Model, PhantomData};
 use std::sync::Wait;
 
 // What a pass knows: the clients of the tokens that it has in hand, and its parts of the right to know the whole. No
-// value of it is made.
+// value of this type is made.
 pub(crate) struct Hand {
     pub(crate) parts: u64,
     pub(crate) holds: LinkedList<u32>,
@@ -22,7 +22,7 @@ pub(crate) struct Hand {
 // A pass of the pool: the right to take tokens and to put them back.
 pub(crate) type PoolPass<T> = Pass<Owned<T>, Hand>;
 
-// A token of those that the run was handed.
+// One of the tokens that were passed to the run.
 #[derive(Drop)]
 pub(crate) struct Owned<T: Roster> {
     token: Token,
@@ -101,7 +101,7 @@ impl<T: Roster> Lesson<Owned<T>, Hand> for Takes<T> {
     ghost fact = { λ v items. ⊤ };
 }
 
-// The same by the pass that has all parts. Where the pool is empty, it has all tokens in hand.
+// As `Takes`, for the pass that has all parts. If the pool is empty, that pass has all tokens in hand.
 struct TakesLast<T: Roster>(PhantomData<T>);
 
 impl<T: Roster> Outcome<Owned<T>, Hand> for TakesLast<T> {
@@ -126,7 +126,7 @@ impl<T: Roster> Lesson<Owned<T>, Hand> for Few<T> {
     ghost fact = { λ v items. length v.holds ≤ length T.tokens };
 }
 
-// A new pass has one part and nothing in hand. A pass that takes another in has its parts, and its tokens in hand.
+// A new pass has one part and nothing in hand. A pass that absorbs another gains its parts and its tokens in hand.
 struct Hires;
 
 impl Split<Hand> for Hires {
@@ -146,8 +146,8 @@ impl Join<Hand> for Hires {
     ghost spent = { hand 0 [] };
 }
 
-// The tokens that no worker has in hand. The one that has been here longest is taken first. Whoever takes or puts one
-// takes no lock, but may turn behind a thread that was stopped in the middle of doing so.
+// The tokens that no worker has in hand. The one that has been here longest is taken first. Taking or putting one takes
+// no lock, but may spin while another thread is stopped in the middle of doing so.
 #[derive(Drop)]
 pub(crate) struct Pool<T: Roster> {
     queue: RuledArrayQueue<Owned<T>, Hand, Fair<T>>,
@@ -177,7 +177,7 @@ impl<T: Roster> Pool<T> {
         Ok((Pool { queue }, pass))
     }
 
-    // Puts a token back, which the pass has in hand. There is always room.
+    // Puts back a token that the pass has in hand. There is always room.
     pub(crate) fn put(&self, wait: &impl Wait, pass: &mut PoolPass<T>, token: Token)
         requires own { IsOf T.tokens token }
         requires pass { IsPassIn self.now pass.old }
@@ -208,7 +208,7 @@ impl<T: Roster> Pool<T> {
         Some(owned.into_token())
     }
 
-    // Takes a token with the pass that has all parts. Where there is none, it has all tokens in hand.
+    // Takes a token with the pass that has all parts. If there is none, that pass has all tokens in hand.
     pub(crate) fn take_last(&self, wait: &impl Wait, pass: &mut PoolPass<T>) -> Option<Token>
         requires pass { IsPassIn self.now pass.old }
         requires parts { (view pass.old).parts ≡ all_parts }
@@ -234,7 +234,7 @@ impl<T: Roster> Pool<T> {
         self.queue.another::<Hires>(pass)
     }
 
-    // Takes another pass in, with what it has in hand.
+    // Absorbs another pass, with what it has in hand.
     pub(crate) fn absorb(&self, pass: &mut PoolPass<T>, other: PoolPass<T>)
         requires pass { IsPassIn self.now pass.old }
         requires other { IsPassIn self.now other }

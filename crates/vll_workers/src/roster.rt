@@ -1,8 +1,8 @@
 use std::marker::Brand;
 
-// Names the tokens that a run was handed and how many calls its engine takes, so that what lies in its pool is known
-// to be of them, and what its workers keep to have entered all it could. It has no functions, and is picked inside
-// `run`.
+// Names the tokens that were passed to a run and how many calls its engine takes, so that the tokens in its pool are
+// known to be among them, and those that its workers keep to have entered all the calls they could. It has no
+// functions, and is chosen inside `run`.
 pub(crate) trait Roster {
     ghost use Rattle.std.specs.Prelude.{ℕ, List};
     ghost use Rattle.vll_workers.specs.Shown.{TokenShown};

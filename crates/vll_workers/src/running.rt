@@ -25,20 +25,20 @@ pub const MOST_WORKERS: u32 = 64;
 // As docs/SCENARIO.md says.
 const _: () = prove!(MOST_WORKERS == 64);
 
-/// Enters every call of the tokens' scripts in the engine, each script in its order, and brings them to their
-/// replies, by so many worker threads, 1 to 64. The tokens are of distinct clients of this engine. It waits until the
-/// workers have ended. Calls that were in the engine before and wait are brought on too; one whose pass is kept
-/// elsewhere is left, with those that wait for it.
+/// Enters every call of the tokens' scripts in the engine, each script in order, and brings the calls to their replies,
+/// with `workers` worker threads, 1 to 64. The tokens are of distinct clients of this engine. It waits until the
+/// workers have ended. Calls that were waiting in the engine before are executed too; one whose pass is kept elsewhere
+/// is left, with those that wait for it.
 ///
-/// The tokens come back in rising order of their clients, each with `next` the length of its script. Of its client's
+/// The tokens come back in ascending order of their clients, each with `next` the length of its script. Of its client's
 /// calls, each token's session has seen just those of its script enter, from the old `next` to the new one, in order,
-/// each with what it found. The memory that is needed is taken before the first thread is started. If some threads
-/// cannot be started, the others and the calling thread do the work. The calling thread also makes the calls that are
-/// left once the workers have ended. If there are no tokens no thread is started.
+/// each with what it found. The memory needed is allocated before the first thread is started. If some threads cannot
+/// be started, the others and the calling thread do the work. The calling thread also makes the calls that are left
+/// once the workers have ended. If there are no tokens, no thread is started.
 ///
-/// `NoMemory`, and `Spawn` if no thread could be started, hand the tokens back as they came. `Spent` is returned
-/// after all has ended if the engine took no more calls, and hands all tokens back in rising order: one of them has
-/// calls left, and its session has seen as many calls enter as the limit.
+/// `NoMemory`, and `Spawn` if no thread could be started, return the tokens as they were passed. `Spent` is returned
+/// after all has ended if the engine took no more calls, with all tokens in ascending order: one of them has calls
+/// left, and its session has seen as many calls enter as the engine's limit.
 pub fn run<
     N: Name + Send + Sync,
     H: Place + Send + Sync + Drop,
@@ -65,12 +65,12 @@ pub fn run<
     run_limited(rt, wait, alloc, engine, tokens, workers, workers, gate)
 }
 
-/// As `run`, with at most so many starts of a thread tried: the workers beyond these count as refused, and the calling
+/// As `run`, but tries to start at most `starts` threads: the workers beyond these count as refused, and the calling
 /// thread does their work. So at most one thread more than `starts` is at work at once, however many workers there are.
-/// It is for a service that has to bound its threads, and for tests of what a run does whose threads are refused.
+/// It is for a service that has to bound its threads, and for tests of a run whose threads are refused.
 ///
-/// If `starts` is 0, tokens are handed back as they came, by `Spawn` or `NoMemory`, and no call enters. Without tokens
-/// a run is well, and starts none.
+/// If `starts` is 0, tokens are returned as they were passed, with `Spawn` or `NoMemory`, and no call enters. A run
+/// without tokens succeeds, and starts no thread.
 pub fn run_limited<
     N: Name + Send + Sync,
     H: Place + Send + Sync + Drop,

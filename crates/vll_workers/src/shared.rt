@@ -1,7 +1,7 @@
 use vll_engine::{Engine, Name};
 use vll_sca::Place;
 
-// An engine as threads share it. By a bound with `Sync` a thread may be handed a reference to it, whatever it is made
+// An engine as threads share it. A bound with `Sync` lets a reference to it be passed to a thread, whatever it is made
 // of.
 pub(crate) trait Shared<N: Name, H: Place + Send + Drop> {
     fn engine(&self) -> &Engine<N, H>;

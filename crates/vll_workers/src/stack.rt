@@ -6,8 +6,8 @@ use std::marker::Model;
 // The most calls that a worker begins under one hold.
 pub(crate) const MOST_BATCH: usize = 8;
 
-// A few values, up to MOST_BATCH, of which the last one comes out first. All room is taken when it is made. To a
-// contract it is the list of its values, the last one first.
+// A stack of up to MOST_BATCH values. All memory is allocated when it is made. A contract sees the list of its values,
+// the last one first.
 #[derive(Drop)]
 pub(crate) struct Stack<X> {
     items: Vec<X>,
@@ -64,7 +64,7 @@ impl<X> Stack<X> {
         self.items.pop()
     }
 
-    // The end of an empty stack of values that may not be dropped.
+    // Destroys an empty stack of values that may not be dropped.
     pub(crate) fn destroy(self)
         requires { self ≡ [] }
     {

@@ -13,7 +13,7 @@ pub(crate) struct Taken {
 }
 
 impl Taken {
-    // None is taken yet.
+    // No token is taken yet.
     pub(crate) fn new(alloc: Global) -> Result<Taken, AllocError>
         ensures untried { IfOk result (λ t. t.untried ≡ []) }
         ensures tried { IfOk result (λ t. t.tried ≡ []) }

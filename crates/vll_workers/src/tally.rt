@@ -1,13 +1,13 @@
 ghost use Rattle.std.specs.Prelude.{◌≡◌};
 ghost use Rattle.vll_workers.specs.Tallies.{both, nothing};
 
-/// What a worker did in a run, or several together. It helps to understand what a run took: no contract says what a
-/// worker counts. A count that has come to the largest number stays there.
+/// What one worker, or several together, did in a run. It helps to understand a run's speed: no contract says what a
+/// worker counts. A count that reaches the largest number stays there.
 #[derive(Clone, Copy, PartialEq, Eq, Debug)]
 pub struct Tally {
     /// Calls that entered and had to wait.
     pub blocked: u64,
-    /// How often a call was refused since as many calls waited as the cap.
+    /// How often a call was refused because the number of waiting calls was at the cap.
     pub busy: u64,
     /// Calls that waited and were started as the front.
     pub front: u64,
@@ -15,12 +15,12 @@ pub struct Tally {
     pub scan: u64,
     /// How often the engine's lock was taken.
     pub holds: u64,
-    /// How often there was nothing to do, and a rest was taken.
+    /// How often there was nothing to do, and the worker rested.
     pub rests: u64,
 }
 
 impl Tally {
-    /// Nothing was done.
+    /// A tally in which nothing was done.
     pub fn none() -> Tally
         ensures { result ≡ nothing }
     {
@@ -34,7 +34,7 @@ impl Tally {
         }
     }
 
-    /// What these and others did together.
+    /// Adds each count of `others` to that of this tally.
     pub fn with(self, others: Tally) -> Tally
         ensures { result ≡ both self others }
     {

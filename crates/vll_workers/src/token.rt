@@ -11,11 +11,11 @@ use vll_engine::{BegunOnto, Hold, Name, Session};
 use vll_proc::Call;
 use vll_sca::Place;
 
-// So often is a call put off before it begins all the same.
+// How often a call is put off before it begins regardless.
 const MOST_PUT_OFF: u32 = 64;
 
-/// A client's turn in a run: its session, its script, and how many calls of the script have entered. Whoever holds
-/// it enters the client's calls, so they enter one after the other.
+/// A client's turn in a run: its session, its script, and how many calls of the script have entered. The thread that
+/// holds it enters the client's calls, so they enter one after the other.
 #[derive(Drop)]
 pub struct Token {
     client: u32,
@@ -24,7 +24,7 @@ pub struct Token {
     session: Session,
     // How often the next call was put off.
     put_off: u32,
-    // How many of the next calls are ready to begin, as they were looked at last.
+    // How many of the next calls are ready to begin, as of the last look at them.
     ready: u32,
 }
 
@@ -57,7 +57,7 @@ impl Token {
         }
     }
 
-    /// Whose token it is.
+    /// The client whose token it is.
     pub fn client(&self) -> u32
         ensures { result ≡ self.now.client }
     {
@@ -72,7 +72,7 @@ impl Token {
         self.script.as_slice()
     }
 
-    /// How many calls of the script have entered, which is the index of the next one: at most as many as there are.
+    /// How many calls of the script have entered, which is the index of the next one: at most the script's length.
     pub fn next(&self) -> u32
         ensures count { result ≡ self.now.next }
         ensures within { self.now.next ≤ length self.now.script }
@@ -87,14 +87,14 @@ impl Token {
         self.session
     }
 
-    // The call so many places behind the next one as it lies in the script, if there is one.
+    // The call `ahead` places after the next one in the script, if there is one.
     pub(crate) fn upcoming(&self, ahead: u32) -> Option<&Call>
         ensures { option_map (λ c. c.now) result ≡ slice_get self.now.script (self.now.next + ahead) }
     {
         self.script.get(self.next as usize + ahead as usize)
     }
 
-    // Every call has entered.
+    // Whether every call has entered.
     pub(crate) fn is_through(&self) -> bool
         ensures through { result ≡ true → IsThrough self.now }
         ensures left { result ≡ false → self.now.next < length self.now.script }
@@ -102,7 +102,7 @@ impl Token {
         self.next as usize == self.script.len()
     }
 
-    // The next call is put off, and this tells so, unless it was put off often enough.
+    // Puts off the next call unless it was put off often enough, and reports whether it did.
     pub(crate) fn put_off(&mut self) -> bool
         ensures { self.new ≡ self.old }
     {
@@ -113,7 +113,7 @@ impl Token {
         may_wait
     }
 
-    // So many of the next calls are ready to begin.
+    // Notes that `ready` of the next calls are ready to begin.
     pub(crate) fn looked(&mut self, ready: u32)
         ensures { self.new ≡ self.old }
     {
@@ -125,7 +125,7 @@ impl Token {
         self.ready
     }
 
-    // The next call begins, and counts as entered unless it is refused. If it may run, its pass is put behind the
+    // Begins the next call, which counts as entered unless it is refused. If it may run, its pass is added after the
     // others.
     #[inline(always)]
     pub(crate) fn begin<N: Name, H: Place + Send + Drop>(

@@ -23,13 +23,13 @@ pub(crate) struct Work<'a, N: Name, H: Place + Send + Drop, T: Roster, W: Wait, 
     pub(crate) wait: &'a W,
     pub(crate) engine: &'a Engine<N, H>,
     pub(crate) pool: &'a Pool<T>,
-    // It is locked until the tokens lie in the pool.
+    // Locked until the tokens are in the pool.
     pub(crate) door: &'a Mutex<()>,
     pub(crate) gate: &'a G,
 }
 
 impl<'a, N: Name, H: Place + Send + Drop, T: Roster, W: Wait, G: Gate> Work<'a, N, H, T, W, G> {
-    // Waits until the tokens lie in the pool, and works until there is nothing to do.
+    // Waits until the tokens are in the pool, and works until there is nothing to do.
     pub(crate) fn come_and_run(self, worker: Worker<T>, room: BatchRoom) -> Worker<T>
         requires fit { AreFit N.engine T.tokens }
         requires limit { T.limit ≡ N.engine.config.limit }
@@ -47,7 +47,7 @@ impl<'a, N: Name, H: Place + Send + Drop, T: Roster, W: Wait, G: Gate> Work<'a, 
         worker
     }
 
-    // The worker that has all parts works until it keeps all tokens.
+    // Works until the worker, which has all parts, keeps all tokens.
     pub(crate) fn run_to_the_end(self, worker: Worker<T>, room: BatchRoom) -> Worker<T>
         requires fit { AreFit N.engine T.tokens }
         requires limit { T.limit ≡ N.engine.config.limit }
@@ -69,7 +69,7 @@ impl<'a, N: Name, H: Place + Send + Drop, T: Roster, W: Wait, G: Gate> Work<'a, 
         unreachable!()
     }
 
-    // Nothing is under way yet. Tokens may stay in hand between rounds if the gate does not wait for calls.
+    // Opens a batch with nothing under way. Tokens may stay in hand between rounds if the gate does not wait for calls.
     fn open(self, room: BatchRoom) -> Batch
         ensures untried { result.taken.untried ≡ [] }
         ensures tried { result.taken.tried ≡ [] }
@@ -84,7 +84,7 @@ impl<'a, N: Name, H: Place + Send + Drop, T: Roster, W: Wait, G: Gate> Work<'a, 
         batch
     }
 
-    // Works until there is nothing to do: begins with the tokens that were kept in hand, and leaves nothing under way.
+    // Works until there is nothing to do: starts with the tokens that were kept in hand, and leaves nothing under way.
     fn run(self, worker: &mut Worker<T>, batch: &mut Batch)
         requires fit { AreFit N.engine T.tokens }
         requires limit { T.limit ≡ N.engine.config.limit }
@@ -115,8 +115,8 @@ impl<'a, N: Name, H: Place + Send + Drop, T: Roster, W: Wait, G: Gate> Work<'a, 
         unreachable!()
     }
 
-    // Under one hold of the engine's lock, the calls that were executed are finished, and calls are looked for that may
-    // run. Tells whether there was a token. The tokens go back to the pool, or stay in hand for the next round.
+    // Finishes the calls that were executed and looks for calls that may run, under one hold of the engine's lock.
+    // Reports whether there was a token. The tokens go back to the pool, or stay in hand for the next round.
     fn round(self, worker: &mut Worker<T>, batch: &mut Batch) -> bool
         requires fit { AreFit N.engine T.tokens }
         requires limit { T.limit ≡ N.engine.config.limit }
@@ -154,7 +154,7 @@ impl<'a, N: Name, H: Place + Send + Drop, T: Roster, W: Wait, G: Gate> Work<'a, 
         had_token
     }
 
-    // The tokens go back to the pool, or stay in hand for the next round.
+    // Puts the tokens back into the pool, or keeps them in hand for the next round.
     fn settle(self, worker: &mut Worker<T>, taken: &mut Taken, pace: &mut Pace)
         requires old { IsAtWork T.tokens self.pool.now worker.old (taken.old.untried ++ taken.old.tried) }
         requires few { length taken.old.untried + length taken.old.tried ≤ MOST_BATCH }

@@ -21,7 +21,7 @@ pub(crate) struct Shelf<T: Roster> {
 }
 
 impl<T: Roster> Shelf<T> {
-    // Room for all tokens of the run.
+    // Allocates room for all tokens of the run.
     pub(crate) fn new(alloc: Global, count: usize) -> Result<Shelf<T>, AllocError>
         requires { count ≡ length T.tokens }
     {
@@ -32,8 +32,8 @@ impl<T: Roster> Shelf<T> {
     }
 }
 
-// A worker: its pass of the pool, and what it keeps to its end, which are the tokens of which every call has entered
-// or which the engine takes no more calls of.
+// A worker: its pass of the pool, and the tokens that it keeps to its end: those of which every call has entered, or of
+// which the engine takes no more calls.
 #[derive(Drop)]
 pub(crate) struct Worker<T: Roster> {
     kept: Vec<Token>,
@@ -55,7 +55,7 @@ impl<T: Roster> Model for Worker<T> {
 }
 
 impl<T: Roster> Worker<T> {
-    // Keeps nothing yet.
+    // A worker that keeps nothing yet.
     pub(crate) fn new(shelf: Shelf<T>, pass: PoolPass<T>) -> Worker<T>
         ensures pass { result.pass ≡ pass }
         ensures kept { result.kept ≡ [] }
@@ -66,7 +66,7 @@ impl<T: Roster> Worker<T> {
         }
     }
 
-    // A worker with a part of this one's and nothing in hand.
+    // Makes a worker with one of this one's parts and nothing in hand.
     pub(crate) fn another(&mut self, pool: &Pool<T>, shelf: Shelf<T>) -> Worker<T>
         requires pass { IsPassIn pool.now self.old.pass }
         requires parts { 1 < (view self.old.pass).parts }
@@ -92,7 +92,8 @@ impl<T: Roster> Worker<T> {
         pool.take(wait, &mut self.pass)
     }
 
-    // Takes a token from the pool, by the worker that has all parts. Where the pool is empty, it keeps all tokens.
+    // Takes a token from the pool, for the worker that has all parts. If the pool is empty, that worker keeps all
+    // tokens.
     pub(crate) fn take_last(&mut self, wait: &impl Wait, pool: &Pool<T>) -> Option<Token>
         requires hand { HasInHand pool.now self.old.pass self.old.kept }
         requires parts { (view self.old.pass).parts ≡ all_parts }
@@ -160,7 +161,7 @@ impl<T: Roster> Worker<T> {
         }
     }
 
-    // What it keeps.
+    // The tokens that it keeps.
     pub(crate) fn into_tokens(self) -> Vec<Token>
         ensures kept { result.items ≡ self.kept }
         ensures own { All (IsOf T.tokens) result.items }

@@ -10,7 +10,7 @@ get_last : {A : Type 0} (xs : List A) (x : A) → slice_get (xs ++ x ∷ []) (le
 get_last [] x = refl
 get_last (y ∷ ys) x = get_last ys x
 
--- the last session is the last client's, and before it stand those of the others
+-- the last session is the last client's, and those of the others come before it
 pub record IsLast (table : TableId) (client : ℕ) (session : SessionShown) (others : List SessionShown) : Type 0 where
   pub last : session ≡ record { table = table; session = new_session client }
   pub before : AreNewSessions table client others

@@ -1,4 +1,4 @@
-// A run of the most workers and as many clients, who all want the same record.
+// A run of the maximum number of workers and as many clients, which all use the same record.
 ghost use Rattle.std.specs.Prelude.{◌≡◌};
 ghost use Rattle.vll_engine.specs.Shown.{name_of};
 ghost use Rattle.vll_sca.specs.Placing.{placing};
@@ -44,7 +44,7 @@ fn all_bump_one_record<N: Name + Send + Sync, R: Wait + Threads + Abort + Sync>(
     Ok(())
 }
 
-// The reply of each ticket is one more than the ticket.
+// Checks that the reply of each ticket is one more than the ticket.
 fn are_numbered(rt: &impl Abort, journal: &[Line]) {
     for (ticket, line) in journal.iter().enumerate() {
         equal(rt, output_of(&line.reply), Some(ticket as u64 + 1));

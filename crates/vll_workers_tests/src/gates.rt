@@ -1,4 +1,4 @@
-// Gates that watch which calls are executed.
+// Gates that observe which calls are executed.
 use std::sync::atomic::{AtomicBool, AtomicU64, Ordering};
 use std::thread::yield_now;
 use vll_core::Ticket;
@@ -84,7 +84,7 @@ impl Gate for Tally {
     }
 }
 
-// Holds the first call back that it is told of until so many calls have their replies.
+// Holds back the first call for which it is called until `awaited` calls have their replies.
 #[derive(Drop)]
 pub(crate) struct Patient {
     awaited: u64,
@@ -158,10 +158,10 @@ impl Gate for Crowd {
     }
 }
 
-// How often a worker at its halt looks whether it may go on, which takes some seconds.
+// How often a worker at its halt checks whether it may go on, which takes some seconds.
 const HALT_LOOKS: u32 = 20_000_000;
 
-// Holds the worker back that has finished the call of one ticket, until it may go on.
+// Holds back the worker that has finished the call of one ticket, until it may go on.
 #[derive(Drop)]
 pub(crate) struct Halt {
     ticket: Ticket,

@@ -1,4 +1,4 @@
-//! What runs of worker threads come to: the tests of vll_workers.
+//! The results of runs of worker threads: the tests of vll_workers.
 #![tactic(auto)]
 
 #[cfg(test)]

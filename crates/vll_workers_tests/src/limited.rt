@@ -1,4 +1,4 @@
-// Runs of which few threads or none may be started.
+// Runs for which few threads or none may be started.
 ghost use Rattle.std.specs.Prelude.{◌≡◌};
 ghost use Rattle.vll_engine.specs.Shown.{name_of};
 ghost use Rattle.vll_sca.specs.Placing.{placing};
@@ -40,7 +40,8 @@ fn one_start_of_eight_loses_no_bump(rt: HostRuntime) -> Result<(), Fail> {
     counts_with_one_start::<Brand, HostRuntime>(&rt, rt.alloc(), opening)
 }
 
-// The same without a start: the tokens are as they came, from the last client to the first, and no call has entered.
+// As `counts_with_one_start`, without a start: the tokens are as they were passed, from the last client to the first,
+// and no call has entered.
 fn is_refused<N: Name + Send + Sync, R: Wait + Threads + Abort + Sync>(
     rt: &R,
     alloc: Global,
@@ -71,7 +72,7 @@ fn run_without_a_start_hands_the_tokens_back(rt: HostRuntime) -> Result<(), Fail
     is_refused::<Brand, HostRuntime>(&rt, rt.alloc(), opening)
 }
 
-// Without tokens there is nothing to do, and no start is missed.
+// Without tokens there is nothing to do, and no start is needed.
 fn has_none<N: Name + Send + Sync, R: Wait + Threads + Abort + Sync>(
     rt: &R,
     alloc: Global,
@@ -95,7 +96,7 @@ fn no_tokens_without_a_start_is_well(rt: HostRuntime) -> Result<(), Fail> {
     Ok(())
 }
 
-// A call for each client, on a record of its own, under a gate, with one start.
+// Makes a call for each client, on a record of its own, under a gate, with one start.
 fn runs_under<N: Name + Send + Sync, R: Wait + Threads + Abort + Sync, G: Gate + Sync>(
     rt: &R,
     alloc: Global,

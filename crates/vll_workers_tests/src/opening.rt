@@ -6,7 +6,7 @@ use vll_engine::Opening;
 use vll_sca::Placing;
 use vll_test_procedures::library;
 
-// An opening over so many records that hold 0, for so many calls.
+// Makes an opening over `records` records that hold 0, for `limit` calls.
 pub(crate) fn opening(
     alloc: Global,
     records: u32,
@@ -21,7 +21,7 @@ pub(crate) fn opening(
     opening_of(alloc, records, config, clients)
 }
 
-// An opening over so many records that hold 0, with these sizes.
+// Makes an opening over `records` records that hold 0, with these sizes.
 pub(crate) fn opening_of(
     alloc: Global,
     records: u32,

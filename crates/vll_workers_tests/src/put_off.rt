@@ -1,4 +1,4 @@
-// Runs in which many calls wait, and one of a call that is put off.
+// Runs in which many calls wait, and a run in which a call is put off.
 ghost use Rattle.std.specs.Prelude.{◌≡◌};
 ghost use Rattle.vll_engine.specs.Pass.{IsFresh};
 ghost use Rattle.vll_engine.specs.Shown.{name_of};
@@ -19,7 +19,7 @@ use vll_engine::{Engine, Name, Opening, Pass, Session};
 use vll_sca::Placing;
 use vll_workers::{OpenGate, run};
 
-// So many bumps of record 0 wait, and behind them one of record 1.
+// Begins `many` bumps of record 0, which wait, and after them one of record 1.
 fn wait_behind<N: Name, R: Wait + Abort>(
     rt: &R,
     engine: &Engine<N, Placing>,
@@ -38,7 +38,7 @@ fn wait_behind<N: Name, R: Wait + Abort>(
     session
 }
 
-// The calls that wait run one after the other, each at the front.
+// Runs the calls that wait one after the other, each at the front.
 fn ends_all<N: Name, R: Wait + Abort>(rt: &R, engine: &Engine<N, Placing>, many: u16) {
     for _ in 0..many {
         match engine.next_front(rt) {
@@ -48,8 +48,8 @@ fn ends_all<N: Name, R: Wait + Abort>(rt: &R, engine: &Engine<N, Placing>, many:
     }
 }
 
-// Ticket 0 runs and stays so, and so many calls wait for its record. Behind them a call waits for ticket 1. A run scans
-// in vain. Then ticket 1 is gone. A second run, with a token of so many bumps of record 1, has to find that call.
+// Ticket 0 keeps running, and `many` calls wait for its record. After them a call waits for ticket 1. A run scans in
+// vain. Then ticket 1 is gone. A second run, with a token of `times` bumps of record 1, has to find that call.
 fn finds_what_may_run<N: Name + Send + Sync, R: Wait + Threads + Abort + Sync>(
     rt: &R,
     alloc: Global,
@@ -72,7 +72,7 @@ fn finds_what_may_run<N: Name + Send + Sync, R: Wait + Threads + Abort + Sync>(
     ran
 }
 
-// A run without a call executes none. Then ticket 1 ends, and a run of so many bumps of record 1 executes these and the
+// A run without a call executes none. Then ticket 1 ends, and a run of `times` bumps of record 1 executes these and the
 // last call that waits.
 fn runs_twice<N: Name + Send + Sync, R: Wait + Threads + Abort + Sync>(
     rt: &R,
@@ -130,8 +130,8 @@ fn run_whose_queue_is_full_finds_what_may_run(rt: HostRuntime) -> Result<(), Fai
 // How many calls each of two clients makes.
 const TIMES: u16 = 1_000;
 
-// A pass of record 1 is kept. Of two clients one adds to record 0 and one to record 1, whose calls so look denied: its
-// first call is put off while the other client's begin, and begins all the same.
+// A pass of record 1 is kept. One of two clients adds to record 0, and the other to record 1, so that its calls look
+// denied: its first call is put off while the other client's calls begin, and begins regardless.
 fn begins_what_looks_denied<N: Name + Send + Sync, R: Wait + Threads + Abort + Sync>(
     rt: &R,
     alloc: Global,

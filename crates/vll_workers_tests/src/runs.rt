@@ -21,7 +21,7 @@ use vll_engine::{Begun, Engine, Name, Opening, Pass, Session};
 use vll_sca::Placing;
 use vll_workers::{MOST_WORKERS, OpenGate, RunError, RunFault, run};
 
-// So many clients of so many calls on one record: each call finds what the one before it has left.
+// Runs `clients` clients of `times` calls each on one record: each call finds what the one before it left.
 fn counts<N: Name + Send + Sync, R: Wait + Threads + Abort + Sync>(
     rt: &R,
     alloc: Global,
@@ -142,7 +142,7 @@ fn run_is_spent_only_at_the_limit(rt: HostRuntime) -> Result<(), Fail> {
     Ok(())
 }
 
-// Without tokens no thread is started: a worker would bring the call to its reply that waits and may run.
+// Without tokens no thread is started: a worker would bring to its reply the call that waits and may run.
 fn has_none<N: Name + Send + Sync, R: Wait + Threads + Abort + Sync>(
     rt: &R,
     alloc: Global,
@@ -174,7 +174,7 @@ fn no_tokens_is_well(rt: HostRuntime) -> Result<(), Fail> {
     Ok(())
 }
 
-// The bump of a record begins free.
+// Begins the bump of a record, which is free.
 pub(crate) fn begins<N: Name, R: Wait + Abort>(
     rt: &R,
     engine: &Engine<N, Placing>,
@@ -193,7 +193,7 @@ pub(crate) fn begins<N: Name, R: Wait + Abort>(
     }
 }
 
-// The bump of a record begins blocked, under this ticket.
+// Begins the bump of a record, which is blocked, under this ticket.
 pub(crate) fn waits<N: Name, R: Wait + Abort>(
     rt: &R,
     engine: &Engine<N, Placing>,
@@ -215,7 +215,7 @@ pub(crate) fn waits<N: Name, R: Wait + Abort>(
     }
 }
 
-// A pass is spent to its end.
+// Brings the call of a pass to its end.
 pub(crate) fn ends<N: Name>(wait: &impl Wait, engine: &Engine<N, Placing>, pass: Pass)
     requires { IsFresh N.engine pass }
 {
@@ -235,8 +235,8 @@ pub(crate) fn last_of<N: Name>(rt: &impl Abort, sessions: &mut Vec<Session>) -> 
     }
 }
 
-// The front runs and stays so, and behind it waits a call that only the scan finds: the run brings that one to its
-// reply, which is the second bump's, and leaves the pass that is kept.
+// The front keeps running, and behind it waits a call that only the scan finds: the run brings that one to its reply,
+// which is the second bump's, and leaves the pass that is kept.
 fn leaves_a_kept_pass<N: Name + Send + Sync, R: Wait + Threads + Abort + Sync>(
     rt: &R,
     alloc: Global,
@@ -260,7 +260,8 @@ fn leaves_a_kept_pass<N: Name + Send + Sync, R: Wait + Threads + Abort + Sync>(
     ran
 }
 
-// One worker, with a token of so many bumps of record 1, executes so many calls, whose tickets have this sum.
+// Checks that one worker, with a token of `times` bumps of record 1, executes `executed.0` calls, whose tickets have
+// the sum `executed.1`.
 pub(crate) fn runs_through<N: Name + Send + Sync, R: Wait + Threads + Abort + Sync>(
     rt: &R,
     alloc: Global,

@@ -22,7 +22,7 @@ use vll_engine::{Engine, Name, Opening, Session};
 use vll_sca::Placing;
 use vll_workers::{Gate, Token, run};
 
-// How often a thread looks whether another one has come so far, which takes some seconds.
+// How often a thread checks whether another one has come so far, which takes some seconds.
 const MOST_LOOKS: u32 = 20_000_000;
 
 // Tickets 2 to 5 run one after the other, and ticket 6 waits for ticket 0.
@@ -38,8 +38,8 @@ fn awaits(has_come: &AtomicBool) {
     }
 }
 
-// Begins the calls, and lets the run begin. Once the worker has come to its halt, ticket 0 is finished under a hold,
-// which is taken before the worker may go on.
+// Begins the calls, and lets the run begin. Once the worker has reached its halt, finishes ticket 0 under a hold, which
+// is taken before the worker may go on.
 fn begins_and_finishes<N: Name, R: Wait + Abort>(
     rt: &R,
     engine: &Engine<N, Placing>,
@@ -67,7 +67,8 @@ fn begins_and_finishes<N: Name, R: Wait + Abort>(
     session
 }
 
-// Whether a run of one worker is well, which begins once the calls have, and the session that they are of.
+// Returns whether a run of one worker, which begins once the calls have begun, ends well, and the session that made
+// these calls.
 fn runs_beside<N: Name + Send + Sync, R: Wait + Threads + Abort + Sync, G: Gate + Sync>(
     rt: &R,
     alloc: Global,
@@ -101,8 +102,8 @@ fn runs_beside<N: Name + Send + Sync, R: Wait + Threads + Abort + Sync, G: Gate 
 }
 
 // One worker has a token in its first two rounds, and executes a chain of calls that waits. In the round that finishes
-// the last of them it has no token and finds no call, and it is held back at the end of that. Then another call may
-// run, which its next round finds.
+// the last of them, it has no token and finds no call, and it is held back at the end of that round. Then another call
+// may run, which its next round finds.
 fn stays_after_an_empty_round<N: Name + Send + Sync, R: Wait + Threads + Abort + Sync>(
     rt: &R,
     alloc: Global,
@@ -123,7 +124,7 @@ fn stays_after_an_empty_round<N: Name + Send + Sync, R: Wait + Threads + Abort +
     Ok(())
 }
 
-// With two tokens for one worker, which so takes them before a hold.
+// With two tokens for one worker, which therefore takes them before a hold.
 #[test]
 fn worker_stays_after_a_round_without_a_token(rt: HostRuntime) -> Result<(), Fail> {
     let opening = opening(rt.alloc(), 2, 7, 3)?;

@@ -1,4 +1,4 @@
-// What the workers of a run tell as they leave.
+// What the workers of a run report as they leave.
 ghost use Rattle.std.specs.Prelude.{◌≡◌, ◌≤◌, nat_eq};
 ghost use Rattle.std.specs.List.{IsDistinct};
 ghost use Rattle.vll_engine.specs.Shown.{name_of};
@@ -27,7 +27,7 @@ struct Left {
     tally: Tally,
 }
 
-// A gate that holds nothing back, and adds up what workers tell as they leave.
+// A gate that holds nothing back, and adds up what workers report as they leave.
 #[derive(Drop)]
 struct Adding<'a, R: Wait> {
     rt: &'a R,
@@ -52,7 +52,7 @@ impl<R: Wait> Gate for Adding<'_, R> {
     }
 }
 
-// What so many workers and the calling thread did in a run, which is well.
+// Returns what `workers` workers and the calling thread did in a run, which ends well.
 fn tally_of<N: Name + Send + Sync, R: Wait + Threads + Abort + Sync>(
     rt: &R,
     alloc: Global,
@@ -113,7 +113,7 @@ const CONFIG: Config = Config {
     bits: 64,
 };
 
-// The same, in an engine that is opened for it.
+// As `tally_of_calls`, in an engine that is opened for it.
 fn tally_by<R: Wait + Threads + Abort + Sync>(
     rt: &R,
     alloc: Global,
@@ -154,7 +154,7 @@ fn calls_without_a_conflict_never_wait(rt: HostRuntime) -> Result<(), Fail> {
     Ok(())
 }
 
-// Ticket 0 runs and stays so, and ticket 2 waits, which is all that may wait, and may run. A worker's call of another
+// Ticket 0 keeps running, and ticket 2 waits, as the one call that may wait, and may run. A worker's call for another
 // record is refused once, and begins after the scan has started ticket 2.
 fn is_refused_once<N: Name + Send + Sync, R: Wait + Threads + Abort + Sync>(
     rt: &R,

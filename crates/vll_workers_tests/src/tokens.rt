@@ -1,4 +1,4 @@
-// Tokens, and what comes of them.
+// Tokens, and the results of their runs.
 ghost use Rattle.std.specs.Prelude.{◌≡◌, ◌<◌, ◌^◌, All, IfOk, length, nat_eq};
 ghost use Rattle.std.specs.List.{IsDistinct};
 ghost use Rattle.vll_check.specs.Calls.{Fits};
@@ -34,7 +34,7 @@ pub(crate) fn bump_of(rt: &impl Abort, library: &Library, record: u64) -> Call
     call_of(rt, library, "bump", record)
 }
 
-// A script of so many calls of a procedure for a record.
+// Makes a script of `times` calls of a procedure for a record.
 fn script(
     rt: &impl Abort,
     alloc: Global,
@@ -53,7 +53,7 @@ fn script(
     Ok(script)
 }
 
-// A token of so many bumps of a record.
+// Makes a token of `times` bumps of a record.
 pub(crate) fn bumping<N: Name>(
     rt: &impl Abort,
     alloc: Global,
@@ -70,7 +70,7 @@ pub(crate) fn bumping<N: Name>(
     calling::<N>(rt, alloc, library, session, "bump", record, times)
 }
 
-// A token of so many calls of a procedure for a record.
+// Makes a token of `times` calls of a procedure for a record.
 fn calling<N: Name>(
     rt: &impl Abort,
     alloc: Global,
@@ -105,7 +105,8 @@ pub(crate) fn last_and_others<N: Name>(
     }
 }
 
-// A token for each session, of so many bumps of the record with its client's number, where there are so many.
+// Makes a token for each session, of `times` bumps of the record with its client's number, if there are that many
+// records.
 pub(crate) fn all_bumping<N: Name>(
     rt: &impl Abort,
     alloc: Global,
@@ -123,7 +124,7 @@ pub(crate) fn all_bumping<N: Name>(
     all_bumping_of::<N>(rt, alloc, library, sessions, records, times)
 }
 
-// The same for the sessions of the first clients alone.
+// As `all_bumping`, for the sessions of the first clients alone.
 pub(crate) fn all_bumping_of<N: Name>(
     rt: &impl Abort,
     alloc: Global,
@@ -141,7 +142,7 @@ pub(crate) fn all_bumping_of<N: Name>(
     all_calling::<N>(rt, alloc, library, sessions, "bump", records, times)
 }
 
-// The same of another procedure for a record.
+// As `all_bumping_of`, with another procedure for a record.
 pub(crate) fn all_calling<N: Name>(
     rt: &impl Abort,
     alloc: Global,
@@ -167,7 +168,7 @@ pub(crate) fn all_calling<N: Name>(
     Ok(tokens)
 }
 
-// The tokens are of clients 0, 1 and so on, and so many calls of each have entered.
+// Checks that the tokens are of clients 0, 1 and so on, and that `next` calls of each have entered.
 pub(crate) fn are_home(rt: &impl Abort, tokens: &[Token], clients: usize, next: u32) {
     equal(rt, tokens.len(), clients);
     for (client, token) in tokens.iter().enumerate() {
@@ -197,7 +198,7 @@ fn sessions_of<N: Name>(alloc: Global, tokens: Vec<Token>) -> Result<Vec<Session
     Ok(sessions)
 }
 
-// What an engine leaves, which closes.
+// Closes an engine, and returns what it leaves.
 pub(crate) fn closed_of<N: Name>(
     rt: &impl Abort,
     engine: Engine<N, Placing>,
@@ -211,14 +212,14 @@ pub(crate) fn closed_of<N: Name>(
     }
 }
 
-// No claim is left open.
+// Checks that no claim is left open.
 fn none_is_open(rt: &impl Abort, pairs: &[u64]) {
     for pair in pairs {
         equal(rt, *pair, 0);
     }
 }
 
-// The lines have these outputs, in order.
+// Checks that the lines have these outputs, in order.
 fn have_outputs(rt: &impl Abort, lines: &[Line], outputs: &[u64]) {
     equal(rt, lines.len(), outputs.len());
     for (line, output) in lines.iter().zip(outputs) {
@@ -226,7 +227,7 @@ fn have_outputs(rt: &impl Abort, lines: &[Line], outputs: &[u64]) {
     }
 }
 
-// The engine closes with these records, no open claim, and these outputs in order of entry.
+// Checks that the engine closes with these records, no open claim, and these outputs in order of entry.
 pub(crate) fn closes<N: Name>(
     rt: &impl Abort,
     engine: Engine<N, Placing>,
@@ -242,7 +243,8 @@ pub(crate) fn closes<N: Name>(
     have_outputs(rt, closed.journal.as_slice(), outputs);
 }
 
-// The tokens are back from so many bumps each of record 0, and each call has found what the one before it has left.
+// Checks that the tokens are back from `times` bumps each of record 0, and that each call has found what the one before
+// it left.
 pub(crate) fn are_counted<N: Name>(
     rt: &impl Abort,
     alloc: Global,

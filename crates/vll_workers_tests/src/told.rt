@@ -1,4 +1,5 @@
-// What the gate of a run is told, and when: it asks the engine, by a session of its own, what has become of each call.
+// What a gate of a run is called for, and when: it asks the engine, with a session of its own, for the state of each
+// call.
 ghost use Rattle.std.specs.Prelude.{◌≡◌, ◌≤◌, nat_eq};
 ghost use Rattle.std.specs.List.{IsDistinct};
 ghost use Rattle.vll_engine.specs.Shown.{name_of};
@@ -22,7 +23,7 @@ use vll_proc::{Reason, Reply};
 use vll_sca::Placing;
 use vll_workers::{Gate, MOST_WORKERS, Token, run};
 
-// An engine as a gate has it. By a bound with `Sync` threads may be handed a reference to it, whatever it is made of.
+// An engine as a gate has it. A bound with `Sync` lets a reference to it be passed to threads, whatever it is made of.
 trait Shared<N: Name> {
     fn engine(&self) -> &Engine<N, Placing>;
 }
@@ -75,8 +76,8 @@ impl<N: Name> Asker<N> {
     }
 }
 
-// How often a gate was told of a call before it was executed, and had no reply for it then; and how often after it, and
-// had its reply then.
+// How often a gate was called before a call was executed, and found no reply for it then; and how often after it, and
+// found its reply then.
 #[derive(Clone, Copy, PartialEq, Eq, Debug)]
 struct Told {
     before: u32,
@@ -92,7 +93,7 @@ const NOTHING: Told = Told {
     answered: 0,
 };
 
-// Once of each.
+// Each of them once.
 const ONCE: Told = Told {
     before: 1,
     unanswered: 1,
@@ -100,7 +101,7 @@ const ONCE: Told = Told {
     answered: 1,
 };
 
-// What a gate was told of each ticket, and whether it was told of another one.
+// What a gate noted of each ticket, and whether it was called for another one.
 #[derive(Drop)]
 struct Notes<N: Name> {
     asker: Asker<N>,
@@ -109,7 +110,7 @@ struct Notes<N: Name> {
 }
 
 impl<N: Name> Notes<N> {
-    // Nothing of so many calls.
+    // Makes notes with nothing noted of `calls` calls.
     fn new(alloc: Global, session: Session, calls: u32) -> Result<Notes<N>, AllocError>
         requires { session.table ≡ N.engine.table }
     {
@@ -145,8 +146,8 @@ impl<N: Name> Notes<N> {
     }
 }
 
-// A gate that asks for the reply of each call that it is told of. The engine takes its lock for that, so that under the
-// lock a function of the gate would not return.
+// A gate that asks for the reply of each call for which it is called. The engine takes its lock for that, so that a
+// function of the gate that was called under the lock would not return.
 #[derive(Drop)]
 struct Asking<'a, N: Name, X, R: Wait> {
     rt: &'a R,
@@ -166,10 +167,10 @@ impl<N: Name, X: Shared<N>, R: Wait> Gate for Asking<'_, N, X, R> {
     }
 }
 
-// How often a thread looks whether a run has ended, which takes some seconds.
+// How often a thread checks whether a run has ended, which takes some seconds.
 const MOST_LOOKS: u32 = 20_000_000;
 
-// Looks whether a run has ended, and ends the test if it has not for long: then a function of its gate waits for ever.
+// Waits until a run has ended, and ends the test if that takes too long: then a function of its gate waits for ever.
 fn watches<R: Abort>(rt: &R, has_ended: &AtomicBool) {
     for _ in 0..MOST_LOOKS {
         if has_ended.load(Ordering::SeqCst) {
@@ -180,7 +181,7 @@ fn watches<R: Abort>(rt: &R, has_ended: &AtomicBool) {
     fail(rt, "the run does not end")
 }
 
-// A run that is watched is well.
+// Checks that a run, which is watched, ends well.
 fn runs_to_its_end<N: Name + Send + Sync, R: Wait + Threads + Abort + Sync, G: Gate + Sync>(
     rt: &R,
     alloc: Global,
@@ -214,7 +215,7 @@ fn runs_to_its_end<N: Name + Send + Sync, R: Wait + Threads + Abort + Sync, G: G
 // How many calls each of four clients makes.
 const CALLS: u32 = 25;
 
-// So many workers run the tokens under that gate. What it was told.
+// Runs the tokens with `workers` workers under that gate. Returns what it noted.
 fn runs_asking<N: Name + Send + Sync, X: Shared<N> + Sync, R: Wait + Threads + Abort + Sync>(
     rt: &R,
     alloc: Global,
@@ -242,8 +243,8 @@ fn runs_asking<N: Name + Send + Sync, X: Shared<N> + Sync, R: Wait + Threads + A
     notes.into_inner()
 }
 
-// So many workers run the calls of four clients on so many records, and the gate is told of each call once before it
-// has its reply, and once after that.
+// Runs the calls of four clients on `records` records with `workers` workers, and checks that the gate is called for
+// each call once before it has its reply, and once after that.
 fn is_told_once<N: Name + Send + Sync, R: Wait + Threads + Abort + Sync>(
     rt: &R,
     alloc: Global,
@@ -269,7 +270,8 @@ fn is_told_once<N: Name + Send + Sync, R: Wait + Threads + Abort + Sync>(
     Ok(())
 }
 
-// With one worker and records of their own four calls begin under one hold; on one record they run one after the other.
+// With one worker and records of their own, four calls begin under one hold; on one record they run one after the
+// other.
 #[test]
 fn gate_is_told_of_each_call_once_outside_the_hold(rt: HostRuntime) -> Result<(), Fail> {
     for (workers, records) in [(1, 4), (1, 1), (4, 4), (4, 1)] {
@@ -298,7 +300,7 @@ impl<N: Name, X: Shared<N>, R: Wait + Abort> Gate for Finding<'_, N, X, R> {
     fn after(&self, _ticket: Ticket) {}
 }
 
-// One worker runs the tokens under that gate, which begins the call by this session.
+// Runs the tokens with one worker under that gate, which begins the call by this session.
 fn runs_finding<N: Name + Send + Sync, X: Shared<N> + Sync, R: Wait + Threads + Abort + Sync>(
     rt: &R,
     alloc: Global,
@@ -325,8 +327,8 @@ fn runs_finding<N: Name + Send + Sync, X: Shared<N> + Sync, R: Wait + Threads + 
     asker.into_inner()
 }
 
-// Ticket 0 makes record 0 a 1. What ticket 1 finds there, as the gate is told of ticket 0, is the 0 from before it, so
-// that it is aborted.
+// Ticket 0 makes record 0 a 1. What ticket 1 finds there, while the gate is called for ticket 0, is the 0 from before
+// it, so that it is aborted.
 fn finds_the_value_before<N: Name + Send + Sync, R: Wait + Threads + Abort + Sync>(
     rt: &R,
     alloc: Global,

@@ -22,7 +22,7 @@ use vll_workers::run;
 const READS: u32 = 20;
 
 // A batch has eight calls at most, and all but these can get their replies while its first one is held back: the
-// clients whose calls those are can make their next ones, since their tokens lie in the pool.
+// clients whose calls those are can make their next ones, since their tokens are in the pool.
 const AWAITED: u64 = 72;
 
 fn gets_all_others<N: Name + Send + Sync, R: Wait + Threads + Abort + Sync>(
@@ -43,7 +43,7 @@ fn gets_all_others<N: Name + Send + Sync, R: Wait + Threads + Abort + Sync>(
     Ok(())
 }
 
-// With two tokens for each worker, which so takes them before a hold.
+// With two tokens for each worker, which therefore takes them before a hold.
 #[test]
 fn gate_that_waits_gets_all_calls_beside_its_batch(rt: HostRuntime) -> Result<(), Fail> {
     let opening = opening(rt.alloc(), 1, 80, 4)?;

@@ -1,4 +1,4 @@
--- What it is to do what the command line asks for.
+-- The meaning of the actions of the command line.
 use Rattle.std.specs.Prelude.{ℕ, List, Option, None, Ok}
 use Rattle.vll_draw.specs.Page.{Draws}
 use Rattle.vll_explain.specs.Told.{Explains}
@@ -16,8 +16,8 @@ use Rattle.vll.specs.declared.command.Action.TheVariants as action
 abbrev pub Runs : RunOptions → Option (List ℕ) → Option (List ℕ) → (Text → Type 0) → Type 0
 Runs options old new Holds = (setup : Setup) × IsRead old new (Ok setup) × Serves (with_options options setup) Holds
 
--- a run serves what was read, a replay replays it, an explanation tells what it has, a drawing lists its replay, and
--- this holds of the text. What is told is none of these
+-- a run serves what was read, a replay replays it, an explanation reports what it has, a drawing lists its replay, and
+-- this holds of the text. `Tell` does none of these
 abbrev pub Does : Action → Option (List ℕ) → Option (List ℕ) → (Text → Type 0) → Type 0
 Does (action.Run options) old new Holds = Runs options old new Holds
 Does action.Replay old new Holds = Replays old new Holds

@@ -1,12 +1,12 @@
--- The numbers that options give.
+-- The numbers of options.
 use Rattle.std.specs.Prelude.{◌≡◌, ◌<◌, ◌^◌, ℕ, List, Option, Some, None}
 use Rattle.std.specs.Str.Parse.{IsNumeral, digits_value, without_leading_plus}
 
--- a text of decimal digits, which may have a plus before them, and its value; nothing is no number of 32 bits
+-- a text of decimal digits, which a plus may precede, and its value; None if it is not a number of 32 bits
 abbrev pub IsNumber : List ℕ → Option ℕ → Type 0
 IsNumber t (Some n) = IsNumeral 10 (without_leading_plus t) × (n ≡ digits_value 10 (without_leading_plus t))
 IsNumber t None = ¬ (IsNumeral 10 (without_leading_plus t) × (digits_value 10 (without_leading_plus t) < 2 ^ 32))
 
--- an option that is not there gives no number, and one that is there the number of its text
+-- an option that is absent gives no number, and one that is present the number of its text
 abbrev pub Gives : Option (List ℕ) → Option ℕ → Type 0
 Gives text number = (text ≡ None → number ≡ None) × ((t : List ℕ) → text ≡ Some t → IsNumber t number)

@@ -1,4 +1,4 @@
--- What the type of a checked procedure keeps.
+-- The model of a checked procedure, and its invariant.
 use Rattle.std.specs.Prelude.{◌≡◌, None}
 use Rattle.vll_proc.specs.Meaning.{source_of}
 use Rattle.vll_check.specs.declared.checked.Checked.TheInside.{Inside}
@@ -9,7 +9,7 @@ use Rattle.vll_check.specs.Faults.{check_fault}
 abbrev pub entry_of : Inside → Entry
 entry_of c = record { procedure = c.procedure; records = c.records; number = c.number; place = c.place }
 
--- it passed the tests for its number of records, and its source is the one of its key positions
+-- it passed the tests for its number of records, and its source is that of its key positions
 pub record HasPassed (c : Inside) : Type 0 where
   pub passed : check_fault c.records c.procedure ≡ None
   pub source : c.source ≡ source_of c.procedure.keys

@@ -20,7 +20,7 @@ IsInOrder es = IsSortedBy (λ d e. is_lt (by_name d e)) es
 abbrev pub AllPassed : List Entry → Type 0
 AllPassed es = All (λ (e : Entry). check_fault e.records e.procedure ≡ None) es
 
--- the entries, each with its place as its number
+-- the entries, each with its index as its number
 pub record AreNumbered (es fs : List Entry) : Type 0 where
   pub long : length fs ≡ length es
   pub each : (n : ℕ) (d : Entry) → n < length es → slice_index_or fs n d ≡ record (slice_index_or es n d) { number = n }
@@ -30,24 +30,25 @@ pub record HaveNumbers (es : List Entry) : Type 0 where
   pub within : (k : ℕ) (d : Entry) → k < length es → (slice_index_or es k d).number < length es
   pub apart : (j k : ℕ) (d : Entry) → j < length es → k < length es → (slice_index_or es j d).number ≡ (slice_index_or es k d).number → j ≡ k
 
--- the entries, where the entry at each number says in which place the number stands
+-- the entries, with the entry at each number having as its place the index of the entry with that number
 pub record ArePlaced (es fs : List Entry) : Type 0 where
   pub long : length fs ≡ length es
   pub kept : (k : ℕ) (d : Entry) → k < length es → slice_index_or fs k d ≡ record (slice_index_or es k d) { place = (slice_index_or fs k d).place }
   pub each : (k : ℕ) (d : Entry) → k < length es → (slice_index_or fs (slice_index_or es k d).number d).place ≡ k
 
--- the procedures by their numbers: each entry says where the procedure stands whose number is its place
+-- the procedures in the order of their numbers:
+-- each entry's place is the index of the procedure whose number is the entry's index
 abbrev pub numbered : List Entry → List Proc
 numbered es = map (λ (e : Entry). (slice_index_or es e.place e).procedure) es
 
--- places and numbers lead to one another
+-- places and numbers are inverse to each other
 pub record IsIndexed (es : List Entry) : Type 0 where
   pub place : (n : ℕ) (d : Entry) → n < length es → (slice_index_or es n d).place < length es
   pub number : (k : ℕ) (d : Entry) → k < length es → (slice_index_or es k d).number < length es
   pub of_place : (n : ℕ) (d : Entry) → n < length es → (slice_index_or es (slice_index_or es n d).place d).number ≡ n
   pub of_number : (k : ℕ) (d : Entry) → k < length es → (slice_index_or es (slice_index_or es k d).number d).place ≡ k
 
--- the entries in the order of their names, where each procedure is found by the number of its place before
+-- the entries sorted by name, where each procedure is found by the index that it had before, which is its number
 pub record AreArranged (es fs : List Entry) : Type 0 where
   pub long : length fs ≡ length es
   pub rising : IsStrictlySortedBy by_name fs

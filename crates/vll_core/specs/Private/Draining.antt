@@ -1,4 +1,4 @@
--- What is left to do in a state, and the events that lessen it.
+-- What is left to do in a state, and the events that reduce it.
 use Rattle.std.specs.Prelude.{◌≡◌, ℕ, ◌+◌, ◌*◌, ◌-◌, false, length, Option, Some, None, if◌then◌else◌}
 use Rattle.std.specs.List.{sum_by}
 use Rattle.std.specs.Result.{IsOk}
@@ -8,7 +8,7 @@ use Rattle.vll_core.specs.State.{Opening, Entered, Turn, State, writes}
 use Rattle.vll_core.specs.Machine.{step}
 use Rattle.vll_core.specs.Drain.{begins_or_scans}
 
--- an event that is not refused, and none of Find, Enter and Scan
+-- an event that is not refused, and is not Find, Enter or Scan
 pub record IsNext (o : Opening) (s : State) (e : Event) : Type 0 where
   pub other : begins_or_scans e ≡ false
   pub taken : IsOk (step o s e)
@@ -24,6 +24,6 @@ abbrev pub turn_left : Option Turn → ℕ
 turn_left None = 0
 turn_left (Some turn) = (length turn.call.claims - turn.requested) + 1 + (3 * length turn.call.claims + 2)
 
--- what is left in a state; an abort saves stores
+-- the most steps left in a state; a call that aborts makes no stores
 abbrev pub left : State → ℕ
 left s = sum_by steps_left s.entries + turn_left s.turn

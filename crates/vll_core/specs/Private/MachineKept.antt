@@ -1,4 +1,4 @@
--- What the type of a machine keeps.
+-- The invariant of the machine's type.
 use Rattle.std.specs.Prelude.{◌≡◌, ℕ, ◌≤◌, true, List, length, map, Some, All, IfSome, slice_get, vec_capacity}
 use Rattle.std.specs.Global.{Vec}
 use Rattle.vll_proc.specs.declared.call.Call.{Call}
@@ -31,7 +31,9 @@ abbrev pub AreReplied : List QueueEntry → List Work → Type 0
 AreReplied es ws =
     (t : ℕ) (e : QueueEntry) (w : Work) → slice_get es t ≡ Some e → slice_get ws t ≡ Some w → is_gone e.status ≡ true → e.line.reply ≡ w.reply
 
--- the state is one that lawful moves reach, the words are those of the state, each call that has entered or is about to is ready and the library makes those of the scripts, each call's work is done on the records before it, and while a turn is open there is room for one more call to wait
+-- lawful moves reach the state, the words are those of the state, each call that has entered or is about to is ready,
+-- the library makes the calls of the scripts, each call's work is done on the records before it, and while a turn is
+-- open there is room for one more call to wait
 pub record IsMachine {H : Type 0} (place : H → ℕ → ℕ) (c : Inside H) : Type 0 where
   pub reached : IsReached (opening_of place (shown c)) (shown c).state
   pub words : AreWords (shown c).base (shown c).state c.words.items

@@ -1,11 +1,11 @@
--- The entries of the queue, of its lines and statuses by ticket.
+-- The entries of the queue, made of its lines and statuses by ticket.
 use Rattle.std.specs.Prelude.{List, [], ◌∷◌, map}
 use Rattle.vll_sca.specs.declared.entry.Entry.{Entry}
 use Rattle.vll_sca.specs.declared.status.Status.{Status}
 use Rattle.vll_core.specs.declared.line.Line.{Line}
 use Rattle.vll_core.specs.Queue.{QueueEntry, analysed}
 
--- each line beside its status
+-- each line with its status
 abbrev pub paired : List Line → List Status → List QueueEntry
 paired [] ss = []
 paired (l ∷ ls) [] = []

@@ -1,4 +1,5 @@
--- How the queue keeps its entries: lines and statuses by ticket lie in two lists, whose room is taken at the opening, and the window has the tickets of those that are left.
+-- How the queue keeps its entries: lines and statuses are in two lists by ticket, whose room is allocated at the
+-- opening, and the window has the tickets of those that are left.
 use Rattle.std.specs.Prelude.{◌≡◌, ℕ, ◌≤◌, true, map, length, count_by, None, vec_capacity}
 use Rattle.vll_sca.specs.Status.{is_waiting, is_running, is_gone}
 use Rattle.vll_sca.specs.declared.bits.TheConstants.{MOST_BITS}
@@ -8,12 +9,13 @@ use Rattle.vll_core.specs.Queue.{Queued, has_reply, found_by}
 use Rattle.vll_core.specs.Private.Paired.{paired}
 use Rattle.vll_core.specs.Private.Window.{IsWindow}
 
--- the queue that is kept
+-- the queue that the fields show
 abbrev pub kept : {H : Type 0} → Inside H → Queued H
 kept a = record { cap = a.cap; limit = a.limit; bits = a.bits; hash = a.hash; entries = paired a.journal.items a.statuses.items }
 
--- the window has the tickets of the entries that are left, the counts are those of the statuses, there is room up to the limit, and the
--- analysis, by the places that the hash gives to records, finds nothing if the queue remembers a scan that found nothing
+-- the window has the tickets of the entries that are left, the counts are those of the statuses, there is room up to
+-- the limit, and the analysis, by the places that the hash gives to records, finds nothing if the queue remembers a
+-- scan that found nothing
 pub record IsKept {H : Type 0} (place : H → ℕ → ℕ) (a : Inside H) : Type 0 where
   pub some_calls : 1 ≤ a.limit
   pub few_calls : a.limit ≤ MOST_CALLS

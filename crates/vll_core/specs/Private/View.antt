@@ -1,4 +1,4 @@
--- The state that a machine stands for.
+-- The state that a machine represents.
 use Rattle.std.specs.Prelude.{ℕ, List, [], ◌∷◌, drop, Option, Some, None}
 use Rattle.std.specs.Global.{Vec}
 use Rattle.vll_proc.specs.declared.call.Call.{Call}
@@ -22,7 +22,7 @@ abbrev pub turn_of : Option OpenTurn → Option Turn
 turn_of None = None
 turn_of (Some t) = Some (record { client = t.client; call = t.call; requested = t.requested; granted = t.granted })
 
--- of each script the calls from its next one on
+-- for each script, the calls from its next one on
 abbrev pub left_of : List (Vec Call) → List ℕ → List (List Call)
 left_of [] ns = []
 left_of (v ∷ vs) [] = []

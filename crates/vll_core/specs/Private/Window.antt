@@ -1,4 +1,5 @@
--- The window of the queue: the tickets of the calls that are left, those that run or wait, among others whose calls are gone.
+-- The window of the queue: the tickets of the calls that are left, those that run or wait, among others whose calls are
+-- gone.
 use Rattle.std.specs.Prelude.{◌≡◌, ℕ, ◌<◌, ◌≤◌, Bool, List, [], length, map, All, slice_index_or}
 use Rattle.std.specs.List.{filter, position_or_len, range_with_len}
 use Rattle.vll_sca.specs.declared.entry.Entry.{Entry}
@@ -21,13 +22,13 @@ left_among ss ts = filter (is_left_at ss) ts
 abbrev pub first_left : List Status → List ℕ → ℕ
 first_left ss ts = position_or_len (is_left_at ss) ts
 
--- the tickets are those of entered calls, and have all whose calls are left, in order
+-- the tickets are those of entered calls, and include all whose calls are left, in order
 pub record HasLeft (ss : List Status) (ts : List ℕ) : Type 0 where
   pub few : length ts ≤ length ss
   pub below : All (λ (t : ℕ). t < length ss) ts
   pub left : left_among ss ts ≡ left_among ss (range_with_len 0 (length ss))
 
--- so are those of the window, which knows the first whose call is left
+-- such are the tickets of the window, and `first` is the index of the first whose call is left
 pub record IsWindow (ss : List Status) (w : Window) : Type 0 where
   pub tickets : HasLeft ss w.tickets.items
   pub first : w.first ≡ first_left ss w.tickets.items
@@ -40,6 +41,6 @@ entry_at ls ss t = slice_index_or (seen ls ss) t (record { claims = []; status =
 abbrev pub entries_at : List Line → List Status → List ℕ → List Entry
 entries_at ls ss ts = map (entry_at ls ss) ts
 
--- each beside its ticket
+-- these entries, each with its ticket
 abbrev pub numbered : List Line → List Status → List ℕ → List (ℕ × Entry)
 numbered ls ss ts = map (λ (t : ℕ). (t, entry_at ls ss t)) ts

@@ -20,8 +20,8 @@ pub record IsLoading (claims : List Claim) (records : List ℕ) (w : Work) : Typ
   pub loaded : HoldsFirst w.loads w.frame claims records
   pub pending : w.reply ≡ None
 
--- a call's work, if the records are those before it: until its last load the frame has the values loaded so far;
--- from then on there is the reply, and the frame has the records' values after the call
+-- a call's work, if the records are those before it: until its last load the frame has the values loaded so far; from
+-- then on it has the records' values after the call, and there is a reply
 pub record IsAtWork (procs : List Proc) (call : Call) (records : List ℕ) (w : Work) : Type 0 where
   pub within : w.loads ≤ length call.claims
   pub whole : length w.frame ≡ MOST_CLAIMS

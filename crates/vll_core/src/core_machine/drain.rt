@@ -1,4 +1,4 @@
-// A machine is drained: each call is brought to its end.
+// Draining a machine: each call is brought to its end.
 ghost use Rattle.std.specs.Prelude.{◌≡◌, ◌≤◌};
 ghost use Rattle.vll_core.specs.Drain.{IsAtEnd, IsDrained, most_events};
 ghost use Rattle.vll_core.specs.Machine.{step};
@@ -10,12 +10,12 @@ use crate::event::Event;
 use vll_sca::Place;
 
 impl<H: Place> Core<H> {
-    /// Closes an open turn by Claim and Admit, and then brings the lowest ticket that is not gone to its end, by Front
-    /// and its own steps, until all are gone; the answer is how many events that took. Each of them is one that `step`
-    /// takes, and none is Find, Enter or Scan, so no state is stuck. At the end no turn is open, each record is what
-    /// the entered calls make of it one at a time in order of entry, and each counter is 0. The events are at most
-    /// three for each claim of a call that is not gone, and two for the call; and four for each claim of the open
-    /// turn's call, and three. It takes no memory.
+    /// Closes an open turn by Claim and Admit, then finishes the lowest ticket that is not gone, by Front and its own
+    /// steps, until all are gone; returns the number of events. Each of them is one that `step` accepts, and none is
+    /// Find, Enter or Scan, so no state is stuck. At the end no turn is open, each record has the value that the
+    /// entered calls give it one at a time in order of entry, and each counter is 0. There are at most three events for
+    /// each claim of a call that is not gone, plus two for the call; and four for each claim of the open turn's call,
+    /// plus three. Allocates nothing.
     pub fn drain(&mut self) -> u64
         ensures drained { IsDrained (opening_of H.place_of self.old) self.old.state self.new.state result }
         ensures few { result ≤ most_events self.old.state }

@@ -1,4 +1,4 @@
-// What an event would be of, if it were made now.
+// What an event would act on, if it were made now.
 ghost use Rattle.std.specs.Prelude.{◌≡◌, option_map};
 ghost use Rattle.vll_core.specs.Machine.{running};
 ghost use Rattle.vll_core.specs.Moves.{entry_release, entry_store, turn_request};
@@ -12,8 +12,8 @@ use vll_record::Claim;
 use vll_sca::Place;
 
 impl<H: Place> Machine<H> {
-    /// The claim that an event would be of, if it were made now: the next one that the call of the open turn requests,
-    /// or that a running call loads, stores or releases. `None` if there is none, and for any other event.
+    /// Returns the claim that an event would act on, if it were made now: the next one that the call of the open turn
+    /// requests, or that a running call loads, stores or releases. `None` if there is none, and for any other event.
     pub fn claim_of(&self, event: Event) -> Option<Claim>
         ensures { result ≡ claim_of self.now.state event }
     {
@@ -31,7 +31,7 @@ impl<H: Place> Machine<H> {
         }
     }
 
-    /// The line that the call of the open turn gets as it enters, if a turn is open.
+    /// Returns the line that the call of the open turn gets when it enters, if a turn is open.
     pub fn line_of_turn(&self) -> Option<Line>
         ensures { result ≡ option_map line_of_turn self.now.state.turn }
     {

@@ -15,8 +15,8 @@ use vll_proc::Call;
 use vll_sca::Place;
 
 impl<H: Place> Machine<H> {
-    // A request or the admission of the open turn's call; else, of the lowest ticket that is not gone, Front or its
-    // next step. `None` exactly if no turn is open and every call is gone.
+    // Returns a request or the admission of the open turn's call; if no turn is open, Front or the next step of the
+    // lowest ticket that is not gone. `None` exactly if no turn is open and every call is gone.
     pub(crate) fn next_event(&self) -> Option<Event>
         ensures next { IfSome result (IsNext (opening_of H.place_of self.now) self.now.state) }
         ensures end { result ≡ None → IsAtEnd self.now.base self.now.state }

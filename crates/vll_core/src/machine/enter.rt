@@ -1,5 +1,5 @@
-// The source of a script's next call is loaded, and a turn opens, for the next call of a script or for one that is
-// handed in.
+// Loading the source of a script's next call, and opening a turn for the next call of a script or for one that is
+// passed in.
 ghost use Rattle.std.specs.Prelude.{◌≡◌, ◌<◌, ◌≤◌, ◌↔◌, Err, Ok, IfSome, length};
 ghost use Rattle.vll_check.specs.Calls.{Fits, IsReady};
 ghost use Rattle.vll_core.specs.Machine.{entered, is_turn_of, next_call, ready, step, told, waiting};
@@ -17,9 +17,9 @@ use vll_record::value_word;
 use vll_sca::Place;
 
 impl<H: Place> Machine<H> {
-    /// Opens a turn for a call that is handed in, for a client that has a script, an empty one too; the script and what
-    /// is kept for it stay as they are. Refused, in this order, by `TurnOpen`, `Spent` and `Busy`, as Enter is. A
-    /// refusal changes nothing. The library is the one of the opening. It takes no memory.
+    /// Opens a turn for `call`, for a client that has a script, even an empty one; the script and the value kept for it
+    /// do not change. Refused with `TurnOpen`, `Spent` or `Busy`, tested in this order, as for Enter. A refusal changes
+    /// nothing. `library` is the one of the opening. Allocates nothing.
     pub fn enter(&mut self, library: &Library, client: u32, call: Call) -> Result<(), Refusal>
         requires same { library.now ≡ library_of self.old }
         requires client { client < length self.old.state.scripts }
@@ -41,7 +41,7 @@ impl<H: Place> Machine<H> {
         Ok(())
     }
 
-    // The source of the next call of a client's script is loaded, and its value kept for the call.
+    // Loads the source of the next call of a client's script, and keeps its value for the call.
     pub(crate) fn find(&mut self, library: &Library, client: u32) -> Result<Seen, Refusal>
         requires same { library.now ≡ library_of self.old }
         ensures answer { result ≡ told (step (opening_of H.place_of self.old) self.old.state (event.Find client)) }
@@ -61,7 +61,7 @@ impl<H: Place> Machine<H> {
         Ok(Seen::Found(value))
     }
 
-    // A turn opens for the next call of a client's script.
+    // Opens a turn for the next call of a client's script.
     pub(crate) fn enter_next(&mut self, library: &Library, client: u32) -> Result<Seen, Refusal>
         requires same { library.now ≡ library_of self.old }
         ensures answer { result ≡ told (step (opening_of H.place_of self.old) self.old.state (event.Enter client)) }
@@ -89,7 +89,7 @@ impl<H: Place> Machine<H> {
         Ok(Seen::Opened)
     }
 
-    // Whether the open turn is that of a client.
+    // Reports whether a turn is open and it is that of `client`.
     fn is_turn_of(&self, client: u32) -> bool
         ensures { result ≡ is_turn_of client self.now.state.turn }
     {
@@ -99,7 +99,7 @@ impl<H: Place> Machine<H> {
         }
     }
 
-    // The next call of a client's script, if there is such a client and a call left.
+    // Returns the next call of a client's script, if there is such a client and it has a call left.
     fn next_call(&self, client: u32) -> Option<Call>
         ensures call { result ≡ next_call self.now.state client }
         ensures fits { IfSome result (Fits (library_of self.now)) }
@@ -109,8 +109,8 @@ impl<H: Place> Machine<H> {
         script.get(self.next[index]).copied()
     }
 
-    // The next call of a client's script as it enters, and `None` if it has an indirect key and no value is kept for
-    // it.
+    // Returns the next call of a client's script as it enters, or `None` if it has an indirect key and no value is kept
+    // for it.
     fn ready(&self, library: &Library, client: u32, call: &Call) -> Option<Call>
         requires same { library.now ≡ library_of self.now }
         requires fits { Fits library.now call.now }
@@ -125,7 +125,8 @@ impl<H: Place> Machine<H> {
         Some(library.with_found(call, value?))
     }
 
-    // Whether one more call may enter, and why not: as many as the limit have entered, or as many as the cap wait.
+    // Checks whether one more call may enter: not if the entered calls have reached the limit, or the waiting ones the
+    // cap.
     fn room(&self) -> Result<(), Refusal>
         ensures spent { result ≡ Err Refusal.Spent ↔ (self.now.limit ≤ length self.now.state.entries) }
         ensures busy { result ≡ Err Refusal.Busy ↔ ((length self.now.state.entries < self.now.limit) × (self.now.cap ≤ waiting self.now.state)) }

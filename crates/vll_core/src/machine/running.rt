@@ -15,7 +15,7 @@ use vll_record::{delta, pair_word, value_word};
 use vll_sca::{Place, Status};
 
 impl<H: Place> Machine<H> {
-    // A running call loads the record of its next claim.
+    // Loads the record of a running call's next claim.
     pub(crate) fn load(&mut self, library: &Library, ticket: Ticket) -> Result<Seen, Refusal>
         requires same { library.now ≡ library_of self.old }
         ensures answer { result ≡ told (step (opening_of H.place_of self.old) self.old.state (event.Load ticket)) }
@@ -34,7 +34,7 @@ impl<H: Place> Machine<H> {
         Ok(Seen::Loaded(value))
     }
 
-    // A running call stores the record of its next Write claim.
+    // Stores the record of a running call's next Write claim.
     pub(crate) fn store(&mut self, ticket: Ticket) -> Result<Seen, Refusal>
         ensures answer { result ≡ told (step (opening_of H.place_of self.old) self.old.state (event.Store ticket)) }
         ensures state { self.new ≡ after self.old (step (opening_of H.place_of self.old) self.old.state (event.Store ticket)) }
@@ -55,7 +55,7 @@ impl<H: Place> Machine<H> {
         Ok(Seen::Stored)
     }
 
-    // A running call releases its next claim.
+    // Releases a running call's next claim.
     pub(crate) fn release(&mut self, ticket: Ticket) -> Result<Seen, Refusal>
         ensures answer { result ≡ told (step (opening_of H.place_of self.old) self.old.state (event.Release ticket)) }
         ensures state { self.new ≡ after self.old (step (opening_of H.place_of self.old) self.old.state (event.Release ticket)) }
@@ -78,7 +78,7 @@ impl<H: Place> Machine<H> {
         Ok(Seen::Released(old))
     }
 
-    // A running call that has released all its claims is gone, with its reply.
+    // Finishes a running call that has released all its claims: it is gone, with its reply.
     pub(crate) fn finish(&mut self, ticket: Ticket) -> Result<Seen, Refusal>
         ensures answer { result ≡ told (step (opening_of H.place_of self.old) self.old.state (event.Finish ticket)) }
         ensures state { self.new ≡ after self.old (step (opening_of H.place_of self.old) self.old.state (event.Finish ticket)) }
@@ -98,7 +98,7 @@ impl<H: Place> Machine<H> {
         Ok(Seen::Replied(*reply))
     }
 
-    // The call of a ticket that is running.
+    // Returns the call of a ticket, if it is running.
     pub(crate) fn running_call(&self, ticket: Ticket) -> Option<Call>
         ensures { result ≡ option_map (λ (e : Entered). e.call) (running self.now.state ticket) }
     {

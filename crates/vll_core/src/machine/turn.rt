@@ -13,7 +13,7 @@ use vll_record::{delta, granted, pair_word};
 use vll_sca::Place;
 
 impl<H: Place> Machine<H> {
-    // The call of the open turn requests its next claim.
+    // Requests the next claim of the open turn's call.
     pub(crate) fn claim(&mut self) -> Result<Seen, Refusal>
         ensures answer { result ≡ told (step (opening_of H.place_of self.old) self.old.state event.Claim) }
         ensures state { self.new ≡ after self.old (step (opening_of H.place_of self.old) self.old.state event.Claim) }
@@ -36,7 +36,7 @@ impl<H: Place> Machine<H> {
         Ok(Seen::Claimed { old, granted })
     }
 
-    // The call of the open turn gets the next ticket.
+    // Gives the call of the open turn the next ticket.
     pub(crate) fn admit(&mut self, library: &Library) -> Result<Seen, Refusal>
         requires same { library.now ≡ library_of self.old }
         ensures answer { result ≡ told (step (opening_of H.place_of self.old) self.old.state event.Admit) }

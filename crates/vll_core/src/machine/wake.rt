@@ -1,4 +1,4 @@
-// Waiting calls begin to run: the front of the queue, or the one that the contention analysis finds.
+// Starting a waiting call: the front of the queue, or the one that the contention analysis finds.
 ghost use Rattle.std.specs.Prelude.{◌≡◌};
 ghost use Rattle.vll_core.specs.Machine.{step, told};
 ghost use Rattle.vll_core.specs.Shown.{after, opening_of};
@@ -10,7 +10,7 @@ use crate::seen::Seen;
 use vll_sca::Place;
 
 impl<H: Place> Machine<H> {
-    // The front of the queue begins to run, if it waits.
+    // Starts the front of the queue, if it waits.
     pub(crate) fn front(&mut self) -> Result<Seen, Refusal>
         ensures answer { result ≡ told (step (opening_of H.place_of self.old) self.old.state event.Front) }
         ensures state { self.new ≡ after self.old (step (opening_of H.place_of self.old) self.old.state event.Front) }
@@ -24,7 +24,7 @@ impl<H: Place> Machine<H> {
         }
     }
 
-    // The first waiting call that is in hash conflict with no earlier one begins to run.
+    // Starts the first waiting call that is in hash conflict with no earlier one.
     pub(crate) fn scan(&mut self) -> Result<Seen, Refusal>
         ensures answer { result ≡ told (step (opening_of H.place_of self.old) self.old.state event.Scan) }
         ensures state { self.new ≡ after self.old (step (opening_of H.place_of self.old) self.old.state event.Scan) }

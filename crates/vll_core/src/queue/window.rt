@@ -10,7 +10,7 @@ use std::alloc::{AllocError, Global};
 use vll_sca::{Bits, Place, Status};
 
 /// The tickets of the calls that are left, those that run or wait, in order. The ticket of a call that is gone stays
-/// among them until `shrink` drops it. Where each call stands, the statuses by ticket tell.
+/// among them until `shrink` drops it. The calls' statuses are in the list of statuses by ticket.
 #[derive(Drop)]
 pub(crate) struct Window {
     tickets: Vec<u32>,
@@ -19,7 +19,7 @@ pub(crate) struct Window {
 }
 
 impl Window {
-    /// A window without tickets, and room for so many.
+    /// Returns a window without tickets, with room for `room` tickets.
     pub(crate) fn with_room(alloc: Global, room: u32) -> Result<Window, AllocError>
         ensures tickets { IfOk result (λ w. w.tickets.items ≡ []) }
         ensures first { IfOk result (λ w. w.first ≡ 0) }
@@ -41,7 +41,7 @@ impl Window {
         self.first = 0;
     }
 
-    /// Puts a ticket at the end. No memory is taken.
+    /// Adds a ticket at the end. Allocates nothing.
     pub(crate) fn push(&mut self, ticket: u32)
         requires room { length self.old.tickets.items < vec_capacity self.old.tickets }
         ensures tickets { self.new.tickets.items ≡ self.old.tickets.items ++ ticket ∷ [] }
@@ -51,14 +51,14 @@ impl Window {
         self.tickets.push_reserved(ticket);
     }
 
-    /// The lowest ticket whose call is left.
+    /// Returns the lowest ticket whose call is left.
     pub(crate) fn front(&self) -> Option<u32>
         ensures { result ≡ slice_get self.now.tickets.items self.now.first }
     {
         self.tickets.get(self.first).copied()
     }
 
-    /// The ticket that the contention analysis finds.
+    /// Returns the ticket that the contention analysis finds.
     pub(crate) fn scan<H: Place>(
         &self,
         bits: &mut Bits,
@@ -81,7 +81,7 @@ impl Window {
         self.tickets.get(index).copied()
     }
 
-    /// Moves on to the first ticket whose call is left, after one is gone.
+    /// Moves `first` on to the first ticket whose call is left, after a call is gone.
     pub(crate) fn pass_gone(&mut self, statuses: &[Status])
         requires below { All (λ t. t < length statuses.now) self.old.tickets.items }
         requires gone { self.old.first ≤ first_left statuses.now self.old.tickets.items }
@@ -90,7 +90,8 @@ impl Window {
         self.first = first_left(&self.tickets, statuses, self.first);
     }
 
-    /// Drops the tickets whose calls are gone, if there are more tickets than this. None that is left goes.
+    /// Drops the tickets whose calls are gone, if there are more than `most` tickets. It keeps all whose calls are
+    /// left.
     pub(crate) fn shrink(&mut self, most: usize, statuses: &[Status])
         requires { IsWindow statuses.now self.old }
         ensures kept { IsWindow statuses.now self.new }
@@ -113,8 +114,7 @@ impl Window {
     }
 }
 
-// The index of the first ticket whose call is left, from one on, or the number of tickets. All before that one are
-// gone.
+// Returns the index of the first ticket whose call is left, or the number of tickets. All before index `from` are gone.
 fn first_left(tickets: &[u32], statuses: &[Status], from: usize) -> usize
     requires below { All (λ t. t < length statuses.now) tickets.now }
     requires gone { from ≤ first_left statuses.now tickets.now }
@@ -128,8 +128,7 @@ fn first_left(tickets: &[u32], statuses: &[Status], from: usize) -> usize
     tickets.len()
 }
 
-// Moves the tickets whose calls are left to the front, and returns how many they are. All before the first one are
-// gone.
+// Moves the tickets whose calls are left to the front, and returns their number. All before index `first` are gone.
 fn gather_left(tickets: &mut [u32], statuses: &[Status], first: usize) -> usize
     requires below { All (λ t. t < length statuses.now) tickets.old }
     requires first { first ≡ first_left statuses.now tickets.old }

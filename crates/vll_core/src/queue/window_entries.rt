@@ -4,8 +4,8 @@ use crate::line::Line;
 use vll_record::Claims;
 use vll_sca::{Entries, Status};
 
-/// The calls of a window's tickets, as the contention analysis reads them: their claims in the journal, and where they
-/// stand among the statuses by ticket.
+/// The calls of a window's tickets, as the contention analysis reads them: their claims from the journal, and their
+/// statuses from the list by ticket.
 #[derive(Drop)]
 pub(crate) struct WindowEntries<'a> {
     pub(crate) tickets: &'a [u32],

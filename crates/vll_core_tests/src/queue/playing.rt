@@ -1,4 +1,4 @@
-// What is done to a queue in tests, and what has to come of it.
+// What is done to a queue in tests, and the results that it must have.
 use self::Act::{Busy, Counts, Line, Lines, Spent, Standing, Steps};
 use self::Step::{Blocked, Finish, Free, Front, Scan};
 use crate::asserts::{equal, equal_at};
@@ -55,32 +55,32 @@ fn finish(queue: &mut Queue<Placing>, ticket: Ticket, code: u16) -> bool {
     }
 }
 
-// What is done to a queue. A step returns a ticket or none.
+// A change of a queue. It returns a ticket or none.
 #[derive(Clone, Copy, Debug)]
 pub(super) enum Step {
-    // A call of a client enters, which has this number and writes one record.
+    // A call enters: its client, its procedure's number, and the record that it writes.
     Free(u32, u32, u32),
     Blocked(u32, u32, u32),
-    // A running call ends, and its reply is an abort of this code.
+    // A running call is finished; its reply is an abort with this code.
     Finish(u32, u16),
     Front,
     Scan,
 }
 
-// What is done to a queue, and what has to come of it.
+// What is done to a queue, and the results that it must have.
 #[derive(Clone, Copy)]
 pub(super) enum Act<'a> {
-    // Each of these steps in turn returns this ticket.
+    // Each of these steps in turn returns this ticket, or none.
     Steps(&'a [(Step, Option<u32>)]),
-    // As many calls run, and as many wait.
+    // This many calls run, and this many wait.
     Counts(u32, u32),
     Spent(bool),
     Busy(bool),
-    // Where a ticket's call stands.
+    // The status of a ticket's call.
     Standing(u32, Option<Status>),
-    // The client of a ticket's line, the number of its call, and the code of its reply.
+    // The client of a ticket's line, its call's procedure number, and the code of its reply.
     Line(u32, Option<(u32, u32, Option<u16>)>),
-    // The journal has as many lines.
+    // The journal has this many lines.
     Lines(usize),
 }
 
@@ -122,7 +122,7 @@ pub(super) fn perform(rt: &impl Abort, queue: &mut Queue<Placing>, act: Act) {
     }
 }
 
-// Goes through these acts in turn, with a queue that has nothing entered. Returns how many lines the journal has.
+// Performs these acts in turn, on an empty queue. Returns the number of lines of the journal.
 pub(super) fn run(
     rt: &(impl AllocGlobal + Abort),
     config: Config,

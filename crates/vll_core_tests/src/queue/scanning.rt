@@ -7,7 +7,7 @@ use std::test::Fail;
 use vll_core::{OpenFault, Queue};
 use vll_sca::{Placing, Status};
 
-// Of 4 bits, records 0 and 4 share one.
+// With 4 bits, records 0 and 4 share one.
 #[test]
 fn scan_finds_the_first_call_that_no_earlier_one_hinders(rt: HostRuntime) -> Result<(), Fail> {
     run(
@@ -134,8 +134,8 @@ fn neither_the_front_nor_a_free_call_lets_a_scan_find_again(rt: HostRuntime) -> 
     Ok(())
 }
 
-// Of the calls behind the running front so many are gone, and then four enter: two that want the front's record, one
-// that runs on another, and one that wants that.
+// After the running front, `gone` calls enter and are gone; then four enter: two that claim the front's record, one
+// that runs on another record, and one that claims that record.
 fn behind_many_that_are_gone(rt: &(impl AllocGlobal + Abort), gone: u16) -> Result<(), OpenFault> {
     let gone = u32::from(gone);
     let mut queue = Queue::open(rt.alloc(), config(4, 65_536, 64), Placing::Modulo)?;

@@ -1,4 +1,4 @@
--- The queue and the open turn as a call begins.
+-- The queue and the open turn when a call begins.
 use Rattle.std.specs.Prelude.{◌≡◌, ℕ, Bool, List, true, false, length, slice_get, Option, Some, None}
 use Rattle.vll_proc.specs.declared.call.Call.{Call}
 use Rattle.vll_core.specs.declared.line.Line.{Line}
@@ -25,19 +25,19 @@ begun_by q client call (Free pass) = admitted q (entry client call true)
 begun_by q client call (Blocked ticket) = admitted q (entry client call false)
 begun_by q client call (Refused why) = q
 
--- the answer is a refusal just where one stands
+-- the answer is a refusal exactly if there is a reason for one
 abbrev pub IsRefusedBy : Option BeginRefusal → Begun → Type 0
 IsRefusedBy refusal (Free pass) = refusal ≡ None
 IsRefusedBy refusal (Blocked ticket) = refusal ≡ None
 IsRefusedBy refusal (Refused why) = refusal ≡ Some why
 
--- what the answer at the lock tells the client: a pass is shown as its seat is
+-- the answer that the client gets of the answer at the lock: a pass is shown as its seat is
 abbrev pub begun : Admission → Begun
 begun (admission.Free seat ticket) = Free seat
 begun (admission.Blocked ticket) = Blocked ticket
 begun (admission.Refused why) = Refused why
 
--- the seat of a call that is free is this call's, at its ticket
+-- the seat of a free call is this call's, at its ticket
 abbrev pub IsSeatOf : Call → Admission → Type 0
 IsSeatOf call (admission.Free seat ticket) = (seat.pass.ticket ≡ ticket) × (seat.pass.call ≡ call)
 IsSeatOf call (admission.Blocked ticket) = Unit {0}

@@ -2,7 +2,7 @@
 use Rattle.std.specs.Prelude.{◌≡◌, ℕ, ◌<◌, List, length, slice_index}
 use Rattle.vll_record.specs.Word.{value_word_of, pair_word_of_record}
 
--- the words of so many records, divided into their values and their pair words
+-- the words of `count` records, divided into their values and their pair words
 pub record AreDivided (count : ℕ) (words values pairs : List ℕ) : Type 0 where
   pub as_many_values : length values ≡ count
   pub as_many_pairs : length pairs ≡ count

@@ -7,7 +7,8 @@ use Rattle.vll_engine.specs.Closed.{AreSerial}
 use Rattle.vll_engine.specs.Shown.{Named, library_of}
 use Rattle.vll_engine.specs.declared.ended.Ended.{Ended}
 
--- the queue's calls are serial, the records and the pairs are what they leave, the rest is what the engine was opened with, and there is room for all that goes on
+-- the queue's calls are serial, the records and the pairs are what they leave, the rest is what the engine was opened
+-- with, and there is room for the next opening
 pub record IsEnded {H : Type 0} (place : H → ℕ → ℕ) (e : Named) (x : Ended H) : Type 0 where
   pub library : x.library ≡ library_of e
   pub config : config_of x.queue ≡ e.config

@@ -1,4 +1,4 @@
--- What the type of the locked value keeps.
+-- The invariant of the locked value's type.
 use Rattle.std.specs.Prelude.{◌≡◌, ℕ, ◌<◌, List, All, None}
 use Rattle.vll_check.specs.Calls.{IsReady}
 use Rattle.vll_core.specs.declared.line.Line.{Line}
@@ -14,7 +14,8 @@ pub record AreOwn (e : Named) (ls : List Line) : Type 0 where
   pub clients : All (λ (l : Line). l.client < e.clients) ls
   pub found : AreFoundThere e.base (calls_in ls)
 
--- the queue is that of the queue's seat of the engine's words, with no open turn and no session at it, and was opened with what the name tells
+-- the queue agrees with the queue's seat of the engine's words, which has no open turn and no session at it, and was
+-- opened with what the name states
 pub record IsKept {H : Type 0} (e : Named) (place : H → ℕ → ℕ) (seat : QueueShown) (q : Queued H) : Type 0 where
   pub same : seat.table ≡ e.table
   pub closed : seat.turn ≡ None

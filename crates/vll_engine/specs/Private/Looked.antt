@@ -8,7 +8,8 @@ use Rattle.vll_engine.specs.Found.{FoundThere}
 use Rattle.vll_engine.specs.Sessions.{SawOthers}
 use Rattle.vll_engine.specs.Shown.{Named, library_of}
 
--- the call that is to enter is the one with a value found, which its source held; the session has seen calls of other clients alone, and was given no reply
+-- the call that is to enter is the one with a value found, which its source held; the session has seen only calls of
+-- other clients since, and was given no reply
 pub record HasLooked (e : Named) (old new : SessionView) (call entering : Call) : Type 0 where
   pub value : ℕ
   pub is : entering ≡ with_found (library_of e) call value

@@ -1,4 +1,4 @@
--- A call that is ready begins, and its pass is put behind others.
+-- A ready call begins, and its pass is appended to a list.
 use Rattle.std.specs.Prelude.{List}
 use Rattle.vll_proc.specs.declared.call.Call.{Call}
 use Rattle.vll_counters.specs.declared.views.SessionView.{SessionView}
@@ -9,7 +9,7 @@ use Rattle.vll_engine.specs.Begin.{Begins}
 use Rattle.vll_engine.specs.Onto.{IsOnto}
 use Rattle.vll_engine.specs.Shown.{Named}
 
--- what the answer and the list say of the session, for a call that is ready
+-- what the answer and the list say of the session, for a ready call
 pub record BeginsOnto (e : Named) (old new : SessionView) (call : Call) (answer : BegunOnto) (before after : List PassShown) : Type 0 where
   pub begun : Begun
   pub begins : Begins e old new call begun

@@ -1,4 +1,4 @@
--- What the type of an opening shows and keeps.
+-- What contracts see of an opening, and its type's invariant.
 use Rattle.std.specs.Prelude.{◌≡◌, ◌<◌, length}
 use Rattle.vll_core.specs.Queue.{config_of, empty}
 use Rattle.vll_counters.specs.Shown.{shown_queue, AreNewSessions}
@@ -17,7 +17,8 @@ shown a = record {
   clients = a.seat.clients;
 }
 
--- the words, their queue's seat and the sessions are new, a number of 32 bits counts the clients, the library is that of the words, and there is room for what is left at the end
+-- the words, their queue's seat and the sessions are new, the number of clients fits in 32 bits, the library is that of
+-- the words, and there is room for what closing leaves
 pub record IsOpening {H : Type 0} (a : Inside H) : Type 0 where
   pub procs : a.library.procs ≡ a.words.base.procs
   pub records : a.library.records ≡ length a.words.base.records

@@ -20,7 +20,7 @@ use vll_record::granted;
 use vll_sca::Place;
 
 impl<N: Name, H: Place> Locked<N, H> {
-    // The session's client enters a call, which requests all its claims and gets a ticket, or is refused.
+    // Enters a call of the session's client, which requests all its claims and gets a ticket, or refuses it.
     pub(crate) fn begin(
         &mut self,
         words: &Words,
@@ -47,7 +47,7 @@ impl<N: Name, H: Place> Locked<N, H> {
         }
     }
 
-    // Why no call may begin.
+    // Returns why no call may begin, if none may.
     fn refusal(&self) -> Option<BeginRefusal>
         ensures answer { result ≡ refusal self.now }
         ensures kept { IsQueued self.now }
@@ -63,7 +63,7 @@ impl<N: Name, H: Place> Locked<N, H> {
         None
     }
 
-    // The session comes and leaves, and has seen all calls that have entered.
+    // Lets the session join and leave; it has then seen all calls that have entered.
     fn visit(&mut self, words: &Words, session: SessionSeat) -> SessionSeat
         requires words { words.now ≡ words_of N.engine }
         requires session { session.table ≡ N.engine.table }
@@ -78,7 +78,7 @@ impl<N: Name, H: Place> Locked<N, H> {
         words.give_session(&mut self.seat, None)
     }
 
-    // The call enters and requests all its claims. It runs if all were granted, and else waits.
+    // Enters the call, which requests all its claims. It runs if all were granted, else it waits.
     fn enter(
         &mut self,
         words: &Words,
@@ -115,7 +115,7 @@ impl<N: Name, H: Place> Locked<N, H> {
     }
 }
 
-// The open turn requests all its claims. Whether all were granted.
+// Requests all claims of the open turn. Returns whether all were granted.
 fn request_all(words: &Words, seat: &mut QueueSeat, client: u32, call: &Call) -> bool
     requires same { seat.old.table ≡ words.now.table }
     requires turn { seat.old.turn ≡ Some (first_turn client call.now) }

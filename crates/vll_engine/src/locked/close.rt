@@ -20,8 +20,8 @@ use vll_record::{RecordId, pair_word, value_word};
 use vll_sca::Place;
 
 impl<N: Name, H: Place + Send + Drop> Locked<N, H> {
-    // What is left where no call runs or waits. Where one does, exactly as many run and wait as is told, and the
-    // engine goes on.
+    // Returns what is left if no call runs or waits. If one does, returns the engine, which goes on, with the exact
+    // numbers of calls that run and that wait.
     pub(crate) fn close(
         self,
         library: Library,
@@ -75,8 +75,8 @@ impl<N: Name, H: Place + Send + Drop> Locked<N, H> {
     }
 }
 
-// Each session comes and leaves, and none stays in the list: it has seen the beginning of the calls that have entered,
-// with all of its client.
+// Takes each session off the list, and lets it join and leave: it has seen the beginning of the calls that have
+// entered, with all of its client.
 fn visit_all(words: &Words, queue: &mut QueueSeat, sessions: &mut Vec<Session>)
     requires same { queue.old.table ≡ words.now.table }
     requires sessions { All (λ s. s.table ≡ words.now.table) sessions.old.items }
@@ -94,7 +94,7 @@ fn visit_all(words: &Words, queue: &mut QueueSeat, sessions: &mut Vec<Session>)
     }
 }
 
-// A session comes and leaves.
+// Lets a session join and leave.
 fn visit(words: &Words, queue: &mut QueueSeat, session: SessionSeat)
     requires same { (queue.old.table ≡ words.now.table) × (session.table ≡ words.now.table) }
     requires closed { queue.old.turn ≡ None }
@@ -106,7 +106,7 @@ fn visit(words: &Words, queue: &mut QueueSeat, session: SessionSeat)
     let _ = words.give_session(queue, None);
 }
 
-// The words divided into the records' values and their pairs.
+// Divides the words into the records' values and their pair words.
 fn divided(words: &[u64], room: Room) -> (Vec<u64>, Vec<u64>)
     requires long { length words.now ≡ 1 + 2 * room }
     ensures words { AreDivided room words.now result.0.items result.1.items }

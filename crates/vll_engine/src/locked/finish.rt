@@ -12,7 +12,7 @@ use vll_proc::Reply;
 use vll_sca::Place;
 
 impl<N: Name, H: Place> Locked<N, H> {
-    // The call of a pass that has made all its steps is gone, and its line gets the reply.
+    // Finishes the call of a pass that has made all its steps: it is gone, and its line gets the reply.
     pub(crate) fn finish(&mut self, words: &Words, released: Released) -> (Ticket, Reply)
         requires words { words.now ≡ words_of N.engine }
         requires released { IsReleased N.engine released }
@@ -24,7 +24,7 @@ impl<N: Name, H: Place> Locked<N, H> {
         (self.finish_untold(words, released), reply)
     }
 
-    // The same, but the reply stands in the line alone.
+    // As `finish`, but the reply is only in the line.
     #[inline(always)]
     pub(crate) fn finish_untold(&mut self, words: &Words, released: Released) -> Ticket
         requires words { words.now ≡ words_of N.engine }

@@ -17,7 +17,7 @@ use vll_counters::{PassSeat, QueueSeat, Words};
 use vll_sca::Place;
 
 impl<N: Name, H: Place> Locked<N, H> {
-    // The lowest ticket that is not gone begins to run, if it waits: its seat.
+    // Starts the lowest ticket that is not gone, if it waits, and returns its seat.
     pub(crate) fn next_front(&mut self, words: &Words) -> Option<(PassSeat, Ticket)>
         requires words { words.now ≡ words_of N.engine }
         ensures ticket { option_map (λ p. p.1) result ≡ front_among (statuses self.old) }
@@ -29,7 +29,7 @@ impl<N: Name, H: Place> Locked<N, H> {
         Some((give_pass(words, &mut self.seat, ticket), ticket))
     }
 
-    // The ticket that the contention analysis finds begins to run: its seat.
+    // Starts the ticket that the contention analysis finds, and returns its seat.
     pub(crate) fn next_scan(&mut self, words: &Words) -> Option<(PassSeat, Ticket)>
         requires words { words.now ≡ words_of N.engine }
         ensures ticket { option_map (λ p. p.1) result ≡ found_by H.place_of self.old }
@@ -41,7 +41,7 @@ impl<N: Name, H: Place> Locked<N, H> {
         Some((give_pass(words, &mut self.seat, ticket), ticket))
     }
 
-    // The same, if a scan is due.
+    // As `next_scan`, if a scan is due.
     pub(crate) fn next_scan_if_due(&mut self, words: &Words) -> Option<(PassSeat, Ticket)>
         requires words { words.now ≡ words_of N.engine }
         ensures ticket { IfSome result (λ p. found_by H.place_of self.old ≡ Some p.1) }
@@ -55,7 +55,7 @@ impl<N: Name, H: Place> Locked<N, H> {
         self.next_scan(words)
     }
 
-    // Puts the pass of a seat behind others, with the call that stands in its ticket's line.
+    // Appends the pass of a seat, with the call in its ticket's line.
     pub(crate) fn push_pass(&self, seat: PassSeat, ticket: Ticket, passes: &mut Vec<Pass>)
         requires line { IsPassAt (lines self.now) seat ticket }
         requires room { length passes.old.items < vec_capacity passes.old }
@@ -72,7 +72,7 @@ impl<N: Name, H: Place> Locked<N, H> {
         });
     }
 
-    // The pass of a seat, with the call that stands in its ticket's line.
+    // The pass of a seat, with the call in its ticket's line.
     pub(crate) fn pass(&self, seat: PassSeat, ticket: Ticket) -> Pass
         requires line { IsPassAt (lines self.now) seat ticket }
         ensures { result ≡ seat }
@@ -88,7 +88,7 @@ impl<N: Name, H: Place> Locked<N, H> {
     }
 }
 
-// The ticket that the contention analysis finds begins to run. What the scan has cost is noted.
+// Starts the ticket that the contention analysis finds, and notes what the scan has cost.
 fn scan<H: Place>(queue: &mut Queue<H>, patience: &mut Patience) -> Option<Ticket>
     ensures ticket { result ≡ found_by H.place_of queue.old }
     ensures scanned { queue.new ≡ scanned H.place_of queue.old }
@@ -98,7 +98,7 @@ fn scan<H: Place>(queue: &mut Queue<H>, patience: &mut Patience) -> Option<Ticke
     found
 }
 
-// The seat of a call that waited and that nothing before it holds back.
+// Gives the pass of a call that waited and that nothing before it holds back, and returns its seat.
 fn give_pass(words: &Words, seat: &mut QueueSeat, ticket: Ticket) -> PassSeat
     requires same { seat.old.table ≡ words.now.table }
     requires closed { seat.old.turn ≡ None }

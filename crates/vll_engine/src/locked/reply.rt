@@ -13,8 +13,8 @@ use vll_proc::Reply;
 use vll_sca::Place;
 
 impl<N: Name, H: Place> Locked<N, H> {
-    // The reply in the line of a ticket, if there is one. The session sees all calls that have entered, and is given
-    // the ticket if there is a reply.
+    // Returns the reply in the line of a ticket, if there is one. The session sees all calls that have entered, and is
+    // given the ticket if there is a reply.
     pub(crate) fn reply(
         &mut self,
         words: &Words,

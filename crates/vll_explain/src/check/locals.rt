@@ -8,7 +8,7 @@ use vll_proc::MOST_LOCALS;
 // The locals that are surely set, a bit for each.
 type Set = u64;
 
-// What is surely set behind a piece of a body, and the first mistake in it, if there is one.
+// What is surely set after a piece of a body, and the first mistake in it, if there is one.
 #[derive(Drop)]
 struct Behind {
     set: Set,
@@ -20,7 +20,7 @@ pub(super) fn unset_local(alloc: Global, body: &Value) -> Found {
     Ok(look_behind(alloc, body, 0)?.found)
 }
 
-// What is set behind a list of statements, a statement or an expression.
+// What is set after a list of statements, a statement or an expression.
 fn look_behind(alloc: Global, value: &Value, before: Set) -> Result<Behind, AllocError> {
     match value {
         Value::Array(list) => {
@@ -59,7 +59,7 @@ fn look_behind(alloc: Global, value: &Value, before: Set) -> Result<Behind, Allo
     }
 }
 
-// What is set behind a form, if this is set behind what stands in it.
+// What is set after a form, if this is set after what is in it.
 fn set_by(form: &[Value], before: Set, inside: Set) -> Set {
     let [word, number, ..] = form else {
         return inside;

@@ -55,7 +55,7 @@ fn is_index(word: Option<&str>, place: usize) -> bool {
 }
 
 impl Measures {
-    // Of two pieces that stand one behind the other; of the two lists of an `if` a call runs one.
+    // Of two pieces, one after the other; of the two lists of an `if` a call runs one.
     fn and(self, other: Measures, is_branch: bool) -> Measures {
         Measures {
             replies: if is_branch {

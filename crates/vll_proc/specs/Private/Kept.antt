@@ -1,4 +1,4 @@
--- Outputs lie in the array in one way only.
+-- Each list of outputs has one representation in the array.
 use Rattle.std.specs.Prelude.{◌≡◌, ℕ, ◌≤◌, List, length, take}
 use Rattle.std.proofs.Common.{ap, sym, ◌∙◌}
 use Rattle.vll_proc.specs.declared.limits.TheConstants.{MOST_OUTPUTS}

@@ -1,4 +1,4 @@
--- Where a body stands while it runs on a call's cells, as a scene of its meaning.
+-- The state of a body that runs on a call's cells, as a scene of its meaning.
 use Rattle.std.specs.Prelude.{ℕ, ◌<◌, List, [], replicate, Result, Ok, Err, Option, Some, None, slice_index}
 use Rattle.vll_record.specs.declared.claims.TheConstants.{MOST_CLAIMS}
 use Rattle.vll_proc.specs.declared.limits.TheConstants.{MOST_LOCALS}
@@ -12,7 +12,7 @@ use Rattle.vll_proc.specs.Meaning.{Scene, sum, difference, product, quotient, re
 abbrev pub scene_of : Call → List ℕ → Progress → Scene
 scene_of c cells p = record { named = c.cells; args = c.args; locals = p.locals; records = cells; outputs = p.outputs }
 
--- where a body begins on the cells of a call
+-- the scene in which a body begins on the cells of a call
 abbrev pub cell_opening : Call → List ℕ → Scene
 cell_opening c cells = record { named = c.cells; args = c.args; locals = replicate MOST_LOCALS 0; records = cells; outputs = [] }
 
@@ -24,7 +24,7 @@ HasCellsBelow n c = (k : ℕ) → k < MOST_CLAIMS → slice_index c.cells k < n
 abbrev pub HasCells : Call → Type 0
 HasCells = HasCellsBelow MOST_CLAIMS
 
--- what the operator of an expression makes of two operands, and 0 if it has no two
+-- the result of an expression's operator on two operands, and 0 if it does not have two
 abbrev pub operation_of : Expr → ℕ → ℕ → Result ℕ Reason
 operation_of (Add' p a q b) x y = sum x y
 operation_of (Sub' p a q b) x y = difference x y
@@ -37,7 +37,7 @@ operation_of (Equal' p a q b) x y = equality x y
 operation_of (Less' p a q b) x y = order x y
 operation_of other x y = Ok 0
 
--- a number, or the reason that is noted
+-- a number, or the reason that was noted
 abbrev pub noted : Option Reason → ℕ → Result ℕ Reason
 noted None n = Ok n
 noted (Some why) n = Err why
@@ -47,7 +47,7 @@ abbrev pub behind : Option Reason → Result ℕ Reason → Result ℕ Reason
 behind None r = r
 behind (Some why) r = Err why
 
--- what comes of a step that ends with a result: the scene then, or the reason
+-- the outcome of a step that ends with a result: the scene after it, or the reason
 abbrev pub ended : Result Unit Reason → Scene → Result Scene Reason
 ended (Ok u) s = Ok s
 ended (Err why) s = Err why

@@ -1,4 +1,4 @@
--- Claims rise strictly, and lie in their fields in one way only.
+-- Claims are strictly ascending, and each list has one representation in the fields.
 use Rattle.std.specs.Prelude.{◌≡◌, ℕ, ◌≤◌, List, length, map, take}
 use Rattle.vll_record.specs.Claim.{IsRising}
 use Rattle.vll_record.specs.declared.claim.Claim.{Claim}
@@ -7,7 +7,7 @@ use Rattle.vll_record.specs.declared.claims.Claims.TheInside.{Inside}
 use Rattle.vll_record.specs.Canon.{laid}
 use Rattle.vll_record.specs.Private.Masks.{claims_with, mask_of}
 
--- the claims that are kept
+-- the claims that the fields represent
 abbrev pub kept : Inside → List Claim
 kept c = claims_with (take c.len c.ids) c.modes.writes
 
@@ -15,7 +15,7 @@ kept c = claims_with (take c.len c.ids) c.modes.writes
 abbrev pub ids_of : List Claim → List ℕ
 ids_of cs = map (λ (c : Claim). c.id) cs
 
--- the fields in which claims lie
+-- the fields that represent a list of claims
 abbrev pub from_list : List Claim → Inside
 from_list cs = record { ids = laid MOST_CLAIMS 0 (ids_of cs); modes = record { writes = mask_of cs }; len = length cs }
 

@@ -1,4 +1,4 @@
-//! The claims of a call, one after another.
+//! An iterator over the claims of a call.
 ghost use Rattle.std.specs.Prelude.{◌≡◌};
 ghost use Rattle.std.specs.Iterator.{YieldsFirst, item_count};
 
@@ -6,7 +6,7 @@ use super::Claims;
 use crate::claim::Claim;
 use std::marker::Model;
 
-/// The claims that are left to go over, in rising order of their records. Contracts see them as their list.
+/// The claims still to be visited, in ascending order of their records. Contracts see them as a list.
 #[derive(Drop)]
 pub struct ClaimsIter<'a> {
     claims: &'a Claims,

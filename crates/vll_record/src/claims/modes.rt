@@ -10,7 +10,7 @@ use crate::claim::Mode;
 // A word has a bit for each claim.
 const _: () = prove!(MOST_CLAIMS <= 32);
 
-// The modes of up to 32 claims: a bit is set where the claim is Write.
+// The modes of up to 32 claims: a bit is set if the claim is Write.
 #[derive(Clone, Copy, PartialEq)]
 pub(super) struct Modes {
     writes: u32,
@@ -35,7 +35,7 @@ impl Modes {
         }
     }
 
-    // A mode that is Read stays.
+    // Makes claim `i` Write if `mode` is Write; Read changes nothing.
     pub(super) fn strengthen(&mut self, i: usize, mode: Mode)
         requires { i < MOST_CLAIMS }
         ensures { (cs : List Claim) (held : Claim) → self.old.writes ≡ mask_of cs → slice_get cs i ≡ Some held
@@ -46,7 +46,7 @@ impl Modes {
         }
     }
 
-    // The modes from the place on move up by one.
+    // Inserts a mode at place `i`; the modes from there on move up by one.
     pub(super) fn insert(&mut self, i: usize, mode: Mode)
         requires { i < MOST_CLAIMS }
         ensures { (cs : List Claim) (id : ℕ) → self.old.writes ≡ mask_of cs → length cs < MOST_CLAIMS

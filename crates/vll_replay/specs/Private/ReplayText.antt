@@ -1,4 +1,4 @@
--- What stands for a call, told of its line and its status.
+-- The words of a call, given its line and its status.
 use Rattle.std.specs.Prelude.{Option, Some, None, codes}
 use Rattle.vll_proc.specs.declared.call.Reply.{Reply}
 use Rattle.vll_sca.specs.declared.status.Status.{Status}
@@ -6,7 +6,7 @@ use Rattle.vll_sca.specs.declared.status.Status.TheVariants.{Waiting}
 use Rattle.vll_proc.specs.Text.{reply_text}
 use Rattle.vll_replay.specs.Text.{Text}
 
--- the reply that stands in the line, and else the status
+-- the reply in the line if there is one, else the status
 abbrev pub standing_text : Option Reply → Option Status → Text
 standing_text (Some reply) status = reply_text reply
 standing_text None (Some Waiting) = codes "waiting"

@@ -4,7 +4,7 @@ use Rattle.vll_sca.specs.declared.bits.TheConstants.{MOST_BITS}
 use Rattle.vll_sca.specs.declared.bits.Bits.TheInside.{Inside}
 use Rattle.vll_sca.specs.Private.ClaimMarks.{HasRoom, IsClear}
 
--- not too many bits, room for one mark of each kind on every place, and nothing is marked
+-- at most MOST_BITS bits, room for one mark of each kind on every place, and nothing is marked
 pub record IsReady (b : Inside) : Type 0 where
   pub few : b.count ≤ MOST_BITS
   pub room : HasRoom b.count b.marks

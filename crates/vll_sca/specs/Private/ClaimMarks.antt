@@ -22,7 +22,7 @@ pub record IsClear (m : ClaimMarks) : Type 0 where
 abbrev pub meets : ClaimMarks → Claim → Bool
 meets m c = slice_index_or m.writes c.id false || (is_write c && slice_index_or m.reads c.id false)
 
--- the bits after those at these places become b
+-- the bits, with those at these places set to b
 abbrev pub with_bits : Bool → List ℕ → List Bool → List Bool
 with_bits b [] bits = bits
 with_bits b (k ∷ ks) bits = with_bits b ks (slice_set bits k b)
@@ -34,7 +34,7 @@ written cs = map (λ (c : Claim). c.id) (filter is_write cs)
 abbrev pub read : List Claim → List ℕ
 read cs = map (λ (c : Claim). c.id) (filter (λ c. not (is_write c)) cs)
 
--- the marks after the place of each claim is marked for its mode, or is no longer
+-- the marks after the place of each claim is marked for its mode, or cleared
 abbrev pub with_claims : Bool → List Claim → ClaimMarks → ClaimMarks
 with_claims b cs m = record { writes = with_bits b (written cs) m.writes; reads = with_bits b (read cs) m.reads }
 
@@ -43,6 +43,6 @@ abbrev pub claims_left : List Entry → List Claim
 claims_left [] = []
 claims_left (e ∷ es) = (if is_gone e.status then [] else e.claims) ++ claims_left es
 
--- the entries before the one that is found, and all if none is
+-- the entries before the one that is found, or all if none is found
 abbrev pub passed : Option ℕ → List Entry → List Entry
 passed found entries = take (unwrap_or found (length entries)) entries

@@ -1,4 +1,4 @@
--- What the search for a faulty piece handles.
+-- The pieces that the search for a faulty piece handles.
 use Rattle.serde_json.specs.View.{view}
 use Rattle.vll_scenario.specs.declared.reading.way.Found.{Found}
 use Rattle.vll_scenario.specs.Pieces.{Piece}

@@ -1,9 +1,9 @@
--- What the type of a scenario keeps.
+-- The invariant of the type `Scenario`.
 use Rattle.std.specs.Prelude.{◌≡◌, length}
 use Rattle.vll_scenario.specs.declared.scenario.Scenario.TheInside.{Inside}
 use Rattle.vll_scenario.specs.Setup.{Setup, IsSetup, lists_of}
 
--- what a scenario stands for
+-- the setup that a scenario represents
 abbrev pub setup_in : Inside → Setup
 setup_in s = record {
   records = s.records.items;
@@ -14,7 +14,7 @@ setup_in s = record {
   schedule = s.schedule;
 }
 
--- the library is for as many records as there are, and it makes each call
+-- the library is for the scenario's number of records, and it makes each call
 pub record IsScenario (s : Inside) : Type 0 where
   pub records : s.library.records ≡ length s.records.items
   pub setup : IsSetup (setup_in s)

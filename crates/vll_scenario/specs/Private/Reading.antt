@@ -1,4 +1,4 @@
--- What the functions that read a scenario answer.
+-- The results of the functions that read a scenario.
 use Rattle.std.specs.Prelude.{◌≡◌, ℕ, List, Option, Some, None, Result, Ok, Err}
 use Rattle.std.specs.Global.{Vec}
 use Rattle.serde_json.specs.Data.{Data}
@@ -13,24 +13,24 @@ use Rattle.vll_scenario.specs.declared.reading.tree.FirstFault.{FirstFault}
 use Rattle.vll_scenario.specs.declared.reading.tree.FirstFault.TheVariants as first_fault
 use Rattle.vll_scenario.specs.Setup.{lists_of}
 
--- what is answered is the reading, unless memory ran out
+-- the result is the reading, unless memory ran out
 abbrev pub Gives : {A : Type 0} → Result A Misread → Option A → Type 0
 Gives (Ok a) reading = reading ≡ Some a
 Gives (Err misread.NoMemory) reading = Unit {0}
 Gives (Err misread.Faulty) reading = reading ≡ None
 
--- the same of a list
+-- `Gives` for a list
 abbrev pub GivesList : {A : Type 0} → Result (List A) FirstFault → Result (List A) ℕ → Type 0
 GivesList (Ok xs) reading = reading ≡ Ok xs
 GivesList (Err first_fault.NoMemory) reading = Unit {0}
 GivesList (Err (first_fault.At i)) reading = reading ≡ Err i
 
--- the same of a part or of the whole
+-- `Gives` for a part or for the whole
 abbrev pub GivesUnlessMemory : {A : Type 0} → Result A ScenarioFault → Result A ScenarioFault → Type 0
 GivesUnlessMemory (Err NoMemory) reading = Unit {0}
 GivesUnlessMemory result reading = reading ≡ result
 
--- a tree as what it stands for
+-- a tree as the data that it represents
 abbrev pub data_of : Result Value ScenarioFault → Result Data ScenarioFault
 data_of (Ok v) = Ok (view v)
 data_of (Err why) = Err why

@@ -45,7 +45,7 @@ impl From<ReadFault> for ScenarioFault {
     }
 }
 
-/// The bytes of a source, up to its end. Once more than `MOST_BYTES` have come nothing more is read.
+/// Reads a source to its end. Once more than `MOST_BYTES` bytes have come, it reads no further.
 pub fn read_bytes<S: Source>(alloc: Global, source: &mut S) -> Result<Vec<u8>, ReadFault>
     requires { S.failed source.old ≡ false }
     ensures ok { IfOk result

@@ -16,7 +16,7 @@ pub fn has_exactly(value: &Value, names: &[&str]) -> bool
     has_members(value, names, names)
 }
 
-// Whether a value is an object that has all of the first members, and none but the second.
+// Whether a value is an object that has all members in `must`, and none outside `may`.
 pub fn has_members<'n>(value: &Value, must: &[&'n str], may: &[&'n str]) -> bool
     ensures { result ≡ has_members (map (λ s. s.now) must.now) (map (λ s. s.now) may.now) (view value.now) }
 {
@@ -44,7 +44,7 @@ fn is_one_of(name: &str, names: &[&str]) -> bool
     names.iter().any(|other| name == *other)
 }
 
-// What a member is. What is not there is faulty, as `null` is.
+// The value of a member. An absent member is faulty, as `null` is.
 pub fn member<'v>(value: &'v Value, name: &str) -> Result<&'v Value, Misread>
     ensures ok { IfOk result (λ v. member_at name.now (view value.now) ≡ view v.now) }
     ensures err { IfErr result (λ e. (e ≡ Misread.Faulty) × (member_at name.now (view value.now) ≡ null)) }

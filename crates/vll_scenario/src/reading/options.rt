@@ -19,7 +19,7 @@ impl Reads for Placing {
     }
 }
 
-// What a member is, if it is there.
+// The value of a member, if it is present.
 pub fn option_of<T: Reads>(
     alloc: Global,
     edition: Edition,

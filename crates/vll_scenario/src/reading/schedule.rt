@@ -58,7 +58,7 @@ fn event_of(value: &Value) -> Result<Event, Misread>
     }
 }
 
-// The event that a word alone is.
+// The event of a word that stands alone.
 fn event_alone(word: &str) -> Result<Event, Misread>
     ensures { Gives result (find_word word.now words_alone) }
 {

@@ -1,4 +1,4 @@
-//! A scenario, made of the parts of its tree.
+//! Making a scenario from the parts of its tree.
 ghost use Rattle.std.specs.Prelude.{◌≡◌, ◌≤◌, ◌⊎◌, ◌↔◌, ℕ, Some, None, length, map, sum_by, All, IfOk, IfErr, IsTrue};
 ghost use Rattle.vll_scenario.specs.Private.Reading.{made_list, made_lists, GivesUnlessMemory};
 ghost use Rattle.vll_scenario.specs.Scenario.{config_of, first_check, script_made, scripts_made, setup_of};
@@ -17,7 +17,7 @@ use vll_core::{Config, MOST_CALLS, open_fault};
 use vll_proc::{Call, Proc};
 use vll_sca::Placing;
 
-// What holds if no cap and no number of bits is chosen.
+// The defaults for the cap and the number of bits.
 const CAP: u32 = 1_024;
 
 const BITS: u32 = 4_096;
@@ -27,7 +27,7 @@ const _: () = prove!(CAP == 1_024);
 
 const _: () = prove!(BITS == 4_096);
 
-// The scenario of its parts: the sizes are tested first, then the procedures, their names and the calls.
+// Makes a scenario from its parts: checks the sizes first, then the procedures, their names and the calls.
 pub(crate) fn setup_of(alloc: Global, parts: Parts) -> Result<Scenario, ScenarioFault>
     ensures { GivesUnlessMemory result (setup_of parts) }
 {
@@ -61,7 +61,7 @@ pub(crate) fn setup_of(alloc: Global, parts: Parts) -> Result<Scenario, Scenario
     })
 }
 
-// Whether there are no more procedures, clients, calls and events than a scenario may have.
+// Whether the numbers of procedures, clients, calls and events are within a scenario's limits.
 fn has_sizes(parts: &Parts) -> bool
     ensures { result ≡ has_sizes parts.now.procs parts.now.scripts parts.now.schedule }
 {
@@ -71,7 +71,7 @@ fn has_sizes(parts: &Parts) -> bool
         && parts.schedule.len() <= MOST_EVENTS
 }
 
-// What is chosen for the machine, with what holds if nothing is chosen.
+// The machine's settings, with the defaults for those that are not given.
 fn config_of(parts: &Parts) -> Config
     requires few { sum_by length parts.now.scripts ≤ MOST_CALLS }
     ensures { result ≡ config_of parts.now }
@@ -84,7 +84,7 @@ fn config_of(parts: &Parts) -> Config
     }
 }
 
-// How many calls all scripts have together.
+// The number of calls in all scripts together.
 fn calls_in(scripts: &[Items<Asked>]) -> u32
     requires { sum_by length scripts.now ≤ MOST_CALLS }
     ensures { result ≡ sum_by length scripts.now }
@@ -96,7 +96,7 @@ fn calls_in(scripts: &[Items<Asked>]) -> u32
     count
 }
 
-// Whether all scripts together have no more calls than a scenario may have.
+// Whether all scripts together have at most `MOST_CALLS` calls.
 fn has_few_calls(scripts: &[Items<Asked>]) -> bool
     ensures { IsTrue result ↔ (sum_by length scripts.now ≤ MOST_CALLS) }
 {
@@ -110,8 +110,8 @@ fn has_few_calls(scripts: &[Items<Asked>]) -> bool
     true
 }
 
-// The procedures, checked, or the fault of the first that is not well-formed. A list gives up its items
-// from the end, so all of them are checked and the last fault that is met is the first one's.
+// Checks the procedures, or returns the fault of the first that is not well-formed. A list gives up its items from the
+// end, so all of them are checked, and the last fault found is that of the first faulty procedure.
 fn checked_of(
     alloc: Global,
     records: u32,

@@ -19,7 +19,7 @@ use vll_core::Event;
 use vll_proc::{Edition, Proc, Text};
 use vll_sca::Placing;
 
-// The members that a scenario has to have.
+// The members that a scenario must have.
 pub(crate) const MUST_NAMES: [&str; 4] = ["version", "records", "procs", "clients"];
 
 // The members that it may have.
@@ -27,7 +27,7 @@ pub(crate) const MAY_NAMES: [&str; 9] = [
     "version", "records", "procs", "clients", "cap", "bits", "limit", "hash", "schedule",
 ];
 
-/// The parts of a scenario's JSON tree, before anything is checked. What may be absent is `None` or empty then.
+/// The parts of a scenario's JSON tree, before any check. An optional part that is absent is `None` or empty.
 #[derive(Drop)]
 pub struct Parts {
     pub records: Items<u64>,
@@ -48,7 +48,7 @@ impl Reads for Asked {
     }
 }
 
-/// The parts of a tree, or the first fault of their shape.
+/// Reads the parts of a tree, or returns the first fault of their shape.
 pub fn shape_of(alloc: Global, tree: &Value) -> Result<Parts, ScenarioFault>
     requires few { longest_list (view tree.now) ≤ MOST_BYTES }
     ensures { GivesUnlessMemory result (shape_of (view tree.now)) }
@@ -102,7 +102,7 @@ fn edition_of(tree: &Value) -> Result<Edition, ScenarioFault>
     }
 }
 
-// The list that a member is.
+// A member, read as a list.
 fn part_of<T: Reads>(
     alloc: Global,
     edition: Edition,
@@ -119,7 +119,7 @@ fn part_of<T: Reads>(
     list_in(alloc, edition, part, value)
 }
 
-// The list that a part is.
+// The value of a part, read as a list.
 pub fn list_in<T: Reads>(
     alloc: Global,
     edition: Edition,

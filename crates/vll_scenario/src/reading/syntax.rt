@@ -83,7 +83,7 @@ pub fn mode_of(word: &str) -> Result<Mode, Misread>
     }
 }
 
-// Where a key is placed.
+// The place of a key.
 fn place_of(word: &str, value: &Value) -> Result<KeyAt, Misread>
     ensures { Gives result (place_at word.now (view value.now)) }
 {

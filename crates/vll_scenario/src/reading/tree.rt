@@ -34,7 +34,7 @@ pub enum FirstFault {
     At(usize),
 }
 
-/// What a JSON tree of an edition can be read as.
+/// A type that a JSON tree of an edition can be read as.
 pub trait Reads: Sized + Drop {
     ghost use Rattle.std.specs.Prelude.{Option};
     ghost use Rattle.serde_json.specs.Data.{Data};

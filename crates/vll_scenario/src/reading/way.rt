@@ -1,4 +1,4 @@
-//! The way to the piece of a scenario whose shape is at fault. It is looked for only if there is a fault.
+//! The way to the piece of a scenario whose shape is at fault. It is searched for only if there is a fault.
 ghost use Rattle.std.specs.Prelude.{◌≡◌, ◌++◌, Option, Some, IfOk, OnOk, is_some, map, option_map};
 ghost use Rattle.serde_json.specs.View.{items_view, view};
 ghost use Rattle.vll_scenario.specs.Pieces.{is_read, items_from, member_piece, pieces_behind, pieces_of, pieces_of_call, pieces_of_form, pieces_of_key, pieces_of_place, pieces_of_procedure, pieces_of_scenario, pieces_of_slots, pieces_of_words};
@@ -21,7 +21,7 @@ use vll_core::Event;
 use vll_proc::{Edition, KeyDecl, Proc, Text};
 use vll_sca::Placing;
 
-/// A piece of a scenario's JSON tree: the step to it from the piece in which it lies, what it has to be, and what it is.
+/// A piece of a scenario's JSON tree: the step to it from the enclosing piece, what it has to be, and its value.
 #[derive(Clone, Copy)]
 pub struct Found<'v> {
     pub step: Step,
@@ -36,7 +36,7 @@ pub struct Way<'v> {
     pub piece: Option<Found<'v>>,
 }
 
-/// The way from a scenario's JSON tree to the piece whose shape is at fault, if its shape is.
+/// Finds the way from a scenario's JSON tree to the piece whose shape is at fault, if its shape is.
 pub fn way_to_fault<'v>(alloc: Global, tree: &'v Value) -> Result<Way<'v>, AllocError>
     ensures { IfOk result (λ way. LeadsToFault (view tree.now) way.steps.items) }
 {
@@ -63,7 +63,7 @@ fn edition_in(tree: &Value) -> Edition
     }
 }
 
-// The first piece of a value that is faulty.
+// The first faulty piece of a value.
 fn first_in<'v>(
     alloc: Global,
     edition: Edition,
@@ -85,7 +85,7 @@ fn first_in<'v>(
     }
 }
 
-// The first of some pieces that is faulty.
+// The first faulty one of some pieces.
 fn first_of<'v>(
     alloc: Global,
     edition: Edition,
@@ -105,7 +105,7 @@ fn first_of<'v>(
     }
 }
 
-// The first item of a list that is faulty. No memory is taken for the others.
+// The first faulty item of a list. No list is made of the others.
 fn first_of_items<'v>(
     alloc: Global,
     edition: Edition,
@@ -153,7 +153,7 @@ fn is_read(alloc: Global, edition: Edition, kind: Kind, value: &Value) -> Result
     }
 }
 
-// Whether a value was read, unless there was no memory for it.
+// Whether a value was read, unless memory ran out.
 fn is_some<T: Drop>(read: Result<T, Misread>) -> Result<bool, AllocError>
     ensures { IfOk result (λ is. (reading : Option T) → Gives read reading → is ≡ is_some reading) }
 {
@@ -189,7 +189,7 @@ fn pieces_of_scenario<'v>(alloc: Global, tree: &'v Value) -> Result<Vec<Found<'v
     Ok(pieces)
 }
 
-// The pieces of a value that is no list of any length.
+// The pieces of a value that is not a list of any length.
 fn pieces_of_form<'v>(
     alloc: Global,
     edition: Edition,
@@ -261,7 +261,7 @@ fn pieces_of_key<'v>(alloc: Global, value: &'v Value) -> Result<Vec<Found<'v>>, 
     Ok(pieces)
 }
 
-// Appends the pieces that lie behind the mode and the place of a key.
+// Appends the pieces that follow the mode and the place of a key.
 fn push_place<'v>(
     pieces: &mut Vec<Found<'v>>,
     mode: Option<&str>,
@@ -280,7 +280,7 @@ fn push_place<'v>(
     Ok(())
 }
 
-// The pieces behind the word of a form.
+// The pieces that follow the word of a form.
 fn pieces_of_words<'v>(
     alloc: Global,
     edition: Edition,
@@ -300,7 +300,7 @@ fn pieces_of_words<'v>(
     Ok(pieces)
 }
 
-// Appends the pieces that lie behind a word, unless it is followed by more or fewer.
+// Appends the pieces that follow a word, unless there are more or fewer than it takes.
 fn push_slots<'v>(
     pieces: &mut Vec<Found<'v>>,
     slots: &[Slot],
@@ -315,7 +315,7 @@ fn push_slots<'v>(
     Ok(())
 }
 
-// Appends the pieces that lie behind a word.
+// Appends the pieces that follow a word.
 fn push_behind<'v>(
     pieces: &mut Vec<Found<'v>>,
     slots: &[Slot],

@@ -1,4 +1,5 @@
--- What serving a scenario opens, the tokens that its workers are handed, and what is told of calls that are left.
+-- What serving a scenario opens, the tokens that are passed to its workers, and what is reported of calls that are
+-- left.
 use Rattle.std.specs.Prelude.{◌<◌, ◌+◌, ℕ, suc, max, List, [], ◌∷◌, length, map, sum_by}
 use Rattle.atomic_table.specs.Seated.{TableId}
 use Rattle.vll_proc.specs.declared.call.Call.{Call}
@@ -10,7 +11,7 @@ use Rattle.vll_scenario.specs.Setup.{Setup}
 use Rattle.vll_server.specs.declared.fault.ServeFault.{ServeFault}
 use Rattle.vll_server.specs.declared.fault.ServeFault.TheVariants as fault
 
--- what is chosen for the engine that serves a scenario: as many calls as the scripts have, at least 1
+-- the configuration of the engine that serves a scenario: it takes as many calls as the scripts have, at least 1
 abbrev pub config_for : Setup → Config
 config_for s = record { cap = s.config.cap; limit = max 1 (sum_by length s.scripts); bits = s.config.bits }
 
@@ -23,7 +24,7 @@ tokens_from table client (script ∷ scripts) = token client script 0 (record { 
 abbrev pub sessions_in : List TokenShown → List SessionShown
 sessions_in tokens = map (λ (t : TokenShown). t.session) tokens
 
--- the fault tells that calls were left in the engine, and how many
+-- the fault reports that calls were left in the engine, and how many
 abbrev pub AreLeft : ServeFault → Type 0
 AreLeft (fault.Unfinished running waiting) = 0 < running + waiting
 AreLeft why = ⊥

@@ -1,4 +1,4 @@
-//! The tokens that the workers are handed, and the sessions of those that come back.
+//! The tokens that are passed to the workers, and the sessions of those that come back.
 ghost use Rattle.std.specs.Prelude.{◌≡◌, ◌≤◌, ◌<◌, ◌^◌, [], All, IfOk, length, vec_capacity};
 ghost use Rattle.vll_counters.specs.Shown.{AreNewSessions};
 ghost use Rattle.vll_scenario.specs.Setup.{lists_of};
@@ -10,8 +10,8 @@ use vll_proc::Call;
 use vll_scenario::MOST_CLIENTS;
 use vll_workers::Token;
 
-// A token for each client, in order, with its session and its script. The sessions are those with which an engine of
-// this name starts, one for each script, in order.
+// Makes a token for each client, in order, with its session and its script. The sessions are those with which an engine
+// of this name starts, one for each script, in order.
 pub(crate) fn tokens_of<N: Name>(
     alloc: Global,
     sessions: Vec<Session>,
@@ -34,7 +34,7 @@ pub(crate) fn tokens_of<N: Name>(
     Ok(tokens)
 }
 
-// The tokens' sessions, in the same order, in a list that is empty and has room for them.
+// Moves the tokens' sessions, in the same order, to a list that is empty and has capacity for them.
 pub(crate) fn into_sessions(tokens: Vec<Token>, room: Vec<Session>) -> Vec<Session>
     requires empty { room.items ≡ [] }
     requires room { length tokens.items ≤ vec_capacity room }

@@ -9,8 +9,8 @@ use vll_engine::Closed;
 use vll_scenario::{Sink, WriteFault, write_text};
 
 /// Writes the text of what a run leaves: a line for each call, and then one for each record, with its value and its
-/// pair word. If there are more records than pair words, or fewer, there are as many such lines as the shorter list
-/// has items. The text is made whole before its first byte is written, and flushed once at its end.
+/// pair word. If the numbers of records and of pair words differ, there are as many such lines as the shorter list has
+/// items. The whole text is made before its first byte is written, and flushed once at its end.
 pub fn write_outcome<W: Sink>(
     alloc: Global,
     writer: &mut W,

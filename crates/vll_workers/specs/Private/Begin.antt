@@ -1,4 +1,4 @@
--- What a call that begins makes of its token.
+-- How a call that begins changes its token.
 use Rattle.std.specs.Prelude.{◌≡◌, List, Some, slice_get, suc}
 use Rattle.vll_proc.specs.declared.call.Call.{Call}
 use Rattle.vll_counters.specs.Shown.{PassShown, SessionShown}
@@ -16,7 +16,7 @@ begun_token t session (Free pass) = record t { next = suc t.next; session = sess
 begun_token t session (Blocked ticket) = record t { next = suc t.next; session = session }
 begun_token t session (Refused why) = record t { session = session }
 
--- what has come of the next call of a token, and of the list onto which its pass goes
+-- the result of beginning a token's next call, for the token and for the list onto which its pass goes
 pub record IsBegun (e : Named) (old new : TokenShown) (answer : BegunOnto) (before after : List PassShown) : Type 0 where
   pub begun : Begun
   pub token : new ≡ begun_token old new.session begun

@@ -16,16 +16,16 @@ hand parts holds = record { parts = parts; holds = holds }
 abbrev pub all_parts : ℕ
 all_parts = MOST_WORKERS + 1
 
--- the same clients, each as often: however they are weighed, both weigh the same
+-- the same clients, each as often: by any weights, both lists weigh the same
 abbrev pub AreSame : List ℕ → List ℕ → Type 0
 AreSame a b = (h : ℕ → ℕ) → sum_by h a ≡ sum_by h b
 
--- this client, and whichever others
+-- this client, and any others
 pub record HoldsOne (holds : List ℕ) (client : ℕ) : Type 0 where
   pub others : List ℕ
   pub same : AreSame holds (client ∷ others)
 
--- this client and these, and whichever others
+-- this client and these, and any others
 pub record HoldsMore (holds : List ℕ) (client : ℕ) (these : List ℕ) : Type 0 where
   pub others : List ℕ
   pub same : AreSame holds (others ++ client ∷ these)
@@ -38,7 +38,8 @@ AreAll all these those = (h : ℕ → ℕ) → sum_by h these + sum_by h those �
 abbrev pub IdleIsEmpty : List Hand → Type 0
 IdleIsEmpty views = (pass : ℕ) (v : Hand) → get_elem? views pass ≡ some v → v.parts ≡ 0 → v.holds ≡ []
 
--- the clients whose tokens lie in the pool and those whose tokens are in hand are all clients, each once; the parts are all there
+-- the clients whose tokens are in the pool and those whose tokens are in hand are all clients, each once; no part is
+-- missing
 pub record IsFair (clients : List ℕ) (items : List TokenShown) (views : List Hand) : Type 0 where
   pub each : (h : ℕ → ℕ) → sum_by h (clients_of items) + sum_by (λ (v : Hand). sum_by h v.holds) views ≡ sum_by h clients
   pub parts : sum_by (λ (v : Hand). v.parts) views ≡ all_parts
@@ -62,7 +63,7 @@ hired v = hand (v.parts - 1) v.holds
 abbrev pub new_hand : Hand
 new_hand = hand 1 []
 
--- what two have, in one hand
+-- what two hands have, in one hand
 abbrev pub joined : Hand → Hand → Hand
 joined v w = hand (v.parts + w.parts) (v.holds ++ w.holds)
 
@@ -70,7 +71,7 @@ joined v w = hand (v.parts + w.parts) (v.holds ++ w.holds)
 abbrev pub IsPassIn : TableId → Pass TokenShown Hand → Type 0
 IsPassIn table pass = (pass.table_id ≡ table) × (pass.me.1 ≡ [])
 
--- it is, and has just these tokens in hand
+-- the pass is one of that pool, and has just these tokens in hand
 pub record HasInHand (table : TableId) (pass : Pass TokenShown Hand) (tokens : List TokenShown) : Type 0 where
   pub of : IsPassIn table pass
   pub holds : AreSame (view pass).holds (clients_of tokens)

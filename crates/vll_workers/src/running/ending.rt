@@ -10,7 +10,7 @@ use crate::roster::Roster;
 use crate::token::Token;
 use crate::worker::Worker;
 
-// What came of a run, at whose end this worker keeps all tokens.
+// Returns the outcome of a run at whose end this worker keeps all tokens.
 pub(super) fn outcome_of<T: Roster>(worker: Worker<T>) -> Result<Vec<Token>, RunError>
     requires distinct { IsDistinct nat_eq (clients_of T.tokens) }
     requires all { AreSame (clients_of T.tokens) (clients_of worker.kept) }

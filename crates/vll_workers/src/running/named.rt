@@ -24,7 +24,7 @@ use std::thread::Threads;
 use vll_engine::Name;
 use vll_sca::Place;
 
-// The run of tokens that have a name, with at most so many starts tried.
+// Runs tokens that have a name, and tries at most `starts` starts.
 pub(super) fn run_named<
     'a,
     N: Name + Send + Sync + 'a,
@@ -87,8 +87,7 @@ pub(super) fn run_named<
     }
 }
 
-// Has the tokens' calls made by the workers, and waits until they have ended. If none can be started the tokens are
-// handed back.
+// Has the workers make the tokens' calls, and waits until they have ended. If none can be started, returns the tokens.
 fn work_through<
     'a,
     N: Name + Send + Sync + 'a,

@@ -16,7 +16,7 @@ pub(super) struct Desk<T: Roster> {
 }
 
 impl<T: Roster> Desk<T> {
-    // The memory of a worker of a run of so many tokens by so many workers.
+    // Allocates the memory of a worker, for a run of `count` tokens by `workers` workers.
     fn new(alloc: Global, count: usize, workers: u32) -> Result<Desk<T>, AllocError>
         requires { count ≡ length T.tokens }
     {
@@ -41,7 +41,7 @@ fn share_of(count: usize, workers: u32) -> usize {
     if share < 2 { 0 } else { share }
 }
 
-// The room for the run of so many tokens by so many workers.
+// Allocates the room for a run of `count` tokens by `workers` workers.
 pub(super) fn room_for<T: Roster>(
     alloc: Global,
     count: usize,

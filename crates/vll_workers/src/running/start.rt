@@ -16,8 +16,8 @@ use std::thread::{Promise, PromisedHandle, Scope, Threads};
 use vll_engine::Name;
 use vll_sca::Place;
 
-// What stands ready before the workers start: what each needs, the calling thread's own worker, the tokens, and how
-// many starts may be tried.
+// What is ready before the workers start: what each needs, the calling thread's own worker, the tokens, and how many
+// starts may be tried.
 #[derive(Drop)]
 pub(super) struct Ready<T: Roster> {
     pub(super) desks: Vec<Desk<T>>,
@@ -38,8 +38,8 @@ impl<'a, T: Roster> Promise<Worker<T>> for ComesBack<'a, T> {
     ghost kept_by = { λ p w. HasInHand p.0.now w.pass w.kept × ((view w.pass).parts ≡ 1) };
 }
 
-// Starts each worker, opens the pool with the tokens once all starts were tried, and joins the workers. If none is
-// started the tokens are handed back. The calling thread does the work of those that could not be started.
+// Starts each worker, puts the tokens into the pool once all starts were tried, and joins the workers. If none is
+// started, returns the tokens. The calling thread does the work of the workers that could not be started.
 pub(super) fn start<
     's,
     E,
@@ -105,7 +105,7 @@ pub(super) fn start<
     }
 }
 
-// Puts the tokens into the pool if a worker is started, and else hands them back.
+// Puts the tokens into the pool if a worker was started, and otherwise returns them.
 fn hand_out<T: Roster>(
     wait: &impl Wait,
     pool: &Pool<T>,
@@ -134,7 +134,7 @@ fn hand_out<T: Roster>(
     Ok(own)
 }
 
-// Starts a thread of the scope, if a start is left. What could not be started is handed back.
+// Starts a thread of the scope, if a start is left. Returns the closure if it could not be started.
 fn try_start<'s, E, P: Promise<V> + Drop, F: FnOnce() -> V + Send + 's, V: Send + Drop + 's>(
     scope: &Scope<'s, E>,
     starts: u32,

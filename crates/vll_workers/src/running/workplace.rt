@@ -9,18 +9,18 @@ use std::sync::{Mutex, Wait};
 use vll_engine::Name;
 use vll_sca::Place;
 
-// What the workers of a run share, as their threads are handed it.
+// What the workers of a run share, in the form in which it is passed to their threads.
 #[derive_where(Clone, Copy)]
 pub(super) struct Workplace<'a, X, T: Roster, W, G> {
     pub(super) wait: &'a W,
     pub(super) shared: &'a X,
     pub(super) pool: &'a Pool<T>,
-    // It is locked until the tokens lie in the pool.
+    // Locked until the tokens are in the pool.
     pub(super) door: &'a Mutex<()>,
     pub(super) gate: &'a G,
 }
 
-// The same with its engine.
+// The workplace as a `Work`, with its engine.
 pub(super) fn work_at<
     'a,
     N: Name,

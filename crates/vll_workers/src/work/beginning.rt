@@ -19,7 +19,7 @@ use std::sync::Wait;
 use vll_engine::{BeginRefusal, BegunOnto, Hold, Name};
 use vll_sca::Place;
 
-// What became of a token's calls that were to begin.
+// What happened to a token's calls that were to begin.
 enum Course {
     // All that began are free.
     Free,
@@ -30,9 +30,9 @@ enum Course {
 }
 
 impl<N: Name, H: Place + Send + Drop, T: Roster, W: Wait, G: Gate> Work<'_, N, H, T, W, G> {
-    // The call at the front, if it waits. Else the tokens' next calls begin, and it is those that are free; if there is
-    // none, it is the one that the scan finds. So no worker rests or leaves while a call waits that may run. Tells
-    // whether there was a token.
+    // Finds the calls to execute: the call at the front, if it waits. Else begins the tokens' next calls, and finds
+    // those that are free; if there is none, the one that the scan finds. So no worker rests or leaves while a waiting
+    // call may run. Reports whether there was a token.
     pub(super) fn find(
         self,
         worker: &mut Worker<T>,
@@ -61,7 +61,7 @@ impl<N: Name, H: Place + Send + Drop, T: Roster, W: Wait, G: Gate> Work<'_, N, H
         }
         let had_token = !taken.untried.is_empty();
         self.begin_all(worker, hold, taken, passes, pace);
-        // A worker that takes tokens under a hold alone leaves once it finds the pool empty there.
+        // A worker that takes tokens only under a hold leaves once it finds the pool empty there.
         if !pace.takes_ahead() {
             self.put_back(worker, taken);
         }
@@ -97,10 +97,10 @@ impl<N: Name, H: Place + Send + Drop, T: Roster, W: Wait, G: Gate> Work<'_, N, H
         pace.began(passes.len() as u32, was_held);
     }
 
-    // Begins the next calls of the last token, and tells whether all that began are free. The token is set aside, or
-    // stays with the worker if no call is left or the engine takes no more. If calls were held back of late its words
-    // are looked at once more, and its call is put off if that does not look free now. A call with an indirect key
-    // begins as the first of a batch, and is left for another one if it is not.
+    // Begins the next calls of the last token, and reports whether all that began are free. The token is set aside, or
+    // stays with the worker if no call is left or the engine takes no more. If calls were held back recently, its words
+    // are looked at once more, and its call is put off if it does not look free now. A call with an indirect key begins
+    // as the first of a batch, and is otherwise left for another batch.
     fn begin_next(
         self,
         worker: &mut Worker<T>,
@@ -162,7 +162,7 @@ impl<N: Name, H: Place + Send + Drop, T: Roster, W: Wait, G: Gate> Work<'_, N, H
         !passes.is_empty() && self.is_indirect(token, 0)
     }
 
-    // Whether the token's next call is to be looked at once more, as each behind the first one is, and does not look
+    // Whether the token's next call is to be looked at once more, as each after the first one is, and does not look
     // free.
     fn looks_held(self, token: &Token, first: u32, is_hot: bool) -> bool
         requires { IsFit N.engine token.now }
@@ -170,8 +170,8 @@ impl<N: Name, H: Place + Send + Drop, T: Roster, W: Wait, G: Gate> Work<'_, N, H
         is_hot && token.next() != first && self.looks_free(token, 1) == 0
     }
 
-    // Begins as many of the token's next calls as looked free, one at least, up to the first that is not free now, or
-    // does not look so if calls were held back of late, or until the batch is full.
+    // Begins those of the token's next calls that looked free, at least one, up to the first that is not free now, or
+    // does not look free if calls were held back recently, or until the batch is full.
     fn begin_calls(
         self,
         hold: &mut Hold<'_, N, H>,

@@ -17,7 +17,7 @@ use vll_engine::{Hold, Name, Released};
 use vll_sca::Place;
 
 impl<N: Name, H: Place + Send + Drop, T: Roster, W: Wait, G: Gate> Work<'_, N, H, T, W, G> {
-    // Puts the tokens back into the pool, those that were tried behind the others.
+    // Puts the tokens back into the pool, those that were tried after the others.
     pub(super) fn put_back(self, worker: &mut Worker<T>, taken: &mut Taken)
         requires old { IsAtWork T.tokens self.pool.now worker.old (taken.old.untried ++ taken.old.tried) }
         ensures new { IsAtWork T.tokens self.entry.pool.now worker.new [] }
@@ -33,7 +33,7 @@ impl<N: Name, H: Place + Send + Drop, T: Roster, W: Wait, G: Gate> Work<'_, N, H
         }
     }
 
-    // Keeps the tokens in hand for the next round: those that are left go to those that were tried.
+    // Keeps the tokens in hand for the next round: those that are left join those that were tried.
     pub(super) fn keep_in_hand(self, worker: &Worker<T>, taken: &mut Taken)
         requires old { IsAtWork T.tokens self.pool.now worker.now (taken.old.untried ++ taken.old.tried) }
         requires few { length taken.old.untried + length taken.old.tried ≤ MOST_BATCH }
@@ -77,7 +77,7 @@ impl<N: Name, H: Place + Send + Drop, T: Roster, W: Wait, G: Gate> Work<'_, N, H
         }
     }
 
-    // Tells that the calls are finished.
+    // Calls the gate's `after` for the finished calls.
     pub(super) fn tell_all(self, finished: &mut Stack<Ticket>)
         ensures { finished.new ≡ [] }
     {

@@ -16,8 +16,8 @@ use vll_engine::Name;
 use vll_sca::Place;
 
 impl<N: Name, H: Place + Send + Drop, T: Roster, W: Wait, G: Gate> Work<'_, N, H, T, W, G> {
-    // Takes tokens, at first those that were kept in hand, then those of the pool, until so many calls are ready to
-    // begin or so many tokens are taken.
+    // Takes tokens, first those that were kept in hand, then those of the pool, until `calls` calls are ready to begin
+    // or `most` tokens are taken.
     pub(super) fn take_some(
         self,
         worker: &mut Worker<T>,
@@ -44,8 +44,8 @@ impl<N: Name, H: Place + Send + Drop, T: Roster, W: Wait, G: Gate> Work<'_, N, H
         }
     }
 
-    // Takes a token that was kept in hand, or else one of the pool, if there is one. How many of its next calls, at
-    // most so many, are ready to begin.
+    // Takes a token that was kept in hand, or else one from the pool, if there is one. Returns how many of its next
+    // calls, at most `most`, are ready to begin.
     fn take_one(self, worker: &mut Worker<T>, taken: &mut Taken, most: u32) -> Option<u32>
         requires fit { AreFit N.engine T.tokens }
         requires old { IsAtWork T.tokens self.pool.now worker.old (taken.old.untried ++ taken.old.tried) }
@@ -62,8 +62,8 @@ impl<N: Name, H: Place + Send + Drop, T: Roster, W: Wait, G: Gate> Work<'_, N, H
         Some(self.add(token, &mut taken.untried, most))
     }
 
-    // Adds a token whose next calls are to begin. How many of them, at most so many, are ready; or so many, if its next
-    // call has an indirect key, so that no other token is taken behind it and that call is the first to begin.
+    // Adds a token whose next calls are to begin. Returns how many of them, at most `most`, are ready, or `most` if its
+    // next call has an indirect key, so that no other token is taken after it and that call is the first to begin.
     fn add(self, token: Token, tokens: &mut Stack<Token>, most: u32) -> u32
         requires fit { IsFit N.engine token }
         requires room { length tokens.old < MOST_BATCH }
@@ -76,9 +76,9 @@ impl<N: Name, H: Place + Send + Drop, T: Roster, W: Wait, G: Gate> Work<'_, N, H
         if is_first { most } else { ready }
     }
 
-    // Looks at the words that the token's next calls claim, at most so many, so that they are near when these begin,
-    // and notes how many are ready to begin: those that look free, one behind the other. If none does the next one is
-    // put off, unless it was put off too often: then it is ready all the same.
+    // Looks at the words that the token's next calls, at most `most`, claim, so that they are cached when these begin,
+    // and notes how many are ready to begin: those in a row that look free. If none does, the next one is put off,
+    // unless it was put off too often: then it is ready regardless.
     fn look_at(self, token: &mut Token, most: u32) -> u32
         requires { IsFit N.engine token.old }
         ensures { token.new ≡ token.old }
@@ -91,8 +91,8 @@ impl<N: Name, H: Place + Send + Drop, T: Roster, W: Wait, G: Gate> Work<'_, N, H
         ready
     }
 
-    // How many of the token's next calls, at most so many, look free, one behind the other. One with an indirect key is
-    // not looked at behind another one, since it is the first of a batch.
+    // How many of the token's next calls in a row, at most `most`, look free. One with an indirect key is not counted
+    // after another call, since it is the first of a batch.
     pub(super) fn looks_free(self, token: &Token, most: u32) -> u32
         requires { IsFit N.engine token.now }
     {
@@ -110,9 +110,9 @@ impl<N: Name, H: Place + Send + Drop, T: Roster, W: Wait, G: Gate> Work<'_, N, H
         most
     }
 
-    // Whether the token's call so many places behind the next one has an indirect key. What it finds is best found
-    // while no call of this worker's has begun and is not executed yet: such a call may store to the record that is
-    // looked at, and abort the other one.
+    // Whether the token's call `ahead` places after the next one has an indirect key. Its value is best found while no
+    // call that this worker began is still to be executed: such a call may store to the record that is looked at, and
+    // so abort the other one.
     pub(super) fn is_indirect(self, token: &Token, ahead: u32) -> bool
         requires { IsFit N.engine token.now }
     {

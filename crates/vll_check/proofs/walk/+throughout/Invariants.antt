@@ -1,4 +1,4 @@
--- What is behind the place in the list passes.
+-- The statements before the current one in the list pass.
 use Rattle.std.proofs.Common.{◌≡◌, true, take}
 use Rattle.std.specs.List.{list_all}
 use Rattle.vll_proc.specs.WellFormed.{throughout}

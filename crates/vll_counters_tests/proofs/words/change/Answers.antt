@@ -33,7 +33,7 @@ has_procedure library call answer procedure catalog ready at is =
     let same : calls.procedure ≡ procedure.now = same_Some calls.procedure procedure.now (sym calls.found ∙ found) in
     record { found = found; formed = subst IsWellFormed same calls.formed; made = subst (λ (p : Proc). IsCallOf library.records p call) same calls.made }
 
--- what its body makes of the one record that it claims
+-- the result of its body on the one record that it claims
 body_ran : (w : WordsShown) (library : Catalog) (p : PassView) (call : Call) (c : Claim) (procedure : Proc) (cells next : List ℕ) (reply : Reply) → library_of w ≡ library → HasProcedure library call procedure → p.call ≡ call
     → call.claims ≡ c ∷ [] → c.id < length w.base.records → slice_index cells 0 ≡ slice_index (records_before_pass w.base p) c.id
     → ((records : List ℕ) → IsCallOf (length records) procedure call → Holds cells call.claims records → reply ≡ (applied procedure call records).reply)

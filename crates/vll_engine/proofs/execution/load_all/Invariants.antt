@@ -5,7 +5,7 @@ use Rattle.vll_counters.specs.Shown.{passed}
 use Rattle.vll_counters.specs.Steps.{records_before_pass}
 use Rattle.vll_engine.proofs.execution.load_all.Given as goal
 
--- the records of the claims handed out so far are loaded, each into its claim's cell
+-- the records of the claims that the loop has got so far are loaded, each into its claim's cell
 abbrev pub invariant-loop-claim : goal.invariant-loop-claim
 invariant-loop-claim l = record {
   all : l.yielded ++ l.claim-iterator ≡ l.claims;

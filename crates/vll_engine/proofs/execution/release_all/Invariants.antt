@@ -2,7 +2,7 @@ use Rattle.std.proofs.Common.{◌≡◌, ◌++◌, length}
 use Rattle.vll_counters.specs.Shown.{passed}
 use Rattle.vll_engine.proofs.execution.release_all.Given as goal
 
--- the claims handed out so far are released
+-- the claims that the loop has got so far are released
 abbrev pub invariant-loop-claim : goal.invariant-loop-claim
 invariant-loop-claim l = record {
   all : l.yielded ++ l.claim-iterator ≡ l.claims;

@@ -3,7 +3,7 @@ use Rattle.vll_record.specs.Claim.{is_write}
 use Rattle.vll_counters.specs.Shown.{passed}
 use Rattle.vll_engine.proofs.execution.store_all.Given as goal
 
--- the Write claims among those handed out so far are stored
+-- the Write claims among those the loop has got so far are stored
 abbrev pub invariant-loop-claim : goal.invariant-loop-claim
 invariant-loop-claim l = record {
   all : l.yielded ++ l.claim-iterator ≡ l.claims;

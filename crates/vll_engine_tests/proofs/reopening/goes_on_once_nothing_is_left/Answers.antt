@@ -1,4 +1,4 @@
--- The sessions come back as they were handed in, twice.
+-- The sessions are returned as they were passed, twice.
 use Rattle.std.proofs.Common.{◌≡◌, ◌∙◌, All, subst, sym}
 use Rattle.vll_engine_tests.proofs.reopening.goes_on_once_nothing_is_left.Goals as goal
 

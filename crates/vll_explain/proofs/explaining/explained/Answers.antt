@@ -4,7 +4,7 @@ use Rattle.vll_explain.specs.Told.{IsBegun}
 use Rattle.vll_explain.proofs.Kept.{held_explains, unread_explains}
 use Rattle.vll_explain.proofs.explaining.explained.Goals as goal
 
--- what is told of the bytes in memory is told of what was read
+-- what holds of the bytes in memory holds of what was read
 pub returns-in-Ok-clause-told : goal.returns-in-Ok-clause-told
 returns-in-Ok-clause-told g c =
     held_explains (λ made. made.0) (λ made. string_bytes made.1) c.explained_of.result (g.S.Source.remaining c.args.reader.now) (g.S.Source.remaining c.read_bytes.new.source) c.in-Ok.bytes.items c.as_slice.result.now c.in-Ok.ensures.ok c.as_slice.ensures.value c.explained_of.ensures.told

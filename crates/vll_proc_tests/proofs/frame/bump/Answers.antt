@@ -1,4 +1,4 @@
--- The procedure is built as its rows have it, whatever its name.
+-- The procedure is built as in `Rows`, whatever its name.
 use Rattle.std.proofs.Common.{◌≡◌, rules}
 use Rattle.vll_proc.proofs.Rows.{bump_keys, bump_body, bump_is_well_formed}
 use Rattle.vll_proc_tests.proofs.frame.bump.Goals as goal

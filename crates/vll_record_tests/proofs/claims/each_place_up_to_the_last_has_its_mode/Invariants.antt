@@ -1,4 +1,4 @@
--- Each claim that is added is one more at most.
+-- Each claim that is added makes at most one more.
 use Rattle.std.proofs.Common.{◌<◌, length}
 use Rattle.vll_record_tests.proofs.claims.each_place_up_to_the_last_has_its_mode.Given as goal
 

@@ -9,7 +9,7 @@ use Rattle.vll_core.specs.Private.View.{shown}
 use Rattle.vll_core.proofs.RunningCalls.{none_runs, other_runs_not, line_runs, line_there}
 use Rattle.vll_core.proofs.machine.Machine.running_call.Goals as goal
 
--- the call that runs is told of what is shown
+-- the call that runs is that of the state that is shown
 told_of : {H : Type 0} (a : Inside H) (s : Shown H) (t : ℕ) (o : Option Call) → shown a ≡ s → option_map (λ (e : Entered). e.call) (running (shown a).state t) ≡ o
     → o ≡ option_map (λ (e : Entered). e.call) (running s.state t)
 told_of {H} a s t o view is = sym is ∙ ap (λ (x : Shown H). option_map (λ (e : Entered). e.call) (running x.state t)) view

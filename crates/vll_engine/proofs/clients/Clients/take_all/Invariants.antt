@@ -1,4 +1,4 @@
--- Those that are taken are, from the last on, the ones behind those that are there; the list has room for all.
+-- The clients taken are, from the last on, those that follow the ones left; the list has room for all.
 use Rattle.std.proofs.Common.{◌≡◌, ◌++◌, ◌≤◌, length, reverse, vec_capacity}
 use Rattle.vll_engine.proofs.clients.Clients.take_all.Given as goal
 

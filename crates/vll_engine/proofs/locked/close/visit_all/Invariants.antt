@@ -4,7 +4,7 @@ use Rattle.vll_counters.specs.Shown.{SessionShown}
 use Rattle.vll_engine.specs.Sessions.{HasItsCalls}
 use Rattle.vll_engine.proofs.locked.close.visit_all.Given as goal
 
--- the sessions that have come are behind those that are left
+-- the sessions that have come follow those that are left
 abbrev pub invariant-loop-session : goal.invariant-loop-session
 invariant-loop-session l = record {
   queue : l.queue ≡ l.initial.queue;

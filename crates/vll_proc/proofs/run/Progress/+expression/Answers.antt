@@ -1,4 +1,4 @@
--- An operator of two operands, whichever it is, asks of both what it asks of the whole, and comes to what is noted behind both.
+-- Each operator of two operands requires of both what it requires of the whole, and gives what is noted after both.
 use Rattle.std.proofs.Common.{arith, sym, ap, ◌∙◌}
 use Rattle.vll_record.specs.declared.claims.TheConstants.{MOST_CLAIMS}
 use Rattle.vll_proc.specs.declared.limits.TheConstants.{MOST_ARGS}

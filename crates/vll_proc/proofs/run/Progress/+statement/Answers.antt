@@ -1,4 +1,4 @@
--- An `If` is what the list that it chooses is, and a `Repeat` what the turns of its list are.
+-- An `If` does what the list that it chooses does, and a `Repeat` what the turns of its list do.
 use Rattle.std.proofs.Common.{arith, map, sum_by, sym, ◌∙◌}
 use Rattle.std.proofs.lemmas.Grind.{common_steps}
 use Rattle.vll_record.specs.declared.claims.TheConstants.{MOST_CLAIMS}

@@ -1,4 +1,5 @@
--- What is left to run, from where the body stands, comes to what all of it comes to from the start. A list has more nodes than each of its statements, and a statement more than each of its lists.
+-- Running the rest, from the present scene, has the same result as running all of it from the start.
+-- A list has more nodes than each of its statements, and a statement more than each of its lists.
 use Rattle.std.proofs.Common.{◌≡◌, ◌+◌, ◌-◌, ◌*◌, ℕ, ◌≤◌, length, map, drop, sum_by}
 use Rattle.vll_proc.specs.Meaning.{effect, in_turn, repeated}
 use Rattle.vll_proc.specs.Private.Running.{scene_of, HasCellsBelow}

@@ -1,4 +1,5 @@
--- Those that are left were not looked at; the fault so far is the first of the others, which are else in the list from the last one on.
+-- The procedures left are not checked yet; the fault so far is the first one of the others, which otherwise are in the
+-- list, last one first.
 use Rattle.std.proofs.Common.{◌≡◌, ◌++◌, None, length, map, drop, reverse}
 use Rattle.std.specs.List.{All}
 use Rattle.vll_check.specs.Entry.{Entry}

@@ -1,4 +1,4 @@
--- Each way on from the pieces in which the next one was found is a way from the scenario, behind the steps so far.
+-- Each way onward from the pieces in which the next one was found is, after the steps so far, a way from the scenario.
 use Rattle.std.proofs.Common.{◌≡◌, ◌++◌, List, option_map}
 use Rattle.serde_json.specs.View.{view}
 use Rattle.vll_scenario.specs.declared.piece.Step.{Step}
