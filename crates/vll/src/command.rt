@@ -1,3 +1,4 @@
+//! The command line of the program: its commands, options and help, and what the words given ask for.
 ghost use Rattle.std.specs.Prelude.{Some, IfOk, codes};
 ghost use Rattle.clap.specs.Words.{found_of, one_text};
 ghost use Rattle.vll.specs.Private.Options.{Gives};

@@ -1,3 +1,4 @@
+//! The faults with which the program ends: the line that is printed, and the exit status.
 ghost use Rattle.std.specs.Prelude.{◌<◌};
 
 use thiserror::Error;

@@ -1,3 +1,4 @@
+//! A gate that adds up what the workers of a run did.
 use std::sync::{Mutex, Wait};
 use vll_core::Ticket;
 use vll_workers::{Gate, Tally};

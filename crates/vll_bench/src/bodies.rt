@@ -1,3 +1,4 @@
+//! What a run of a body costs, by its size and by what it is made of, and what a native closure costs.
 ghost use Rattle.std.specs.Prelude.{ℕ};
 ghost use Rattle.vll_proc.specs.Made.{IsCallOf};
 ghost use Rattle.vll_proc.specs.WellFormed.{IsWellFormed};

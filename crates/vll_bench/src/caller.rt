@@ -1,3 +1,4 @@
+//! The clients of an engine, each with the script of calls that it makes.
 ghost use Rattle.std.specs.Prelude.{All};
 ghost use Rattle.vll_check.specs.Calls.{Fits};
 ghost use Rattle.vll_engine.specs.Shown.{library_of};

@@ -1,3 +1,4 @@
+//! What a call costs in the engine on one thread, made by its parts and by the engine's own call.
 ghost use Rattle.std.specs.Prelude.{◌≡◌, IfOk};
 ghost use Rattle.vll_check.specs.Calls.{Fits};
 ghost use Rattle.vll_engine.specs.Shown.{library_of, name_of};

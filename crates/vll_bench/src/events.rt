@@ -1,3 +1,4 @@
+//! What an event of the machine costs, by workload and by the number of calls.
 use crate::fault::Fault;
 use crate::setup;
 use crate::workload::{Workload, enter_all, run_all};

@@ -1,3 +1,4 @@
+//! The faults for which nothing is measured.
 use std::alloc::{AllocError, AllocFailed};
 use std::io;
 use vll_check::CallFault;

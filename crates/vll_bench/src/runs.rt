@@ -1,3 +1,4 @@
+//! Whole runs of a scenario by worker threads: their times, and the outcomes of their calls.
 ghost use Rattle.std.specs.Prelude.{◌≡◌, ◌≤◌, ◌<◌, ◌^◌, All, length};
 ghost use Rattle.vll_check.specs.Calls.{Fits};
 ghost use Rattle.vll_engine.specs.Shown.{library_of, name_of};

@@ -1,3 +1,4 @@
+//! What a scan of the queue costs that finds no call.
 use crate::fault::Fault;
 use std::alloc::Global;
 use std::time::CpuClock;

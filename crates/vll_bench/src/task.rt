@@ -1,3 +1,5 @@
+//! The tasks of the program, and the words of the command line that ask for them.
+
 /// What the command line asks for.
 #[derive(Clone, Copy)]
 pub(crate) enum Task {

@@ -1,3 +1,4 @@
+//! How many calls were made and how they ended, and how long they took.
 use std::time::Duration;
 use vll_proc::{Reason, Reply};
 

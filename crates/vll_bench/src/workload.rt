@@ -1,3 +1,4 @@
+//! The workloads on which events are timed: bumps of one record by all calls, or of a record by each.
 use crate::fault::Fault;
 use vll_core::{Core, Event, Ticket};
 use vll_sca::{Placing, Status};

@@ -1,4 +1,4 @@
-//! Calls of one procedure: making one or reporting why not, adding the value found, and recognizing one.
+//! Calls of one procedure: making one or reporting why not, its source, adding the value found, and recognizing one.
 ghost use Rattle.std.specs.Prelude.{◌≡◌, ◌↔◌, ◌<◌, ℕ, List, Some, None, Ok, IsTrue, IfSome};
 ghost use Rattle.std.specs.List.{list_all};
 ghost use Rattle.vll_proc.specs.declared.call.Call.{Call};

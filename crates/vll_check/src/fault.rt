@@ -1,3 +1,4 @@
+//! The faults of a procedure and of a call, and that of a library with a name twice.
 use thiserror::Error;
 
 /// Why a procedure is not well-formed: the lowest number whose test fails.

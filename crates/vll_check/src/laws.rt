@@ -1,5 +1,4 @@
 //! Laws about each checked procedure, and about each call that a library makes.
-
 ghost use Rattle.std.specs.Prelude.{◌≡◌, ◌<◌, ℕ, List, All, None, true};
 ghost use Rattle.vll_record.specs.declared.claim.Claim.{Claim};
 ghost use Rattle.vll_proc.specs.declared.call.Call.{Call};

@@ -1,3 +1,4 @@
+//! The library of a server's checked procedures, which finds them by name or number and makes their calls.
 ghost use Rattle.std.specs.Prelude.{◌≡◌, ◌<◌, ◌^◌, All, length, map, slice_get, IfOk, is_err, option_map, IfNone, IfSome, IsTrue, Some, ◌↔◌};
 ghost use Rattle.vll_check.specs.Calls.{call_made, source, with_found, Fits, IsReady};
 ghost use Rattle.vll_check.specs.Catalog.{IsCatalog};

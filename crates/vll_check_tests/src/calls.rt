@@ -1,3 +1,4 @@
+//! Tests of the calls that a library makes: their arguments, their claims, and which calls fit.
 use crate::asserts::holds;
 use crate::made::{cells, one_claim, read, two_claims, write};
 use crate::procedures::library;

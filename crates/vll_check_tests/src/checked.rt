@@ -1,3 +1,4 @@
+//! Tests of `check`: the checked procedure that it returns, and in which edition a procedure may repeat.
 use crate::asserts::{equal, holds};
 use crate::procedures::procedure;
 use sqlite_items::Items;

@@ -1,3 +1,4 @@
+//! Tests of finding: the source of a call, the record that a value names, and which calls are ready.
 use crate::asserts::{equal, holds};
 use crate::made::{cells, one_claim, read, two_claims, write};
 use crate::procedures::{fitting, library};

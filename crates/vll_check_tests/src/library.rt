@@ -1,3 +1,4 @@
+//! Tests of a library's number of records, and of the numbers of its procedures and calls.
 use crate::asserts::{equal, holds};
 use crate::procedures::library;
 use std::test::Fail;

@@ -1,3 +1,4 @@
+//! The settings chosen at an opening, the limits of records and calls, and why an opening can fail.
 use std::alloc::AllocError;
 
 /// The most records that a machine can have.

@@ -1,3 +1,4 @@
+//! `Core`, the machine of atomic steps together with its library.
 ghost use Rattle.std.specs.Prelude.{◌≡◌, ◌≤◌, ◌<◌, ℕ, All, length, IfOk, option_map, slice_get};
 ghost use Rattle.vll_check.specs.Calls.{Fits, IsReady};
 ghost use Rattle.vll_core.specs.Faults.{Refuses, open_fault};

@@ -1,3 +1,4 @@
+//! The events of a machine, one for each kind of atomic step.
 use crate::ticket::Ticket;
 
 /// One atomic step. A running call makes its loads, then, unless it aborted, its stores, and then its releases. Loads

@@ -1,5 +1,5 @@
-// Laws of the machine of atomic steps, each the contract of a function that does nothing. A lawful move is an event of
-// the machine, the start of any waiting ticket that is clear, or the opening of a turn for a call that is passed in.
+//! Laws of the machine of atomic steps, each the contract of a function that does nothing. A lawful move is an event of
+//! the machine, the start of any waiting ticket that is clear, or the opening of a turn for a call that is passed in.
 ghost use Rattle.vll_core.specs.Laws.{EventListsReach, RunningTicketsAreClear, FrontTicketIsClear, ScanTicketIsClear, OpenTurnsHaveRoom, WaitingStaysWithinTheCap, LoadsSeeTheSerialState, CountersChangeByDeltas, StoresMakeTheSerialState, OtherValuesStay, SerialStatesStay, CountersStayWithinTheLimit, FinishedMachinesHaveTheSerialEnd, ReadyCallIsProper, FittingScriptsAreProper, LaterCallsLeaveSerialStates, LaterCallsLeaveSerialAnswers, GoneTicketsStay, StartedTicketsDoNotWait, TicketsStartOnce};
 
 /// Every list of events, including refused ones, reaches a state for which the other laws hold.

@@ -1,3 +1,4 @@
+//! The journal line of an entered call.
 ghost use Rattle.std.specs.Prelude.{◌≡◌, [], None};
 
 use vll_proc::{Call, MOST_ARGS, Reply};

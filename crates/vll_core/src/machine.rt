@@ -1,3 +1,4 @@
+//! The machine of atomic steps without its library: its fields, its opening, its stepping, and what can be read of it.
 ghost use Rattle.std.specs.Prelude.{◌≡◌, ◌≤◌, ◌<◌, ℕ, All, length, map, IfOk, option_map, slice_get};
 ghost use Rattle.vll_check.specs.Calls.{Fits};
 ghost use Rattle.vll_check.specs.Catalog.{IsCatalog};

@@ -1,4 +1,4 @@
-// The rules of opening: what is refused before any memory is requested.
+//! The rules of opening: what is refused before any memory is requested.
 ghost use Rattle.std.specs.Prelude.{◌≡◌};
 ghost use Rattle.vll_core.specs.Faults.{config_fault, is_up_to, open_fault};
 

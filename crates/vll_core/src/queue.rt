@@ -1,3 +1,4 @@
+//! The queue: the entered calls in order of entry, with their lines, their statuses and their contention analysis.
 ghost use Rattle.std.specs.Prelude.{◌≡◌, ◌<◌, ◌≤◌, ◌↔◌, Some, length, count_by, position, slice_get, slice_set, vec_capacity, IfOk, IsTrue};
 ghost use Rattle.std.specs.Option.{option_copied};
 ghost use Rattle.vll_sca.specs.Status.{is_waiting as waiting, is_running as running};

@@ -1,3 +1,5 @@
+//! The reasons for which an event is refused.
+
 /// Why an event is refused: the first reason that applies, in this order. A refused event changes nothing.
 #[derive(Clone, Copy, PartialEq, Eq, Debug)]
 pub enum Refusal {

@@ -1,4 +1,4 @@
-// Room for lists, all of it mapped before the first call.
+//! Room for lists, all of it mapped before the first call.
 ghost use Rattle.std.specs.Prelude.{◌≡◌, ◌≤◌, [], IfOk, vec_capacity};
 
 use std::alloc::{AllocError, Global};

@@ -1,3 +1,4 @@
+//! The answers to events that are not refused.
 use crate::ticket::Ticket;
 use vll_proc::Reply;
 

@@ -1,3 +1,4 @@
+//! The ticket of an entered call: its index in the order of entry.
 use std::marker::Model;
 
 /// The index of an entered call in the order of entry, from 0. Contracts see it as that number.

@@ -1,3 +1,4 @@
+//! The work of an entered call: the steps that it has made, its frame, its reply, and which step comes next.
 ghost use Rattle.std.specs.Prelude.{◌≡◌, ◌+◌, ◌<◌, ◌==◌, ◌&&◌, ◌||◌, ℕ, List, All, Option, Some, None, false, IfSome, length, filter, replicate, option_map, option_and_then, slice_get, slice_index};
 ghost use Rattle.std.specs.Option.{option_map_or};
 ghost use Rattle.vll_record.specs.declared.claim.Claim.{Claim};

@@ -1,4 +1,4 @@
-// What is done to a core, and the results that it must have.
+//! What is done to a core in tests, and the results that it must have.
 use crate::asserts::{equal, equal_at};
 use crate::opening::opened;
 use crate::words::{said, standing};

@@ -1,5 +1,4 @@
-// Asserts, each proved once: an assert that is written out takes a second or two to prove, a call of these no time.
-
+//! Asserts, each proved once: an assert that is written out takes a second or two to prove, a call of these no time.
 use std::fmt::Debug;
 use std::process::Abort;
 

@@ -1,4 +1,4 @@
-// As many calls as can be entered in a core, all on one record.
+//! A test of as many calls as can be entered in a core, all on one record.
 ghost use Rattle.std.specs.Prelude.{All, IfOk};
 ghost use Rattle.vll_check.specs.Calls.{Fits};
 

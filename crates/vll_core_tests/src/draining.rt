@@ -1,4 +1,4 @@
-// Draining a core.
+//! Tests of draining a core.
 use crate::acts::Act::{Counts, Drain, Play, Stands};
 use crate::acts::Step::{Admit, Claim, Enter, Front, Load, Release, Scan, Store};
 use crate::acts::run;

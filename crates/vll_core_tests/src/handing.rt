@@ -1,4 +1,4 @@
-// Calls that are passed to a core.
+//! Tests of calls that are passed to a core.
 ghost use Rattle.std.specs.Prelude.{◌≡◌, ◌<◌, IfOk, length};
 ghost use Rattle.vll_check.specs.Calls.{IsReady};
 ghost use Rattle.vll_core.specs.Shown.{library_of};

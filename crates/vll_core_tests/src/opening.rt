@@ -1,4 +1,4 @@
-// Cores of scenarios, and the faults of an opening.
+//! Cores of scenarios, and tests of the faults of an opening and of a core that was just opened.
 use crate::asserts::{equal, equal_at};
 use std::alloc::Global;
 use std::test::Fail;

@@ -1,4 +1,4 @@
-// The answers and the content of a queue.
+//! Tests of the answers and the content of a queue.
 mod playing;
 mod scanning;
 

@@ -1,4 +1,4 @@
-// Refused events change nothing: neither the calls and their statuses, nor the words.
+//! A test that refused events change nothing: neither the calls and their statuses, nor the words.
 use crate::acts::Act::{Play, Refuse, Stands};
 use crate::acts::Step::{Admit, Claim, Enter, Finish, Front, Load, Release, Scan, Store};
 use crate::acts::run;

@@ -1,4 +1,4 @@
-// The words between the steps of running calls.
+//! A test of the order of running calls' steps, and of the words between them.
 use crate::acts::Act::{Play, Stands, Words};
 use crate::acts::Step::{Admit, Claim, Enter, Finish, Load, Release, Store};
 use crate::acts::run;

@@ -1,4 +1,4 @@
-// Answers, and the content of a core, in words.
+//! Answers, and the content of a core, in words.
 use std::alloc::{AllocError, Global};
 use vll_core::{Core, Line, Refusal, Seen, Ticket};
 use vll_sca::{Placing, Status};

@@ -1,3 +1,4 @@
+//! What the rule is about: the library, and the records as they were at the opening.
 use std::snapshot::Snapshot;
 use vll_check::Library;
 

@@ -1,5 +1,4 @@
-// Laws of the rule, each the contract of a function that does nothing. They hold between any two atomic steps, as the
-// rule does.
+//! Laws that hold between any two atomic steps, as the rule does, each the contract of a function that does nothing.
 ghost use Rattle.vll_counters.specs.Laws.{TicketsAreClear, RunningTicketsHaveAPass, PassesAreOfRunningTickets, TicketsHaveOnePass, ClientsHaveOneSession, PairWordsCountOpenClaims};
 
 /// A ticket that is running or gone is clear: no claim that a lower ticket has requested and not released conflicts

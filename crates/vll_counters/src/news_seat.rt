@@ -1,4 +1,4 @@
-// News from one session to another, under no lock.
+//! News from one session to another, under no lock.
 ghost use Rattle.std.specs.Prelude.{◌≡◌};
 ghost use Rattle.vll_counters.specs.News.{HasHeard};
 

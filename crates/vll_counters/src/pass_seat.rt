@@ -1,4 +1,4 @@
-// The steps of a pass's seat, under no lock: loads, stores and releases.
+//! The seat of a pass, and its steps under no lock: loads, stores and releases.
 ghost use Rattle.std.specs.Prelude.{◌≡◌, ◌<◌, true, false, length, Some, slice_get, slice_index};
 ghost use Rattle.vll_proc.specs.Serial.{apply};
 ghost use Rattle.vll_core.specs.State.{writes, is_aborted};

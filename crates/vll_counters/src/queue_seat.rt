@@ -1,4 +1,4 @@
-// The steps of the queue's seat for calls: requesting claims, giving passes, and ending them.
+//! The queue's seat, and its steps for calls: requesting claims, giving passes, and ending them.
 ghost use Rattle.std.specs.Prelude.{◌≡◌, ◌<◌, true, length, Some, None, slice_get, option_map};
 ghost use Rattle.vll_core.specs.declared.line.Line.{Line};
 ghost use Rattle.vll_counters.specs.Shown.{queue_view, after, next_claim, with_pass_given};

@@ -1,3 +1,4 @@
+//! The rule that holds of the words and of all views between any two atomic steps.
 use crate::key::Key;
 use crate::views::View;
 use atomic_table::TableRule;

@@ -1,4 +1,4 @@
-// The steps by which a session joins the queue's seat and leaves it, and the one that it makes under no lock.
+//! A session's seat: how it is made, joins the queue's seat and leaves it, and loads a record under no lock.
 ghost use Rattle.std.specs.Prelude.{◌≡◌, ◌<◌, suc, [], length, Some, None, IfSome, IsSome, option_map};
 ghost use Rattle.vll_check.specs.Calls.{IsReady};
 ghost use Rattle.vll_core.specs.declared.config.TheConstants.{MOST_CALLS};

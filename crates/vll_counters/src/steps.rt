@@ -1,4 +1,4 @@
-// The kinds of step: what each does to views, and what its caller learns.
+//! The kinds of step: what each does to views, and what its caller learns.
 use crate::views::View;
 use atomic_table::{Join, Play, Split};
 use std::marker::{Brand, PhantomData};

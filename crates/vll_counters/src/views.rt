@@ -1,3 +1,4 @@
+//! What each seat knows, as contracts and proofs see it: the queue's, a pass's, a session's, and that of news.
 use std::collections::LinkedList;
 use vll_core::Line;
 use vll_proc::Call;

@@ -1,5 +1,4 @@
-// Asserts, each proved once: proving one in place takes a second or two, proving a call of one takes none.
-
+//! Assertions as functions, each proved once: proving one in place takes a second or two, proving a call takes none.
 use std::fmt::Debug;
 use std::process::Abort;
 

@@ -1,3 +1,4 @@
+//! Tests of the words: that threads share them and own seats, what a call's steps find, and what is left at the close.
 ghost use Rattle.std.specs.Prelude.{◌≡◌, ◌<◌, ◌∷◌, [], true, IfOk, IfSome, None, length};
 ghost use Rattle.vll_check.specs.Calls.{IsReady};
 ghost use Rattle.vll_sca.specs.declared.status.Status.TheVariants as Status;

@@ -1,3 +1,4 @@
+//! The faults for which a page is not written in full.
 use thiserror::Error;
 use vll_scenario::ScenarioFault;
 

@@ -1,3 +1,4 @@
+//! Which events of a schedule a page draws, and how many at most.
 ghost use Rattle.std.specs.Prelude.{◌≤◌};
 
 use vll_replay::UpTo;

@@ -1,3 +1,4 @@
+//! The results of beginning a call, and why a call may not begin.
 use crate::pass::Pass;
 use vll_core::Ticket;
 use vll_counters::PassSeat;

@@ -1,4 +1,4 @@
-// Calls from entry to reply.
+//! Calls from entry to reply.
 ghost use Rattle.std.specs.Prelude.{◌≡◌, ◌++◌, ◌∷◌, [], IfErr, IfOk, Some};
 ghost use Rattle.vll_check.specs.Calls.{Fits};
 ghost use Rattle.vll_proc.specs.Serial.{answer};

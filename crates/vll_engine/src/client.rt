@@ -1,4 +1,4 @@
-// A session whose type knows its engine, so that a caller has nothing to prove about that.
+//! A session whose type knows its engine, so that a caller has nothing to prove about that.
 ghost use Rattle.std.specs.Prelude.{◌≡◌, ◌++◌, ◌∷◌, [], IfErr, IfNone, IfOk, IfSome, IsOk, IsSome, Some, Err, slice_get};
 ghost use Rattle.vll_check.specs.Calls.{Fits, call_made};
 ghost use Rattle.vll_proc.specs.Serial.{answer};

@@ -1,4 +1,4 @@
-// The clients of an engine that are not in use by a thread.
+//! The clients of an engine that no thread is using, and the start of an engine with all its clients.
 ghost use Rattle.std.specs.Prelude.{◌≡◌, ◌++◌, ◌∷◌, ◌↔◌, [], All, IfNone, IfOk, IfSome, IsTrue, OnErr, OnOk, length};
 ghost use Rattle.vll_counters.specs.Shown.{AreNewSessions};
 ghost use Rattle.vll_engine.specs.Shown.{name_of};

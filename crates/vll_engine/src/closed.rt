@@ -1,3 +1,4 @@
+//! What closing and reopening an engine return, if they succeed and if they fail.
 use crate::engine::Engine;
 use crate::name::Name;
 use crate::opening::Opening;

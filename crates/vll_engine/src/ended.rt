@@ -1,4 +1,4 @@
-// What is left of an engine in which no call runs or waits, before it is closed or reopened.
+//! What is left of an engine in which no call runs or waits, and how it is closed or reopened.
 ghost use Rattle.std.specs.Prelude.{◌≡◌, ◌≤◌, [], IfErr, IfOk, IsOk, vec_capacity};
 ghost use Rattle.vll_core.specs.Queue.{lines};
 ghost use Rattle.vll_counters.specs.Shown.{AreNewSessions, shown_queue};

@@ -1,4 +1,4 @@
-// What a running call does outside the lock: its loads, its body, its stores and its releases.
+//! What is done for a call outside the lock: the look at its claims, its loads, its body, its stores and its releases.
 ghost use Rattle.std.specs.Prelude.{◌≡◌, ◌<◌, ◌≤◌, All, false, length, true};
 ghost use Rattle.vll_record.specs.declared.claim.Claim.{Claim};
 ghost use Rattle.vll_proc.specs.Cells.{Holds};

@@ -1,3 +1,4 @@
+//! Why a program with an embedded engine stops: one type into which `?` converts each fault.
 use crate::begun::BeginRefusal;
 use crate::calling::Spent;
 use crate::closed::{NotClosed, NotReopened};

@@ -1,4 +1,4 @@
-// Finds the record of a call's indirect key before the call enters, under no lock.
+//! Gives a call with an indirect key the value of its source, before the call enters.
 ghost use Rattle.std.specs.Prelude.{◌≡◌, ◌<◌, Some};
 ghost use Rattle.vll_check.specs.Calls.{Fits, IsReady, source as source_in};
 ghost use Rattle.vll_check.specs.Catalog.{IsCatalog};

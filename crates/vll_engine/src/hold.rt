@@ -1,3 +1,4 @@
+//! A hold: the engine's lock, taken once and kept for several steps.
 ghost use Rattle.std.specs.Prelude.{◌≡◌, ◌<◌, ◌++◌, ◌∷◌, [], IfNone, IfSome, IsSome, MatchBool, Some, length, slice_get, vec_capacity};
 ghost use Rattle.vll_check.specs.Calls.{Fits, IsReady, source as source_in};
 ghost use Rattle.vll_check.specs.Catalog.{IsCatalog};

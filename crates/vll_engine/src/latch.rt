@@ -1,3 +1,4 @@
+//! A latch in front of the engine's lock: a thread that finds it taken spins for a while before it takes the lock.
 use std::hint::spin_loop;
 use std::sync::atomic::{AtomicBool, Ordering};
 use std::thread::yield_now;

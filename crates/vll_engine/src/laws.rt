@@ -1,4 +1,4 @@
-// Laws of the engine, each the contract of a function that does nothing.
+//! Strict serializability, as far as threads pass news: the contract of a function that does nothing.
 ghost use Rattle.std.specs.Prelude.{ℕ};
 ghost use Rattle.vll_counters.specs.declared.views.SessionView.{SessionView};
 ghost use Rattle.vll_counters.specs.Views.{Begins};

@@ -1,3 +1,4 @@
+//! What is behind the engine's lock: the queue, its seat of the words, and what decides whether a scan is due.
 ghost use Rattle.std.specs.Prelude.{◌≡◌};
 ghost use Rattle.vll_engine.specs.Private.Kept.{IsKept};
 

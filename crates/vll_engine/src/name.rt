@@ -1,3 +1,4 @@
+//! The name of an engine, on which the engine, its lock, its passes and its sessions agree.
 use std::marker::Brand;
 
 /// Names which words an engine has and what it was opened with, so that the engine, the value behind its lock, its

@@ -1,4 +1,4 @@
-// News: what one session has seen, for another session.
+//! News: what one session has seen, for another session.
 ghost use Rattle.std.specs.Prelude.{◌≡◌};
 ghost use Rattle.vll_engine.specs.News.{Hears};
 

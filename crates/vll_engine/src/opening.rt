@@ -1,3 +1,4 @@
+//! An opening: an engine that has all its memory but no name yet, and the start of that engine.
 ghost use Rattle.std.specs.Prelude.{◌≡◌, ◌<◌, IfOk, length};
 ghost use Rattle.vll_core.specs.Faults.{Refuses, open_fault};
 ghost use Rattle.vll_core.specs.Queue.{config_of, emptied};

@@ -1,3 +1,4 @@
+//! The pass of a running call, and what it becomes once the call is executed and once its claims are released.
 ghost use Rattle.std.specs.Prelude.{◌≡◌};
 
 use std::marker::Model;

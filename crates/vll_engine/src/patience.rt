@@ -1,3 +1,5 @@
+//! Decides whether a scan is due: scans that find no call add to a debt, and finished calls pay it off.
+
 // What a finished call pays off of the scans' debt, in entries that a scan walks over.
 const PAID_BY_A_CALL: u32 = 8;
 

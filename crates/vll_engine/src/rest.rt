@@ -1,3 +1,4 @@
+//! How a thread that finds nothing to do waits.
 use std::hint::spin_loop;
 use std::thread::yield_now;
 

@@ -1,3 +1,4 @@
+//! Room for what closing an engine leaves, so that closing allocates nothing.
 ghost use Rattle.std.specs.Prelude.{◌≡◌, ◌≤◌, [], IfOk, vec_capacity};
 
 use std::alloc::{AllocError, Global};

@@ -1,4 +1,4 @@
-// What a program does with an engine, whatever its name.
+//! What a program does with an engine, whatever its name.
 ghost use Rattle.std.specs.Prelude.{◌≡◌};
 ghost use Rattle.vll_counters.specs.Shown.{AreNewSessions};
 ghost use Rattle.vll_engine.specs.Shown.{Named, name_of};

@@ -1,3 +1,4 @@
+//! A session: a client's way into the engine.
 ghost use Rattle.std.specs.Prelude.{◌≡◌};
 
 use std::marker::Model;

@@ -1,4 +1,4 @@
-// A call with an indirect key finds its record before it asks for the lock.
+//! Tests of calls with an indirect key, which find their record before they ask for the lock.
 ghost use Rattle.std.specs.Prelude.{◌≡◌};
 ghost use Rattle.vll_engine.specs.Shown.{name_of};
 ghost use Rattle.vll_sca.specs.Placing.{placing};

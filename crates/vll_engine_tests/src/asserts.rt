@@ -1,4 +1,4 @@
-// Asserts, each proved once: proving one in place takes a second or two, proving a call of one takes none.
+//! Asserts, each proved once: proving one in place takes a second or two, proving a call of one takes none.
 ghost use Rattle.std.specs.Prelude.{IsTrue};
 
 use std::fmt::Debug;

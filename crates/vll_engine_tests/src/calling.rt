@@ -1,4 +1,4 @@
-// Calls from entry to reply.
+//! Tests of calls from entry to reply.
 ghost use Rattle.std.specs.Prelude.{◌≡◌};
 ghost use Rattle.vll_engine.specs.Shown.{name_of};
 ghost use Rattle.vll_sca.specs.Placing.{placing};

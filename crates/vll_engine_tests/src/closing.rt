@@ -1,4 +1,4 @@
-// Closing, with and without calls that run or wait.
+//! Tests of closing, with and without calls that run or wait.
 ghost use Rattle.std.specs.Prelude.{◌≡◌};
 ghost use Rattle.vll_engine.specs.Shown.{name_of};
 ghost use Rattle.vll_sca.specs.Placing.{placing};

@@ -1,4 +1,4 @@
-// An engine as an embedding program uses it: through clients, with calls by name.
+//! Tests of an engine as an embedding program uses it: through clients, with calls by name.
 ghost use Rattle.std.specs.Prelude.{◌≡◌, ◌≤◌, vec_capacity};
 ghost use Rattle.vll_engine.specs.Shown.{name_of};
 ghost use Rattle.vll_sca.specs.Placing.{placing};

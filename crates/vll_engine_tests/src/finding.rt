@@ -1,4 +1,4 @@
-// What a call with an indirect key finds as it begins.
+//! Tests of what a call with an indirect key finds as it begins.
 ghost use Rattle.std.specs.Prelude.{◌≡◌};
 ghost use Rattle.vll_engine.specs.Pass.{IsFresh, IsReleased};
 ghost use Rattle.vll_engine.specs.Shown.{name_of};

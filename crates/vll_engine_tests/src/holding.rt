@@ -1,4 +1,4 @@
-// Several steps under one hold.
+//! Tests of several steps under one hold.
 ghost use Rattle.std.specs.Prelude.{◌≡◌, IfOk, IfSome};
 ghost use Rattle.vll_check.specs.Calls.{Fits};
 ghost use Rattle.vll_engine.specs.Pass.{IsFresh, IsReleased};

@@ -1,4 +1,4 @@
-// A serial run on plain records, without an engine, which judges journals.
+//! A serial run on plain records, without an engine, which judges journals.
 ghost use Rattle.std.specs.Prelude.{◌≤◌, length};
 ghost use Rattle.vll_check.specs.Calls.{IsReady};
 

@@ -1,4 +1,4 @@
-// What a look at the words of a call returns.
+//! Tests of what a look at the words of a call returns.
 ghost use Rattle.std.specs.Prelude.{◌≡◌};
 ghost use Rattle.vll_engine.specs.Shown.{name_of};
 ghost use Rattle.vll_sca.specs.Placing.{placing};

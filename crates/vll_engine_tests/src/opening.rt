@@ -1,4 +1,4 @@
-// Openings over the test procedures, and what an opening refuses.
+//! Openings over the test procedures, and tests of what an opening refuses.
 ghost use Rattle.std.specs.Prelude.{◌≡◌, IfOk};
 
 use crate::asserts::equal;

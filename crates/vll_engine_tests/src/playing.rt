@@ -1,4 +1,4 @@
-// Single steps of an engine, each with the answer that it must give.
+//! What the tests do with an engine, step by step, each step with the answer that it must give.
 ghost use Rattle.std.specs.Prelude.{◌≡◌, All, IfSome};
 ghost use Rattle.vll_check.specs.Calls.{Fits};
 ghost use Rattle.vll_engine.specs.Pass.{IsFresh, IsReleased};

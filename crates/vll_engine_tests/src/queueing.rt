@@ -1,4 +1,4 @@
-// What a session learns of its calls.
+//! Tests of what a session learns of its calls: their replies, and why one may not begin.
 ghost use Rattle.std.specs.Prelude.{◌≡◌};
 ghost use Rattle.vll_engine.specs.Shown.{name_of};
 ghost use Rattle.vll_sca.specs.Placing.{placing};

@@ -1,4 +1,4 @@
-// Engines that continue from the records of others.
+//! Tests of reopened engines, which continue from the records of others.
 ghost use Rattle.std.specs.Prelude.{◌≡◌, ◌≤◌, All, IfOk, length, vec_capacity};
 ghost use Rattle.vll_engine.specs.Shown.{name_of};
 ghost use Rattle.vll_sca.specs.Placing.{placing};

@@ -1,4 +1,4 @@
-// Blocked calls that run by the front, and by the contention analysis.
+//! Tests of blocked calls that run by the front, and by the contention analysis.
 ghost use Rattle.std.specs.Prelude.{◌≡◌};
 ghost use Rattle.vll_engine.specs.Shown.{name_of};
 ghost use Rattle.vll_sca.specs.Placing.{placing};

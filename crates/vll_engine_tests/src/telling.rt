@@ -1,4 +1,4 @@
-// News from one thread to another, by a channel.
+//! Tests of news from one thread to another, by a channel.
 ghost use Rattle.std.specs.Prelude.{◌≡◌, ◌<◌, length};
 ghost use Rattle.vll_engine.specs.Shown.{name_of};
 ghost use Rattle.vll_sca.specs.Placing.{placing};

@@ -1,4 +1,4 @@
-// Scans that are put off while many calls wait.
+//! Tests of scans that are put off while many calls wait.
 ghost use Rattle.std.specs.Prelude.{◌≡◌, ◌≤◌, IfSome};
 ghost use Rattle.vll_engine.specs.Pass.{IsFresh};
 ghost use Rattle.vll_engine.specs.Shown.{name_of};

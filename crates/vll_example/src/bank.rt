@@ -1,5 +1,4 @@
-// A bank on the engine: first the calls of one client, then those of two at the same time, and last news from one
-// client to the other.
+//! A bank on the engine: calls of one client, then of two at the same time, and last news from one to the other.
 ghost use Rattle.std.specs.Prelude.{◌≡◌, IfOk, sum};
 ghost use Rattle.vll_example.specs.Bank.{procedures};
 ghost use Rattle.vll_engine.specs.Pass.{IsFresh};

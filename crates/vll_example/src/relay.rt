@@ -1,4 +1,4 @@
-// News from one client to the other.
+//! News from one client to the other.
 ghost use Rattle.std.specs.Prelude.{◌<◌, IfOk};
 
 use std::sync::Wait;

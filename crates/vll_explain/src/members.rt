@@ -1,3 +1,4 @@
+//! What is wrong with a value that must be an object with certain members.
 use crate::shown::{Quoted, Shown};
 use serde_json::Value;
 use std::alloc::{AllocError, Global};

@@ -1,3 +1,4 @@
+//! A column of the drawings: an event of a replay, the machine's answer, and the record's words after it.
 use vll_core::{Event, Refusal, Seen};
 use vll_record::{Claim, Pair};
 

@@ -1,5 +1,4 @@
 //! The page around the drawings.
-
 use crate::style;
 use std::alloc::AllocError;
 

@@ -1,4 +1,4 @@
-//! What is drawn: the events of the window, and their calls.
+//! What is drawn, band by band: the events of the window, their calls, and the state before them.
 use crate::band::{Band, push_band};
 use crate::column::{Column, RecordWords};
 use crate::markup::BAND;

@@ -1,3 +1,4 @@
+//! Calls of procedures, their replies, and the reasons for which they are aborted.
 ghost use Rattle.std.specs.Prelude.{◌≡◌, ◌↔◌, IsTrue};
 
 use crate::limits::MOST_ARGS;

@@ -1,4 +1,4 @@
-// How reasons, outputs and replies are printed: in the words that an outcome uses for them.
+//! How reasons, outputs and replies are printed: in the words of an outcome, and outputs as a list for debugging.
 ghost use Rattle.std.specs.Fmt.{DisplaysOnOk};
 ghost use Rattle.std.specs.List.{flat_map};
 ghost use Rattle.std.specs.Prelude.{Some};

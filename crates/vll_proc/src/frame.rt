@@ -1,3 +1,4 @@
+//! The frame of a call: its cells, and the run of its procedure's body on them.
 ghost use Rattle.std.specs.Prelude.{◌≡◌, ◌<◌, ◌≤◌, ℕ, List, false, replicate, length, slice_index, slice_set};
 ghost use Rattle.vll_proc.specs.declared.call.Reason.{Reason};
 ghost use Rattle.vll_proc.specs.declared.call.Reply.TheVariants.{Aborted};

@@ -1,6 +1,5 @@
 //! Laws about each call of a well-formed procedure, and about calls that run one at a time, stated once for code that
 //! applies calls.
-
 ghost use Rattle.std.specs.Prelude.{◌≡◌, ◌≢◌, ℕ, ◌+◌, ◌<◌, List, ◌++◌, length, map, All, Some, slice_get, slice_index};
 ghost use Rattle.vll_record.specs.Claim.{mode_on};
 ghost use Rattle.vll_record.specs.declared.claim.Mode.TheVariants.{Write};

@@ -1,3 +1,4 @@
+//! Properties of the values of all records, for the law `invariants_carry_over`.
 use std::marker::Brand;
 
 /// A property of the values of all records, for the law `invariants_carry_over`. It has no functions. A caller

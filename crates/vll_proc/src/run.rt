@@ -1,3 +1,4 @@
+//! The run of a body on the cells of a frame: its statements, its expressions and their operators.
 ghost use Rattle.std.specs.Prelude.{◌≡◌, ◌+◌, ◌*◌, ◌<◌, ◌≤◌, ◌&&◌, ◌^◌, ◌==◌, ℕ, true, length, map, drop, sum_by, nat_lt, OnOk, slice_index};
 ghost use Rattle.std.specs.List.{list_all};
 ghost use Rattle.vll_proc.specs.Meaning.{sum, difference, product, quotient, remainder, value_of, effect, in_turn, repeated};

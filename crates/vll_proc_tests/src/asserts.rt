@@ -1,5 +1,4 @@
-// Assertions as functions, each proved once: proving one in place takes a second or two, proving a call takes none.
-
+//! An assertion as a function, proved once: proving one in place takes a second or two, proving a call takes none.
 use std::fmt::Debug;
 use std::process::Abort;
 

@@ -1,3 +1,4 @@
+//! A test that the laws of vll_proc require nothing.
 use std::marker::Brand;
 use vll_proc::{
     changes_claimed_records_alone, depends_on_claimed_records_alone, epochs_are_one_serial_run,

@@ -1,3 +1,4 @@
+//! Record numbers, the modes in which calls claim records, and claims.
 use std::marker::Model;
 
 /// A record's number, from 0. Contracts see it as that number.

@@ -1,4 +1,4 @@
-// Laws about the definitions, each stated as the contract of a function that does nothing.
+//! Laws about claims and the words of records, each the contract of a function that does nothing.
 ghost use Rattle.std.specs.Prelude.{◌≡◌, ◌≢◌, ℕ, ◌+◌, ◌*◌, ◌/◌, ◌%◌, ◌^◌, ◌<◌, ◌≤◌, ◌==◌, not, if◌then◌else◌, List, [], ◌∷◌, ◌++◌, length, count_by};
 ghost use Rattle.vll_record.specs.Claim.{AreClaimsOf, claims_of, is_write, conflict};
 ghost use Rattle.vll_record.specs.Counter.{delta_of, claims_on, pair_word_of, pair_of, word_of, is_granted};

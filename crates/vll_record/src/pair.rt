@@ -1,3 +1,4 @@
+//! The open claims on a record, counted in its pair word: what a request adds, and whether it is granted.
 ghost use Rattle.std.specs.Prelude.{◌≡◌, ◌+◌, ◌*◌, ◌/◌, ◌%◌, ◌^◌};
 ghost use Rattle.vll_record.specs.Counter.{delta_of, is_granted};
 

@@ -1,3 +1,4 @@
+//! The indices of a record's value word and pair word.
 ghost use Rattle.std.specs.Prelude.{◌≡◌};
 ghost use Rattle.vll_record.specs.Word.{value_word_of, pair_word_of_record};
 

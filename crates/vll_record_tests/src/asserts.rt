@@ -1,4 +1,4 @@
-// Assertions as functions, each proved once: proving one in place takes a second or two, proving a call takes none.
+//! Assertions as functions, each proved once: proving one in place takes a second or two, proving a call takes none.
 ghost use Rattle.std.specs.Prelude.{IsTrue};
 
 use std::fmt::Debug;

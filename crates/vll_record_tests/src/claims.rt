@@ -1,3 +1,4 @@
+//! Tests of the claims of a call: their order, their modes, their iterator and their equality.
 #![tactic(auto, using(vll_record::proofs::WithClaim::lengths))]
 
 use crate::asserts::{equal, holds};

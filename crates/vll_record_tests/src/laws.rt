@@ -1,3 +1,4 @@
+//! A test that the laws of vll_record require nothing.
 use vll_record::{
     claims_are_of_what_was_asked, claims_are_the_only_ones, granted_where_no_claim_conflicts,
     halves_count_the_claims, pair_and_word_tell_each_other, release_takes_its_delta,

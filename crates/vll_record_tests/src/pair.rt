@@ -1,3 +1,4 @@
+//! Tests of pair words: which requests they grant, and the pair that a word holds.
 use crate::asserts::{equal, equal_at, holds};
 use vll_record::{Mode, Pair, delta, granted};
 

@@ -1,3 +1,4 @@
+//! A test of the indices of the words of records.
 use crate::asserts::equal_at;
 use vll_record::{RecordId, pair_word, value_word};
 

@@ -1,3 +1,5 @@
+//! The answers that the program reports.
+
 /// What a function returned, and whether all else is then as it should be.
 #[derive(Clone, Copy, PartialEq, Eq, Debug)]
 pub(crate) enum Answer {

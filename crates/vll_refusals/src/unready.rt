@@ -1,3 +1,4 @@
+//! The failure to make what a function needs before it is called.
 use std::alloc::{AllocError, AllocFailed};
 use std::io;
 use vll_check::CallFault;

@@ -1,3 +1,4 @@
+//! The line of an event in a replay's text: what the machine answered, or why it refused the event.
 ghost use Rattle.std.specs.Prelude.{◌≡◌, ◌++◌, ◌∷◌, OnOk, codes, string_bytes};
 ghost use Rattle.std.specs.Fmt.{decimal};
 ghost use Rattle.vll_replay.specs.ReplayText.{event_line, event_text, grant_text, refusal_text, seen_text};

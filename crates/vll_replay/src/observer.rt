@@ -1,3 +1,4 @@
+//! What watches the machine of a replay, and the observer that does nothing.
 ghost use Rattle.std.specs.Prelude.{◌≡◌, ◌++◌, ◌∷◌, [], List, OnOk};
 ghost use Rattle.vll_sca.specs.Placing.{placing};
 ghost use Rattle.vll_core.specs.declared.event.Event.{Event};

@@ -1,3 +1,4 @@
+//! The line of a record in an outcome.
 ghost use Rattle.std.specs.Prelude.{◌≡◌, ◌++◌, OnOk, string_bytes};
 ghost use Rattle.vll_replay.specs.Text.{record_line};
 

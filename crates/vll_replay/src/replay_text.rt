@@ -1,4 +1,4 @@
-// The text of a replay, appended part by part. After an error a prefix of a part may have been appended.
+//! The outcome in a replay's text, appended part by part. After an error a prefix of a part may have been appended.
 ghost use Rattle.std.specs.Prelude.{◌≡◌, ◌+◌, ◌*◌, ◌++◌, ℕ, OnOk, length, map, string_bytes};
 ghost use Rattle.std.specs.List.{enumerate_from, flat_map};
 ghost use Rattle.vll_sca.specs.Placing.{placing};

@@ -1,4 +1,4 @@
-// A replay: reads a scenario, and writes the answers of the machine of atomic steps to its schedule.
+//! A replay: reads a scenario, and writes what its schedule does on the machine of atomic steps.
 ghost use Rattle.std.specs.Prelude.{◌≡◌, ◌↔◌, [], false, true, Err, IfOk, OnOk, string_bytes};
 ghost use Rattle.std.specs.Io.KnownBytes.{Appends};
 ghost use Rattle.vll_sca.specs.Placing.{placing};

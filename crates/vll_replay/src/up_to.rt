@@ -1,3 +1,4 @@
+//! Whole numbers from 1 to a limit, as options of the program take them.
 ghost use Rattle.std.specs.Prelude.{◌≡◌, ◌↔◌, ◌≤◌, ℕ, IfSome, IsSome};
 
 use std::marker::Model;

@@ -1,4 +1,4 @@
-// The events of a schedule, performed one after the other while an observer watches.
+//! The events of a schedule, performed one after the other while an observer watches.
 ghost use Rattle.std.specs.Prelude.{◌≡◌, ◌++◌, ◌∷◌, [], List, OnOk, string_bytes};
 ghost use Rattle.std.specs.List.{enumerate_from, flat_map};
 ghost use Rattle.vll_sca.specs.Placing.{placing};

@@ -1,3 +1,4 @@
+//! The room for scans, and the scan for the first waiting entry that may run.
 ghost use Rattle.std.specs.Prelude.{◌≡◌, ◌≤◌, ◌↔◌, ◌⊎◌, Ok, Err};
 ghost use Rattle.vll_sca.specs.Scan.{scan};
 ghost use Rattle.vll_sca.specs.declared.bits.BitsFault.TheVariants as BitsFault;

@@ -1,3 +1,4 @@
+//! The places of the claims that a scan has passed, marked by mode, and the test of each entry against these marks.
 ghost use Rattle.std.specs.Prelude.{◌≡◌, ◌<◌, ◌≤◌, ◌&&◌, not, false, true, [], ◌∷◌, length, map, take, IfOk};
 ghost use Rattle.std.specs.List.{list_any};
 ghost use Rattle.vll_sca.specs.Status.{is_waiting};

@@ -1,3 +1,4 @@
+//! The trait by which a scan reads entered calls, in order, with their claims and statuses.
 ghost use Rattle.std.specs.Prelude.{◌≡◌, ◌<◌, length, Some, slice_get};
 ghost use Rattle.std.specs.Option.{option_map};
 

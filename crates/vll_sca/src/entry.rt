@@ -1,3 +1,4 @@
+//! An entered call as the contention analysis sees it.
 use crate::status::Status;
 use vll_record::Claims;
 

@@ -1,5 +1,4 @@
-// Laws of the scan, each the contract of a function that does nothing. They hold for every hash and every
-// number of bits.
+//! Laws of the scan, for every hash and every number of bits, each the contract of a function that does nothing.
 ghost use Rattle.vll_sca.specs.Laws.{ConflictImpliesHashConflict, ScannedEntryIsThere, ScannedEntryWaits, ScannedEntryIsClear, GoneBeginningsDoNotMatter, GoneEntriesDoNotMatter};
 
 /// Two entries that conflict are in hash conflict: a record has one place.

@@ -1,3 +1,4 @@
+//! A bit for each place, which says whether the place is marked.
 ghost use Rattle.std.specs.Prelude.{◌≡◌, ◌<◌, ◌≤◌, false, true, length, All, IfOk, slice_set, slice_index_or};
 
 use std::alloc::{AllocError, Global};

@@ -1,3 +1,4 @@
+//! The places of records: the trait of hashes, and the hashes that a scenario can name.
 ghost use Rattle.std.specs.Prelude.{◌≡◌, ◌<◌, ◌≤◌, ◌%◌};
 
 use vll_record::RecordId;

@@ -1,3 +1,5 @@
+//! The status of an entered call: running, waiting or gone.
+
 /// The status of an entered call.
 #[derive(Clone, Copy, PartialEq, Eq, Debug)]
 pub enum Status {

@@ -1,3 +1,4 @@
+//! Tests of scans: the number of bits, collisions, and which entries hold later ones back.
 use crate::asserts::equal;
 use std::test::Fail;
 use vll_record::Mode::{self, Read, Write};

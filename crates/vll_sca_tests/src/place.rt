@@ -1,3 +1,4 @@
+//! A test of the places that the hashes give to neighbouring records.
 use crate::asserts::{equal, equal_at};
 use vll_record::RecordId;
 use vll_sca::{Place, Placing};

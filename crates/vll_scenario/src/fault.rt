@@ -1,3 +1,4 @@
+//! Why a scenario is refused: the faults, the parts in which they lie, and the words printed for them.
 ghost use Rattle.std.specs.Prelude.{◌≡◌};
 ghost use Rattle.vll_scenario.specs.Line.{call_number, check_number};
 

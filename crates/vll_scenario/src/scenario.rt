@@ -1,3 +1,4 @@
+//! A checked scenario, and what callers do with it: take its parts, or change its cap and its bits.
 ghost use Rattle.std.specs.Prelude.{◌≡◌, ◌≤◌, All};
 ghost use Rattle.vll_check.specs.Calls.{Fits};
 ghost use Rattle.vll_scenario.specs.Setup.{lists_of, IsSetup, catalog_of};

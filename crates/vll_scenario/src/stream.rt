@@ -1,3 +1,4 @@
+//! The source of bytes that a scenario is read from, and the sink that texts are written to.
 ghost use Rattle.std.specs.Prelude.{◌≡◌, Bool, true, ◌||◌, ◌&&◌, ◌==◌, not, List, ℕ, length, Option, IfOk, OnOk, OnErr};
 ghost use Rattle.std.specs.Io.{ReadsAtMost, WritesAtMost};
 ghost use Rattle.std.specs.Io.KnownBytes.{Appends, Keeps, ReadConsumes, WriteAppends};

@@ -1,3 +1,4 @@
+//! Writing a text to a sink in full, and why it was not written.
 ghost use Rattle.std.specs.Prelude.{◌≡◌, ◌↔◌, false, true, IfErr, OnErr, OnOk};
 ghost use Rattle.std.specs.Io.KnownBytes.{Appends};
 ghost use Rattle.vll_scenario.specs.Streams.{AppendsBeginning};

@@ -1,3 +1,4 @@
+//! Tests of what a scenario has once read: the machine's settings, its lists, and the claims of its calls.
 use crate::asserts::{equal, holds};
 use std::alloc::{AllocError, Global};
 use std::process::Abort;

@@ -1,3 +1,4 @@
+//! Tests of reading a source that is slow, that fails, or that is the largest allowed or larger.
 use crate::asserts::{equal, holds, holds_at};
 use std::io;
 use std::io::Read;

@@ -1,3 +1,4 @@
+//! The opening of a scenario's engine, and the tokens for its scripts.
 ghost use Rattle.std.specs.Prelude.{◌≡◌, ◌≤◌, ◌<◌, ◌^◌, All, IfOk, length, nat_eq};
 ghost use Rattle.std.specs.List.{IsDistinct};
 ghost use Rattle.vll_check.specs.Calls.{Fits};

@@ -1,3 +1,4 @@
+//! Why a scenario was not served.
 use std::alloc::AllocError;
 use thiserror::Error;
 use vll_workers::RunFault;

@@ -1,5 +1,4 @@
 //! The text of a served scenario.
-
 ghost use Rattle.std.specs.Prelude.{◌≡◌};
 ghost use Rattle.vll_counters.specs.Views.{calls_in};
 ghost use Rattle.vll_engine.specs.declared.closed.Closed.{Closed};

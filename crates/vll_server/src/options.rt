@@ -1,3 +1,4 @@
+//! The options of serving a scenario, with the bounds of their numbers.
 use vll_core::MOST_WAITING;
 use vll_replay::UpTo;
 use vll_sca::MOST_BITS;

@@ -1,3 +1,4 @@
+//! The text of what a run leaves: a line for each call, and then one for each record.
 ghost use Rattle.std.specs.Prelude.{◌≡◌, ◌++◌, ◌∷◌, [], IfOk, OnOk, map, string_bytes};
 ghost use Rattle.std.specs.List.{enumerate_from, flat_map, zip};
 ghost use Rattle.vll_replay.specs.Text.{call_line, record_line};

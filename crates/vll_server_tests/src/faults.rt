@@ -1,3 +1,4 @@
+//! Tests of the words of faults: of serving, of a replay, and of writing a text.
 use crate::asserts::equal;
 use std::alloc::{AllocError, Global};
 use std::test::Fail;

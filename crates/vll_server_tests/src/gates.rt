@@ -1,3 +1,4 @@
+//! Tests of gates that hold calls back while a scenario is served.
 use crate::asserts::{equal, holds};
 use std::alloc::{AllocError, Global};
 use std::hint;

@@ -1,3 +1,4 @@
+//! Tests of the text of what a run leaves, and of writers that fail while it is written.
 use crate::asserts::{holds, holds_at};
 use crate::streams::{Full, Narrow};
 use std::alloc::{AllocError, Global};

@@ -1,3 +1,4 @@
+//! Tests of readers whose text is cut off, fails, is no JSON or has no end.
 use crate::asserts::{equal, holds, holds_at};
 use crate::streams::{Full, Narrow, Slow};
 use crate::texts::TRANSFER;

@@ -1,4 +1,4 @@
-// A reader and a writer that take a byte at a time, and stop at a given place.
+//! A reader and a writer that take a byte at a time, and stop at a given place.
 use std::io;
 use std::io::{Read, Write};
 

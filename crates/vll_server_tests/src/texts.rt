@@ -1,4 +1,4 @@
-// Scenarios, and what they print.
+//! Scenarios for the tests, and what they print.
 
 /// A transfer, and then a read of both records.
 pub(crate) const TRANSFER: &str = r#"{"version":1,"records":[100,50],

@@ -1,3 +1,4 @@
+//! Tests of writers that get full or fail while a scenario is served or replayed.
 use crate::asserts::{equal, holds};
 use crate::streams::{Full, Narrow, Slow};
 use crate::texts::{BLOCKED, BLOCKED_TEXT, TRANSFER, TRANSFER_TEXT};

@@ -1,3 +1,4 @@
+//! Pseudorandom numbers for the clients' calls.
 ghost use Rattle.std.specs.Prelude.{◌<◌};
 
 /// Pseudorandom numbers, the same ones each time: Knuth's linear congruential generator.

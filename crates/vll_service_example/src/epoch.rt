@@ -1,4 +1,4 @@
-// An epoch: the calls that one engine takes, by a thread for each client.
+//! An epoch: the calls that one engine takes, by a thread for each client.
 ghost use Rattle.std.specs.Prelude.{◌≡◌, ◌≤◌, IfOk, sum, vec_capacity};
 ghost use Rattle.vll_engine.specs.Shown.{name_of};
 ghost use Rattle.vll_sca.specs.Placing.{placing};

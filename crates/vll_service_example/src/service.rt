@@ -1,4 +1,4 @@
-// The service: epoch after epoch over the same accounts.
+//! The service: epoch after epoch over the same accounts.
 ghost use Rattle.std.specs.Prelude.{◌≡◌, IfOk, length, sum};
 ghost use Rattle.vll_engine.specs.Shown.{name_of};
 ghost use Rattle.vll_sca.specs.Placing.{placing};

@@ -1,3 +1,4 @@
+//! What the service has done, counted in the journals of its epochs.
 ghost use Rattle.std.specs.Prelude.{◌≡◌, ◌≤◌, ◌<◌, ◌+◌, ◌^◌, ◌==◌, count_by, length, sum};
 ghost use Rattle.vll_service_example.specs.Tally.{is_aborted, is_committed, is_faulty, replies_total};
 

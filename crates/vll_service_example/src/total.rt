@@ -1,4 +1,4 @@
-// What the accounts hold at the end.
+//! What the accounts hold in total.
 ghost use Rattle.std.specs.Prelude.{◌≡◌, ◌<◌, ◌^◌, IfOk, sum};
 ghost use Rattle.vll_service_example.specs.Service.{IsBank};
 

@@ -1,3 +1,4 @@
+//! A batch: what a worker has under way, and the room for it.
 ghost use Rattle.std.specs.Prelude.{◌≡◌, [], IfOk};
 
 use crate::pace::Pace;

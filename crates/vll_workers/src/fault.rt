@@ -1,3 +1,4 @@
+//! Why a run did not end well, and its tokens then.
 ghost use Rattle.std.specs.Prelude.{◌≡◌};
 
 use crate::token::Token;

@@ -1,3 +1,4 @@
+//! Gates: observers of the calls that a run executes, and of its workers as they leave.
 use crate::tally::Tally;
 use vll_core::Ticket;
 

@@ -1,5 +1,4 @@
-//! What the journal contains once a run's tokens are back and the engine is closed with their sessions.
-
+//! Laws of what a run leaves in the journal and in its tokens' sessions, once the engine is closed with these.
 ghost use Rattle.std.specs.Prelude.{◌≡◌, ◌<◌, ℕ, All, List, Some, length, slice_get, sum_by};
 ghost use Rattle.vll_proc.specs.declared.call.Call.{Call};
 ghost use Rattle.vll_counters.specs.Views.{calls_in};

@@ -1,3 +1,4 @@
+//! A worker's pace: how many tokens it takes and calls it begins, how long it rests, and when it leaves.
 use crate::stack::MOST_BATCH;
 use crate::tally::Tally;
 use std::hint::spin_loop;

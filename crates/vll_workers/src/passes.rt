@@ -1,3 +1,4 @@
+//! A worker's list of the passes of calls that may run.
 ghost use Rattle.std.specs.Prelude.{◌≡◌, ◌<◌, ◌≤◌, ◌++◌, ◌∷◌, [], All, IfNone, IfOk, IfSome, MatchBool, length};
 ghost use Rattle.vll_check.specs.Calls.{Fits};
 ghost use Rattle.vll_engine.specs.Onto.{FindsAndBeginsOnto, HasOneMore, IsOfLast};

@@ -1,3 +1,4 @@
+//! The pool of the tokens that no worker has in hand, and the rule by which they are taken and put back.
 ghost use Rattle.std.specs.Prelude.{◌≡◌, ◌<◌, ◌≤◌, IfNone, IfOk, IfSome, length};
 ghost use Rattle.crossbeam_queue.specs.Passes.{IsSamePass, view};
 ghost use Rattle.vll_workers.specs.Private.Pool.{AreSame, HoldsOne, IsPassIn, IsPut, IsTaken, all_parts, hand, hired, joined, new_hand};

@@ -1,3 +1,4 @@
+//! The name of the tokens that were passed to a run, and of how many calls its engine takes.
 use std::marker::Brand;
 
 // Names the tokens that were passed to a run and how many calls its engine takes, so that the tokens in its pool are

@@ -1,3 +1,4 @@
+//! An engine as threads share it: a bound that lets a reference to it be passed to a thread.
 use vll_engine::{Engine, Name};
 use vll_sca::Place;
 

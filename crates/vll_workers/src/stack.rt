@@ -1,3 +1,4 @@
+//! Stacks with room for as many values as a worker may begin calls under one hold.
 ghost use Rattle.std.specs.Prelude.{◌≡◌, ◌<◌, ◌≤◌, ◌∷◌, [], IfNone, IfOk, IfSome, MatchBool, length};
 
 use std::alloc::{AllocError, Global};

@@ -1,3 +1,4 @@
+//! The tokens that a worker has taken.
 ghost use Rattle.std.specs.Prelude.{◌≡◌, [], IfOk};
 
 use crate::stack::Stack;

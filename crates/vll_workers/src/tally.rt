@@ -1,3 +1,4 @@
+//! Counts of what the workers of a run did.
 ghost use Rattle.std.specs.Prelude.{◌≡◌};
 ghost use Rattle.vll_workers.specs.Tallies.{both, nothing};
 

@@ -1,3 +1,4 @@
+//! Tokens: each is a client's turn in a run, with its session and its script.
 ghost use Rattle.std.specs.Prelude.{◌≡◌, ◌<◌, ◌≤◌, ◌==◌, ◌^◌, ◌+◌, Some, true, false, length, slice_get};
 ghost use Rattle.std.specs.Option.{option_map};
 ghost use Rattle.vll_workers.specs.Shown.{token};

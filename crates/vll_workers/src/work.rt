@@ -1,3 +1,4 @@
+//! What the workers of a run share, and a worker's rounds, from the opening of its batch until it leaves.
 ghost use Rattle.std.specs.Prelude.{◌≡◌, ◌<◌, ◌≤◌, ◌+◌, ◌++◌, ◌∷◌, [], All, IfSome, length, suc};
 ghost use Rattle.crossbeam_queue.specs.Passes.{view};
 ghost use Rattle.vll_engine.specs.Pass.{IsFresh, IsReleased};

@@ -1,3 +1,4 @@
+//! A worker: its pass of the pool, and the tokens that it keeps to its end, with the room for them.
 ghost use Rattle.std.specs.Prelude.{◌≡◌, ◌<◌, ◌≤◌, ◌+◌, ◌∷◌, ◌++◌, [], All, IfNone, IfSome, length, vec_capacity};
 ghost use Rattle.crossbeam_queue.specs.Passes.{IsSamePass, view};
 ghost use Rattle.vll_workers.specs.Private.Pool.{AreSame, HasInHand, HoldsMore, HoldsOne, IsPassIn, IsPut, IsTaken, all_parts, hired, new_hand};

@@ -1,4 +1,4 @@
-// A run of the maximum number of workers and as many clients, which all use the same record.
+//! Tests of a run of the maximum number of workers and as many clients, which all use one record.
 ghost use Rattle.std.specs.Prelude.{◌≡◌};
 ghost use Rattle.vll_engine.specs.Shown.{name_of};
 ghost use Rattle.vll_sca.specs.Placing.{placing};

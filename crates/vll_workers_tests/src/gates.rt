@@ -1,4 +1,4 @@
-// Gates that observe which calls are executed.
+//! Gates for the tests, which count calls, or hold calls or workers back.
 use std::sync::atomic::{AtomicBool, AtomicU64, Ordering};
 use std::thread::yield_now;
 use vll_core::Ticket;

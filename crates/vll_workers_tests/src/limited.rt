@@ -1,4 +1,4 @@
-// Runs for which few threads or none may be started.
+//! Tests of runs with a bound on the threads that may be started, and of a run without one.
 ghost use Rattle.std.specs.Prelude.{◌≡◌};
 ghost use Rattle.vll_engine.specs.Shown.{name_of};
 ghost use Rattle.vll_sca.specs.Placing.{placing};

@@ -1,4 +1,4 @@
-// Openings over the test procedures.
+//! Openings over the test procedures.
 use std::alloc::Global;
 use std::test::Fail;
 use vll_core::Config;

@@ -1,4 +1,4 @@
-// Runs in which many calls wait, and a run in which a call is put off.
+//! Tests of runs in which many calls wait, and of a run in which a call is put off.
 ghost use Rattle.std.specs.Prelude.{◌≡◌};
 ghost use Rattle.vll_engine.specs.Pass.{IsFresh};
 ghost use Rattle.vll_engine.specs.Shown.{name_of};

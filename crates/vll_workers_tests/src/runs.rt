@@ -1,3 +1,4 @@
+//! Tests of what runs enter, execute and leave, also if the engine is spent or there are no tokens.
 ghost use Rattle.std.specs.Prelude.{◌≡◌, ◌≤◌, All};
 ghost use Rattle.vll_engine.specs.Pass.{IsFresh};
 ghost use Rattle.vll_engine.specs.Shown.{name_of};

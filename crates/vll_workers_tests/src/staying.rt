@@ -1,4 +1,4 @@
-// How long a worker stays.
+//! Tests of how long a worker stays.
 ghost use Rattle.std.specs.Prelude.{◌≡◌, nat_eq};
 ghost use Rattle.std.specs.List.{IsDistinct};
 ghost use Rattle.vll_engine.specs.Shown.{name_of};

@@ -1,4 +1,4 @@
-// What the workers of a run report as they leave.
+//! Tests of what the workers of a run report as they leave.
 ghost use Rattle.std.specs.Prelude.{◌≡◌, ◌≤◌, nat_eq};
 ghost use Rattle.std.specs.List.{IsDistinct};
 ghost use Rattle.vll_engine.specs.Shown.{name_of};

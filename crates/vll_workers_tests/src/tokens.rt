@@ -1,4 +1,4 @@
-// Tokens, and the results of their runs.
+//! Tokens for the tests, and checks of what their runs leave.
 ghost use Rattle.std.specs.Prelude.{◌≡◌, ◌<◌, ◌^◌, All, IfOk, length, nat_eq};
 ghost use Rattle.std.specs.List.{IsDistinct};
 ghost use Rattle.vll_check.specs.Calls.{Fits};

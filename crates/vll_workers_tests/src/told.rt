@@ -1,5 +1,4 @@
-// What a gate of a run is called for, and when: it asks the engine, with a session of its own, for the state of each
-// call.
+//! Tests of when a gate of a run is called, by gates that ask the engine for replies or begin a call.
 ghost use Rattle.std.specs.Prelude.{◌≡◌, ◌≤◌, nat_eq};
 ghost use Rattle.std.specs.List.{IsDistinct};
 ghost use Rattle.vll_engine.specs.Shown.{name_of};

@@ -1,4 +1,4 @@
-// Runs whose gate waits for other calls.
+//! Tests of runs whose gate waits for other calls.
 ghost use Rattle.std.specs.Prelude.{◌≡◌};
 ghost use Rattle.vll_engine.specs.Shown.{name_of};
 ghost use Rattle.vll_sca.specs.Placing.{placing};

@@ -1,4 +1,4 @@
-// Draining a machine: each call is brought to its end.
+//! Draining a core: an open turn is closed, and each entered call is brought to its end.
 ghost use Rattle.std.specs.Prelude.{◌≡◌, ◌≤◌};
 ghost use Rattle.vll_core.specs.Drain.{IsAtEnd, IsDrained, most_events};
 ghost use Rattle.vll_core.specs.Machine.{step};

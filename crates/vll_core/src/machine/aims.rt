@@ -1,4 +1,4 @@
-// What an event would act on, if it were made now.
+//! What an event would act on, if it were made now, and the line that an open turn's call would get.
 ghost use Rattle.std.specs.Prelude.{◌≡◌, option_map};
 ghost use Rattle.vll_core.specs.Machine.{running};
 ghost use Rattle.vll_core.specs.Moves.{entry_release, entry_store, turn_request};

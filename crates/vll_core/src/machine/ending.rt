@@ -1,4 +1,4 @@
-// The event that brings a machine nearer to its end.
+//! The event that brings a machine nearer to its end.
 ghost use Rattle.std.specs.Prelude.{◌≡◌, ◌<◌, ◌^◌, None, Some, IfSome, length, nat_lt, option_map, if◌then◌else◌};
 ghost use Rattle.vll_core.specs.Drain.{IsAtEnd};
 ghost use Rattle.vll_core.specs.Machine.{running};

@@ -1,5 +1,4 @@
-// Loading the source of a script's next call, and opening a turn for the next call of a script or for one that is
-// passed in.
+//! Loading the source of a script's next call, and opening a turn for that call or for one that is passed in.
 ghost use Rattle.std.specs.Prelude.{◌≡◌, ◌<◌, ◌≤◌, ◌↔◌, Err, Ok, IfSome, length};
 ghost use Rattle.vll_check.specs.Calls.{Fits, IsReady};
 ghost use Rattle.vll_core.specs.Machine.{entered, is_turn_of, next_call, ready, step, told, waiting};

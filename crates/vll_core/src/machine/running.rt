@@ -1,4 +1,4 @@
-// The steps of a running call: its loads, its stores, its releases, and its end.
+//! The steps of a running call: its loads, its stores, its releases, and its end.
 ghost use Rattle.std.specs.Prelude.{◌≡◌, option_map};
 ghost use Rattle.vll_core.specs.Machine.{running, step, told};
 ghost use Rattle.vll_core.specs.Shown.{after, library_of, opening_of};

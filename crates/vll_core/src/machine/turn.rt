@@ -1,4 +1,4 @@
-// An open turn: its call requests its claims, and is admitted.
+//! An open turn: its call requests its claims, and is admitted.
 ghost use Rattle.std.specs.Prelude.{◌≡◌};
 ghost use Rattle.vll_core.specs.Machine.{step, told};
 ghost use Rattle.vll_core.specs.Shown.{after, library_of, opening_of};

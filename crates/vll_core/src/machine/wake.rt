@@ -1,4 +1,4 @@
-// Starting a waiting call: the front of the queue, or the one that the contention analysis finds.
+//! Starting a waiting call: the front of the queue, or the one that the contention analysis finds.
 ghost use Rattle.std.specs.Prelude.{◌≡◌};
 ghost use Rattle.vll_core.specs.Machine.{step, told};
 ghost use Rattle.vll_core.specs.Shown.{after, opening_of};

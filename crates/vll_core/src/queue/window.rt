@@ -1,3 +1,4 @@
+//! The window of a queue: the tickets of the calls that run or wait, and of gone ones that are not yet dropped.
 ghost use Rattle.std.specs.Prelude.{◌≡◌, ◌<◌, ◌≤◌, [], ◌∷◌, ◌++◌, length, take, slice_get, All, IfOk, vec_capacity};
 ghost use Rattle.vll_sca.specs.Status.{is_gone as gone};
 ghost use Rattle.vll_sca.specs.Scan.{scan_numbered};

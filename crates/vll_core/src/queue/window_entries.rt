@@ -1,3 +1,4 @@
+//! The calls of a window's tickets, as entries for the contention analysis.
 ghost use Rattle.std.specs.Prelude.{◌≡◌, ◌<◌, length, All};
 
 use crate::line::Line;

@@ -1,4 +1,4 @@
-// What is done to a queue in tests, and the results that it must have.
+//! What is done to a queue in tests, and the results that it must have.
 use self::Act::{Busy, Counts, Line, Lines, Spent, Standing, Steps};
 use self::Step::{Blocked, Finish, Free, Front, Scan};
 use crate::asserts::{equal, equal_at};

@@ -1,4 +1,4 @@
-// Which call a queue's scan finds.
+//! Tests of which call a queue's scan finds.
 use super::playing::Act::{Counts, Line, Standing, Steps};
 use super::playing::Step::{Blocked, Finish, Free, Front, Scan};
 use super::playing::{config, perform, play, run};

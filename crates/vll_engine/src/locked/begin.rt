@@ -1,3 +1,4 @@
+//! The entry of a call under the lock, or its refusal.
 ghost use Rattle.std.specs.Prelude.{◌≡◌, ◌<◌, All, Some, None, count_by, length};
 ghost use Rattle.vll_record.specs.declared.claim.Claim.{Claim};
 ghost use Rattle.vll_check.specs.Calls.{IsReady};

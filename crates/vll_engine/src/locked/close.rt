@@ -1,3 +1,4 @@
+//! The close of an engine: what is left if no call runs or waits, else the engine, which goes on.
 ghost use Rattle.std.specs.Prelude.{◌≡◌, ◌+◌, ◌*◌, ◌<◌, ◌≤◌, [], All, IfErr, IfOk, None, count_by, length, vec_capacity};
 ghost use Rattle.vll_core.specs.Queue.{lines, statuses};
 ghost use Rattle.vll_counters.specs.Views.{calls_in};

@@ -1,3 +1,4 @@
+//! The finish of a call under the lock: it is gone, and its line gets the reply.
 ghost use Rattle.std.specs.Prelude.{◌≡◌};
 ghost use Rattle.vll_core.specs.Queue.{finished};
 ghost use Rattle.vll_engine.specs.Pass.{IsReleased};

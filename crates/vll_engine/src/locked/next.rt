@@ -1,3 +1,4 @@
+//! The start of a waiting call under the lock, at the front or by the scan, and the pass for it.
 ghost use Rattle.std.specs.Prelude.{◌≡◌, ◌<◌, ◌++◌, ◌∷◌, [], length, vec_capacity, IfSome, None, Some, option_map, slice_get};
 ghost use Rattle.vll_core.specs.declared.line.Line.{Line};
 ghost use Rattle.vll_core.specs.Queue.{fronted, found_by, front_among, lines, scanned, started_if, statuses};

@@ -1,3 +1,4 @@
+//! The reply in a ticket's line, as a session gets it under the lock.
 ghost use Rattle.std.specs.Prelude.{◌≡◌, ◌++◌, ◌∷◌, [], IfNone, IfSome, IsSome, Some, slice_get};
 ghost use Rattle.vll_core.specs.Queue.{IsQueued, lines};
 ghost use Rattle.vll_proc.specs.Serial.{answer};

@@ -1,3 +1,4 @@
+//! The modes of a call's claims, a bit for each claim.
 ghost use Rattle.std.specs.Prelude.{◌≡◌, ◌<◌, ◌≤◌, ℕ, List, length, slice_get, slice_index, slice_set, insert, Some};
 ghost use Rattle.vll_record.specs.declared.claim.Claim.{Claim};
 ghost use Rattle.vll_record.specs.declared.claims.TheConstants.{MOST_CLAIMS};

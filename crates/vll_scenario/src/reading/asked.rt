@@ -1,3 +1,4 @@
+//! A call of a script, before it is checked.
 use sqlite_items::Items;
 use vll_proc::Text;
 

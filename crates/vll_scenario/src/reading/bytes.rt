@@ -1,3 +1,4 @@
+//! Reading the bytes of a source to their end, up to the most that a scenario may have.
 ghost use Rattle.std.specs.Prelude.{◌≡◌, ◌↔◌, false, true, IfOk};
 ghost use Rattle.vll_scenario.specs.Bytes.{ReadsAll, ReadsSome, ReadsTooMany};
 

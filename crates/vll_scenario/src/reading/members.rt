@@ -1,3 +1,4 @@
+//! The members of a JSON object: whether it has those that it has to have, and their values.
 ghost use Rattle.std.specs.Prelude.{◌≡◌, List, IfOk, IfErr, map};
 ghost use Rattle.std.specs.List.{list_any};
 ghost use Rattle.std.specs.Str.{bytes_eq};

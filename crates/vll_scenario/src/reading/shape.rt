@@ -1,3 +1,4 @@
+//! The parts of a scenario, read from its JSON tree, or the first fault of their shape.
 ghost use Rattle.std.specs.Prelude.{◌≡◌, ◌≤◌};
 ghost use Rattle.serde_json.specs.View.{view};
 ghost use Rattle.vll_scenario.specs.Private.Longest.{longest_list};

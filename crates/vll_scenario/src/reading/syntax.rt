@@ -1,3 +1,4 @@
+//! Reading procedures and their keys from JSON, and the words and indexes of forms.
 ghost use Rattle.std.specs.Prelude.{◌≡◌, ◌^◌, IfOk, IfErr, Some, None};
 ghost use Rattle.serde_json.specs.Find.{as_str};
 ghost use Rattle.serde_json.specs.View.{view};

@@ -1,3 +1,4 @@
+//! The trait of what is read from a JSON tree, with numbers, texts and lists, and why a value is not read.
 ghost use Rattle.std.specs.Prelude.{◌≡◌};
 ghost use Rattle.serde_json.specs.Find.{as_str};
 ghost use Rattle.serde_json.specs.View.{view, items_view};

@@ -1,3 +1,4 @@
+//! The outcome of a run, by the tokens that are kept at its end.
 ghost use Rattle.std.specs.Prelude.{◌≡◌, All, IfOk, IfErr, MatchBool, nat_eq};
 ghost use Rattle.std.specs.List.{IsDistinct};
 ghost use Rattle.vll_workers.specs.Private.Pool.{AreSame};

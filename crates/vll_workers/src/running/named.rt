@@ -1,3 +1,4 @@
+//! A run of tokens that have a name: its memory, its workers and its outcome.
 ghost use Rattle.std.specs.Prelude.{◌≡◌, ◌≤◌, ◌<◌, [], All, IfOk, IfErr, length, nat_eq};
 ghost use Rattle.std.specs.List.{IsDistinct};
 ghost use Rattle.crossbeam_queue.specs.Passes.{view};

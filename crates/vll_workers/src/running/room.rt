@@ -1,3 +1,4 @@
+//! The memory of a run, which is allocated before its first thread is started.
 ghost use Rattle.std.specs.Prelude.{◌≡◌, ◌<◌, [], IfOk, length};
 ghost use Rattle.crossbeam_queue.specs.Passes.{view};
 ghost use Rattle.vll_workers.specs.Private.Pool.{HasInHand, all_parts};

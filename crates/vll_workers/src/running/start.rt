@@ -1,3 +1,4 @@
+//! Starts the workers of a run, puts the tokens into the pool once all starts were tried, and joins the workers.
 ghost use Rattle.std.specs.Prelude.{◌≡◌, ◌<◌, ◌++◌, [], false, true, IfOk, IfErr, length};
 ghost use Rattle.crossbeam_queue.specs.Passes.{view};
 ghost use Rattle.vll_workers.specs.Private.Pool.{HasInHand, new_hand};

@@ -1,3 +1,4 @@
+//! What the workers of a run share, in the form in which it is passed to their threads.
 ghost use Rattle.std.specs.Prelude.{◌≡◌};
 
 use crate::gate::Gate;

@@ -1,4 +1,4 @@
-// What a worker does under a hold: it looks for calls that may run, and begins others.
+//! What a worker does under a hold: it looks for calls that may run, and begins others.
 ghost use Rattle.std.specs.Prelude.{◌≡◌, ◌≤◌, ◌+◌, ◌++◌, [], All, length};
 ghost use Rattle.crossbeam_queue.specs.Passes.{view};
 ghost use Rattle.vll_engine.specs.Pass.{IsFresh};

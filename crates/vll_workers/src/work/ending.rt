@@ -1,4 +1,4 @@
-// What a worker does with what it has begun: it executes calls, finishes them, and puts the tokens back.
+//! What a worker does with what it has begun: it executes calls, finishes them, and puts the tokens back.
 ghost use Rattle.std.specs.Prelude.{◌≡◌, ◌≤◌, ◌+◌, ◌++◌, [], All, length};
 ghost use Rattle.crossbeam_queue.specs.Passes.{view};
 ghost use Rattle.vll_engine.specs.Pass.{IsFresh, IsReleased};

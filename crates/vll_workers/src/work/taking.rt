@@ -1,4 +1,4 @@
-// What a worker does before it begins calls: it takes tokens, and looks at the words that their next calls claim.
+//! What a worker does before it begins calls: it takes tokens, and looks at the words that their next calls claim.
 ghost use Rattle.std.specs.Prelude.{◌≡◌, ◌<◌, ◌≤◌, ◌+◌, ◌++◌, ◌∷◌, length};
 ghost use Rattle.crossbeam_queue.specs.Passes.{view};
 ghost use Rattle.vll_workers.specs.Private.Work.{IsAtWork};

@@ -1,3 +1,4 @@
+//! Reading expressions from JSON.
 ghost use Rattle.std.specs.Prelude.{Some};
 ghost use Rattle.serde_json.specs.View.{view};
 ghost use Rattle.vll_scenario.specs.Syntax.{expr_at, index_at, leaf, operation};

@@ -1,3 +1,4 @@
+//! Reading statements from JSON.
 ghost use Rattle.std.specs.Prelude.{Some};
 ghost use Rattle.serde_json.specs.View.{items_view, view};
 ghost use Rattle.vll_scenario.specs.Syntax.{abort_or_reply, branch, code_at, each_stmt, let_or_set, repeat, stmt_at, stmts_at};
