@@ -1,9 +1,10 @@
 // What the bank's clients can call.
 ghost use Rattle.std.specs.Prelude.{◌≡◌, ◌∷◌, [], IfOk};
+ghost use Rattle.vll_proc.specs.declared.syntax.Edition.TheVariants.{Two};
 ghost use Rattle.vll_proc.specs.declared.syntax.Expr.{Add, Arg, Key, Less, Sub};
 ghost use Rattle.vll_proc.specs.declared.syntax.KeyAt.TheVariants as at;
 ghost use Rattle.vll_proc.specs.declared.syntax.Stmt.{Abort, If, Set};
-ghost use Rattle.vll_example.specs.Bank.{procedures, sum_of_two, transfer};
+ghost use Rattle.vll_example.specs.Bank.{procedures, sum_of_two, transfer, transfer_body};
 
 use sqlite_items::{Boxed, Items};
 use std::alloc::{AllocError, Global};
@@ -65,37 +66,53 @@ fn deposit(alloc: Global) -> Result<Stmt, AllocError>
     Ok(Stmt::Set(1, add(alloc, Expr::Key(1), Expr::Arg(2))?))
 }
 
+// A procedure of this name, with these keys and this body.
+fn procedure(
+    alloc: Global,
+    name: &str,
+    args: u8,
+    keys: &[KeyDecl],
+    body: Vec<Stmt>,
+) -> Result<Proc, AllocError>
+    ensures { IfOk result (λ p. p ≡ record { edition = Two; name = name.now; args = args; keys = keys.now; body = body.items }) }
+{
+    let keys = Items::from_slice(alloc, keys)?;
+    let name = Text::new(String::from_str(alloc, name)?);
+    Ok(Proc {
+        edition: Edition::Two,
+        name,
+        args,
+        keys,
+        body: Items::from_vec(body),
+    })
+}
+
 // Moves an amount from one account to another, and replies what is left in the first.
 fn transfer(alloc: Global) -> Result<Proc, AllocError>
     ensures { IfOk result (λ p. p ≡ transfer) }
+{
+    let body = transfer_body(alloc)?;
+    procedure(alloc, "transfer", 3, &[key(Mode::Write, 0), key(Mode::Write, 1)], body)
+}
+
+fn transfer_body(alloc: Global) -> Result<Vec<Stmt>, AllocError>
+    ensures { IfOk result (λ body. body.items ≡ transfer_body) }
 {
     let mut body = Vec::new(alloc);
     body.push(abort_if_too_little(alloc)?)?;
     body.push(withdraw(alloc)?)?;
     body.push(deposit(alloc)?)?;
     body.push(Stmt::Reply(Expr::Key(0)))?;
-    Ok(Proc {
-        edition: Edition::Two,
-        name: Text::new(String::from_str(alloc, "transfer")?),
-        args: 3,
-        keys: Items::from_slice(alloc, &[key(Mode::Write, 0), key(Mode::Write, 1)])?,
-        body: Items::from_vec(body),
-    })
+    Ok(body)
 }
 
 // Replies the sum of two accounts.
 fn sum(alloc: Global) -> Result<Proc, AllocError>
     ensures { IfOk result (λ p. p ≡ sum_of_two) }
 {
-    let mut body = Vec::new(alloc);
-    body.push(Stmt::Reply(add(alloc, Expr::Key(0), Expr::Key(1))?))?;
-    Ok(Proc {
-        edition: Edition::Two,
-        name: Text::new(String::from_str(alloc, "sum")?),
-        args: 2,
-        keys: Items::from_slice(alloc, &[key(Mode::Read, 0), key(Mode::Read, 1)])?,
-        body: Items::from_vec(body),
-    })
+    let sum = add(alloc, Expr::Key(0), Expr::Key(1))?;
+    let body = vec![in alloc; Stmt::Reply(sum)]?;
+    procedure(alloc, "sum", 2, &[key(Mode::Read, 0), key(Mode::Read, 1)], body)
 }
 
 /// The library of both procedures, for this many accounts.

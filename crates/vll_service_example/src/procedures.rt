@@ -1,10 +1,11 @@
 // What the bank's clients can call.
 ghost use Rattle.std.specs.Prelude.{◌≡◌, ◌∷◌, [], IfOk};
+ghost use Rattle.vll_proc.specs.declared.syntax.Edition.TheVariants.{Two};
 ghost use Rattle.vll_proc.specs.declared.syntax.Expr.{Add, Arg, Key, Less, Num, Sub};
 ghost use Rattle.vll_proc.specs.declared.syntax.KeyAt.TheVariants as at;
 ghost use Rattle.vll_proc.specs.declared.syntax.Stmt.{Abort, If, Set};
 ghost use Rattle.vll_record.specs.declared.claim.Mode.TheVariants.{Read, Write};
-ghost use Rattle.vll_service_example.specs.Bank.{deposit, procedures, read_all, transfer};
+ghost use Rattle.vll_service_example.specs.Bank.{deposit, deposit_body, procedures, read_all, read_all_body, transfer, transfer_body};
 
 use sqlite_items::{Boxed, Items};
 use std::alloc::{AllocError, Global};
@@ -90,22 +91,44 @@ fn put(alloc: Global, amount: u8) -> Result<Stmt, AllocError>
     Ok(Stmt::Set(1, Expr::Add(left, Boxed::new(alloc, Expr::Arg(amount))?)))
 }
 
+// A procedure of this name, with these keys and this body.
+fn procedure(
+    alloc: Global,
+    name: &str,
+    args: u8,
+    keys: &[KeyDecl],
+    body: Vec<Stmt>,
+) -> Result<Proc, AllocError>
+    ensures { IfOk result (λ p. p ≡ record { edition = Two; name = name.now; args = args; keys = keys.now; body = body.items }) }
+{
+    let keys = Items::from_slice(alloc, keys)?;
+    let name = Text::new(String::from_str(alloc, name)?);
+    Ok(Proc {
+        edition: Edition::Two,
+        name,
+        args,
+        keys,
+        body: Items::from_vec(body),
+    })
+}
+
 // Moves an amount from one account to another, and replies what is left in the first. Aborts if that holds less.
 fn transfer(alloc: Global) -> Result<Proc, AllocError>
     ensures { IfOk result (λ p. p ≡ transfer) }
+{
+    let body = transfer_body(alloc)?;
+    procedure(alloc, "transfer", 3, &[written(0), written(1)], body)
+}
+
+fn transfer_body(alloc: Global) -> Result<Vec<Stmt>, AllocError>
+    ensures { IfOk result (λ body. body.items ≡ transfer_body) }
 {
     let mut body = Vec::new(alloc);
     body.push(abort_if_less(alloc, Expr::Key(0), Expr::Arg(2), TOO_LITTLE)?)?;
     body.push(take(alloc, 2)?)?;
     body.push(put(alloc, 2)?)?;
     body.push(Stmt::Reply(Expr::Key(0)))?;
-    Ok(Proc {
-        edition: Edition::Two,
-        name: Text::new(String::from_str(alloc, "transfer")?),
-        args: 3,
-        keys: Items::from_slice(alloc, &[written(0), written(1)])?,
-        body: Items::from_vec(body),
-    })
+    Ok(body)
 }
 
 // Moves an amount from the till to an account, and replies what that holds then. Aborts if the amount is more than
@@ -113,33 +136,26 @@ fn transfer(alloc: Global) -> Result<Proc, AllocError>
 fn deposit(alloc: Global) -> Result<Proc, AllocError>
     ensures { IfOk result (λ p. p ≡ deposit) }
 {
+    let body = deposit_body(alloc)?;
+    procedure(alloc, "deposit", 2, &[till(), written(0)], body)
+}
+
+fn deposit_body(alloc: Global) -> Result<Vec<Stmt>, AllocError>
+    ensures { IfOk result (λ body. body.items ≡ deposit_body) }
+{
     let mut body = Vec::new(alloc);
     body.push(abort_if_less(alloc, Expr::Num(MOST_DEPOSIT), Expr::Arg(1), TOO_MUCH)?)?;
     body.push(take(alloc, 1)?)?;
     body.push(put(alloc, 1)?)?;
     body.push(Stmt::Reply(Expr::Key(1)))?;
-    Ok(Proc {
-        edition: Edition::Two,
-        name: Text::new(String::from_str(alloc, "deposit")?),
-        args: 2,
-        keys: Items::from_slice(alloc, &[till(), written(0)])?,
-        body: Items::from_vec(body),
-    })
+    Ok(body)
 }
 
 // Replies what each account holds.
 fn read_all(alloc: Global) -> Result<Proc, AllocError>
     ensures { IfOk result (λ p. p ≡ read_all) }
 {
-    let mut body = Vec::new(alloc);
-    body.push(Stmt::Reply(Expr::Key(0)))?;
-    body.push(Stmt::Reply(Expr::Key(1)))?;
-    body.push(Stmt::Reply(Expr::Key(2)))?;
-    body.push(Stmt::Reply(Expr::Key(3)))?;
-    body.push(Stmt::Reply(Expr::Key(4)))?;
-    body.push(Stmt::Reply(Expr::Key(5)))?;
-    body.push(Stmt::Reply(Expr::Key(6)))?;
-    body.push(Stmt::Reply(Expr::Key(7)))?;
+    let body = read_all_body(alloc)?;
     let keys = [
         read(0),
         read(1),
@@ -150,13 +166,22 @@ fn read_all(alloc: Global) -> Result<Proc, AllocError>
         read(6),
         read(7),
     ];
-    Ok(Proc {
-        edition: Edition::Two,
-        name: Text::new(String::from_str(alloc, "read_all")?),
-        args: 0,
-        keys: Items::from_slice(alloc, &keys)?,
-        body: Items::from_vec(body),
-    })
+    procedure(alloc, "read_all", 0, &keys, body)
+}
+
+fn read_all_body(alloc: Global) -> Result<Vec<Stmt>, AllocError>
+    ensures { IfOk result (λ body. body.items ≡ read_all_body) }
+{
+    vec![in alloc;
+        Stmt::Reply(Expr::Key(0)),
+        Stmt::Reply(Expr::Key(1)),
+        Stmt::Reply(Expr::Key(2)),
+        Stmt::Reply(Expr::Key(3)),
+        Stmt::Reply(Expr::Key(4)),
+        Stmt::Reply(Expr::Key(5)),
+        Stmt::Reply(Expr::Key(6)),
+        Stmt::Reply(Expr::Key(7)),
+    ]
 }
 
 /// The library of the bank's procedures, in this order: `transfer`, `deposit` and `read_all`.
