@@ -1,7 +1,9 @@
 //! What a scenario has.
 use crate::shown::Quoted;
 use std::alloc::{AllocError, Global};
-use vll_proc::{KeyAt, KeyDecl, Proc};
+use vll_check::Library;
+use vll_core::Config;
+use vll_proc::{Call, KeyAt, KeyDecl, Proc};
 use vll_record::Mode;
 use vll_sca::Placing;
 use vll_scenario::{Scenario, ScenarioParts};
@@ -19,32 +21,81 @@ pub(crate) fn summary_of(alloc: Global, scenario: Scenario) -> Result<String, Al
         placing,
         schedule,
     } = scenario.into_parts();
+    let counts = Counts {
+        records: records.len(),
+        clients: scripts.len(),
+        calls: calls_in(scripts.as_slice()),
+        events: schedule.len(),
+    };
+    summary(alloc, counts, config, placing, &library)
+}
+
+// The sizes of a scenario's parts.
+#[derive(Clone, Copy)]
+struct Counts {
+    records: usize,
+    clients: usize,
+    calls: usize,
+    events: usize,
+}
+
+fn calls_in(scripts: &[Vec<Call>]) -> usize {
     let mut calls = 0usize;
-    for script in scripts.iter() {
+    for script in scripts {
         calls = calls.saturating_add(script.len());
     }
-    let (records, clients, events) = (records.len(), scripts.len(), schedule.len());
-    let (cap, limit, bits) = (config.cap, config.limit, config.bits);
+    calls
+}
+
+fn summary(
+    alloc: Global,
+    counts: Counts,
+    config: Config,
+    placing: Placing,
+    library: &Library,
+) -> Result<String, AllocError> {
+    let mut text = String::new(alloc);
+    push_counts(&mut text, counts)?;
+    push_config(&mut text, config, placing)?;
+    push_procedures(&mut text, library)?;
+    Ok(text)
+}
+
+fn push_counts(text: &mut String, counts: Counts) -> Result<(), AllocError> {
+    let Counts {
+        records,
+        clients,
+        calls,
+        events,
+    } = counts;
+    writeln!(
+        text,
+        "records: {records}\nclients: {clients}\ncalls: {calls}\nevents: {events}"
+    )
+}
+
+fn push_config(text: &mut String, config: Config, placing: Placing) -> Result<(), AllocError> {
+    let Config { cap, limit, bits } = config;
     let hash = match placing {
         Placing::Modulo => "modulo",
         Placing::Spread => "spread",
     };
-    let mut text = format!(in alloc;
-        "records: {records}\nclients: {clients}\ncalls: {calls}\nevents: {events}\n"
-    )?;
     writeln!(
         text,
         "cap: {cap}\nlimit: {limit}\nbits: {bits}\nhash: {hash}"
-    )?;
+    )
+}
+
+fn push_procedures(text: &mut String, library: &Library) -> Result<(), AllocError> {
     for number in 0..MOST_TOLD {
         if let Some(procedure) = library.proc(number) {
-            push_procedure(&mut text, number, procedure)?;
+            push_procedure(text, number, procedure)?;
         }
     }
     if library.proc(MOST_TOLD).is_some() {
         text.push_str("and more procedures\n")?;
     }
-    Ok(text)
+    Ok(())
 }
 
 fn push_procedure(text: &mut String, number: u32, procedure: &Proc) -> Result<(), AllocError> {
