@@ -62,9 +62,18 @@ fn make_calls<N: Name, R: Wait + Print>(
     let (Some(mut other), Some(mut first)) = (clients.pop(), clients.pop()) else {
         return Ok(());
     };
-    transfer_twice(rt, engine, &mut first)?;
-    meet(rt, engine, &mut first, &mut other)?;
-    print_order(rt, relay(rt, engine, &mut first, &mut other)?)
+    make_calls_of(rt, engine, &mut first, &mut other)
+}
+
+fn make_calls_of<N: Name, R: Wait + Print>(
+    rt: &R,
+    engine: &Engine<N, Placing>,
+    first: &mut Client<N>,
+    other: &mut Client<N>,
+) -> Result<(), EngineFault> {
+    transfer_twice(rt, engine, first)?;
+    meet(rt, engine, first, other)?;
+    print_order(rt, relay(rt, engine, first, other)?)
 }
 
 // Makes one client's two transfers; for the second its account is too low.

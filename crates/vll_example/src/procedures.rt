@@ -1,4 +1,4 @@
-// What the bank's clients can call.
+//! The procedures that the bank's clients can call.
 ghost use Rattle.std.specs.Prelude.{◌≡◌, ◌∷◌, [], IfOk};
 ghost use Rattle.vll_proc.specs.declared.syntax.Edition.TheVariants.{Two};
 ghost use Rattle.vll_proc.specs.declared.syntax.Expr.{Add, Arg, Key, Less, Sub};
@@ -26,32 +26,54 @@ fn key(mode: Mode, argument: u8) -> KeyDecl
     }
 }
 
+// Both operands of an operator.
+fn both(
+    alloc: Global,
+    left: Expr,
+    right: Expr,
+) -> Result<(Boxed<Expr>, Boxed<Expr>), AllocError>
+    ensures { IfOk result (λ operands. (operands.0 ≡ left) × (operands.1 ≡ right)) }
+{
+    let left = Boxed::new(alloc, left)?;
+    Ok((left, Boxed::new(alloc, right)?))
+}
+
 fn add(alloc: Global, left: Expr, right: Expr) -> Result<Expr, AllocError>
     ensures { IfOk result (λ e. e ≡ Add left right) }
 {
-    Ok(Expr::Add(Boxed::new(alloc, left)?, Boxed::new(alloc, right)?))
+    let (left, right) = both(alloc, left, right)?;
+    Ok(Expr::Add(left, right))
 }
 
 fn sub(alloc: Global, left: Expr, right: Expr) -> Result<Expr, AllocError>
     ensures { IfOk result (λ e. e ≡ Sub left right) }
 {
-    Ok(Expr::Sub(Boxed::new(alloc, left)?, Boxed::new(alloc, right)?))
+    let (left, right) = both(alloc, left, right)?;
+    Ok(Expr::Sub(left, right))
 }
 
 fn less(alloc: Global, left: Expr, right: Expr) -> Result<Expr, AllocError>
     ensures { IfOk result (λ e. e ≡ Less left right) }
 {
-    Ok(Expr::Less(Boxed::new(alloc, left)?, Boxed::new(alloc, right)?))
+    let (left, right) = both(alloc, left, right)?;
+    Ok(Expr::Less(left, right))
+}
+
+// The list of one statement that aborts with a code.
+fn abort(alloc: Global, code: u16) -> Result<Items<Stmt>, AllocError>
+    ensures { IfOk result (λ list. list ≡ Abort code ∷ []) }
+{
+    let list = vec![in alloc; Stmt::Abort(code)]?;
+    Ok(Items::from_vec(list))
 }
 
 // Aborts if the first account holds less than the amount.
 fn abort_if_too_little(alloc: Global) -> Result<Stmt, AllocError>
     ensures { IfOk result (λ s. s ≡ If (Less (Key 0) (Arg 2)) (Abort TOO_LITTLE ∷ []) []) }
 {
+    let abort = abort(alloc, TOO_LITTLE)?;
     let is_less = less(alloc, Expr::Key(0), Expr::Arg(2))?;
-    let mut then = Vec::new(alloc);
-    then.push(Stmt::Abort(TOO_LITTLE))?;
-    Ok(Stmt::If(is_less, Items::from_vec(then), Items::new(alloc)))
+    Ok(Stmt::If(is_less, abort, Items::new(alloc)))
 }
 
 fn withdraw(alloc: Global) -> Result<Stmt, AllocError>

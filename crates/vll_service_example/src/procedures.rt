@@ -1,4 +1,4 @@
-// What the bank's clients can call.
+//! The procedures that the bank's clients can call.
 ghost use Rattle.std.specs.Prelude.{◌≡◌, ◌∷◌, [], IfOk};
 ghost use Rattle.vll_proc.specs.declared.syntax.Edition.TheVariants.{Two};
 ghost use Rattle.vll_proc.specs.declared.syntax.Expr.{Add, Arg, Key, Less, Num, Sub};
@@ -59,36 +59,50 @@ fn read(account: u32) -> KeyDecl
     }
 }
 
-fn less(alloc: Global, left: Expr, right: Expr) -> Result<Expr, AllocError>
-    ensures { IfOk result (λ e. e ≡ Less left right) }
+// Both operands of an operator.
+fn both(
+    alloc: Global,
+    left: Expr,
+    right: Expr,
+) -> Result<(Boxed<Expr>, Boxed<Expr>), AllocError>
+    ensures { IfOk result (λ operands. (operands.0 ≡ left) × (operands.1 ≡ right)) }
 {
-    Ok(Expr::Less(Boxed::new(alloc, left)?, Boxed::new(alloc, right)?))
+    let left = Boxed::new(alloc, left)?;
+    Ok((left, Boxed::new(alloc, right)?))
+}
+
+// The list of one statement that aborts with a code.
+fn abort(alloc: Global, code: u16) -> Result<Items<Stmt>, AllocError>
+    ensures { IfOk result (λ list. list ≡ Abort code ∷ []) }
+{
+    let list = vec![in alloc; Stmt::Abort(code)]?;
+    Ok(Items::from_vec(list))
 }
 
 // Aborts with a code if the left value is less.
 fn abort_if_less(alloc: Global, left: Expr, right: Expr, code: u16) -> Result<Stmt, AllocError>
     ensures { IfOk result (λ s. s ≡ If (Less left right) (Abort code ∷ []) []) }
 {
-    let is_less = less(alloc, left, right)?;
-    let mut then = Vec::new(alloc);
-    then.push(Stmt::Abort(code))?;
-    Ok(Stmt::If(is_less, Items::from_vec(then), Items::new(alloc)))
+    let abort = abort(alloc, code)?;
+    let (left, right) = both(alloc, left, right)?;
+    let is_less = Expr::Less(left, right);
+    Ok(Stmt::If(is_less, abort, Items::new(alloc)))
 }
 
 // Subtracts the amount, given by this argument, from the account of the first key.
 fn take(alloc: Global, amount: u8) -> Result<Stmt, AllocError>
     ensures { IfOk result (λ s. s ≡ Set 0 (Sub (Key 0) (Arg amount))) }
 {
-    let left = Boxed::new(alloc, Expr::Key(0))?;
-    Ok(Stmt::Set(0, Expr::Sub(left, Boxed::new(alloc, Expr::Arg(amount))?)))
+    let (value, amount) = both(alloc, Expr::Key(0), Expr::Arg(amount))?;
+    Ok(Stmt::Set(0, Expr::Sub(value, amount)))
 }
 
 // Adds it to the account of the second key.
 fn put(alloc: Global, amount: u8) -> Result<Stmt, AllocError>
     ensures { IfOk result (λ s. s ≡ Set 1 (Add (Key 1) (Arg amount))) }
 {
-    let left = Boxed::new(alloc, Expr::Key(1))?;
-    Ok(Stmt::Set(1, Expr::Add(left, Boxed::new(alloc, Expr::Arg(amount))?)))
+    let (value, amount) = both(alloc, Expr::Key(1), Expr::Arg(amount))?;
+    Ok(Stmt::Set(1, Expr::Add(value, amount)))
 }
 
 // A procedure of this name, with these keys and this body.
