@@ -6,6 +6,8 @@ use vll_replay::UpTo;
 /// The most events that a page draws.
 pub const MOST_COLUMNS: u32 = 3600;
 
+const _: () = prove!(MOST_COLUMNS == 3_600);
+
 /// The events of a schedule that are drawn. The lines of all events are listed.
 #[derive(Clone, Copy, Debug)]
 pub struct Window {

@@ -10,6 +10,8 @@ use std::alloc::{AllocError, Global};
 // How many bytes are asked for at a time.
 const PIECE: usize = 8_192;
 
+const _: () = prove!(PIECE == 8_192);
+
 /// Why the bytes of a source were not read to their end.
 #[derive(Debug, Drop)]
 pub enum ReadFault {
