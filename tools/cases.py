@@ -1,6 +1,6 @@
 """Reads the cases of scenarios/ and examples/: what each gives to the program, and what has to be printed.
 
-scenarios/README.md says how a case is written: in a file of its own, in files of one name, or as a row of a table.
+scenarios/README.md says how a case is written: in a file of several, in files of one name, or as a row of a table.
 """
 import re
 import shlex
@@ -10,10 +10,10 @@ from typing import List, NamedTuple, Optional, Union
 
 TOP = Path(__file__).resolve().parent.parent
 FOLDERS = ('scenarios', 'examples')
-# What a name ends in, and whether a script of that name and '.sh' may stand in its place.
-SUFFIXES = {'.json': True, '.out': True, '.judge': False, '.args': False}
-# A case in a file of its own: the command, the scenario, this line, and what is printed.
-WHOLE = '.case'
+# The name of a file that is part of a case: that of the case, which part it is, and whether a script prints it.
+PART = re.compile(r'(.+)\.(?:(json|out)(\.sh)?|judge|args)')
+# In a file of several cases, the line that begins one and names it, and the line behind its scenario.
+BEGIN = re.compile(rb'^==== (.*)\n', re.MULTILINE)
 BAR = re.compile(rb'^----( judged)?\n', re.MULTILINE)
 # A cell that begins with this names a file beside the table, and JUDGED stands for an outcome that is judged.
 NAMES_FILE = '@'
@@ -29,7 +29,7 @@ Source = Union[bytes, Path]
 class Case(NamedTuple):
     """What is given to the program, and what it has to print."""
     name: str
-    # a file, or a table and its line
+    # the beginning of its files' names, or a file and the line in it
     place: str
     words: List[bytes]
     text: Source
@@ -45,9 +45,10 @@ class Case(NamedTuple):
         """The first line that has to be printed, with its end, and no bytes if what is printed is judged."""
         return b'' if self.is_judged else self.wanted().partition(b'\n')[0] + b'\n'
 
-
-class Unreadable(Exception):
-    """No case can be read of a file or a row; the message says where, and why."""
+    def is_meant_by(self, word):
+        """Whether this is its name, which may stand behind its folder and the name of its file, as run/bodies/NAME."""
+        path, _, name = word.rpartition('/')
+        return name == self.name and path in self.place
 
 
 def is_script(source):
@@ -77,18 +78,18 @@ def standing(path):
     return next((found for found in (path, script) if found.is_file()), None)
 
 
-def usual_words(path):
-    """The arguments of a case without NAME.args."""
-    return [b'replay' if 'replay' in path.parent.parts else b'run']
-
-
 def words_in(path):
     """The arguments in a file: a line each."""
     return path.read_bytes().split(b'\n')[:-1]
 
 
+def words_of(text):
+    """The arguments in a line or a cell, as a shell reads them."""
+    return [word.encode() for word in shlex.split(text)]
+
+
 class Reader:
-    """Reads all cases below a folder, and keeps what cannot be read."""
+    """Reads all cases below a folder, and keeps what cannot be read: a line for each fault."""
 
     def __init__(self, top):
         self.top = top
@@ -96,93 +97,91 @@ class Reader:
         self.faults = []
         # the files that rows name, and by which rows
         self.named = {}
+        files = [path for folder in FOLDERS for path in sorted((top / folder).rglob('*')) if path.is_file()]
+        parts = {}
+        for path in files:
+            part = PART.fullmatch(path.name)
+            if path.suffix == '.cases':
+                self.read_several(path)
+            elif path.suffix == '.tsv':
+                self.read_table(path)
+            elif part:
+                parts.setdefault(path.with_name(part[1]), set()).add(path)
+            elif path.name != 'README.md':
+                self.faults.append(f'{self.place(path)} is no part of a case')
+        for path, found in parts.items():
+            if not self.are_of_rows(path, found):
+                self.try_to(self.read_files, self.place(path), path, found)
+        places = {}
+        for case in self.cases:
+            places.setdefault(case.name, []).append(case.place)
+        self.faults += [f'{" and ".join(doubled)} have one name' for doubled in places.values() if len(doubled) > 1]
 
     def place(self, path):
         return str(path.relative_to(self.top))
 
-    def read(self):
-        files = [path for folder in FOLDERS for path in sorted((self.top / folder).rglob('*')) if path.is_file()]
-        for table in files:
-            if table.suffix == '.tsv':
-                self.read_table(table)
-        parts = {}
-        for path in files:
-            name, suffix = split(path)
-            if path.suffix == WHOLE:
-                self.try_to(self.read_whole, path)
-            elif suffix:
-                parts.setdefault(path.with_name(name), set()).add(path)
-            elif path.suffix != '.tsv' and path.name != 'README.md':
-                self.faults.append(f'{self.place(path)} is no part of a case')
-        for path, found in parts.items():
-            if len(found) > len({split(file)[1] for file in found}):
-                self.faults.append(f'a part of {self.place(path)} is there, and its script too')
-            if not self.are_of_rows(path, found):
-                self.try_to(self.read_files, path)
-        self.refuse_doubled_names()
-        return self
-
     def are_of_rows(self, path, found):
         """Whether files of one name are no case of their own, but belong to the rows that name them."""
-        suffixes = {split(file)[1] for file in found}
-        is_whole = '.json' in suffixes and len(suffixes) > 1
         rows = [self.named.get(file, set()) for file in found]
-        return all(path.name in names for names in rows) if is_whole else all(rows)
+        return all(path.name in names for names in rows) if len(found) > 1 else all(rows)
 
-    def try_to(self, read, *given):
+    def try_to(self, read, place, *given):
         try:
-            self.cases.append(read(*given))
-        except Unreadable as why:
-            self.faults.append(str(why))
+            self.cases.append(read(place, *given))
+        except ValueError as why:
+            self.faults.append(f'{place}: {why}')
 
-    def read_whole(self, path):
-        """Reads the case that a file has."""
-        here = self.place(path)
-        command, _, rest = path.read_bytes().partition(b'\n')
+    def read_several(self, path):
+        """Reads a file of several cases."""
+        head, *parts = BEGIN.split(path.read_bytes())
+        if head or not parts:
+            self.faults.append(f'{self.place(path)} does not begin with a line ==== and a name')
+        line = 1 + head.count(b'\n')
+        for name, body in zip(parts[::2], parts[1::2]):
+            self.try_to(self.read_part, f'{self.place(path)}:{line}', name, body)
+            line += 1 + body.count(b'\n')
+
+    @staticmethod
+    def read_part(place, name, body):
+        """Reads one of these cases: the command, the scenario, a line ---- and what is printed."""
+        command, _, rest = body.partition(b'\n')
         parts = BAR.split(rest)
         if not command.startswith(b'vll ') or len(parts) != 3 or not parts[1] and not parts[2]:
-            raise Unreadable(f'{here} lacks a command, a line ---- after the scenario, or what is printed')
+            raise ValueError('it lacks a command, a line ---- after the scenario, or what is printed')
         text, judged, printed = parts
-        try:
-            words = [word.encode() for word in shlex.split(command.decode())[1:]]
-        except ValueError as error:
-            raise Unreadable(f'{here}: {error}') from error
-        return Case(path.stem, here, words, text, printed or None, bool(judged))
+        return Case(name.decode(), place, words_of(command.decode())[1:], text, printed or None, bool(judged))
 
-    def read_files(self, path):
+    @staticmethod
+    def read_files(place, path, found):
         """Reads the case whose files begin with this path."""
-        here = self.place(path)
-        beside = {suffix: standing(path.with_name(path.name + suffix)) for suffix in SUFFIXES}
-        if not beside['.json']:
-            raise Unreadable(f'there is no {here}.json')
-        if not beside['.out'] and not beside['.judge']:
-            raise Unreadable(f'there is neither {here}.out nor {here}.judge')
-        words = words_in(beside['.args']) if beside['.args'] else usual_words(path.relative_to(self.top))
-        return Case(path.name, here, words, beside['.json'], beside['.out'], bool(beside['.judge']))
+        text, printed, judge, words = (standing(path.with_name(f'{path.name}.{part}'))
+                                       for part in ('json', 'out', 'judge', 'args'))
+        if len(found) > sum(map(bool, (text, printed, judge, words))):
+            raise ValueError('a part is there, and its script too')
+        if not text or not printed and not judge:
+            raise ValueError('there is no .json, or neither .out nor .judge')
+        usual = b'replay' if 'replay' in place.split('/')[:-1] else b'run'
+        return Case(path.name, place, words_in(words) if words else [usual], text, printed, bool(judge))
 
     def read_table(self, table):
         for number, line in enumerate(table.read_bytes().split(b'\n'), start=1):
             if line and not line.startswith(b'#'):
-                self.try_to(self.read_row, table, number, line)
+                self.try_to(self.read_row, f'{self.place(table)}:{number}', table, line)
 
-    def read_row(self, table, number, line):
+    def read_row(self, place, table, line):
         """Reads a row: the name, the arguments, what is printed, and the lines of the scenario."""
-        here = f'{self.place(table)}:{number}'
-        try:
-            cells = line.decode().split('\t')
-            if len(cells) < 4:
-                raise ValueError(f'there are {len(cells)} cells, and not 4 or more')
-            name, words, printed, *lines = cells
-            words_file, printed_file, text_file = (self.file(table, name, cell) for cell in (words, printed, lines[0]))
-            if text_file and len(lines) > 1:
-                raise ValueError(f'there is a cell behind {lines[0]}')
-            words = words_in(words_file) if words_file else [word.encode() for word in shlex.split(words)]
-        except ValueError as error:
-            raise Unreadable(f'{here}: {error}') from error
+        cells = line.decode().split('\t')
+        if len(cells) < 4:
+            raise ValueError(f'there are {len(cells)} cells, and not 4 or more')
+        name, words, printed, *lines = cells
+        words_file, printed_file, text_file = (self.file(table, name, cell) for cell in (words, printed, lines[0]))
+        if text_file and len(lines) > 1:
+            raise ValueError(f'there is a cell behind {lines[0]}')
+        words = words_in(words_file) if words_file else words_of(words)
         text = text_file or '\n'.join([*lines, '']).encode()
         if printed == JUDGED:
-            return Case(name, here, words, text, None, True)
-        return Case(name, here, words, text, printed_file or f'{printed}\n'.encode())
+            return Case(name, place, words, text, None, True)
+        return Case(name, place, words, text, printed_file or f'{printed}\n'.encode())
 
     def file(self, table, name, cell):
         """The file that a cell of a row names, if it names one."""
@@ -194,23 +193,8 @@ class Reader:
         self.named.setdefault(found, set()).add(name)
         return found
 
-    def refuse_doubled_names(self):
-        places = {}
-        for case in self.cases:
-            places.setdefault(case.name, []).append(case.place)
-        self.faults += [f'{" and ".join(doubled)} have one name' for doubled in places.values() if len(doubled) > 1]
-
-
-def split(path):
-    """The name of the case that a file belongs to, and what part of it the file is, if any."""
-    for suffix, may_be_made in SUFFIXES.items():
-        for end in (suffix, f'{suffix}.sh') if may_be_made else (suffix,):
-            if path.name.endswith(end):
-                return path.name[:-len(end)], suffix
-    return path.name, None
-
 
 def read_cases(top=TOP):
     """The cases below a folder, by name, and what cannot be read there, a line each."""
-    reader = Reader(Path(top).resolve()).read()
+    reader = Reader(Path(top).resolve())
     return sorted(reader.cases, key=lambda case: case.name), reader.faults
