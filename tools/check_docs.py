@@ -1,7 +1,7 @@
 #!/usr/bin/env python3
 """Compares the pages of the repository with its sources, and prints a line for each thing that is not so.
 
-    python3 tools/check_docs.py [TOP]
+    python3 tools/check_docs.py
 
 - docs/DEFINITIONS.md: a name in the first column of a table is declared in the file of its row, or, if the table has no
   such column, in the crate of its section. What stands under "What the headline needs" is just what the clause
@@ -10,54 +10,68 @@
   its functions.
 - docs/ALGORITHM.md: each function stands in the crate that is named behind it.
 - docs/HEADLINE.md: what it quotes stands so in a source.
+- README.md: its scenario is scenarios/transfer.json, and its figures are those of docs/speed.csv.
+- examples/README.md: a block below a command has what is printed, behind the events of a schedule.
 - every page: a function that is named with its type is there, a link leads to a file and to a heading, and an outcome
   that stands below a command is the one beside the scenario.
 
 The last line tells how much was looked at. The status is 0 if all is so, and else 1.
 """
+import json
 import re
 import sys
-from pathlib import Path
+from itertools import zip_longest
 
+from cases import TOP, read_cases
+from figures import with_rows
 from sources import Sources, Specs
 
-TOP = Path(__file__).resolve().parent.parent
 NAME = re.compile(r'`([^`]+)`')
 HEADING = re.compile(r'(#+) +(.*)')
 # Names with the crate that has them behind them: `Queue::admit` (vll_core), or `delta`, `granted` (vll_record).
 IN_CRATE = re.compile(r'((?:`[^`]+`(?:, | and )?)+) \((vll\w*)\)')
 COMMAND = re.compile(r'`\./vll (?:run|replay)[^`<]*< ([\w./-]+)\.json`[^`]* prints$')
+EXAMPLE = re.compile(r'\./vll (.*) < examples/(\w+)\.json$')
 
 # Words of DEFINITIONS.md that stand in code marks and are no names of this repository.
 OTHERS = set('Appends Consumes null use'.split())
 
 
 class Page:
-    """A page with its sections, its tables and its blocks of code."""
+    """A page: its lines outside of code, its blocks of code, and its tables."""
 
     def __init__(self, path, name, text):
         self.path = path
         self.name = name
-        self.lines = text.splitlines()
-
-    def sections(self):
-        """Each line outside code with its number, the heading of its section of second rank, and the heading above."""
-        second = above = ''
-        fenced = False
-        for number, line in enumerate(self.lines, 1):
-            if line.startswith('```'):
-                fenced = not fenced
+        self.text = text
+        # of a line outside: its number, itself, the heading of its section of second rank, and the heading above
+        self.outside = []
+        # of a heading: its number and its words
+        self.headings = []
+        # of a block: its number, the last line of text above it, and its lines
+        self.blocks = []
+        second = above = last = ''
+        block = None
+        for number, line in enumerate(text.splitlines(), 1):
             found = HEADING.fullmatch(line)
-            if found and not fenced:
+            if line.startswith('```'):
+                block = None if block is not None else []
+                if block is not None:
+                    self.blocks.append((number, last, block))
+            elif block is not None:
+                block.append(line)
+            elif found:
+                self.headings.append((number, found[2]))
                 above = found[2]
                 second = found[2] if len(found[1]) <= 2 else second
-            elif not fenced:
-                yield number, line, second, above
+            else:
+                self.outside.append((number, line, second, above))
+                last = line.strip() or last
 
     def rows(self):
         """Each row of a table: its number, the headings, and its cells by the words of the table's head."""
         head = None
-        for number, line, second, above in self.sections():
+        for number, line, second, above in self.outside:
             if not line.startswith('|'):
                 head = None
                 continue
@@ -67,31 +81,10 @@ class Page:
             elif not set(line) <= set('|-: '):
                 yield number, second, above, dict(zip(head, cells))
 
-    def blocks(self):
-        """Each block of code: its number, the last line of text above it, and its lines."""
-        block, text = None, ''
-        for number, line in enumerate(self.lines, 1):
-            if line.startswith('```'):
-                if block is not None:
-                    yield start, text, block
-                block, start = ([], number) if block is None else (None, 0)
-            elif block is not None:
-                block.append(line)
-            elif line.strip():
-                text = line.strip()
-
     def anchors(self):
         """What a link can name after '#'."""
-        seen = {}
-        fenced = False
-        for line in self.lines:
-            fenced ^= line.startswith('```')
-            found = HEADING.fullmatch(line)
-            if found and not fenced:
-                words = re.sub(r'[^\w\- ]', '', found[2].lower()).replace(' ', '-')
-                count = seen.get(words, 0)
-                seen[words] = count + 1
-                yield f'{words}-{count}' if count else words
+        words = [re.sub(r'[^\w\- ]', '', heading.lower()).replace(' ', '-') for _, heading in self.headings]
+        return {f'{word}-{words[:at].count(word)}' if word in words[:at] else word for at, word in enumerate(words)}
 
 
 class Checks:
@@ -110,38 +103,28 @@ class Checks:
             self.wrong.append(f'{page.name}:{number}: {words}')
 
     def definitions(self, page):
-        self.declarations(page)
         listed = {}
         for number, second, above, cells in page.rows():
+            names = names_in(next(iter(cells.values())))
             if second == 'What the headline needs':
-                listed.setdefault(above, {}).update(dict.fromkeys(names_in(next(iter(cells.values()))), number))
-        self.look(page, 1, bool(listed), 'nothing is listed under "What the headline needs"')
-        self.headline(page, listed)
-
-    def declarations(self, page):
-        """What the first column of a table names is declared where the row or the section says, any name somewhere."""
-        for number, second, above, cells in page.rows():
+                listed.setdefault(above, {}).update(dict.fromkeys(names, number))
             crate = crate_in(above) or crate_in(second)
             where = [f'{crate}/{file}' if crate else file for file in NAME.findall(cells.get('File', ''))]
-            for name in names_in(next(iter(cells.values()))):
-                is_so = self.declared(name, where) if where else self.sources.is_declared(name, crate)
+            for name in names:
+                is_so = any(name in self.sources.names_of(file) for file in where) if where else \
+                    self.sources.is_declared(name, crate)
                 self.look(page, number, is_so, f'{name} is not declared in {" or ".join(where) or crate}')
-        for number, line, _, _ in page.sections():
+        for number, line, _, _ in page.outside:
             for name in names_in(line):
                 is_so = name in OTHERS or self.sources.is_declared(name, None)
                 self.look(page, number, is_so, f'{name} is not declared in any crate')
-
-    def declared(self, name, files):
-        return any(name in self.sources.names_of(file) for file in files)
-
-    def headline(self, page, listed):
-        """Each list under "What the headline needs" is what the names in its heading reach, but for those above it."""
+        self.look(page, 1, listed, 'nothing is listed under "What the headline needs"')
+        # Each list is what the names in its heading reach, but for those above it.
         known = set()
-        for number, line in enumerate(page.lines, 1):
-            found = HEADING.fullmatch(line)
-            names = listed.get(found[2]) if found else None
+        for number, heading in page.headings:
+            names = listed.get(heading)
             if names:
-                roots = NAME.findall(found[2])
+                roots = NAME.findall(heading)
                 reached = {name for root in roots for name in self.specs.reached_from(root)}
                 for name in sorted(reached - known - set(names)):
                     self.look(page, number, False, f'{name} is reached from {" and ".join(roots)}, and not listed')
@@ -150,9 +133,9 @@ class Checks:
                 known |= reached | set(names)
 
     def promises(self, page):
-        for number, _, _, cells in page.rows():
-            if 'Function' not in cells:
-                continue
+        rows = [(number, cells) for number, _, _, cells in page.rows() if 'Function' in cells]
+        self.look(page, 1, rows, 'no clause is looked at')
+        for number, cells in rows:
             functions = names_with_crates(cells['Function'])
             names = [name for name, _ in functions]
             theirs = set()
@@ -168,38 +151,56 @@ class Checks:
                 self.look(page, number, self.sources.is_declared(name, None), f'{name} is not declared in any crate')
 
     def algorithm(self, page):
-        for number, line, _, _ in page.sections():
+        for number, line, _, _ in page.outside:
             for name, crate in names_with_crates(line):
                 is_so = self.sources.clauses_of(name, crate) is not None or self.sources.is_declared(name, crate)
                 self.look(page, number, is_so, f'{name} is not in {crate}')
 
     def quotations(self, page):
-        for number, _, block in page.blocks():
+        for number, _, block in page.blocks:
             for piece in '\n'.join(block).split('\n\n'):
                 is_so = self.sources.has_lines([line.strip() for line in piece.splitlines()])
                 self.look(page, number, is_so, f'no source has: {piece.strip().splitlines()[0]}')
 
+    def readme(self, page):
+        scenario = (self.top / 'scenarios/transfer.json').read_text()
+        self.look(page, 1, f'```json\n{scenario}```\n' in page.text, 'scenarios/transfer.json does not stand here')
+        figures = (self.top / 'docs/speed.csv').read_text()
+        self.look(page, 1, with_rows(page.text, figures) == page.text, 'these are not the figures of docs/speed.csv')
+
+    def examples(self, page):
+        cases = {case.name: case for case in read_cases(self.top)[0] if case.place.startswith('examples/')}
+        for (number, _, block), (_, _, shown) in zip(page.blocks, page.blocks[1:]):
+            found = EXAMPLE.match(block[0]) if len(block) == 1 else None
+            case = found and cases.get(found[2])
+            if case and not case.is_judged and not shown[0].startswith('./vll '):
+                self.look(page, number, found[1].encode().split() == case.words, 'these are not the words of the case')
+                schedule = json.loads((self.top / f'{case.place}.json').read_text()).get('schedule', [])
+                events = [json.dumps(event, separators=(',', ':')) for event in schedule]
+                width = max(map(len, events), default=-3) + 3
+                lines = zip_longest(events, case.wanted().decode().splitlines(), fillvalue='')
+                self.look(page, number, shown == [event.ljust(width) + line for event, line in lines],
+                          f'this is not what is printed of {case.name}')
+
     def functions(self, page):
-        for number, line, _, _ in page.sections():
+        for number, line, _, _ in page.outside:
             for name in NAME.findall(line):
                 found = re.fullmatch(r'(?:vll_\w+::)?([A-Z]\w*)::([a-z]\w*)', name)
                 if found and self.sources.is_type(found[1]):
                     is_so = self.sources.clauses_of(f'{found[1]}::{found[2]}', None) is not None
                     self.look(page, number, is_so, f'{found[1]} has no function {found[2]}')
 
-    def links(self, page, pages):
-        for number, line, _, _ in page.sections():
-            for target in re.findall(r'\]\(([^)\s]+)\)', line):
-                if re.match(r'\w+:', target):
-                    continue
+    def links(self, page, anchors):
+        for number, line, _, _ in page.outside:
+            for target in re.findall(r'\]\((?!\w+:)([^)\s]+)\)', line):
                 file, _, anchor = target.partition('#')
                 path = (page.path.parent / file).resolve() if file else page.path
                 self.look(page, number, path.exists(), f'there is no {file}')
-                if anchor and path in pages:
-                    self.look(page, number, anchor in pages[path], f'there is no heading {target}')
+                if anchor and path in anchors:
+                    self.look(page, number, anchor in anchors[path], f'there is no heading {target}')
 
     def outcomes(self, page):
-        for number, text, block in page.blocks():
+        for number, text, block in page.blocks:
             found = COMMAND.search(text)
             if found:
                 wanted = self.top / f'{found[1]}.out'
@@ -232,29 +233,23 @@ def check(top, texts, sources, specs):
     """Compares pages of these texts with these sources."""
     checks = Checks(top, sources, specs)
     pages = {name: Page(top / name, name, text) for name, text in texts.items()}
-    anchors = {page.path.resolve(): set(page.anchors()) for page in pages.values()}
+    anchors = {page.path: page.anchors() for page in pages.values()}
     for page in pages.values():
         checks.functions(page)
         checks.links(page, anchors)
         checks.outcomes(page)
-    own = {
-        'docs/ALGORITHM.md': checks.algorithm,
-        'docs/DEFINITIONS.md': checks.definitions,
-        'docs/HEADLINE.md': checks.quotations,
-        'docs/PROMISES.md': checks.promises,
-    }
-    for name, look in own.items():
-        page, looked = pages.get(name), checks.looked
-        if page:
-            look(page)
+    for name, look in {'docs/ALGORITHM.md': checks.algorithm, 'docs/DEFINITIONS.md': checks.definitions,
+                       'docs/HEADLINE.md': checks.quotations, 'docs/PROMISES.md': checks.promises,
+                       'README.md': checks.readme, 'examples/README.md': checks.examples}.items():
+        looked = checks.looked
+        look(pages[name])
         if checks.looked == looked:
             checks.wrong.append(f'{name}: there is nothing to look at')
     return checks
 
 
 def main():
-    top = Path(sys.argv[1]).resolve() if len(sys.argv) > 1 else TOP
-    checks = check(top, pages_of(top), Sources(top), Specs(top))
+    checks = check(TOP, pages_of(TOP), Sources(TOP), Specs(TOP))
     for line in checks.wrong:
         print(line)
     print(f'docs: {checks.looked} things looked at, {len(checks.wrong)} not so')

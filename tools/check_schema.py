@@ -14,6 +14,11 @@ import sys
 
 from cases import TOP, bytes_of, read_cases
 
+try:
+    from jsonschema import Draft202012Validator
+except ImportError:
+    Draft202012Validator = None
+
 MOST_BYTES = 1 << 20
 
 # Checks 1, 2, 8, 14 and 15 are a ninth argument, a key too many, a local over 7, a second indirect key and a repeat of
@@ -50,10 +55,6 @@ def names_of(exceptions):
     return {name for names in exceptions.values() for name in names.split()}
 
 
-def is_left_out(line, text):
-    return re.match(r'vll: (command line|scenario: (json|read))\n', line) or len(text) > MOST_BYTES
-
-
 def scenarios():
     """Each scenario that the schema can be asked for: its name, its tree, and the first line that is to be printed.
 
@@ -62,17 +63,12 @@ def scenarios():
     for case in read_cases()[0]:
         line = case.line().decode()
         text = bytes_of(case.text, MOST_BYTES + 1)
-        if not is_left_out(line, text):
+        if not re.match(r'vll: (command line|scenario: (json|read))\n', line) and len(text) <= MOST_BYTES:
             yield case.name, json.loads(text), line
-
-
-def schema_of_scenarios():
-    return json.loads((TOP / 'docs/scenario.schema.json').read_text())
 
 
 def disagreements(schema, asked):
     """A line for each of the scenarios that disagrees with a schema, and for each exception that is no scenario."""
-    from jsonschema import Draft202012Validator
     Draft202012Validator.check_schema(schema)
     validator = Draft202012Validator(schema)
     untold, told = names_of(UNTOLD), names_of(TOLD)
@@ -85,13 +81,12 @@ def disagreements(schema, asked):
 
 
 def main():
-    sys.setrecursionlimit(20000)
-    asked = list(scenarios())
-    try:
-        wrong = list(disagreements(schema_of_scenarios(), asked))
-    except ImportError:
+    if not Draft202012Validator:
         print('python3 has no jsonschema of draft 2020-12 (in Debian: the package python3-jsonschema)')
         return 3
+    sys.setrecursionlimit(20000)
+    asked = list(scenarios())
+    wrong = list(disagreements(json.loads((TOP / 'docs/scenario.schema.json').read_text()), asked))
     for line in wrong:
         print(line)
     print(f'{len(asked)} scenarios, {len(wrong)} disagree')

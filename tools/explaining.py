@@ -5,7 +5,6 @@ piece that the line tells of, and says what is wrong with it in words that go wi
 """
 import re
 
-WORDS = [b'explain']
 # What the program says if its second look has not found the mistake.
 NOT_FOUND = 'a second look'
 # The most bytes that are printed, as docs/SCENARIO.md says.

@@ -3,11 +3,9 @@
 
     python3 tools/generate.py replay SEED [--size N]
     python3 tools/generate.py run SEED [--size N] [--options]
-    python3 tools/generate.py KIND FROM --statistics COUNT [--size N]
 
 The first prints a scenario with a schedule of up to N events, mostly ones that can be taken, the second one with
-up to N calls; with --options it prints the options of 'vll run' that go with the seed instead. With --statistics
-it prints what occurs in the scenarios of COUNT seeds from FROM on, and in what comes of them, and how often.
+up to N calls; with --options it prints the options of 'vll run' that go with the seed instead.
 
 Of three seeds that follow each other one has procedures with indirect keys, and finds in its schedule. Of four
 one is of version 2.
@@ -15,12 +13,8 @@ one is of version 2.
 import argparse
 import json
 import random
-import sys
 
-from judging import DEEPEST
-from occurrences import counts_of
-from random_procedures import MOST_KEYS, any_call, any_number, any_procedures
-from random_repeats import become_version_two
+from random_procedures import MOST_KEYS, any_call, any_number, any_procedures, become_version_two
 from replay_model import Machine
 
 SIZES = {'replay': 240, 'run': 60}
@@ -168,13 +162,18 @@ def any_scenario(rng, calls, clients, has_indirect_keys):
     return scenario
 
 
-def replay_scenario(seed, size=SIZES['replay']):
-    """The scenario of a replay, with its schedule."""
-    rng = random.Random(f'replay {seed} {size}')
-    scenario = any_scenario(rng, calls=max(2, size // 4), clients=5, has_indirect_keys=seed % 3 == 2)
+def scenario_without_a_schedule(rng, seed, calls, clients):
+    scenario = any_scenario(rng, calls, clients, has_indirect_keys=seed % 3 == 2)
     if seed % 4 == 3:
         become_version_two(random.Random(f'version two {seed}'), scenario)
     add_choices(rng, scenario, sum(map(len, scenario['clients'])))
+    return scenario
+
+
+def replay_scenario(seed, size=SIZES['replay']):
+    """The scenario of a replay, with its schedule."""
+    rng = random.Random(f'replay {seed} {size}')
+    scenario = scenario_without_a_schedule(rng, seed, calls=max(2, size // 4), clients=5)
     if rng.random() < 0.96:
         scenario['schedule'] = any_schedule(rng, scenario, size)
     return scenario
@@ -183,23 +182,22 @@ def replay_scenario(seed, size=SIZES['replay']):
 def run_scenario(seed, size=SIZES['run']):
     """The scenario of a run, and the options that go with it."""
     rng = random.Random(f'run {seed} {size}')
-    scenario = any_scenario(rng, calls=size, clients=12, has_indirect_keys=seed % 3 == 2)
-    if seed % 4 == 3:
-        become_version_two(random.Random(f'version two {seed}'), scenario)
-    add_choices(rng, scenario, sum(map(len, scenario['clients'])))
+    scenario = scenario_without_a_schedule(rng, seed, calls=size, clients=12)
     if rng.random() < 0.1:
         scenario['schedule'] = [['enter', 0], ['scan']]
-    choices = {
-        '--workers': [1, 2, 3, 8, 64],
-        '--cap': [1, 2, 5, 65536],
-        '--bits': [1, 2, 7, 1048576],
-    }
+    choices = {'--workers': [1, 2, 3, 8, 64], '--cap': [1, 2, 5, 65536], '--bits': [1, 2, 7, 1048576]}
     options = []
     for option, values in choices.items():
         if rng.random() < 0.5:
             value = rng.choice(values)
             options += [f'{option}={value}'] if rng.random() < 0.5 else [option, str(value)]
     return scenario, options
+
+
+def chosen_by(options):
+    """The value of each option that is there."""
+    words = ' '.join(options).replace('=', ' ').split()
+    return dict(zip(words[::2], words[1::2]))
 
 
 def text_of(scenario, seed):
@@ -224,17 +222,9 @@ def main():
     parser.add_argument('seed', type=int)
     parser.add_argument('--size', type=int)
     parser.add_argument('--options', action='store_true')
-    parser.add_argument('--statistics', type=int, metavar='COUNT')
     words = parser.parse_args()
-    sys.setrecursionlimit(DEEPEST)
-    size = words.size or SIZES[words.kind]
-    if words.statistics is not None:
-        seeds = range(words.seed, words.seed + words.statistics)
-        for name, count in counts_of(words.kind, (scenario_of(words.kind, seed, size) for seed in seeds)).items():
-            print(f'{count:9} {name}')
-    else:
-        scenario, options = scenario_of(words.kind, words.seed, size)
-        print(' '.join(options) if words.options else text_of(scenario, words.seed))
+    scenario, options = scenario_of(words.kind, words.seed, words.size or SIZES[words.kind])
+    print(' '.join(options) if words.options else text_of(scenario, words.seed))
 
 
 if __name__ == '__main__':

@@ -1,24 +1,24 @@
 #!/usr/bin/env python3
 """Judges the outcome of a run whose calls may enter in more than one order.
 
-    python3 tools/judge_outcome.py SCENARIO OUTCOME [SCENARIO OUTCOME ..]
+    python3 tools/judge_outcome.py SCENARIO OUTCOME
 
-SCENARIO is the file that 'vll run' read, and OUTCOME what it printed. The outcome is lawful where it is that
-of the calls made one at a time in the order in which it lists them: the tickets are 0, 1, 2 and so on; the
-lines of each client are the calls of its script, in its order, and none is left out; each reply is what its
-call answers then; and the records are those at the end, each with the pair word 0. A call with an indirect
-key may also be aborted as moved, where it can have found an earlier value of its source (see Run.judge_find).
-What a call does is worked out from docs/SCENARIO.md and docs/DEFINITIONS.md, and nothing of the program is used.
+SCENARIO is the file that 'vll run' read, and OUTCOME what it printed. The outcome is lawful where it is that of the
+calls made one at a time in the order in which it lists them: the tickets are 0, 1, 2 and so on; the lines of each
+client are the calls of its script, in its order, and none is left out; each reply is what its call answers then; and
+the records are those at the end, each with the pair word 0. A call with an indirect key may also be aborted as moved,
+where it can have found an earlier value of its source (see Run.judge_find). What a call does is worked out from
+docs/SCENARIO.md and docs/DEFINITIONS.md, and nothing of the program is used.
 
-A line 'OUTCOME: WHY' is printed for each outcome that is not lawful. The status is 0 where all are lawful, 1
-where one is not, and 2 where one cannot be judged.
+What is not lawful is printed. The status is 0 if all is, 1 if something is not, and 2 if it cannot be judged.
 """
+import json
 import re
 import sys
 from bisect import bisect_right
+from pathlib import Path
 
-from judging import Unlawful, judge_files, lines_of
-from model import found_on, make_on, records_of, source_of
+from model import Unlawful, found_on, lines_of, make_on, records_of, source_of
 
 CALL_LINE = re.compile(r'call (0|[1-9][0-9]*) client (0|[1-9][0-9]*) (.*)')
 MOVED = 'aborted moved'
@@ -147,5 +147,21 @@ def judge(scenario, text):
     run.judge_end(lines[calls:])
 
 
+def main(words):
+    if len(words) != 2:
+        print('usage: python3 tools/judge_outcome.py SCENARIO OUTCOME')
+        return 2
+    try:
+        scenario, text = (Path(word).read_bytes().decode() for word in words)
+        judge(json.loads(scenario), text)
+    except Unlawful as why:
+        print(f'{words[1]}: {why}')
+        return 1
+    except (OSError, ValueError) as error:
+        print(error)
+        return 2
+    return 0
+
+
 if __name__ == '__main__':
-    sys.exit(judge_files(sys.argv[1:], judge, 'python3 tools/judge_outcome.py SCENARIO OUTCOME [SCENARIO OUTCOME ..]'))
+    sys.exit(main(sys.argv[1:]))

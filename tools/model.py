@@ -3,10 +3,24 @@
 A procedure and a call are the objects of the scenario's JSON tree. The judges of runs and of replays, and the
 generator of random scenarios, all take the language's meaning from here.
 """
+import sys
 from typing import NamedTuple
+
+# Nested bodies are walked by functions that call themselves.
+sys.setrecursionlimit(20000)
 
 MOST = (1 << 64) - 1
 LOCALS = 8
+
+
+class Unlawful(Exception):
+    """A printed text is not what it has to be; the message says why."""
+
+
+def lines_of(text):
+    if text and not text.endswith('\n'):
+        raise Unlawful('the last line has no end')
+    return text.split('\n')[:-1]
 
 
 class Aborted(Exception):
@@ -44,53 +58,53 @@ OPERATORS = {
 }
 
 
-def nodes_of(tree):
-    """The nodes of a statement, an expression or a list of statements."""
-    if isinstance(tree, int):
-        return 1
-    if not tree or isinstance(tree[0], list):
-        return sum(map(nodes_of, tree))
-    if tree[0] in ('arg', 'key', 'local', 'abort'):
-        return 1
-    return 1 + sum(map(nodes_of, tree[2:] if tree[0] in ('let', 'set', 'repeat') else tree[1:]))
+def is_leaf(tree):
+    """Whether a tree is one node, with nothing in it."""
+    return isinstance(tree, int) or tree[0] in ('arg', 'key', 'local', 'abort')
 
 
-def replies_of(statements):
-    """How many replies a list of statements can make."""
-    def of(statement):
-        word, *parts = statement
-        if word == 'if':
-            return max(replies_of(parts[1]), replies_of(parts[2]))
-        if word == 'repeat':
-            return parts[0] * replies_of(parts[1])
-        return int(word == 'reply')
-    return sum(map(of, statements))
+def parts_of(statement):
+    """The count of a statement's turns (1 if it is no repeat), the expressions in it, and the lists of statements."""
+    word, *parts = statement
+    if word == 'if':
+        return 1, parts[:1], parts[1:]
+    if word == 'repeat':
+        return parts[0], [], parts[1:]
+    if word == 'abort':
+        return 1, [], []
+    return 1, parts[1:] if word in ('let', 'set') else parts, []
+
+
+def nodes_in(expression):
+    return 1 if is_leaf(expression) else 1 + sum(map(nodes_in, expression[1:]))
+
+
+def depth_in(expression):
+    return 1 if is_leaf(expression) else 1 + max(map(depth_in, expression[1:]))
+
+
+def nodes_of(statements):
+    """How many nodes a list of statements has."""
+    return sum(1 + sum(map(nodes_in, expressions)) + sum(map(nodes_of, lists))
+               for _, expressions, lists in map(parts_of, statements))
 
 
 def weight_of(statements):
     """The weight of a list of statements."""
-    def of(statement):
-        word, *parts = statement
-        if word == 'if':
-            return 1 + nodes_of(parts[0]) + weight_of(parts[1]) + weight_of(parts[2])
-        if word == 'repeat':
-            return 1 + parts[0] * weight_of(parts[1])
-        return nodes_of(statement)
-    return sum(map(of, statements))
+    return sum(1 + sum(map(nodes_in, expressions)) + turns * sum(map(weight_of, lists))
+               for turns, expressions, lists in map(parts_of, statements))
 
 
 def depth_of(statements):
     """How deep a list of statements is."""
-    def of(tree):
-        if isinstance(tree, int) or tree[0] in ('arg', 'key', 'local', 'abort'):
-            return 1
-        word, *parts = tree
-        if word == 'if':
-            return 1 + max(of(parts[0]), depth_of(parts[1]), depth_of(parts[2]))
-        if word == 'repeat':
-            return 1 + depth_of(parts[1])
-        return 1 + max(map(of, parts[1:] if word in ('let', 'set') else parts))
-    return max(map(of, statements), default=0)
+    return max((1 + max([*map(depth_in, expressions), *map(depth_of, lists)], default=0)
+                for _, expressions, lists in map(parts_of, statements)), default=0)
+
+
+def replies_of(statements):
+    """How many replies a list of statements can make."""
+    return sum((statement[0] == 'reply') + turns * max(map(replies_of, lists), default=0)
+               for statement, (turns, _, lists) in zip(statements, map(parts_of, statements)))
 
 
 class Found(NamedTuple):

@@ -4,6 +4,7 @@ IN_REPLAYS and IN_RUNS are the names that have to occur among the scenarios of s
 """
 from collections import Counter
 
+from generate import chosen_by
 from model import OPERATORS, Aborted, Body, Found, claims_of, found_on, make_on, records_of, source_of
 from replay_model import Machine
 
@@ -279,8 +280,7 @@ def in_replay(scenario):
 def in_run(scenario, options):
     """What occurs in a run, if each client makes all its calls before the next one."""
     yield from in_members(scenario)
-    words = ' '.join(options).replace('=', ' ').split()
-    chosen = dict(zip(words[::2], words[1::2]))
+    chosen = chosen_by(options)
     for option in ('--workers', '--cap', '--bits'):
         yield f'{option} is {size_of(chosen.get(option))}'
     procedures = {procedure['name']: procedure for procedure in scenario['procs']}

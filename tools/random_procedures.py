@@ -1,11 +1,15 @@
-"""Makes random procedures of every form of the language, all well-formed."""
-from model import LOCALS, MOST, OPERATORS, nodes_of
+"""Makes random procedures of every form of the language, all well-formed: first of version 1, and of these some of
+version 2, with repeats in their bodies and more keys."""
+from model import LOCALS, MOST, OPERATORS, depth_of, nodes_in, nodes_of, parts_of, replies_of, weight_of
 
 MOST_ARGS = 8
 MOST_KEYS = 16
+MOST_KEYS_OF_VERSION_TWO = 32
 MOST_REPLIES = 8
 MOST_DEEP = 32
 MOST_NODES = 1024
+MOST_TURNS = 64
+MOST_WEIGHT = 65536
 MOST_CODE = 65535
 
 # Operators that seldom end a call stand for most of those in a tame body.
@@ -86,7 +90,7 @@ class BodyWriter:
     def choice(self, depth, nodes):
         """An if. Behind it what both of its lists set is surely set, and it makes the more of their replies."""
         condition = self.expression(depth - 1, self.rng.randint(1, nodes - 1))
-        nodes = (nodes - 1 - nodes_of(condition)) // 2
+        nodes = (nodes - 1 - nodes_in(condition)) // 2
         known, replies_left = set(self.known), self.replies_left
         first = self.statements(depth - 1, nodes, is_inner=True)
         first_known, first_left = self.known, self.replies_left
@@ -102,7 +106,7 @@ class BodyWriter:
             if depth < 1 or nodes < 1:
                 break
             written.append(self.statement(depth, nodes, is_inner))
-            nodes -= nodes_of(written[-1])
+            nodes -= nodes_of(written[-1:])
         return written
 
 
@@ -131,7 +135,7 @@ def long(writer):
     body, left = [], MOST_NODES
     while left > 1:
         body.append(['let', 0, writer.expression(4, left - 1)])
-        left -= nodes_of(body[-1])
+        left -= nodes_of(body[-1:])
     return body + [['abort', 0]] * left
 
 
@@ -191,3 +195,60 @@ def any_call(rng, procedure, records):
     args = [rng.randrange(records) if index in places else any_number(rng, is_tame=rng.random() < 0.7)
             for index in range(procedure['args'])]
     return {'proc': procedure['name'], 'args': args}
+
+
+def lists_of(statements):
+    """A list of statements, and each that stands in it."""
+    yield statements
+    for statement in statements:
+        for inside in parts_of(statement)[2]:
+            yield from lists_of(inside)
+
+
+def is_well_formed(body):
+    return (replies_of(body) <= MOST_REPLIES and depth_of(body) <= MOST_DEEP and nodes_of(body) <= MOST_NODES
+            and weight_of(body) <= MOST_WEIGHT)
+
+
+def add_repeat(rng, body):
+    """Puts some statements of the body that follow each other into a repeat, if the body stays within its measures."""
+    statements = rng.choice(list(lists_of(body)))
+    start = rng.randint(0, len(statements))
+    end = rng.randint(start, min(len(statements), start + 4))
+    inside = statements[start:end]
+    # A local that no turn has set may be read behind it.
+    fewest = int(any(statement[0] == 'let' for part in lists_of(inside) for statement in part))
+    turns = rng.choice([0, 1, 2, 2, 3, 3, 4, 5, 8, 9, MOST_TURNS - 1, MOST_TURNS])
+    for count in [max(fewest, turns), 2, 1]:
+        statements[start:end] = [['repeat', count, inside]]
+        if is_well_formed(body):
+            return
+        statements[start:start + 1] = inside
+
+
+def add_count(rng, body):
+    """Puts a repeat behind the body that counts in a local, and a reply of the count, if its measures allow it."""
+    local = rng.randrange(LOCALS)
+    counted = ['add', ['local', local], rng.choice([1, 1, 2, 7])]
+    added = [['let', local, rng.randrange(3)],
+             ['repeat', rng.choice([1, 2, 3, 10, MOST_TURNS]), [['let', local, counted]]], ['reply', ['local', local]]]
+    if is_well_formed(body + added):
+        body += added
+
+
+def add_keys(rng, procedure, records):
+    """Puts fixed keys behind those of the procedure, up to as many as there may be."""
+    for _ in range(rng.choice([17, 20, *[MOST_KEYS_OF_VERSION_TWO] * 2]) - len(procedure['keys'])):
+        procedure['keys'].append([rng.choice(['read', 'write']), 'fixed', rng.randrange(records)])
+
+
+def become_version_two(rng, scenario):
+    """The scenario says version 2, and uses what that has."""
+    scenario['version'] = 2
+    for procedure in scenario['procs']:
+        for _ in range(rng.choice([0, 1, 1, 2, 3])):
+            add_repeat(rng, procedure['body'])
+        if rng.random() < 0.3:
+            add_count(rng, procedure['body'])
+        if rng.random() < 0.25:
+            add_keys(rng, procedure, len(scenario['records']))

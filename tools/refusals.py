@@ -6,7 +6,7 @@ a procedure's check, of a name that stands twice, or of a call.
 import json
 import re
 
-from model import LOCALS, MOST, OPERATORS, depth_of, nodes_of, replies_of, weight_of
+from model import LOCALS, MOST, OPERATORS, depth_of, nodes_of, parts_of, replies_of, weight_of
 
 MOST_BYTES = 1 << 24
 MOST_NESTED = 127
@@ -15,10 +15,6 @@ CODE = 65535
 WORD = 4294967295
 NEEDED = 'version', 'records', 'procs', 'clients'
 CHOICES = 'cap', 'bits', 'limit', 'hash', 'schedule'
-LEAVES = {'arg': INDEX, 'key': INDEX, 'local': INDEX}
-PLACES = {'arg': INDEX, 'fixed': WORD, 'through': INDEX}
-EVENTS = {**dict.fromkeys(['claim', 'admit', 'front', 'scan'], 1),
-          **dict.fromkeys(['find', 'enter', 'load', 'store', 'release', 'finish'], 2)}
 # Of each member the fewest and the most, of a list its items.
 SIZES = {'records': (1, 65536), 'procs': (0, 1048576), 'clients': (0, 1024), 'schedule': (0, 1048576),
          'cap': (1, 65536), 'bits': (1, 1048576), 'limit': (1, 65536)}
@@ -53,7 +49,7 @@ def tree_of(data):
         text = data.decode()
         if text.count('[') + text.count('{') > MOST_NESTED and nested_in(text) > MOST_NESTED:
             raise ValueError('it is nested too deep')
-        tree = json.loads(text, parse_int=whole, parse_float=finite, parse_constant=no_number)
+        tree = json.loads(text, parse_int=whole, parse_float=finite, parse_constant=finite)
         if re.search(r'\\u[dD][89a-fA-F]', text):
             # half a surrogate pair has no bytes, also in a member whose name stands again behind it
             json.dumps(json.loads(text, object_pairs_hook=list), ensure_ascii=False).encode()
@@ -65,28 +61,23 @@ def tree_of(data):
 def nested_in(text):
     """How many lists and objects are inside one another, at most, if the text is JSON."""
     outside = re.sub(r'"[^"\\]*(?:\\.[^"\\]*)*"', '', text)
-    left = re.sub(r'[^][]+', '', outside.replace('{', '[').replace('}', ']'))
-    depth = 0
+    left, depth = re.sub(r'[^][]+', '', outside.replace('{', '[').replace('}', ']')), 0
     while '[]' in left and depth <= MOST_NESTED:
-        left = left.replace('[]', '')
-        depth += 1
+        left, depth = left.replace('[]', ''), depth + 1
     return depth
 
 
 def finite(text):
+    """A number with a sign, a point or an exponent; also what python3 takes for one, as NaN, and is none in JSON."""
     value = float(text)
-    if abs(value) == float('inf'):
-        raise ValueError('a number is too large')
+    if abs(value) == float('inf') or value != value:
+        raise ValueError(f'{text} is no number, or too large')
     return value
 
 
 def whole(text):
     value = finite(text)
     return value if text.startswith('-') else int(text)
-
-
-def no_number(text):
-    raise ValueError(f'{text} is no number')
 
 
 def is_number(tree, most=MOST):
@@ -106,41 +97,57 @@ def is_row(tree):
     return isinstance(tree, list) and bool(tree) and isinstance(tree[0], str)
 
 
-def is_expression(tree):
-    if not is_row(tree):
-        return is_number(tree)
-    word, *parts = tree
-    if word in LEAVES:
-        return len(parts) == 1 and is_number(parts[0], LEAVES[word])
-    return len(parts) == (2 if word in OPERATORS else 1 if word == 'not' else -1) and all(map(is_expression, parts))
-
-
-def is_statement(tree, version):
-    def is_body(part):
-        return is_list_of(part, lambda statement: is_statement(statement, version))
-
-    def is_at_most(most):
-        return lambda part: is_number(part, most)
-
-    forms = {'let': [is_at_most(INDEX), is_expression], 'set': [is_at_most(INDEX), is_expression],
-             'if': [is_expression, is_body, is_body], 'abort': [is_at_most(CODE)], 'reply': [is_expression]}
-    if version == 2:
-        forms['repeat'] = [is_at_most(INDEX), is_body]
+def has_form(tree, forms):
+    """Whether a list begins with one of these words, and what stands behind passes the tests of that word."""
     if not is_row(tree) or tree[0] not in forms:
         return False
     tests = forms[tree[0]]
     return len(tree) == 1 + len(tests) and all(test(part) for test, part in zip(tests, tree[1:]))
 
 
+def is_index(tree):
+    return is_number(tree, INDEX)
+
+
+def is_word(tree):
+    return is_number(tree, WORD)
+
+
+def is_expression(tree):
+    return has_form(tree, EXPRESSIONS) if isinstance(tree, list) else is_number(tree)
+
+
+def is_body(tree):
+    return is_list_of(tree, lambda statement: has_form(statement, STATEMENTS))
+
+
+def is_body_of_version_two(tree):
+    return is_list_of(tree, lambda statement: has_form(statement, STATEMENTS_OF_VERSION_TWO))
+
+
+def statements_with(is_inside):
+    return {'let': [is_index, is_expression], 'set': [is_index, is_expression], 'reply': [is_expression],
+            'if': [is_expression, is_inside, is_inside], 'abort': [lambda code: is_number(code, CODE)]}
+
+
+# What stands behind each word, as tests.
+EXPRESSIONS = {**dict.fromkeys(['arg', 'key', 'local'], [is_index]), 'not': [is_expression],
+               **dict.fromkeys(OPERATORS, [is_expression, is_expression])}
+STATEMENTS = statements_with(is_body)
+STATEMENTS_OF_VERSION_TWO = {**statements_with(is_body_of_version_two), 'repeat': [is_index, is_body_of_version_two]}
+PLACES = {'arg': [is_index], 'fixed': [is_word], 'through': [is_index]}
+EVENTS = {**dict.fromkeys(['claim', 'admit', 'front', 'scan'], []),
+          **dict.fromkeys(['find', 'enter', 'load', 'store', 'release', 'finish'], [is_word])}
+
+
 def is_key(tree):
-    return (is_row(tree) and len(tree) == 3 and tree[0] in ('read', 'write') and isinstance(tree[1], str)
-            and tree[1] in PLACES and is_number(tree[2], PLACES[tree[1]]))
+    return is_row(tree) and tree[0] in ('read', 'write') and has_form(tree[1:], PLACES)
 
 
 def is_procedure(tree, version):
     return (is_object(tree, ['name', 'args', 'keys', 'body']) and isinstance(tree['name'], str)
-            and is_number(tree['args'], INDEX) and is_list_of(tree['keys'], is_key)
-            and is_list_of(tree['body'], lambda statement: is_statement(statement, version)))
+            and is_index(tree['args']) and is_list_of(tree['keys'], is_key)
+            and (is_body_of_version_two if version == 2 else is_body)(tree['body']))
 
 
 def is_call(tree):
@@ -148,8 +155,7 @@ def is_call(tree):
 
 
 def is_event(tree):
-    return (is_row(tree) and len(tree) == EVENTS.get(tree[0])
-            and all(is_number(part, WORD) for part in tree[1:]))
+    return has_form(tree, EVENTS)
 
 
 def test_shape(scenario):
@@ -159,21 +165,15 @@ def test_shape(scenario):
     version = scenario['version']
     lists = {'records': is_number, 'procs': lambda tree: is_procedure(tree, version),
              'clients': lambda tree: is_list_of(tree, is_call), 'schedule': is_event}
+    others = {'version': lambda tree: is_number(tree) and tree in (1, 2), 'hash': lambda tree: tree in ('modulo', 'spread')}
     for part in (*NEEDED, *CHOICES):
-        if part not in scenario:
-            continue
-        tree = scenario[part]
-        if part in lists:
-            items = tree if isinstance(tree, list) else [None]
-            faulty = next((number for number, item in enumerate(items) if not lists[part](item)), None)
-        elif part == 'version':
-            faulty = None if is_number(tree) and tree in (1, 2) else 0
-        elif part == 'hash':
-            faulty = None if tree in ('modulo', 'spread') else 0
-        else:
-            faulty = None if is_number(tree, WORD) else 0
-        if faulty is not None:
-            raise Refused(f'shape {part} {faulty}')
+        if part in scenario:
+            tree = scenario[part]
+            is_item = lists.get(part) or others.get(part, is_word)
+            items = [tree] if part not in lists else tree if isinstance(tree, list) else [None]
+            for number, item in enumerate(items):
+                if not is_item(item):
+                    raise Refused(f'shape {part} {number}')
 
 
 def test_sizes(scenario):
@@ -221,16 +221,16 @@ def checks_of(procedure, scenario):
 
 def set_behind(statements, known):
     """The locals that are surely set behind statements, if these are before them; None if one is read that is not."""
-    for word, *parts in statements:
-        expressions = parts[1:] if word in ('let', 'set') else parts[:1] if word in ('if', 'reply') else []
+    for statement in statements:
+        turns, expressions, lists = parts_of(statement)
         read = {row[1] for row in rows_in(expressions) if row[0] == 'local'}
-        lists = [set_behind(part, known) for part in parts[1:]] if word in ('if', 'repeat') else []
-        if not read <= known or None in lists:
+        behind = [set_behind(inside, known) for inside in lists]
+        if not read <= known or None in behind:
             return None
-        if word == 'let':
-            known = known | {parts[0]}
-        elif word == 'if' or word == 'repeat' and parts[0]:
-            known = frozenset.intersection(*lists)
+        if statement[0] == 'let':
+            known = known | {statement[1]}
+        elif lists and turns:
+            known = frozenset.intersection(*behind)
     return known
 
 

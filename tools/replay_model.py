@@ -4,13 +4,12 @@
     python3 tools/replay_model.py SCENARIO
 
 prints that text, or the line by which the program refuses the scenario (but for want of memory), with status 2. It is
-written from docs/SCENARIO.md and docs/DEFINITIONS.md, and uses nothing of the program. tools/judge_replay.py compares
-what was printed with it.
+written from docs/SCENARIO.md and docs/DEFINITIONS.md, and uses nothing of the program.
 """
 import sys
+from itertools import zip_longest
 
-from judging import DEEPEST
-from model import Found, claims_of, make, source_of
+from model import Found, Unlawful, claims_of, lines_of, make, source_of
 from refusals import MOST_BYTES, Refused, scenario_of
 
 FOR_WRITING = 1 << 32
@@ -262,18 +261,26 @@ class Machine:
             yield f'record {record} value {value} pair {pair}'
 
 
-def replay_text(scenario, machine=Machine):
+def replay_text(scenario):
     """What a replay of a scenario prints."""
-    running = machine(scenario)
-    lines = [f'{number} {running.step(event)}' for number, event in enumerate(scenario.get('schedule', []))]
-    return ''.join(f'{line}\n' for line in [*lines, *running.outcome()])
+    machine = Machine(scenario)
+    lines = [f'{number} {machine.step(event)}' for number, event in enumerate(scenario.get('schedule', []))]
+    return ''.join(f'{line}\n' for line in [*lines, *machine.outcome()])
+
+
+def judge(scenario, text):
+    """Raises Unlawful where a text is not what the replay of a scenario prints."""
+    wanted = replay_text(scenario)
+    if text != wanted:
+        for number, (told, line) in enumerate(zip_longest(lines_of(text), lines_of(wanted)), start=1):
+            if told != line:
+                raise Unlawful(f'line {number} is {told!r}, and has to be {line!r}')
 
 
 def main(words):
     if len(words) != 1:
         print('usage: python3 tools/replay_model.py SCENARIO')
         return 2
-    sys.setrecursionlimit(DEEPEST)
     try:
         with open(words[0], 'rb') as file:
             scenario = scenario_of(file.read(MOST_BYTES + 1))

@@ -1,18 +1,21 @@
 #!/usr/bin/env python3
 """Says how much disk and memory the whole of `./test` wants and how much there is; with status 1 if it could not end.
 
-    python3 tools/room.py       at the top of the repository
+    python3 tools/room.py           at the top of the repository
+    python3 tools/room.py --jobs    prints how many checks `rt ci` should run at a time here, for RT_JOBS: as many as there
+                                    are processors, or fewer where the free memory does not hold as many checks. It
+                                    prints nothing if that is below two: `rt ci` had better choose for itself then
 
 It removes nothing. If the disk lacks room, it names what could go: the folders that checks and builds have left in this
-checkout, and what `rt ci` has kept on this machine.
+checkout, and what `rt ci` has kept on this machine. Processors and memory are those of the control group too, if the
+machine is a container.
 """
 import os
+import re
 import shutil
 import sys
 import tempfile
 from pathlib import Path
-
-from jobs import BYTES_OF_A_CHECK, first_number, memory_of
 
 TOP = Path(__file__).resolve().parent.parent
 GB = 1_000_000_000
@@ -23,62 +26,80 @@ BYTES_OF_OUT = 4 * GB
 BYTES_OF_COPIES = 3 * GB
 # `rt ci` keeps nothing of what passed on a disk with less left than this, and its program is not built on a full one.
 BYTES_LEFT = 5 * GB
+# What the largest check has been seen to take, with its tests and one job.
+BYTES_OF_A_CHECK = 4_300_000_000
 
 
-def bytes_of(folder):
-    """How much the files of a folder take on the disk."""
-    sizes = [os.lstat(Path(at, name)).st_blocks * 512 for at, _, names in os.walk(folder) for name in names]
-    return sum(sizes)
+def numbers_in(*files):
+    """The first number of each file, or of its line of free memory; None if one has none, or is not there."""
+    found = []
+    for file in files:
+        try:
+            number = re.search(r'(?:^|^MemAvailable:)\s*(-?\d+)', Path(file).read_text(), re.MULTILINE)
+        except OSError:
+            number = None
+        found.append(int(number[1]) if number else None)
+    return None if None in found else found
 
 
-def could_go(top):
-    """The folders below the top that are made anew when they are wanted, with their bytes, the largest first."""
-    found = [(bytes_of(it), it) for it in (*sorted(top.glob('crates/*/out')), top / 'build') if it.is_dir()]
-    return sorted((it for it in found if it[0]), key=lambda it: (-it[0], it[1]))
+def processors(group='/sys/fs/cgroup'):
+    """How many processors this process may use, and its control group."""
+    try:
+        quota = [int(word) for word in Path(group, 'cpu.max').read_text().split()]
+    except (OSError, ValueError):
+        quota = numbers_in(f'{group}/cpu/cpu.cfs_quota_us', f'{group}/cpu/cpu.cfs_period_us')
+    own = len(os.sched_getaffinity(0))
+    return min(own, max(quota[0] // quota[1], 1)) if quota and quota[0] > 0 else own
 
 
-def lacking(disks, memory):
-    """The sentences that tell what is lacking, of the bytes wanted and left on each disk and of the memory left."""
-    said = [f'the disk of {place} has {left / GB:.1f} GB left, and ./test wants {wanted / GB:.1f}'
-            for place, wanted, left in disks if left < wanted]
-    if memory is not None and memory < BYTES_OF_A_CHECK:
-        said.append(f'{memory / GB:.1f} GB of memory are free, and one check takes up to {BYTES_OF_A_CHECK / GB:.1f}')
-    return said
+def memory(meminfo='/proc/meminfo', group='/sys/fs/cgroup'):
+    """The bytes of memory that are free, of the control group too; None if nothing tells."""
+    free = numbers_in(meminfo)
+    left = [1024 * free[0]] if free else []
+    for limit, held in (('memory.max', 'memory.current'),
+                        ('memory/memory.limit_in_bytes', 'memory/memory.usage_in_bytes')):
+        found = numbers_in(f'{group}/{limit}', f'{group}/{held}')
+        left += [max(found[0] - found[1], 0)] if found else []
+    return min(left, default=None)
 
 
-def disks_of(places):
+def could_go():
+    """The folders that are made anew when they are wanted, with the bytes of their files, the largest first."""
+    def bytes_of(folder):
+        return sum(os.lstat(Path(at, name)).st_blocks * 512 for at, _, names in os.walk(folder) for name in names)
+
+    return sorted(((bytes_of(it), it) for it in (*TOP.glob('crates/*/out'), TOP / 'build')), reverse=True)
+
+
+def disks():
     """For each disk: the places on it, the bytes wanted there, and those that are left."""
     by_disk = {}
-    for place, wanted in places:
-        names, sum_of = by_disk.get(os.stat(place).st_dev, ((), 0))
-        by_disk[os.stat(place).st_dev] = (*names, str(place)), sum_of + wanted
-    return [(' and '.join(names), wanted + BYTES_LEFT, shutil.disk_usage(names[0]).free)
-            for names, wanted in by_disk.values()]
+    for place, wanted in (str(TOP), BYTES_OF_OUT), (tempfile.gettempdir(), BYTES_OF_COPIES):
+        names, sum_of = by_disk.get(os.stat(place).st_dev, ([], BYTES_LEFT))
+        by_disk[os.stat(place).st_dev] = [*names, place], sum_of + wanted
+    return [(' and '.join(names), wanted, shutil.disk_usage(names[0]).free) for names, wanted in by_disk.values()]
 
 
-def memory_left(meminfo=Path('/proc/meminfo'), group=Path('/sys/fs/cgroup')):
-    """The bytes of memory that are free, of the control group too; None if nothing tells."""
-    free = first_number(meminfo, 'MemAvailable:')
-    bounds = [bound for bound in (free and 1024 * free, memory_of(group)) if bound is not None]
-    return min(bounds, default=None)
-
-
-def main():
-    disks = disks_of([(TOP, BYTES_OF_OUT), (tempfile.gettempdir(), BYTES_OF_COPIES)])
-    memory = memory_left()
-    for place, wanted, left in disks:
-        print(f'room: ./test wants {wanted / GB:.0f} GB of the disk of {place}, and {left / GB:.1f} are left')
-    if memory is not None:
-        print(f'room: a check takes up to {BYTES_OF_A_CHECK / GB:.1f} GB of memory, and {memory / GB:.1f} are free')
-    said = lacking(disks, memory)
-    for sentence in said:
-        print(f'room: {sentence}')
-    if any(left < wanted for _, wanted, left in disks):
-        for size, folder in could_go(TOP)[:8]:
-            print(f'room: {folder} could go: {size / GB:.1f} GB')
-        print('room: so could copies of this repository that are done with, and what `rt ci` keeps beside the kit')
-    return 1 if said else 0
+def main(words):
+    left = memory()
+    if words == ['--jobs']:
+        jobs = processors() if left is None else min(processors(), left // BYTES_OF_A_CHECK)
+        print(jobs if jobs >= 2 else '')
+        return 0
+    lacks = [wanted > free for _, wanted, free in disks()]
+    for place, wanted, free in disks():
+        print(f'room: ./test wants {wanted / GB:.0f} GB of the disk of {place}, and {free / GB:.1f} are left')
+    if left is not None:
+        print(f'room: a check takes up to {BYTES_OF_A_CHECK / GB:.1f} GB of memory, and {left / GB:.1f} are free')
+    if any(lacks):
+        print('room: the disk lacks room. These could go, and so could copies of this repository that are done with:',
+              *(f'{folder} ({size / GB:.1f} GB)' for size, folder in could_go()[:8] if size),
+              'and what `rt ci` keeps beside the kit')
+    if left is not None and left < BYTES_OF_A_CHECK:
+        print('room: there is too little memory')
+        return 1
+    return int(any(lacks))
 
 
 if __name__ == '__main__':
-    sys.exit(main())
+    sys.exit(main(sys.argv[1:]))

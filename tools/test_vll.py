@@ -33,6 +33,7 @@ cat "$ROOM/said" >&2
 [[ ! -e $ROOM/made ]] || { mkdir -p out && cp -- "$ROOM/made" out/vll; }
 exit "$(<"$ROOM/status")"
 '''
+LINES = ['vll_deep:', 'vll_part: vll_deep kit', 'vll: vll_part kit', 'vll_other: vll_part']
 
 
 class WithStandIn(unittest.TestCase):
@@ -41,56 +42,58 @@ class WithStandIn(unittest.TestCase):
     def setUp(self):
         self.room = Path(tempfile.mkdtemp())
         self.addCleanup(shutil.rmtree, self.room)
+        self.program = self.room / 'crates/vll/out/vll'
         for crate in 'vll', 'vll_part', 'vll_deep', 'vll_other':
-            (self.room / 'crates' / crate / 'src').mkdir(parents=True)
-        self.list_crates('vll_deep:', 'vll_part: vll_deep kit', 'vll: vll_part kit', 'vll_other: vll_part')
-        (self.room / 'HANDLES').touch()
-        (self.room / 'bin').mkdir()
+            self.write(f'crates/{crate}/src/lib.rt', '')
+        self.list_crates(LINES)
+        self.write('HANDLES', '')
         shutil.copy(TOP / 'vll', self.room / 'vll')
-        (self.room / 'bin/rt').write_text(RT)
-        (self.room / 'bin/rt').chmod(0o755)
+        self.write('bin/rt', RT, 0o755)
         self.answer(OUTCOME, 0)
 
-    def let_two_checks_fit(self):
-        """Has the copy believe that the machine holds two checks at a time, and the program be made from vll_draw."""
-        (self.room / 'tools').mkdir()
-        (self.room / 'tools/jobs.py').write_text('print(2)\n')
-        for part in 'src', 'must-fail', 'out':
-            (self.room / 'crates/vll_draw' / part).mkdir(parents=True)
-        self.list_crates('vll_draw:', 'vll_deep:', 'vll: vll_draw vll_deep', 'vll_other: vll_draw')
+    def write(self, name, text, mode=0o644):
+        path = self.room / name
+        path.parent.mkdir(parents=True, exist_ok=True)
+        path.write_text(text)
+        path.chmod(mode)
+
+    def list_crates(self, lines):
+        self.write('crates.txt', '\n'.join(['# NAME: the libraries that it uses', *lines, '']))
 
     def answer(self, printed, status, last=None):
         """What the stand-in prints, and the status of the program that it ran."""
         ended = f'run=ended status={status} runners=1 races=unchecked proved=no\n'
         (self.room / 'printed').write_bytes(printed)
-        (self.room / 'said').write_text('checked: something\n' + (ended if last is None else last))
-        (self.room / 'status').write_text(f'{status}\n')
+        self.write('said', 'checked: something\n' + (ended if last is None else last))
+        self.write('status', f'{status}\n')
 
-    def list_crates(self, *lines):
-        (self.room / 'crates.txt').write_text('# NAME: the libraries that it uses\n' + '\n'.join(lines) + '\n')
+    def vll(self, *words, **given):
+        env = {**os.environ, 'PATH': f'{self.room / "bin"}:{os.environ["PATH"]}', 'ROOM': str(self.room)}
+        given = given or {'input': b''}
+        return subprocess.run([self.room / 'vll', *words], capture_output=True, env=env, check=False, **given)
 
-    def build(self, printed):
-        """A program that counts as proved, and prints this."""
-        program = self.room / 'crates/vll/out/vll'
-        program.parent.mkdir()
-        program.write_text(f'#!/usr/bin/env bash\nprintf {printed}\n')
-        program.chmod(0o755)
+    def check(self, words, status, printed, *said):
+        """Runs it, and looks at its status, its output and parts of what it says; answers all that it says."""
+        ran = self.vll(*words)
+        self.assertEqual((ran.returncode, ran.stdout), (status, printed), words)
+        for part in said:
+            self.assertIn(part, ran.stderr, words)
+        return ran.stderr
 
     def is_built_for(self, *words):
         """Whether these words have the program built; the stand-in builds one that prints its words."""
-        program = self.room / 'crates/vll/out/vll'
         (self.room / 'words').unlink(missing_ok=True)
-        (self.room / 'made').write_text('#!/usr/bin/env bash\nprintf "%s\\n" "$*"\n')
-        (self.room / 'made').chmod(0o755)
-        ran = self.vll(*words)
-        self.assertEqual(ran.stdout.decode().rstrip('\n'), ' '.join(map(os.fsdecode, words)))
-        self.assertTrue(program.exists())
+        self.write('made', '#!/usr/bin/env bash\nprintf "%s\\n" "$*"\n', 0o755)
+        self.assertEqual(self.vll(*words).stdout.decode().rstrip('\n'), ' '.join(map(os.fsdecode, words)))
+        self.assertTrue(self.program.exists())
+        return self.is_called()
+
+    def is_called(self):
         return (self.room / 'words').exists()
 
-    def vll(self, *words, given=b''):
-        path = f'{self.room / "bin"}:{os.environ["PATH"]}'
-        env = {**os.environ, 'PATH': path, 'ROOM': str(self.room)}
-        return subprocess.run([self.room / 'vll', *words], input=given, capture_output=True, env=env, check=False)
+    def called(self):
+        """The words with which rt was called last, and before them the folder."""
+        return (self.room / 'words').read_text().splitlines()
 
     def libraries(self):
         """The folders in which a library was proved, those here and those elsewhere."""
@@ -98,117 +101,86 @@ class WithStandIn(unittest.TestCase):
         here = [folder for folder in folders if self.room in folder.parents]
         return here, [folder for folder in folders if folder not in here]
 
-    def words(self):
-        return (self.room / 'words').read_text().splitlines()[1:]
-
     def test_words_and_input_reach_the_program(self):
+        """The word --unproved counts in any place, and the input comes from a file."""
         given = TRANSFER.read_bytes()
-        self.vll('--unproved', 'run', '--workers', '3', given=given)
-        self.assertEqual(self.words(), ['try', '--', 'run', '--workers', '3'])
-        self.assertEqual((self.room / 'input').read_bytes(), given)
-        self.assertEqual((self.room / 'words').read_text().splitlines()[0], str(self.room / 'crates/vll'))
-
-    def test_input_comes_from_a_file(self):
+        for words in '--unproved run --workers 3', 'run --unproved --workers 3', 'run --workers 3 --unproved':
+            self.vll(*words.split(), input=given)
+            self.assertEqual(self.called(), [str(self.room / 'crates/vll'), *'try -- run --workers 3'.split()])
+            self.assertEqual((self.room / 'input').read_bytes(), given)
         for command in 'replay', 'explain':
-            self.vll('--unproved', command, given=b'{}')
+            self.vll('--unproved', command, input=b'{}')
             self.assertEqual((self.room / 'input').read_bytes(), b'{}')
-            self.assertFalse((self.room / 'no_file').exists())
+        self.assertFalse((self.room / 'no_file').exists())
 
-    def test_outcome_is_printed_byte_for_byte(self):
-        for printed in OUTCOME, b'', b'no end of the line', b'\0\xff\n\n':
-            self.answer(printed, 0)
-            self.assertEqual(self.vll('--unproved', 'run').stdout, printed)
+    def test_outcome_and_status_are_the_programs(self):
+        for printed, status in (OUTCOME, 0), (b'', 0), (b'no end of the line', 0), (b'\0\xff\n\n', 0), \
+                (b'vll: scenario: json\n', 1), (b'vll: scenario: json\n', 2):
+            self.answer(printed, status)
+            self.check(['--unproved', 'run'], status, printed)
 
     def test_help_names_the_program(self):
         usage = b'Runs it\n\nUsage: program run [OPTIONS]\n'
         self.answer(usage, 0)
-        self.assertEqual(self.vll('--unproved', 'run', '--help').stdout, usage.replace(b'program', b'vll'))
-        self.assertEqual(self.vll('--unproved', 'run').stdout, usage)
+        self.check(['--unproved', 'run', '--help'], 0, usage.replace(b'program', b'vll'))
+        self.check(['--unproved', 'run'], 0, usage)
 
     def test_each_run_says_that_it_is_unproved(self):
-        for words in ('run',), ('replay',), ('--help',):
-            said = self.vll('--unproved', *words).stderr
-            self.assertIn(b'UNPROVED', said)
-            self.assertNotIn(b'checked: something', said)
-
-    def test_status_is_the_programs(self):
-        for status in 0, 1, 2:
-            self.answer(b'vll: scenario: json\n', status)
-            ran = self.vll('--unproved', 'run')
-            self.assertEqual((ran.returncode, ran.stdout), (status, b'vll: scenario: json\n'))
+        for word in 'run', 'replay', '--help':
+            self.assertNotIn(b'checked: something', self.check(['--unproved', word], 0, OUTCOME, b'UNPROVED'))
 
     def test_no_outcome_is_status_3(self):
-        for last in 'run=no-answer proved=no\n', 'run=none proved=no\n', 'error: expected `;`\n', '':
+        """A line of the program is not taken for the last one either."""
+        for last in 'run=no-answer proved=no\n', 'run=none proved=no\n', 'error: expected `;`\n', '', \
+                'run=ended status=0 proved=no\nrun=no-answer proved=no\n':
             self.answer(b'half of an outcome\n', 4, last)
-            ran = self.vll('--unproved', 'run')
-            self.assertEqual((ran.returncode, ran.stdout), (3, b''))
-            self.assertIn(b'checked: something', ran.stderr)
-
-    def test_a_line_of_the_program_is_not_taken_for_the_last(self):
-        self.answer(b'', 4, 'run=ended status=0 proved=no\nrun=no-answer proved=no\n')
-        self.assertEqual(self.vll('--unproved', 'run').returncode, 3)
+            self.check(['--unproved', 'run'], 3, b'', b'checked: something')
 
     def test_input_is_left_where_the_program_reads_none(self):
-        for words in ('--help',), ('run', '--help'), ('replay', '-h'), ('--version',):
-            self.vll('--unproved', *words, given=b'left as it is')
+        for words in '--help', 'run --help', 'replay -h', '--version':
+            self.vll('--unproved', *words.split(), input=b'left as it is')
             self.assertEqual((self.room / 'input').read_bytes(), b'')
 
     def test_input_that_cannot_be_read_is_status_3(self):
-        path = f'{self.room / "bin"}:{os.environ["PATH"]}'
-        env = {**os.environ, 'PATH': path, 'ROOM': str(self.room)}
         folder = os.open(self.room, os.O_RDONLY)
         self.addCleanup(os.close, folder)
-        words = [self.room / 'vll', '--unproved', 'run']
-        ran = subprocess.run(words, stdin=folder, capture_output=True, env=env, check=False)
+        ran = self.vll('--unproved', 'run', stdin=folder)
         self.assertEqual((ran.returncode, ran.stdout), (3, b''))
 
     def test_it_is_not_chosen_silently(self):
-        self.build('proved')
-        ran = self.vll('run')
-        self.assertEqual((ran.stdout, ran.stderr), (b'proved', b''))
-        self.assertFalse((self.room / 'words').exists())
-
-    def test_a_link_from_another_folder_is_followed(self):
-        self.build('proved')
+        """The program that is built counts as proved, and is found through a link from another folder."""
+        self.write('crates/vll/out/vll', '#!/usr/bin/env bash\nprintf proved\n', 0o755)
+        self.assertEqual(self.check(['run'], 0, b'proved'), b'')
+        self.assertFalse(self.is_called())
         with tempfile.TemporaryDirectory() as room:
             link = Path(room, 'link')
             link.symlink_to(self.room / 'vll')
             ran = subprocess.run([link, 'run'], cwd='/', stdin=subprocess.DEVNULL, stdout=subprocess.PIPE, check=False)
         self.assertEqual(ran.stdout, b'proved')
-
-    def test_a_missing_program_is_proved_and_built(self):
-        self.vll('run')
-        self.assertEqual(self.words(), ['run', '--', '--help'])
-
-    def test_the_word_counts_in_any_place(self):
-        self.build('proved')
-        for words in ('run', '--unproved', '--workers', '3'), ('run', '--workers', '3', '--unproved'):
-            ran = self.vll(*words)
-            self.assertEqual(ran.stdout, OUTCOME)
-            self.assertIn(b'UNPROVED', ran.stderr)
-            self.assertEqual(self.words(), ['try', '--', 'run', '--workers', '3'])
+        self.check(['run', '--unproved'], 0, OUTCOME, b'UNPROVED')
 
     def test_help_is_there_before_the_program(self):
-        for words in ('--help',), ('-h',), ('help',), ('help', 'run'), ('run', '--help'), ('replay', '-h'), \
-                ('help', 'explain'), ('help', 'draw'), ('run', '--help', '--workers', '65'):
-            ran = self.vll(*words)
+        for words in '--help', '-h', 'help', 'help run', 'run --help', 'replay -h', 'help explain', 'help draw', \
+                'run --help --workers 65':
+            ran = self.vll(*words.split())
             self.assertEqual((ran.returncode, ran.stderr), (0, b''))
             for part in b'./vll --unproved', b'run [--workers N] [--cap N] [--bits N]', b'replay', b'explain':
                 self.assertIn(part, ran.stdout)
             self.assertNotIn(b'set -euo', ran.stdout)
-        self.assertFalse((self.room / 'words').exists())
+        self.assertFalse(self.is_called())
 
     def test_what_is_no_command_is_refused_before_the_program_is_there(self):
         for words in [], ['rnu'], ['scenario.json'], ['--', 'run'], ['--unproved', 'rnu'], [b'\xff']:
-            ran = self.vll(*words)
-            self.assertEqual((ran.returncode, ran.stdout), (2, b'vll: command line\n'), words)
-            self.assertIn(b'--help', ran.stderr)
-        self.assertFalse((self.room / 'words').exists())
+            self.check(words, 2, b'vll: command line\n', b'--help')
+        self.assertFalse(self.is_called())
 
-    def test_the_program_tests_its_options(self):
-        for words in ['run', '--workers', '65'], ['draw', '--', '--count=0']:
-            self.assertTrue(self.is_built_for(*words))
-            shutil.rmtree(self.room / 'crates/vll/out')
+    def test_words_of_use_have_the_program_built(self):
+        """The program tests its options itself."""
+        for words in 'run', 'replay', 'explain', 'run --workers 3 --cap=4 --bits 5', 'run --workers 65', 'draw -- --count=0':
+            self.assertTrue(self.is_built_for(*words.split()))
+            self.assertEqual(self.called()[1:], ['run', '--', '--help'])
+            self.assertFalse(self.is_built_for(*words.split()))
+            shutil.rmtree(self.program.parent)
 
     def test_it_tells_how_far_the_proofs_are(self):
         said = self.vll('run').stderr.decode()
@@ -219,21 +191,22 @@ class WithStandIn(unittest.TestCase):
             self.assertIn(part, said)
 
     def test_a_library_that_is_not_proved_is_status_3(self):
-        (self.room / 'unproved').touch()
-        ran = self.vll('run')
-        self.assertEqual((ran.returncode, ran.stdout), (3, b''))
-        self.assertIn(b'proving: vll_deep\nso far: 3 of 9', ran.stderr)
+        self.write('unproved', '')
+        self.check(['run'], 3, b'', b'proving: vll_deep\nso far: 3 of 9')
         self.assertEqual(len(self.libraries()[0]), 1)
-        self.assertFalse((self.room / 'words').exists())
+        self.assertFalse(self.is_called())
 
     def test_each_library_is_proved_after_those_below_it(self):
         self.assertTrue(self.is_built_for('run'))
         here, elsewhere = self.libraries()
-        self.assertEqual([folder.name for folder in here], ['vll_deep', 'vll_part'])
-        self.assertEqual(elsewhere, [])
+        self.assertEqual(([folder.name for folder in here], elsewhere), (['vll_deep', 'vll_part'], []))
 
     def test_what_stands_beside_the_engine_is_proved_in_a_copy_meanwhile(self):
-        self.let_two_checks_fit()
+        """If the machine holds two checks at a time, and the program is made from vll_draw."""
+        self.write('tools/room.py', 'print(2)\n')
+        for part in 'src', 'must-fail', 'out':
+            self.write(f'crates/vll_draw/{part}/file', '')
+        self.list_crates(['vll_draw:', 'vll_deep:', 'vll: vll_draw vll_deep', 'vll_other: vll_draw'])
         self.assertTrue(self.is_built_for('run'))
         here, elsewhere = self.libraries()
         self.assertEqual([folder.name for folder in here], ['vll_deep', 'vll_draw'])
@@ -244,51 +217,37 @@ class WithStandIn(unittest.TestCase):
         self.assertNotIn('vll_other', listed)
         self.assertFalse(elsewhere[0].exists())
 
-    def test_words_of_use_have_the_program_built(self):
-        for words in ('run',), ('replay',), ('explain',), ('run', '--workers', '3', '--cap=4', '--bits', '5'):
-            self.assertTrue(self.is_built_for(*words))
-            self.assertFalse(self.is_built_for(*words))
-            shutil.rmtree(self.room / 'crates/vll/out')
-
     def test_the_program_is_built_anew_for_what_it_is_made_from_alone(self):
         self.assertTrue(self.is_built_for('run'))
         for file, counts in (('crates/vll_deep/src/lib.rt', True), ('crates/vll_other/src/lib.rt', False),
                              ('HANDLES', True), ('crates/vll_own/src/main.rt', False), ('README.md', False),
                              ('crates/vll/src/main.rt', True), ('crates/vll_part/must-fail/x.edit', False)):
-            (self.room / file).parent.mkdir(parents=True, exist_ok=True)
-            (self.room / file).touch()
+            self.write(file, '')
             self.assertEqual(self.is_built_for('run'), counts, file)
             self.assertFalse(self.is_built_for('run'), file)
         (self.room / 'crates/vll_deep/src/lib.rt').unlink()
         self.assertTrue(self.is_built_for('run'))
 
     def test_a_line_for_a_crate_counts_if_the_program_is_made_from_it(self):
-        lines = ['vll_deep:', 'vll_part: vll_deep kit', 'vll: vll_part kit', 'vll_other: vll_part']
         self.assertTrue(self.is_built_for('run'))
-        for changed, counts in ([*lines, 'vll_own: vll_deep'], False), (lines[:3], False), \
-                ([*lines[:2], 'vll: vll_part vll_other kit', lines[3]], True), (['vll_deep: kit', *lines[1:]], True):
-            self.list_crates(*changed)
+        for changed, counts in ([*LINES, 'vll_own: vll_deep'], False), (LINES[:3], False), \
+                ([*LINES[:2], 'vll: vll_part vll_other kit', LINES[3]], True), (['vll_deep: kit', *LINES[1:]], True):
+            self.list_crates(changed)
             self.assertEqual(self.is_built_for('run'), counts, changed)
             self.assertFalse(self.is_built_for('run'), changed)
 
 
 @unittest.skipUnless('--with-rt' in sys.argv, 'not asked for')
 class WithRt(unittest.TestCase):
-    """The repository's own ./vll, and rt: each run compiles all sources."""
 
-    def check(self, words, given, printed, status):
-        ran = subprocess.run([TOP / 'vll', '--unproved', *words], input=given, capture_output=True, check=False)
-        self.assertEqual((ran.stdout, ran.returncode), (printed, status), ran.stderr.decode())
-
-    def test_a_run(self):
-        printed = TRANSFER.with_suffix('.out').read_bytes()
-        self.check(['run', '--workers', '3'], TRANSFER.read_bytes(), printed, 0)
-
-    def test_a_refused_scenario(self):
-        self.check(['replay'], b'{', b'vll: scenario: json\n', 2)
-
-    def test_a_refused_command_line(self):
-        self.check(['run', '--workers', '0'], b'', b'vll: command line\n', 2)
+    def test_repository_itself(self):
+        """Its own ./vll, and rt: each run compiles all sources."""
+        for words, given, printed, status in [
+                ('run --workers 3', TRANSFER.read_bytes(), TRANSFER.with_suffix('.out').read_bytes(), 0),
+                ('replay', b'{', b'vll: scenario: json\n', 2), ('run --workers 0', b'', b'vll: command line\n', 2)]:
+            command = [TOP / 'vll', '--unproved', *words.split()]
+            ran = subprocess.run(command, input=given, capture_output=True, check=False)
+            self.assertEqual((ran.stdout, ran.returncode), (printed, status), ran.stderr.decode())
 
 
 if __name__ == '__main__':

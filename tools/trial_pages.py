@@ -1,24 +1,96 @@
-"""What `tools/trials drawings` tries: the pages that `vll draw` writes, beside what `vll replay` prints."""
+"""What `tools/trials drawings` tries: the pages that `vll draw` writes, beside what `vll replay` prints.
+
+    python3 tools/trial_pages.py [PROGRAM]      makes docs/replay.svg anew by the program as it is built, or by this one
+"""
 import json
 import re
 import subprocess
 import sys
-from pathlib import Path
+import xml.etree.ElementTree
+from html.parser import HTMLParser
 
-from cases import bytes_of, read_cases, status_of
+from cases import TOP, bytes_of, read_cases, status_of
 from generate import SIZES, scenario_of, text_of
-from judge_page import judge
-from judging import DEEPEST, Unlawful
+from model import Unlawful
 
-TOP = Path(__file__).resolve().parent.parent
 PICTURE = TOP / 'docs/replay.svg'
 PICTURED = TOP / 'examples/09_contention_analysis.json'
 SECONDS = 120
 SEEDS = 300
+# How many events are drawn if nothing is said, and a window that is asked for.
+DRAWN = 360
 FIRST, COUNT = 50, 30
+# What a page may have.
+ELEMENTS = set('a body code dd dl dt figcaption figure h1 h2 head html li meta ol p path rect style svg text title'.split())
+ATTRIBUTES = set('charset class content d height href id lang name transform viewbox width x xmlns y'.split())
 # Of a name of a procedure: what would end an element or a reference, and what a page may not hold or show as it is.
 NAMES = ['</text></svg><script>alert(1)</script>', '<!--', ']]>', '&amp;', '&lt', '"\'<', '\x00\x1f\x7f\x85\u202e',
          '\ufffe\uffff', 'a' * 10000, '流水', '\U0001f600']
+
+
+def demand(fact, why):
+    if not fact:
+        raise Unlawful(why)
+
+
+class Page(HTMLParser):
+    """The parts of a page that count, as a browser reads it."""
+
+    def __init__(self, text):
+        super().__init__()
+        self.open, self.lines, self.numbers, self.marks, self.lists = [], [], [], [], 0
+        self.feed(text)
+        self.close()
+        demand(not self.open, f'{self.open} are not closed')
+
+    def handle_starttag(self, tag, attrs):
+        given = dict(attrs)
+        demand(tag in ELEMENTS, f'there is an element {tag}')
+        demand(set(given) <= ATTRIBUTES and len(given) == len(attrs), f'{tag} has the attributes {attrs}')
+        demand(given.get('href', '#').startswith('#'), f'there is a link to {given.get("href")}')
+        self.lists += tag == 'ol'
+        if tag == 'li':
+            demand(self.open[-1:] == ['ol'], f'an item stands in {self.open}')
+            self.lines.append('')
+            self.numbers.append(given.get('id'))
+        if tag == 'a':
+            self.marks.append([given['href'], None])
+        if tag == 'title' and 'svg' in self.open:
+            demand(self.open[-1] == 'a', f'a title stands in {self.open}')
+            self.marks[-1][1] = ''
+        self.open.append(tag)
+
+    def handle_startendtag(self, tag, attrs):
+        self.handle_starttag(tag, attrs)
+        self.handle_endtag(tag)
+
+    def handle_endtag(self, tag):
+        demand(self.open and self.open.pop() == tag, f'{tag} is closed where it is not the innermost')
+
+    def handle_data(self, data):
+        if self.open[-1:] == ['li']:
+            self.lines[-1] += data
+        elif self.open[-1:] == ['title'] and 'svg' in self.open:
+            self.marks[-1][1] += data
+
+
+def judge(page, text, first=0, count=DRAWN):
+    """Raises Unlawful if a page does not list the lines of a text, or if its marks are not those of the events from one
+    on, each with its line. It is read by a parser of XML too, to which each element has to be closed."""
+    try:
+        xml.etree.ElementTree.fromstring(page)
+    except xml.etree.ElementTree.ParseError as why:
+        raise Unlawful(f'it is not well-formed: {why}') from why
+    found = Page(page)
+    demand(found.lists == 1, f'there are {found.lists} lists')
+    demand(''.join(f'{line}\n' for line in found.lines) == text, 'its lines are not those of the replay')
+    demand(found.numbers == [f'l{number}' for number in range(len(found.lines))], 'its lines are numbered wrong')
+    for link, title in found.marks:
+        demand(title == found.lines[int(link[2:])], f'the mark {link} says {title}')
+    events = sum(line[0].isdigit() for line in found.lines)
+    wanted = set(range(min(first, events), min(first + count, events)))
+    drawn = {int(link[2:]) for link, _ in found.marks}
+    demand(drawn == wanted, f'{sorted(drawn ^ wanted)[:9]} are drawn or not as it was not asked for')
 
 
 def printed(program, text, *words):
@@ -26,10 +98,10 @@ def printed(program, text, *words):
     return ran.returncode, ran.stdout, ran.stderr
 
 
-def unlike_replay(program, name, text, first=None, count=None):
+def unlike_replay(program, name, text, *window):
     """What is wrong with the page of a scenario. A scenario that is refused is refused with the same line."""
     status, replayed, _ = printed(program, text, 'replay')
-    options = [] if count is None else ['--from', str(first), '--count', str(count)]
+    options = [f'{option}={value}' for option, value in zip(('--from', '--count'), window)]
     found, page, said = printed(program, text, 'draw', *options)
     if (found, said) != (status, b''):
         yield f'{name}: the status is {found}, and not {status}; on standard error came {said[:200]!r}'
@@ -38,14 +110,14 @@ def unlike_replay(program, name, text, first=None, count=None):
             yield f'{name}: it printed {page[:200]!r}'
     else:
         try:
-            judge(page.decode(), replayed.decode(), *([] if count is None else [first, count]))
-        except (Unlawful, UnicodeError, ValueError, LookupError) as why:
+            judge(page.decode(), replayed.decode(), *window)
+        except (Unlawful, ValueError, LookupError) as why:
             yield f'{name}: {why}'
 
 
 def of_cases(program):
     """All cases of a replay, those that are refused too."""
-    cases = [case for case in read_cases()[0] if case.words[:1] == [b'replay'] and len(case.words) == 1]
+    cases = [case for case in read_cases()[0] if case.words == [b'replay']]
     drawn = [case for case in cases if status_of(case.wanted()) == 0]
     if len(drawn) < 50 or len(drawn) == len(cases):
         yield f'there are {len(drawn)} replays among {len(cases)} cases'
@@ -54,17 +126,12 @@ def of_cases(program):
 
 
 def of_seeds(program):
+    """Random scenarios; of some of them a window inside of the schedule too, before its end, at it and behind it."""
     for seed in range(SEEDS):
-        text = text_of(scenario_of('replay', seed, SIZES['replay'])[0], seed).encode()
-        yield from unlike_replay(program, f'seed {seed}', text)
-
-
-def of_windows(program):
-    """A window inside of a schedule, before its end, at it and behind it."""
-    for seed in range(10):
         scenario = scenario_of('replay', seed, SIZES['replay'])[0]
         text, events = text_of(scenario, seed).encode(), len(scenario.get('schedule', []))
-        for first in FIRST, max(events - 5, 0), events, 1048576:
+        yield from unlike_replay(program, f'seed {seed}', text)
+        for first in (FIRST, max(events - 5, 0), events, 1048576) if seed < 10 else ():
             yield from unlike_replay(program, f'seed {seed} from {first}', text, first, COUNT)
 
 
@@ -106,26 +173,22 @@ def of_largest(program):
         yield f'the status is {status}, and the page has {len(page)} bytes'
 
 
-def of_picture(program):
-    """docs/replay.svg is the first drawing of its example's page."""
+def picture(program):
+    """The first drawing of the example's page."""
     page = printed(program, PICTURED.read_bytes(), 'draw')[1].decode()
-    drawing = re.search('<svg.*?</svg>\n', page, re.DOTALL)
-    if not drawing or drawing[0] != PICTURE.read_text(encoding='utf-8'):
+    found = re.search('<svg.*?</svg>\n', page, re.DOTALL)
+    return found and found[0]
+
+
+def of_picture(program):
+    if picture(program) != PICTURE.read_text(encoding='utf-8'):
         yield 'docs/replay.svg is not the drawing of its example; python3 tools/trial_pages.py makes it anew'
 
 
 def drawings(words, _):
-    sys.setrecursionlimit(DEEPEST)
-    for trial in of_cases, of_seeds, of_windows, of_names, of_large, of_largest, of_picture:
+    for trial in of_cases, of_seeds, of_names, of_large, of_largest, of_picture:
         yield f'pages {trial.__name__.replace("_", " ")}', trial(words.program)
 
 
-def main():
-    """Makes docs/replay.svg by the program as it is built, or by the one that is named."""
-    program = sys.argv[1] if len(sys.argv) > 1 else TOP / 'crates/vll/out/vll'
-    page = printed(program, PICTURED.read_bytes(), 'draw')[1].decode()
-    PICTURE.write_text(re.search('<svg.*?</svg>\n', page, re.DOTALL)[0], encoding='utf-8')
-
-
 if __name__ == '__main__':
-    main()
+    PICTURE.write_text(picture(sys.argv[1] if len(sys.argv) > 1 else TOP / 'crates/vll/out/vll'), encoding='utf-8')

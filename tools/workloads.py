@@ -64,40 +64,25 @@ def long_bodies(rng):
     return [5] * RECORDS, [long()], [('long', records[i:i + 2]) for i in range(0, 2 * LONG_CALLS, 2)]
 
 
-# By the name of each, what makes its records, its procedures and its calls. Gnuplot wants names without a comma.
+# By the name of each, what the pages call it, and what makes its records, its procedures and its calls. Gnuplot wants
+# names without a comma.
 WORKLOADS = {
-    'bodies of 500 nodes': long_bodies,
-    'transfers': transfers,
-    'ten claims': lambda rng: tens(rng, 0),
-    'ten claims with one hot': lambda rng: tens(rng, 10),
-    'bump of one record': lambda rng: ([0], [BUMP], [('bump', [0])] * CALLS),
-}
-
-# What the pages call them.
-WORDS = {
-    'bodies of 500 nodes': 'bodies of 500 nodes, no two on one record',
-    'transfers': 'transfers between two of 65,536 records',
-    'ten claims': 'ten claims of 65,536 records, hardly a conflict',
-    'ten claims with one hot': 'ten claims, one of them among ten hot records',
-    'bump of one record': 'one statement, all calls on one record',
+    'bodies of 500 nodes': ('bodies of 500 nodes, no two on one record', long_bodies),
+    'transfers': ('transfers between two of 65,536 records', transfers),
+    'ten claims': ('ten claims of 65,536 records, hardly a conflict', lambda rng: tens(rng, 0)),
+    'ten claims with one hot': ('ten claims, one of them among ten hot records', lambda rng: tens(rng, 10)),
+    'bump of one record': ('one statement, all calls on one record', lambda rng: ([0], [BUMP], [('bump', [0])] * CALLS)),
 }
 
 
 def scenario(name):
     """The scenario, as JSON text."""
-    records, procs, calls = WORKLOADS[name](random.Random(name))
+    records, procs, calls = WORKLOADS[name][1](random.Random(name))
     made = [{'proc': proc, 'args': args} for proc, args in calls]
     clients = [made[first::CLIENTS] for first in range(CLIENTS)]
     return json.dumps({'version': 1, 'records': records, 'procs': procs, 'clients': clients, 'cap': CAP},
                       separators=(',', ':'))
 
 
-def main():
-    if sys.argv[1:]:
-        print(scenario(' '.join(sys.argv[1:])))
-    else:
-        print('\n'.join(WORKLOADS))
-
-
 if __name__ == '__main__':
-    main()
+    print(scenario(' '.join(sys.argv[1:])) if sys.argv[1:] else '\n'.join(WORKLOADS))

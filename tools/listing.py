@@ -1,0 +1,102 @@
+#!/usr/bin/env python3
+"""Prints what crates promise or define, with the comments on it.
+
+    python3 tools/listing.py contracts [CRATE ..]      the public functions of libraries, with the first sentence of their
+                                                       comments and the names of their clauses
+    python3 tools/listing.py definitions [CRATE ..]    the definitions of crates, with the comments that stand over them
+
+If no crate is named, it prints those of all, in the order of crates.txt; of functions not those of libraries that
+serve tests and timings alone. A function is public if src/lib.rt exports it, or the type or the trait that has it. One
+that a type has by a trait is listed if it has a comment or a clause of its own. "unnamed" stands for a clause without a
+name. Files of definitions come in the order of specs/Lib.antt; those of specs/Private/ are left out, since no contract
+of an exported item cites them.
+"""
+import re
+import sys
+from itertools import groupby, takewhile
+
+from cases import TOP
+from sources import Sources, Specs, functions_of
+
+CRATE = re.compile(r'^(\w+):', re.MULTILINE)
+LEFT_OUT = re.compile(r'\w+_tests|vll_test_procedures|vll_scripts')
+MODULE = re.compile(r'^mod (\w+);', re.MULTILINE)
+EXPORT = re.compile(r'^pub use (\w+)::(?:\w+::)*(?:\{([^}]*)\}|(\w+));', re.MULTILINE)
+SENTENCE = re.compile(r'.*?[.!?](?= |$)')
+
+
+def table(heads, rows):
+    """The lines of a table."""
+    cells = ([cell.replace('|', '\\|') for cell in row] for row in rows)
+    return [f'| {" | ".join(row)} |' for row in (heads, ['---'] * len(heads), *cells)]
+
+
+def marked(names):
+    return ', '.join(f'`{name}`' if name else 'unnamed' for name in names)
+
+
+def first_sentence(comment):
+    text = ' '.join(takewhile(bool, comment))
+    found = SENTENCE.match(text)
+    return found[0] if found else text
+
+
+def contracts(crates):
+    """For each library its heading, what it is for, and a row for each of its functions, file by file."""
+    sources = Sources(TOP)
+    for crate in crates:
+        lib = sources.files.get(f'{crate}/src/lib.rt')
+        if not lib or LEFT_OUT.fullmatch(crate):
+            continue
+        text = '\n'.join(lib)
+        exports = {name for module, many, one in EXPORT.findall(text) if module in MODULE.findall(text)
+                   for name in re.findall(r'\w+', many or one)}
+        files = [file for file in sources.files if file.startswith(f'{crate}/src/')]
+        rows = [(f'`{function.name}`', first_sentence(function.comment), marked(function.requires),
+                 marked(function.ensures), f'`{file[len(crate) + 1:]}`')
+                for file in sorted(files, key=lambda file: file[:-len('.rt')])
+                for function in functions_of(sources.files[file]) if is_listed(function, exports)]
+        purpose = first_sentence([line[3:].strip() for line in takewhile(lambda line: line.startswith('//!'), lib)])
+        yield crate, [purpose, '', *table(['Function', 'Comment', 'Asks', 'Ensures', 'File'], rows)]
+
+
+def is_listed(function, exports):
+    has_own = function.comment or function.requires or function.ensures
+    return function.name.partition('::')[0] in exports and (function.is_public or function.is_of_trait and has_own)
+
+
+def definitions(crates):
+    """For each crate what its files are about, the table of its definitions, and those that have no comment."""
+    specs = Specs(TOP)
+    for crate in crates:
+        listed = TOP / 'crates' / crate / 'specs/Lib.antt'
+        files = re.findall(r'^pub mod (?!Private)(\w+)', listed.read_text(), re.M) if listed.exists() else []
+        about, rows, bare = [], [], []
+        for file in files:
+            path = f'`specs/{file}.antt`'
+            about.append(f'- {path}: {specs.heads[crate, file]}')
+            comments = {key[2]: text for key, text in specs.comments.items() if key[:2] == (crate, file)}
+            for text, names in groupby(comments, comments.get):
+                if text:
+                    rows.append((marked(names), text, path))
+            without = [name for name, text in comments.items() if not text]
+            bare += [f'{marked(without)} ({path})'] if without else []
+        if files:
+            end = ['', f'Without a comment: {"; ".join(bare)}.'] if bare else []
+            yield crate, [*about, '', *table(['Definition', 'Says', 'File'], rows), *end]
+
+
+def main(words):
+    crates = CRATE.findall((TOP / 'crates.txt').read_text())
+    kinds = {'contracts': contracts, 'definitions': definitions}
+    wanted = words[1:] or crates
+    sections = list(kinds[words[0]](wanted)) if words and words[0] in kinds and set(wanted) <= set(crates) else []
+    if not sections:
+        print('usage: python3 tools/listing.py contracts|definitions [CRATE ..]; no crate has any so', file=sys.stderr)
+        return 2
+    print('\n\n'.join('\n'.join([f'## {crate}', '', *lines]) for crate, lines in sections))
+    return 0
+
+
+if __name__ == '__main__':
+    sys.exit(main(sys.argv[1:]))

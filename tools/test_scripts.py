@@ -1,0 +1,250 @@
+#!/usr/bin/env python3
+"""Tests that the scripts of tools/ find fault with what is wrong, so that none of them passes silently.
+
+    python3 tools/test_scripts.py
+"""
+import itertools
+import os
+import re
+import subprocess
+import sys
+import tempfile
+import unittest
+from pathlib import Path
+
+import check_docs
+import check_schema
+from cases import TOP, bytes_of, read_cases
+from explaining import unexplained
+from sources import Sources, Specs
+
+TOOLS = Path(__file__).resolve().parent
+
+BUMPS = '''\
+{"version":1,"records":[5],"clients":[[{"proc":"bump","args":[]}],[{"proc":"bump","args":[]}]],
+ "procs":[{"name":"bump","args":0,"keys":[["write","fixed",0]],
+  "body":[["set",0,["add",["key",0],1]],["reply",["key",0]]]}]}
+'''
+LAWFUL = 'call 0 client 1 committed 6\ncall 1 client 0 committed 7\nrecord 0 value 7 pair 0\n'
+
+# The files of some cases, in each form that there is.
+FILES = {
+    'scenarios/steps.cases': f"""\
+==== cap
+vll run --cap '3 4'
+{{}}
+----
+{{}}
+==== judged
+vll run
+{BUMPS}---- judged
+{LAWFUL}""",
+    'scenarios/replay/pair.json': '0 opened\n',
+    'scenarios/replay/pair.out': '0 opened\n',
+    'scenarios/made.json.sh': "printf '%s\\n' a b c\n",
+    'scenarios/made.out.sh': 'echo a; echo b; echo c\n',
+    'scenarios/made.args': 'run\n--workers\n8\n',
+    'scenarios/table.tsv': '\n'.join([
+        '# a comment, and an empty line', '',
+        'refused\trun\tvll: scenario: json\tvll: scenario: json',
+        'failed\treplay\tvll: replay: no memory\tvll: replay: no memory',
+        "words\trun '' --cap=1\tvll: command line\tunread",
+        'lines\trun\t@lines.out\t{"a":1,\t "b":2}',
+        'judged_row\trun\t@judge\t@bumps.json', '']),
+    'scenarios/lines.out': '{"a":1,\n "b":2}\n',
+    'scenarios/bumps.json': BUMPS,
+}
+WORDS = {'cap': 'run,--cap,3 4', 'failed': 'replay', 'judged': 'run', 'judged_row': 'run', 'lines': 'run',
+         'made': 'run,--workers,8', 'pair': 'replay', 'refused': 'run', 'words': 'run,,--cap=1'}
+
+# What is no case, and what is told of it.
+FAULTS = [
+    ('a.json', '', 'scenarios/a: there is no .json, or neither .out nor .judge'),
+    ('a.out', '', 'scenarios/a: there is no .json, or neither .out nor .judge'),
+    ('a.txt', '', 'scenarios/a.txt is no part of a case'),
+    ('made.json', '', 'scenarios/made: a part is there, and its script too'),
+    ('a.cases', 'vll run\n{}\n----\nx\n', 'scenarios/a.cases does not begin with a line ==== and a name'),
+    *(('a.cases', f'==== b\nvll run\n{{}}\n----\nx\n==== a\n{text}',
+       'scenarios/a.cases:6: it lacks a command, a line ---- after the scenario, or what is printed')
+      for text in ('run\n{}\n----\nx\n', 'vll run\n{}\nx\n', 'vll run\n{}\n----\n', 'vll run\n{}\n----\nx\n----\n')),
+    ('a.cases', "==== a\nvll run '\n{}\n----\nx\n", 'scenarios/a.cases:1: No closing quotation'),
+    ('a.cases', '==== made\nvll run\n{}\n----\nx\n', 'scenarios/a.cases:1 and scenarios/made have one name'),
+    ('t.tsv', 'a\trun\tb\n', 'scenarios/t.tsv:1: there are 3 cells, and not 4 or more'),
+    ('t.tsv', '#\na\trun\tb\t@c.json\n', 'scenarios/t.tsv:2: there is no c.json'),
+    ('t.tsv', 'a\trun\tb\t@bumps.json\tc\n', 'scenarios/t.tsv:1: there is a cell behind @bumps.json'),
+]
+
+# A program that prints what it reads with a line end behind it, and ends with the status that goes with that. What it
+# explains is that a text is no JSON text.
+RIGHT = f'''
+[ "$*" = 'run  --cap=1' ] && echo 'vll: command line' && exit 2
+text=$(cat)
+case $text in *bump*) text='{LAWFUL.rstrip()}' ;; esac
+printf '%s\\n' "$text"
+[ "$*" = explain ] && printf '%s\\n' 'at: byte 0' 'why: it is no JSON text'
+case $text in 'vll: scenario'*) exit 2 ;; 'vll: replay'*) exit 1 ;; esac
+exit 0
+'''
+
+# Programs that are wrong: what stands in the place of which part of the right one, and the cases that fail then.
+WRONG = [
+    ("'vll: scenario'*) exit 2", "'vll: scenario'*) exit 0", 'refused'),
+    ("'vll: replay'*) exit 1", "'vll: replay'*) exit 2", 'failed'),
+    ('\nexit 0', '\nexit 1', 'cap judged judged_row lines made pair'),
+    ("printf '%s\\n' \"$text\"", 'printf %s "$text"', 'cap failed judged judged_row lines made pair refused'),
+    ('text=$(cat)', 'text=$(cat); [ "$text" = "0 opened" ] && echo x >&2', 'pair'),
+    ("] && echo 'vll", "] && read line && echo 'vll", 'words'),
+    ("line' && exit 2", "line' && exit 1", 'words'),
+    ('committed 7', 'committed 6', 'judged judged_row'),
+    ('text=$(cat)', '[ "$2" = --workers ] && exit 1; text=$(cat)', 'made'),
+    ('[ "$*" = explain ]', 'false', 'refused'),
+    ('at: byte 0', 'at: procs 0', 'refused'),
+    ("JSON text'", "JSON text' && exit 1", 'refused'),
+    ('text=$(cat)', 'text=$(head -n 2)', 'made'),
+]
+
+FAULT = b'vll: scenario: check 1 9\n'
+EXPLAINED = FAULT + b'at: procs 1 ("pay"), body, statement 0, value\nwhy: local 3 is read before it is surely set: set it\n'
+# What is changed in that, so that it explains the fault no longer.
+UNEXPLAINED = [(b'check 1', b'check 2'), (b'procs 1', b'procs 2'), (b', body', b''), (b'why: ', b''), (b'set it\n', b''),
+               (b'local 3 is read', b'key 3 is read'), (b'pay', b'\xc3\xa4'), (b'local 3', b'local 3' + b'3' * 30000),
+               (b'set it', b'a second look has not found it'), (b'set it\n', b'set it\nmore\n')]
+
+# What is spoiled: the page, the first place that a pattern matches there, what stands there then, and what is told.
+SPOILED = [
+    ('docs/DEFINITIONS.md', r'\n\| `[A-Z]\w+', r'\g<0>x', 'is not declared in'),
+    ('docs/DEFINITIONS.md', r'\n\n', '\n\nIt says `IsNothingAtAll`.\n\n', 'is not declared in any crate'),
+    ('docs/DEFINITIONS.md', r'`value_of`, ', '', 'value_of is reached from Serves'),
+    ('docs/DEFINITIONS.md', r'`value_of`, ', '`value_of`, `is_write`, ', 'is not reached from Serves'),
+    ('docs/DEFINITIONS.md', '## What the headline needs', '## What it needs', 'nothing is listed'),
+    ('docs/PROMISES.md', r'(\| `\w+::)\w+(` \(vll)', r'\1secret\2', 'is no function of vll_'),
+    ('docs/PROMISES.md', r'(\| `\w+::\w+`) \(vll_\w+\) \|', r'\1 |', 'no crate stands behind'),
+    ('docs/PROMISES.md', r'(\) \| `)\w+', r'\1unheard_of', 'unheard_of is no clause of'),
+    ('docs/PROMISES.md', r'\| Function \|', '| Functions |', 'no clause is looked at'),
+    ('docs/ALGORITHM.md', r'`\w+` \(vll', '`claw` (vll', 'claw is not in vll'),
+    ('docs/HEADLINE.md', r'\n```\n(\w+)', r'\n```\n\1x', 'no source has: '),
+    ('docs/ARCHITECTURE.md', r'(`[A-Z]\w+::)[a-z]\w*`', r'\1unheard_of`', 'has no function unheard_of'),
+    ('docs/ARCHITECTURE.md', r'\]\([A-Z]+\.md', '](NOWHERE.md', 'there is no NOWHERE.md'),
+    ('docs/ARCHITECTURE.md', r'(\]\([A-Z]+\.md#)[\w-]+', r'\1nowhere', 'there is no heading'),
+    ('README.md', r'committed 70', 'committed 71', 'transfer.out is not what stands here'),
+    ('README.md', r'"records":\[100', '"records":[101', 'transfer.json does not stand here'),
+    ('README.md', r'\| 2,449 \|', '| 2,448 |', 'these are not the figures of docs/speed.csv'),
+    ('examples/README.md', r'0 opened', '0 closed', 'this is not what is printed'),
+]
+
+
+class Cases(unittest.TestCase):
+    """How cases are read, and which programs tools/scenarios takes."""
+
+    def setUp(self):
+        room = tempfile.TemporaryDirectory()
+        self.addCleanup(room.cleanup)
+        self.room = Path(room.name)
+        self.keep(FILES)
+
+    def keep(self, files):
+        for name, text in files.items():
+            path = self.room / name
+            path.parent.mkdir(parents=True, exist_ok=True)
+            path.write_text(text)
+
+    def said_of(self, tool, script, *words):
+        """The status and the lines of a tool for a program that is this script."""
+        self.keep({'program': f'#!/bin/sh\n{script}\n'})
+        (self.room / 'program').chmod(0o755)
+        ran = subprocess.run([sys.executable, TOOLS / tool, '--program', self.room / 'program', *words],
+                             env={**os.environ, 'TMPDIR': str(self.room)}, stdout=subprocess.PIPE, check=False)
+        return ran.returncode, ran.stdout.decode().splitlines()
+
+    def test_cases_are_read_in_each_form(self):
+        cases, faults = read_cases(self.room)
+        self.assertEqual(faults, [])
+        self.assertEqual({case.name: b','.join(case.words).decode() for case in cases}, WORDS)
+        self.assertEqual([case.name for case in cases if case.is_judged], ['judged', 'judged_row'])
+        for case in cases:
+            if not case.is_judged and case.name != 'words':
+                self.assertEqual(bytes_of(case.text), case.wanted())
+
+    def test_what_is_no_case_is_told(self):
+        for name, text, fault in FAULTS:
+            with self.subTest(name, text=text):
+                self.setUp()
+                self.keep({f'scenarios/{name}': text})
+                self.assertEqual(read_cases(self.room)[1], [fault])
+
+    def test_right_program_passes_and_wrong_ones_fail(self):
+        self.assertEqual(self.said_of('scenarios', RIGHT, '--top', self.room), (0, ['scenarios: 9 passed, 0 failed']))
+        for part, other, failing in WRONG:
+            with self.subTest(other):
+                script = RIGHT.replace(part, other, 1)
+                self.assertNotEqual(script, RIGHT)
+                status, lines = self.said_of('scenarios', script, '--top', self.room)
+                self.assertEqual([line.partition(' FAILED: ')[0] for line in lines[:-1]],
+                                 [f'scenario {name}' for name in failing.split()])
+                self.assertEqual((status, lines[-1]), (1, f'scenarios: {10 - len(lines)} passed, {len(lines) - 1} failed'))
+
+    def test_cases_are_chosen_by_name_and_what_is_not_there_fails(self):
+        for names, status, last in [('made steps/cap', 0, '2 passed, 0 failed'), ('made x', 1, '1 passed, 1 failed'),
+                                    ('replay/made', 1, '0 passed, 1 failed')]:
+            found, lines = self.said_of('scenarios', RIGHT, '--top', self.room, *names.split())
+            self.assertEqual((found, lines[-1]), (status, f'scenarios: {last}'))
+        for top in self.room / 'scenarios/replay', self.room / 'nothing':
+            self.assertEqual(self.said_of('scenarios', RIGHT, '--top', top)[1][-1], 'scenarios: 0 passed, 1 failed')
+        self.assertEqual(self.said_of('scenarios', '', '--top', self.room, '--text', 'made'), (0, ['a', 'b', 'c']))
+
+    def test_outcome_that_is_kept_has_to_be_lawful(self):
+        self.keep({'scenarios/steps.cases': FILES['scenarios/steps.cases'].replace('committed 7', 'committed 6')})
+        status, lines = self.said_of('scenarios', RIGHT, '--top', self.room)
+        self.assertEqual((status, len(lines)), (1, 2))
+        self.assertTrue(lines[0].startswith('scenario judged FAILED: the outcome that is kept is not lawful; '))
+
+    def test_trials_of_a_program_that_does_nothing_fail(self):
+        lines = self.said_of('trials', 'exit 0', '--refusals', self.room / 'program', 'command_line', 'lacks',
+                             'refused_memory')[1]
+        # it cannot be tried everywhere how threads are lacked
+        self.assertRegex(lines[-1], '^trials: 0 passed, (31 failed, 1|32 failed, 0) skipped$')
+
+    def test_random_tests_of_wrong_programs_fail(self):
+        right = f'"{sys.executable}" "{TOOLS}/replay_model.py" /dev/stdin'
+        words = '7', '3', '--size', '30'
+        self.assertEqual(self.said_of('random_tests', right, 'replay', *words), (0, ['replay: 3 passed, 0 failed']))
+        # of these seeds the last two ask for one worker
+        lines = self.said_of('random_tests', 'echo call 0 client 0 aborted moved', 'run', *words)[1]
+        self.assertEqual(['though there is one worker' in line for line in lines[:3]], [False, True, True])
+        for kind, script in [('replay', f'{right}; exit 1'), ('replay', f'{right}; echo x >&2'), ('replay', 'exit 0'),
+                             ('replay', f'{right} | sed "$ s/value 0*/value 1/"'), ('run', 'echo call 0'),
+                             ('run', 'cat'), ('run', 'kill -9 $$')]:
+            with self.subTest(script):
+                status, lines = self.said_of('random_tests', script, kind, *words)
+                self.assertEqual((status, lines[-1]), (1, f'{kind}: 0 passed, 3 failed'))
+                self.assertTrue(lines[0].endswith(f'; tools/random_tests {kind} 7 1 --size 30'), lines[0])
+
+
+class Judged(unittest.TestCase):
+    """What judges what is explained, the schema and the pages."""
+
+    def test_what_explains_no_longer_is_refused(self):
+        self.assertIsNone(unexplained(FAULT, EXPLAINED))
+        for part, other in UNEXPLAINED:
+            self.assertIsNotNone(unexplained(FAULT, EXPLAINED.replace(part, other)), other)
+
+    @unittest.skipUnless(check_schema.Draft202012Validator, 'python3 has no jsonschema')
+    def test_schema_that_takes_all_or_nothing_disagrees(self):
+        asked = list(itertools.islice(check_schema.scenarios(), 100))
+        for schema, word in ({}, 'refused'), ({'not': {}}, 'accepted'):
+            lines = list(check_schema.disagreements(schema, asked))
+            self.assertTrue(any(line.endswith(f'is not {word} by the schema') for line in lines))
+            self.assertIn('version_with_a_point is named as an exception, and is no scenario', lines)
+
+    def test_spoiled_page_is_told_of(self):
+        texts, sources, specs = check_docs.pages_of(TOP), Sources(TOP), Specs(TOP)
+        for name, pattern, other, words in SPOILED:
+            text = re.sub(pattern, other, texts[name], count=1)
+            with self.subTest(words):
+                self.assertNotEqual(text, texts[name])
+                told = check_docs.check(TOP, {**texts, name: text}, sources, specs).wrong
+                self.assertTrue([line for line in told if line.startswith(name) and words in line], told)
+
+
+if __name__ == '__main__':
+    unittest.main()
