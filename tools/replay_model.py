@@ -1,40 +1,33 @@
 #!/usr/bin/env python3
 """The machine of a replay: takes the steps of a schedule, and tells what 'vll replay' has to print.
 
-    python3 tools/replay_model.py SCENARIO
+    python3 tools/replay_model.py SCENARIO      prints that, if the program takes the scenario
 
-prints that text, or the line by which the program refuses the scenario (but for want of memory), with status 2. It is
-written from docs/SCENARIO.md and docs/DEFINITIONS.md, and uses nothing of the program.
+It is written from docs/SCENARIO.md and docs/DEFINITIONS.md, and uses nothing of the program.
 """
+import json
 import sys
 from itertools import zip_longest
 
 from model import Found, Unlawful, claims_of, lines_of, make, source_of
-from refusals import MOST_BYTES, Refused, scenario_of
 
 FOR_WRITING = 1 << 32
 SPREAD = 11400714819323198485
-DEFAULTS = {'cap': 1024, 'bits': 4096, 'hash': 'modulo', 'schedule': []}
+DEFAULTS = {'cap': 1024, 'bits': 4096, 'hash': 'modulo'}
 
 
 class Call:
     """A call that is entering or has entered, and how far it is."""
+    status = 'entering'
+    is_granted = True
+    requested = stored = released = 0
+    reply = values = None
 
     def __init__(self, client, procedure, args, found):
-        self.client = client
-        self.procedure = procedure
-        self.args = args
-        self.found = found
+        self.client, self.procedure, self.args, self.found = client, procedure, args, found
         self.claims = claims_of(procedure, args, found)
         self.written = [record for record, is_for_writing in self.claims if is_for_writing]
-        self.status = 'entering'
-        self.requested = 0
-        self.is_granted = True
         self.loaded = {}
-        self.stored = 0
-        self.released = 0
-        self.reply = None
-        self.values = None
 
     def start(self):
         self.status = 'running'
@@ -66,9 +59,7 @@ class Machine:
         self.procedures = {procedure['name']: procedure for procedure in scenario['procs']}
         self.scripts = scenario['clients']
         chosen = {**DEFAULTS, **scenario}
-        self.cap = chosen['cap']
-        self.bits = chosen['bits']
-        self.hash = chosen['hash']
+        self.cap, self.bits, self.hash = chosen['cap'], chosen['bits'], chosen['hash']
         self.limit = scenario.get('limit', max(1, sum(map(len, self.scripts))))
         self.values = list(scenario['records'])
         self.pairs = [0] * len(self.values)
@@ -277,19 +268,8 @@ def judge(scenario, text):
                 raise Unlawful(f'line {number} is {told!r}, and has to be {line!r}')
 
 
-def main(words):
-    if len(words) != 1:
-        print('usage: python3 tools/replay_model.py SCENARIO')
-        return 2
-    try:
-        with open(words[0], 'rb') as file:
-            scenario = scenario_of(file.read(MOST_BYTES + 1))
-    except (OSError, Refused) as why:
-        print(f'vll: scenario: {why if isinstance(why, Refused) else "read"}')
-        return 2
-    sys.stdout.write(replay_text(scenario))
-    return 0
-
-
 if __name__ == '__main__':
-    sys.exit(main(sys.argv[1:]))
+    if len(sys.argv) != 2:
+        sys.exit('usage: python3 tools/replay_model.py SCENARIO')
+    with open(sys.argv[1], encoding='utf-8') as scenario_file:
+        sys.stdout.write(replay_text(json.load(scenario_file)))

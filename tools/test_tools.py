@@ -14,11 +14,10 @@ from unittest import mock
 import judge_outcome
 import replay_model
 from cases import bytes_of, is_script, read_cases, status_of
-from generate import SIZES, run_scenario, scenario_of, text_of
+from checks import refusal_of
+from generate import SIZES, run_scenario, scenario_of
 from model import OPERATORS, Found, Unlawful, claims_of, depth_of, make_on, nodes_of, records_of, source_of
 from occurrences import counts_of
-from refusals import MOST_BYTES, Refused
-from refusals import scenario_of as scenario_of_bytes
 from replay_model import Machine, replay_text
 from wrong_machines import WRONG, WRONG_CALLS, WRONG_OPERATORS
 
@@ -31,15 +30,6 @@ def worked(command):
         is_kept = case.printed and not is_script(case.text) and not is_script(case.printed)
         if case.words[:1] == [command] and is_kept and status_of(case.wanted()) == 0:
             yield case.name, json.loads(bytes_of(case.text)), case.wanted().decode()
-
-
-def told_of(data):
-    """The line by which a scenario is refused; empty if it is taken."""
-    try:
-        scenario_of_bytes(data)
-    except Refused as why:
-        return f'vll: scenario: {why}\n'
-    return ''
 
 
 def is_unlawful(scenario, text, judge=judge_outcome.judge):
@@ -140,23 +130,18 @@ class Language(unittest.TestCase):
         machine = Machine({'records': [], 'procs': [], 'clients': [], 'hash': 'spread', 'bits': 1 << 20})
         self.assertEqual([machine.place(record) for record in range(4)], [0, 0x779B9, 0xEF372, 0x66D2C])
 
-    def test_each_case_is_refused_by_its_line_or_taken(self):
+    def test_scenarios_are_refused_by_their_lines_or_taken(self):
         found, refused = {}, 0
         for case in read_cases()[0]:
-            line = case.line().decode()
-            is_refused = line.startswith('vll: scenario: ')
-            if line != 'vll: command line\n' and (is_refused or not is_script(case.text)):
-                refused += is_refused
+            told = re.match(rb'vll: scenario: ((check|call|name) .*)\n', case.line())
+            if told or not case.line().startswith(b'vll: ') and not is_script(case.text):
+                refused += bool(told)
                 if case.text not in found:
-                    found[case.text] = told_of(bytes_of(case.text, MOST_BYTES + 1))
+                    found[case.text] = refusal_of(json.loads(bytes_of(case.text)))
                 with self.subTest(case.name):
-                    self.assertEqual(found[case.text], line if is_refused else '')
-        self.assertGreater(refused, 450)
-
-    def test_random_scenarios_are_taken(self):
-        for kind in SIZES:
-            for seed, (scenario, _) in enumerate(made(kind)):
-                self.assertEqual(told_of(text_of(scenario, seed).encode()), '', (kind, seed))
+                    self.assertEqual(found[case.text], told and told[1].decode())
+        self.assertGreater(refused, 150)
+        self.assertEqual({refusal_of(scenario) for kind in SIZES for scenario, _ in made(kind)}, {None})
 
 
 VIA = {'name': 'via', 'args': 1, 'keys': [['read', 'arg', 0], ['write', 'through', 0]],
