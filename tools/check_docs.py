@@ -112,11 +112,11 @@ class Checks:
             where = [f'{crate}/{file}' if crate else file for file in NAME.findall(cells.get('File', ''))]
             for name in names:
                 is_so = any(name in self.sources.names_of(file) for file in where) if where else \
-                    self.sources.is_declared(name, crate)
+                    name in self.sources.names(crate)
                 self.look(page, number, is_so, f'{name} is not declared in {" or ".join(where) or crate}')
         for number, line, _, _ in page.outside:
             for name in names_in(line):
-                is_so = name in OTHERS or self.sources.is_declared(name, None)
+                is_so = name in OTHERS or name in self.sources.names(None)
                 self.look(page, number, is_so, f'{name} is not declared in any crate')
         self.look(page, 1, listed, 'nothing is listed under "What the headline needs"')
         # Each list is what the names in its heading reach, but for those above it.
@@ -142,18 +142,18 @@ class Checks:
             for name in NAME.findall(cells['Function']):
                 self.look(page, number, name in names, f'no crate stands behind {name}')
             for name, crate in functions:
-                clauses = self.sources.clauses_of(name, crate)
+                clauses = self.sources.functions(crate).get(name)
                 self.look(page, number, clauses is not None, f'{name} is no function of {crate}')
                 theirs |= clauses or set()
             for clause in NAME.findall(cells.get('Clauses', '')):
                 self.look(page, number, clause in theirs, f'{clause} is no clause of {", ".join(names)}')
             for name in NAME.findall(cells.get('Over the definitions', '')):
-                self.look(page, number, self.sources.is_declared(name, None), f'{name} is not declared in any crate')
+                self.look(page, number, name in self.sources.names(None), f'{name} is not declared in any crate')
 
     def algorithm(self, page):
         for number, line, _, _ in page.outside:
             for name, crate in names_with_crates(line):
-                is_so = self.sources.clauses_of(name, crate) is not None or self.sources.is_declared(name, crate)
+                is_so = name in self.sources.functions(crate) or name in self.sources.names(crate)
                 self.look(page, number, is_so, f'{name} is not in {crate}')
 
     def quotations(self, page):
@@ -187,7 +187,7 @@ class Checks:
             for name in NAME.findall(line):
                 found = re.fullmatch(r'(?:vll_\w+::)?([A-Z]\w*)::([a-z]\w*)', name)
                 if found and self.sources.is_type(found[1]):
-                    is_so = self.sources.clauses_of(f'{found[1]}::{found[2]}', None) is not None
+                    is_so = f'{found[1]}::{found[2]}' in self.sources.functions(None)
                     self.look(page, number, is_so, f'{found[1]} has no function {found[2]}')
 
     def links(self, page, anchors):

@@ -72,9 +72,7 @@ class Traced(Body):
 
     def __init__(self, procedure, args, values, found):
         super().__init__(procedure, args, values, found)
-        self.names = []
-        self.has_ended = False
-        self.repeats = 0
+        self.names, self.has_ended, self.repeats = [], False, 0
 
     def value(self, expression):
         word = 'number' if isinstance(expression, int) else expression[0]
@@ -89,13 +87,19 @@ class Traced(Body):
 
     def run(self, statements):
         for statement in statements:
+            is_repeat = statement[0] == 'repeat'
             self.names.append(f'statement {statement[0]}')
-            if statement[0] == 'repeat':
+            if is_repeat:
                 self.names.append(f'a repeat of {TURNS.get(statement[1], "more turns")}')
                 self.names += ['a repeat in a repeat'] * (self.repeats > 0)
-            self.repeats += statement[0] == 'repeat'
+            self.repeats += is_repeat
             super().run([statement])
-            self.repeats -= statement[0] == 'repeat'
+            self.repeats -= is_repeat
+
+
+def those(names):
+    """The names of what holds."""
+    return (name for name, holds in names.items() if holds)
 
 
 def in_body(procedure, args, values, found):
@@ -106,28 +110,15 @@ def in_body(procedure, args, values, found):
     except Aborted:
         body.replies = []
     yield from body.names
-    if len(body.replies) == 8:
-        yield 'a call of 8 replies'
-    if procedure['args'] == 8:
-        yield 'a call of 8 arguments'
-    yield from in_keys(procedure, args, found)
-
-
-def in_keys(procedure, args, found):
-    """What occurs in the keys of a call."""
+    yield from those({'a call of 8 replies': len(body.replies) == 8, 'a call of 8 arguments': procedure['args'] == 8})
     keys, records, claims = procedure['keys'], records_of(procedure, args, found), claims_of(procedure, args, found)
-    for mode, at, _ in keys:
-        yield f'key {mode} {at}'
-    if not claims:
-        yield 'a call without claims'
-    if len(claims) < len(keys):
-        yield 'a call with a claim for several keys'
-    if len({(record, key[0]) for record, key in zip(records, keys)}) > len(claims):
-        yield 'a record of a read and a write key'
-    if len(keys) in (16, 32):
-        yield f'a call of {len(keys)} keys{" and an indirect one among them" if found else ""}'
-    if len(claims) > 16:
-        yield 'a call of more than 16 claims'
+    yield from (f'key {mode} {at}' for mode, at, _ in keys)
+    yield from those({
+        'a call without claims': not claims, 'a call with a claim for several keys': len(claims) < len(keys),
+        'a record of a read and a write key':
+            len({(record, key[0]) for record, key in zip(records, keys)}) > len(claims),
+        f'a call of {len(keys)} keys{" and an indirect one among them" if found else ""}': len(keys) in (16, 32),
+        'a call of more than 16 claims': len(claims) > 16})
     if found:
         yield from in_indirect_key(keys, records, found)
 
@@ -136,14 +127,15 @@ def in_indirect_key(keys, records, found):
     """What occurs in the indirect key of a call."""
     place = next(place for place, (_, at, _) in enumerate(keys) if at == 'through')
     mode, _, source = keys[place]
+    count = records.count(records[place])
+    is_source = records[place] == records[source]
     yield f'an indirect key for {MODES[mode]} by {keys[source][1]}'
-    yield f'a found value {"that is a record" if found.value < found.records else "past every record"}'
-    if records[place] == records[source]:
-        yield f'an indirect key for {MODES[mode]} of its source for {MODES[keys[source][0]]}'
-    elif records.count(records[place]) > 1:
-        yield 'an indirect key of the record of another key'
-    else:
-        yield 'an indirect key of a record of its own'
+    yield from those({
+        'a found value that is a record': found.value < found.records,
+        'a found value past every record': found.value >= found.records,
+        f'an indirect key for {MODES[mode]} of its source for {MODES[keys[source][0]]}': is_source,
+        'an indirect key of the record of another key': not is_source and count > 1,
+        'an indirect key of a record of its own': not is_source and count == 1})
 
 
 def size_of(value):
@@ -151,18 +143,12 @@ def size_of(value):
 
 
 def in_members(scenario):
-    for member in ('cap', 'bits'):
-        yield f'{member} is {size_of(scenario.get(member))}'
+    yield from (f'{member} is {size_of(scenario.get(member))}' for member in ('cap', 'bits'))
     yield f'hash is {scenario.get("hash", "absent")}'
-    for member in ('limit', 'schedule'):
-        yield f'{member} is {"there" if member in scenario else "absent"}'
+    yield from (f'{member} is {"there" if member in scenario else "absent"}' for member in ('limit', 'schedule'))
     clients = scenario['clients']
-    if not clients:
-        yield 'no client'
-    if [] in clients:
-        yield 'a client without calls'
-    if len(clients) > 1:
-        yield 'several clients'
+    yield from those({'no client': not clients, 'a client without calls': [] in clients,
+                      'several clients': len(clients) > 1})
 
 
 def why_out_of_step(word, call):
@@ -229,12 +215,12 @@ def in_found(machine, event, reason, left):
     word, client = event[0], event[-1]
     if word not in ('find', 'enter') or client not in machine.found:
         return
+    if reason is None and word == 'find':
+        is_changed = machine.found[client] != machine.values[machine.next_source(client)]
+        yield f'find: found {"another" if is_changed else "the same"} value again'
+    elif reason is None and client in left:
+        yield 'enter: opened by a value that a refusal has left'
     if reason is None:
-        if word == 'find':
-            is_changed = machine.found[client] != machine.values[machine.next_source(client)]
-            yield f'find: found {"another" if is_changed else "the same"} value again'
-        elif client in left:
-            yield 'enter: opened by a value that a refusal has left'
         left.discard(client)
     elif word == 'enter':
         left.add(client)
@@ -271,18 +257,15 @@ def in_replay(scenario):
             yield from in_moved(call)
     unfinished = {machine.calls[ticket].status for ticket in machine.unfinished()}
     yield from (f'end: a call is {status}' for status in sorted(unfinished))
-    if machine.turn:
-        yield 'end: a turn is open'
-    if machine.calls and not unfinished:
-        yield 'end: all have finished'
+    yield from those({'end: a turn is open': machine.turn,
+                      'end: all have finished': machine.calls and not unfinished})
 
 
 def in_run(scenario, options):
     """What occurs in a run, if each client makes all its calls before the next one."""
     yield from in_members(scenario)
     chosen = chosen_by(options)
-    for option in ('--workers', '--cap', '--bits'):
-        yield f'{option} is {size_of(chosen.get(option))}'
+    yield from (f'{option} is {size_of(chosen.get(option))}' for option in ('--workers', '--cap', '--bits'))
     procedures = {procedure['name']: procedure for procedure in scenario['procs']}
     records = list(scenario['records'])
     for call in [call for script in scenario['clients'] for call in script]:

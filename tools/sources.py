@@ -29,16 +29,13 @@ def self_type(head):
 
 
 class Function(NamedTuple):
-    """A function of a file, as its head tells it."""
-    # behind its type or its trait, as `Claims::add`, or alone
+    """A function of a file, as its head tells it: the name behind that of its type or trait, as `Claims::add`, or alone;
+    whether it is `pub` or one of a trait; whether an `impl` of a trait has it; the `///` lines; and the names of its
+    clauses, in order, an empty one if a clause has none."""
     name: str
-    # `pub`, or one of a trait
     is_public: bool
-    # one that an `impl` of a trait has
     is_of_trait: bool
-    # the `///` lines
     comment: List[str]
-    # the names of its clauses, in order; an empty one if a clause has none
     requires: List[str]
     ensures: List[str]
 
@@ -64,12 +61,9 @@ class Sources:
         inside = [file for file in self.files if crate in (None, file.split('/')[0])]
         return {name for file in inside for name in (*self.names_of(file), file.split('/')[0])}
 
-    def is_declared(self, name, crate):
-        return name in self.names(crate)
-
     @lru_cache(maxsize=None)
     def functions(self, crate):
-        """The clauses of each function, by `Type::name` or by `name`."""
+        """The names of the clauses of each function of a crate, or of all, by `Type::name` or by `name`."""
         found = {}
         for file, lines in self.files.items():
             if file.endswith('.rt') and crate in (None, file.split('/')[0]):
@@ -77,26 +71,19 @@ class Sources:
                     found.setdefault(function.name, set()).update(function.requires + function.ensures)
         return found
 
-    def clauses_of(self, name, crate):
-        """The names of a function's clauses, and None if there is no such function."""
-        return self.functions(crate).get(name)
-
     @lru_cache(maxsize=None)
     def is_type(self, name):
         return any(function.startswith(f'{name}::') for function in self.functions(None))
 
     def has_lines(self, wanted):
         """A file has these lines, one behind the other, but for comments, empty lines and the space before each."""
-        return bool(wanted) and any(has_run(lines, wanted) for lines in self.bare())
+        return bool(wanted) and any(lines[at:at + len(wanted)] == wanted for lines in self.bare()
+                                    for at, line in enumerate(lines) if line == wanted[0])
 
     @lru_cache(maxsize=None)
     def bare(self):
         """The lines of each file without comments, empty lines and the space before each."""
         return [[line.strip() for line in lines if not COMMENT.match(line)] for lines in self.files.values()]
-
-
-def has_run(lines, wanted):
-    return any(lines[at:at + len(wanted)] == wanted for at, line in enumerate(lines) if line == wanted[0])
 
 
 def functions_of(lines):

@@ -10,15 +10,14 @@ STEP, TAKE_FIND, TAKE_ENTER, TAKE_STORE = Machine.step, Machine.take_find, Machi
 VALUE, RUN = Body.value, Body.run
 
 
-def first_waiting(self):
-    return next((ticket for ticket in self.unfinished() if self.calls[ticket].status == 'waiting'), None)
+def waiting(self):
+    return (ticket for ticket in self.unfinished() if self.calls[ticket].status == 'waiting')
 
 
 def scan_of_running_calls(self):
-    for ticket in self.unfinished():
-        call = self.calls[ticket]
+    for ticket in waiting(self):
         running = [other for other in self.calls[:ticket] if other.status == 'running']
-        if call.status == 'waiting' and not any(MEETS(self, call, other) for other in running):
+        if not any(MEETS(self, self.calls[ticket], other) for other in running):
             return ticket
     return None
 
@@ -127,18 +126,14 @@ def find_in_the_opening_records(self, client):
     return f'found {value}'
 
 
-def find_that_keeps_the_first(self, client):
-    kept = dict(self.found)
-    answer = TAKE_FIND(self, client)
-    self.found.update(kept)
-    return answer
-
-
-def enter_that_keeps_the_value(self, client):
-    kept = dict(self.found)
-    answer = TAKE_ENTER(self, client)
-    self.found = kept
-    return answer
+def that_keeps_what_was_found(take):
+    """An event that leaves what a client has found before as it was."""
+    def taken(self, client):
+        kept = dict(self.found)
+        answer = take(self, client)
+        self.found.update(kept)
+        return answer
+    return taken
 
 
 def enter_that_finds_again(self, client):
@@ -196,7 +191,7 @@ WRONG_CALLS = {
 # Machines that are wrong: what each does, and the function that stands in the place of a right one.
 WRONG = {
     **WRONG_CALLS,
-    'front passes running calls': (Machine, 'front', first_waiting),
+    'front passes running calls': (Machine, 'front', lambda self: next(waiting(self), None)),
     'the scan looks at running calls alone': (Machine, 'scan', scan_of_running_calls),
     'the scan does not count released claims': (Machine, 'meets', meets_open_claims),
     'readers hold each other back': (Machine, 'meets', meets_by_places_alone),
@@ -228,10 +223,10 @@ WRONG = {
     'a source that finds the same record has not moved': (Body, 'has_moved', moved_to_another_record),
     'an enter finds once more': (Machine, 'take_enter', enter_that_finds_again),
     'an enter finds what it lacks': (Machine, 'refusal', enter_without_a_find),
-    'an enter does not use up what was found': (Machine, 'take_enter', enter_that_keeps_the_value),
+    'an enter does not use up what was found': (Machine, 'take_enter', that_keeps_what_was_found(TAKE_ENTER)),
     'a refused enter drops what was found': (Machine, 'step', step_that_drops_the_value_of_a_refused_enter),
     'a store of the source drops what was found': (Machine, 'take_store', store_that_drops_what_was_found),
-    'a second find keeps the value of the first': (Machine, 'take_find', find_that_keeps_the_first),
+    'a second find keeps the value of the first': (Machine, 'take_find', that_keeps_what_was_found(TAKE_FIND)),
     'a find loads the opening records': (Machine, 'take_find', find_in_the_opening_records),
     'a find goes on in the turn of its client': (Machine, 'is_turn_of', lambda self, client: False),
     'a find is refused in each open turn': (Machine, 'is_turn_of', lambda self, client: self.turn is not None),
