@@ -16,9 +16,9 @@ import replay_model
 from cases import bytes_of, is_script, read_cases, status_of
 from checks import refusal_of
 from generate import SIZES, run_scenario, scenario_of
-from model import OPERATORS, Found, Unlawful, claims_of, depth_of, make_on, nodes_of, records_of, source_of
+from model import OPERATORS, Unlawful, depth_of, make_on, nodes_of, source_of
 from occurrences import counts_of
-from replay_model import Machine, replay_text
+from replay_model import replay_text
 from wrong_machines import WRONG, WRONG_CALLS, WRONG_OPERATORS
 
 SEEDS = range(300)
@@ -95,7 +95,8 @@ class AnyRun:
 
 
 def doctored(text, rng):
-    """Wrong texts: a changed byte, a wrong number, a swapped, a missing and a doubled line, and wrong ends."""
+    """Wrong texts: a changed byte, a wrong number, a missing line, one with fitting tickets behind it, a doubled and a
+    swapped line, a call without a reply, and wrong ends."""
     lines = text.splitlines(keepends=True)
     for number, line in enumerate(lines):
         before, behind = ''.join(lines[:number]), ''.join(lines[number + 1:])
@@ -107,41 +108,11 @@ def doctored(text, rng):
         words[at] = str(int(words[at]) + rng.choice([1, 2, 1 << 32]))
         yield before + ' '.join(words) + '\n' + behind
         yield before + behind
+        yield before + re.sub(r'call (\d+)', lambda found: f'call {int(found[1]) - 1}', behind)
         yield before + line + line + behind
+        yield before + re.sub('(committed|aborted).*', 'waiting', line) + behind
         yield ''.join([*lines[:number][:-1], line, *lines[:number][-1:], behind])
     yield from (text[:-1], f'{text} ', text.replace('\n', '\r\n', 1), f'\ufeff{text}', '')
-
-
-class Language(unittest.TestCase):
-    """What no worked case shows: those find out wrong operators, orders of operands, aborts and claims."""
-
-    def test_record_of_an_indirect_key(self):
-        largest = 18446744073709551615
-        for value, records, record in [(2, 3, 2), (3, 3, 0), (5, 2, 1), (0, 1, 0), (9, 1, 0), (largest, 4, 3)]:
-            self.assertEqual(Found(value, records).record, record)
-        procedure = {'keys': [['read', 'fixed', 1], ['read', 'arg', 0], ['write', 'through', 1]]}
-        self.assertEqual(source_of(procedure, [3]), 3)
-        self.assertEqual(records_of(procedure, [3], Found(6, 4)), [1, 3, 2])
-        self.assertEqual(claims_of(procedure, [3], Found(6, 4)), [(1, False), (2, True), (3, False)])
-        self.assertEqual(claims_of(procedure, [3], Found(7, 4)), [(1, False), (3, True)])
-
-    def test_places_of_spread(self):
-        """Worked out from the multiplier, which is 9E3779B97F4A7C15 in hexadecimal digits."""
-        machine = Machine({'records': [], 'procs': [], 'clients': [], 'hash': 'spread', 'bits': 1 << 20})
-        self.assertEqual([machine.place(record) for record in range(4)], [0, 0x779B9, 0xEF372, 0x66D2C])
-
-    def test_scenarios_are_refused_by_their_lines_or_taken(self):
-        found, refused = {}, 0
-        for case in read_cases()[0]:
-            told = re.match(rb'vll: scenario: ((check|call|name) .*)\n', case.line())
-            if told or not case.line().startswith(b'vll: ') and not is_script(case.text):
-                refused += bool(told)
-                if case.text not in found:
-                    found[case.text] = refusal_of(json.loads(bytes_of(case.text)))
-                with self.subTest(case.name):
-                    self.assertEqual(found[case.text], told and told[1].decode())
-        self.assertGreater(refused, 150)
-        self.assertEqual({refusal_of(scenario) for kind in SIZES for scenario, _ in made(kind)}, {None})
 
 
 VIA = {'name': 'via', 'args': 1, 'keys': [['read', 'arg', 0], ['write', 'through', 0]],
@@ -186,29 +157,6 @@ FINDS = {
     'via 0 | bump 0 | via 0': [('1 committed 2, 0 committed 21, 2 aborted moved', '2 10 21', True)],
 }
 
-# An outcome of stock_runs_out in which the clients take turns, and what makes it unlawful: the replies of a client
-# swapped, its calls given to another, one left out or doubled under tickets that fit, and what stands for a reply.
-BY_TURNS = '''\
-call 0 client 0 committed 1
-call 1 client 1 committed 0
-call 2 client 0 aborted code 1
-call 3 client 1 committed 10
-call 4 client 0 committed 9
-call 5 client 1 committed 7
-call 6 client 1 committed 7 7
-record 0 value 7 pair 0
-record 1 value 7 pair 0
-'''
-DOCTORED = [
-    [('(call 3 .*) 10', r'\1 7'), ('(call 5 .*) 7', r'\1 10')],
-    [('(call 2 client) 0', r'\1 1'), ('(call 3 client) 1', r'\1 0')],
-    [('call 2 .*\n', ''), *((f'call {ticket}', f'call {ticket - 1}') for ticket in range(3, 7))],
-    [('call 6(.*)', r'call 6\1\ncall 7\1')], [(r'(call 6 .*\n)((?:record.*\n)*)', r'\2\1')],
-    [('committed 9', 'waiting')], [('aborted code 1', 'committed 0')], [('client 1 committed 0', 'client 1 aborted code 1')],
-    [('call 4', 'call 04')], [('call 6 client 1', 'call 6 client 2')], [(r'\Z', 'record 2 value 7 pair 0\n')],
-    [('(record.*\n)+', '')],
-]
-
 # Runs that find what no source has held, or what it holds no longer.
 WRONG_FINDS = {
     'a find tells 1 more than the source holds': lambda self, source: (self.states[-1][source] + 1) % (1 << 64),
@@ -220,6 +168,19 @@ WRONG_FINDS = {
 
 class Judges(unittest.TestCase):
 
+    def test_scenarios_are_refused_by_their_lines_or_taken(self):
+        found, refused = {}, 0
+        for case in read_cases()[0]:
+            told = re.match(rb'vll: scenario: ((check|call|name) .*)\n', case.line())
+            if told or not case.line().startswith(b'vll: ') and not is_script(case.text):
+                refused += bool(told)
+                if case.text not in found:
+                    found[case.text] = refusal_of(json.loads(bytes_of(case.text)))
+                with self.subTest(case.name):
+                    self.assertEqual(found[case.text], told and told[1].decode())
+        self.assertGreater(refused, 150)
+        self.assertEqual({refusal_of(scenario) for kind in SIZES for scenario, _ in made(kind)}, {None})
+
     def test_worked_texts_are_lawful(self):
         """What scenarios print, and one outcome of some of several clients."""
         for command, judge, least in (b'replay', replay_model.judge, 50), (b'run', judge_outcome.judge, 120):
@@ -230,26 +191,15 @@ class Judges(unittest.TestCase):
                     judge(scenario, text)
 
     def test_doctored_texts_are_unlawful(self):
-        stock = next(case for case in read_cases()[0] if case.name == 'stock_runs_out')
-        edits = [(json.loads(bytes_of(stock.text)), BY_TURNS, [])]
-        for edit in DOCTORED:
-            text = BY_TURNS
-            for pattern, other in edit:
-                text = re.sub(pattern, other, text, count=1)
-            edits[0][2].append(text)
         rng = random.Random(2)
-        for seed in range(30):
-            scenario = run_scenario(seed, 12)[0]
-            text = AnyRun(scenario, rng).text()
-            edits.append((scenario, text, list(doctored(text, rng))))
-        for scenario, text, wrongs in edits:
-            self.assertFalse(is_unlawful(scenario, text))
-            for wrong in wrongs:
+        runs = [run_scenario(seed, 12)[0] for seed in range(30)]
+        texts = [(scenario, AnyRun(scenario, rng).text(), judge_outcome.judge) for scenario in runs]
+        texts += [(scenario, replay_text(scenario), replay_model.judge) for scenario, _ in made('replay')[:3]]
+        for scenario, text, judge in texts:
+            self.assertFalse(is_unlawful(scenario, text, judge))
+            for wrong in doctored(text, rng):
                 with self.subTest(wrong):
-                    self.assertTrue(wrong == text or is_unlawful(scenario, wrong))
-        for scenario, _ in made('replay')[:3]:
-            for wrong in doctored(replay_text(scenario), rng):
-                self.assertTrue(wrong == replay_text(scenario) or is_unlawful(scenario, wrong, replay_model.judge))
+                    self.assertTrue(wrong == text or is_unlawful(scenario, wrong, judge))
 
     def test_finds(self):
         for calls, rows in FINDS.items():
