@@ -59,7 +59,6 @@ WORDS = {'cap': 'run,--cap,3 4', 'failed': 'replay', 'judged': 'run', 'judged_ro
 
 # What is no case, and what is told of it.
 FAULTS = [
-    ('a.json', '', 'scenarios/a: there is no .json, or neither .out nor .judge'),
     ('a.out', '', 'scenarios/a: there is no .json, or neither .out nor .judge'),
     ('a.txt', '', 'scenarios/a.txt is no part of a case'),
     ('made.json', '', 'scenarios/made: a part is there, and its script too'),
@@ -67,11 +66,9 @@ FAULTS = [
     *(('a.cases', f'==== b\nvll run\n{{}}\n----\nx\n==== a\n{text}',
        'scenarios/a.cases:6: it lacks a command, a line ---- after the scenario, or what is printed')
       for text in ('run\n{}\n----\nx\n', 'vll run\n{}\nx\n', 'vll run\n{}\n----\n', 'vll run\n{}\n----\nx\n----\n')),
-    ('a.cases', "==== a\nvll run '\n{}\n----\nx\n", 'scenarios/a.cases:1: No closing quotation'),
     ('a.cases', '==== made\nvll run\n{}\n----\nx\n', 'scenarios/a.cases:1 and scenarios/made have one name'),
     ('t.tsv', 'a\trun\tb\n', 'scenarios/t.tsv:1: there are 3 cells, and not 4 or more'),
     ('t.tsv', '#\na\trun\tb\t@c.json\n', 'scenarios/t.tsv:2: there is no c.json'),
-    ('t.tsv', 'a\trun\tb\t@bumps.json\tc\n', 'scenarios/t.tsv:1: there is a cell behind @bumps.json'),
 ]
 
 # A program that prints what it reads with a line end behind it, and ends with the status that goes with that. What it
@@ -94,11 +91,9 @@ WRONG = [
     ("printf '%s\\n' \"$text\"", 'printf %s "$text"', 'cap failed judged judged_row lines made pair refused'),
     ('text=$(cat)', 'text=$(cat); [ "$text" = "0 opened" ] && echo x >&2', 'pair'),
     ("] && echo 'vll", "] && read line && echo 'vll", 'words'),
-    ("line' && exit 2", "line' && exit 1", 'words'),
     ('committed 7', 'committed 6', 'judged judged_row'),
     ('text=$(cat)', '[ "$2" = --workers ] && exit 1; text=$(cat)', 'made'),
     ('[ "$*" = explain ]', 'false', 'refused'),
-    ('at: byte 0', 'at: procs 0', 'refused'),
     ("JSON text'", "JSON text' && exit 1", 'refused'),
     ('text=$(cat)', 'text=$(head -n 2)', 'made'),
 ]
@@ -115,19 +110,15 @@ SPOILED = [
     ('docs/DEFINITIONS.md', r'\n\| `[A-Z]\w+', r'\g<0>x', 'is not declared in'),
     ('docs/DEFINITIONS.md', r'\n\n', '\n\nIt says `IsNothingAtAll`.\n\n', 'is not declared in any crate'),
     ('docs/DEFINITIONS.md', r'`value_of`, ', '', 'value_of is reached from Serves'),
-    ('docs/DEFINITIONS.md', r'`value_of`, ', '`value_of`, `is_write`, ', 'is not reached from Serves'),
     ('docs/DEFINITIONS.md', '## What the headline needs', '## What it needs', 'nothing is listed'),
     ('docs/PROMISES.md', r'(\| `\w+::)\w+(` \(vll)', r'\1secret\2', 'is no function of vll_'),
-    ('docs/PROMISES.md', r'(\| `\w+::\w+`) \(vll_\w+\) \|', r'\1 |', 'no crate stands behind'),
     ('docs/PROMISES.md', r'(\) \| `)\w+', r'\1unheard_of', 'unheard_of is no clause of'),
     ('docs/PROMISES.md', r'\| Function \|', '| Functions |', 'no clause is looked at'),
     ('docs/ALGORITHM.md', r'`\w+` \(vll', '`claw` (vll', 'claw is not in vll'),
     ('docs/HEADLINE.md', r'\n```\n(\w+)', r'\n```\n\1x', 'no source has: '),
     ('docs/ARCHITECTURE.md', r'(`[A-Z]\w+::)[a-z]\w*`', r'\1unheard_of`', 'has no function unheard_of'),
-    ('docs/ARCHITECTURE.md', r'\]\([A-Z]+\.md', '](NOWHERE.md', 'there is no NOWHERE.md'),
     ('docs/ARCHITECTURE.md', r'(\]\([A-Z]+\.md#)[\w-]+', r'\1nowhere', 'there is no heading'),
     ('README.md', r'committed 70', 'committed 71', 'transfer.out is not what stands here'),
-    ('README.md', r'"records":\[100', '"records":[101', 'transfer.json does not stand here'),
     ('README.md', r'\| 2,449 \|', '| 2,448 |', 'these are not the figures of docs/speed.csv'),
     ('examples/README.md', r'0 opened', '0 closed', 'this is not what is printed'),
 ]
@@ -191,12 +182,9 @@ class Cases(unittest.TestCase):
         for top in self.room / 'scenarios/replay', self.room / 'nothing':
             self.assertEqual(self.said_of('scenarios', RIGHT, '--top', top)[1][-1], 'scenarios: 0 passed, 1 failed')
         self.assertEqual(self.said_of('scenarios', '', '--top', self.room, '--text', 'made'), (0, ['a', 'b', 'c']))
-
-    def test_outcome_that_is_kept_has_to_be_lawful(self):
         self.keep({'scenarios/steps.cases': FILES['scenarios/steps.cases'].replace('committed 7', 'committed 6')})
-        status, lines = self.said_of('scenarios', RIGHT, '--top', self.room)
-        self.assertEqual((status, len(lines)), (1, 2))
-        self.assertTrue(lines[0].startswith('scenario judged FAILED: the outcome that is kept is not lawful; '))
+        line = self.said_of('scenarios', RIGHT, '--top', self.room, 'judged')[1][0]
+        self.assertTrue(line.startswith('scenario judged FAILED: the outcome that is kept is not lawful; '), line)
 
     def test_trials_of_a_program_that_does_nothing_fail(self):
         lines = self.said_of('trials', 'exit 0', '--refusals', self.room / 'program', 'command_line', 'lacks',
