@@ -1,12 +1,93 @@
-"""The figures of docs/speed.csv and docs/sweep.csv, and the rows of README.md that are made of them."""
-import csv
-import re
+"""The figures of docs/speed.csv and docs/sweep.csv: the scenarios of the first, the same ones each time, the form of both
+files, and the rows of README.md that are made of them.
 
-from workloads import WORKLOADS
+    python3 tools/figures.py            prints the names of the scenarios
+    python3 tools/figures.py NAME       prints one
+
+256 clients make 65,536 calls in all, or 16,384 of the long ones, and at most 8 calls wait.
+"""
+import csv
+import json
+import random
+import re
+import sys
 
 # What vll_bench prints first, and the first line of a file of figures.
 PRINTED = ['scenario', 'way', 'threads', 'nanoseconds', 'calls', 'fewest', 'most']
 HEAD = ['scenario', 'way', 'threads', 'nanoseconds', 'commit', 'processor', 'date']
+
+RECORDS = 65536
+CLIENTS = 256
+CALLS = 65536
+LONG_CALLS = 16384
+CAP = 8
+# The procedures with ten claims read two records each that no call writes; these are the last ones.
+TENS = 64
+WRITTEN = RECORDS - 2 * TENS
+
+BUMP = {'name': 'bump', 'args': 1, 'keys': [['write', 'arg', 0]],
+        'body': [['set', 0, ['add', ['key', 0], 1]], ['reply', ['key', 0]]]}
+TRANSFER = {'name': 'transfer', 'args': 3, 'keys': [['write', 'arg', 0], ['write', 'arg', 1]],
+            'body': [['set', 0, ['sub', ['key', 0], ['arg', 2]]], ['set', 1, ['add', ['key', 1], ['arg', 2]]],
+                     ['reply', ['key', 0]]]}
+
+
+def ten(number):
+    """It writes eight records that its arguments name, and reads two fixed ones."""
+    first = WRITTEN + 2 * number
+    body = [['set', i, ['add', ['key', i], {0: ['key', 8], 7: ['key', 9]}.get(i, 1)]] for i in range(8)]
+    return {'name': f'ten{number}', 'args': 8,
+            'keys': [*(['write', 'arg', i] for i in range(8)), ['read', 'fixed', first], ['read', 'fixed', first + 1]],
+            'body': [*body, ['reply', ['key', 0]]]}
+
+
+def long():
+    """It runs 500 nodes, 8 in most statements."""
+    turns = [['let', 0, ['sub', ['max', ['local', 0], 1000 + i], ['min', ['local', 0], 7 + i]]] for i in range(61)]
+    return {'name': 'long', 'args': 2, 'keys': [['write', 'arg', 0], ['read', 'arg', 1]],
+            'body': [['let', 0, ['add', ['key', 0], ['key', 1]]], ['let', 1, ['local', 0]], *turns,
+                     ['set', 0, ['min', ['local', 0], 1000000]], ['reply', ['key', 0]]]}
+
+
+def tens(rng, hot):
+    """Calls with ten claims. One is for one of so many hot records, or none is if there are none."""
+    calls = []
+    for _ in range(CALLS):
+        keys = [rng.randrange(hot)] if hot else []
+        keys += rng.sample(range(hot, WRITTEN), 8 - len(keys))
+        calls.append((f'ten{rng.randrange(TENS)}', keys))
+    return [0] * WRITTEN + [1] * (RECORDS - WRITTEN), [ten(number) for number in range(TENS)], calls
+
+
+def transfers(rng):
+    calls = [('transfer', [*rng.sample(range(RECORDS), 2), rng.randrange(1, 11)]) for _ in range(CALLS)]
+    return [1000000] * RECORDS, [TRANSFER], calls
+
+
+def long_bodies(rng):
+    """No two calls share a record."""
+    records = rng.sample(range(RECORDS), 2 * LONG_CALLS)
+    return [5] * RECORDS, [long()], [('long', records[i:i + 2]) for i in range(0, 2 * LONG_CALLS, 2)]
+
+
+# By the name of each, what the pages call it, and what makes its records, its procedures and its calls. Gnuplot wants
+# names without a comma.
+WORKLOADS = {
+    'bodies of 500 nodes': ('bodies of 500 nodes, no two on one record', long_bodies),
+    'transfers': ('transfers between two of 65,536 records', transfers),
+    'ten claims': ('ten claims of 65,536 records, hardly a conflict', lambda rng: tens(rng, 0)),
+    'ten claims with one hot': ('ten claims, one of them among ten hot records', lambda rng: tens(rng, 10)),
+    'bump of one record': ('one statement, all calls on one record', lambda rng: ([0], [BUMP], [('bump', [0])] * CALLS)),
+}
+
+
+def scenario(name):
+    """The scenario, as JSON text."""
+    records, procs, calls = WORKLOADS[name][1](random.Random(name))
+    made = [{'proc': proc, 'args': args} for proc, args in calls]
+    clients = [made[first::CLIENTS] for first in range(CLIENTS)]
+    return json.dumps({'version': 1, 'records': records, 'procs': procs, 'clients': clients, 'cap': CAP},
+                      separators=(',', ':'))
 
 
 def rows_below(head, text):
@@ -31,3 +112,7 @@ def with_rows(readme, text):
         if count != 1:
             raise ValueError(f'README.md has {count} rows of: {words}')
     return readme
+
+
+if __name__ == '__main__':
+    print(scenario(' '.join(sys.argv[1:])) if sys.argv[1:] else '\n'.join(WORKLOADS))

@@ -24,15 +24,9 @@ LARGEST = 4294967295
 # Enough draws to find an event that can be taken, if there is one.
 TRIES = 20
 
-# Weights of entering (enter, claim and admit), starting (front, scan) and the steps of calls that run: a schedule
-# is made of phases, each with one of these rows.
-PHASES = [
-    {'enter': 4, 'claim': 8, 'admit': 8, 'front': 1, 'scan': 1, 'step': 4},
-    {'enter': 8, 'claim': 8, 'admit': 8, 'front': 0, 'scan': 0, 'step': 1},
-    {'enter': 2, 'claim': 4, 'admit': 4, 'front': 0, 'scan': 2, 'step': 12},
-    {'enter': 0, 'claim': 1, 'admit': 1, 'front': 2, 'scan': 0, 'step': 8},
-    {'enter': 4, 'claim': 6, 'admit': 6, 'front': 0, 'scan': 3, 'step': 2},
-]
+# Weights of entering, starting and the steps of calls that run: a schedule is made of phases, each with one of these rows.
+PHASES = [dict(zip(['enter', 'claim', 'admit', 'front', 'scan', 'step'], weights)) for weights in (
+    [4, 8, 8, 1, 1, 4], [8, 8, 8, 0, 0, 1], [2, 4, 4, 0, 2, 12], [0, 1, 1, 2, 0, 8], [4, 6, 6, 0, 3, 2])]
 
 # What a refused event is drawn for: each of the reasons of each event, those that seldom hold more often.
 REFUSALS = [
@@ -67,18 +61,15 @@ def has_indirect_key(scenario):
     return any(at == 'through' for procedure in scenario['procs'] for _, at, _ in procedure['keys'])
 
 
-def next_step(machine, ticket):
-    """The event that a running call takes next."""
-    return next(([word, ticket] for word in TICKET_WORDS if machine.refusal([word, ticket]) is None), None)
-
-
 def lawful_event(rng, machine, phase):
     """An event that can be taken, if one is found."""
     words = ['claim', 'admit', 'step'] if machine.turn else ['enter', 'front', 'scan', 'step']
     for word in rng.choices(words, [phase[word] for word in words], k=TRIES):
         if word == 'step':
             running = [ticket for ticket in machine.unfinished() if machine.is_running(ticket)]
-            event = next_step(machine, rng.choice(running)) if running else None
+            ticket = rng.choice(running) if running else None
+            steps = [[word, ticket] for word in TICKET_WORDS if running and machine.refusal([word, ticket]) is None]
+            event = steps[0] if steps else None
         else:
             event = any_event(rng, machine, word)
         reason = machine.refusal(event) if event else None

@@ -10,7 +10,7 @@ the records are those at the end, each with the pair word 0. A call with an indi
 where it can have found an earlier value of its source (see Run.judge_find). What a call does is worked out from
 docs/SCENARIO.md and docs/DEFINITIONS.md, and nothing of the program is used.
 
-What is not lawful is printed. The status is 0 if all is, 1 if something is not, and 2 if it cannot be judged.
+The first thing that is not lawful is printed, with status 1.
 """
 import json
 import re
@@ -147,21 +147,10 @@ def judge(scenario, text):
     run.judge_end(lines[calls:])
 
 
-def main(words):
-    if len(words) != 2:
-        print('usage: python3 tools/judge_outcome.py SCENARIO OUTCOME')
-        return 2
-    try:
-        scenario, text = (Path(word).read_bytes().decode() for word in words)
-        judge(json.loads(scenario), text)
-    except Unlawful as why:
-        print(f'{words[1]}: {why}')
-        return 1
-    except (OSError, ValueError) as error:
-        print(error)
-        return 2
-    return 0
-
-
 if __name__ == '__main__':
-    sys.exit(main(sys.argv[1:]))
+    if len(sys.argv) != 3:
+        sys.exit('usage: python3 tools/judge_outcome.py SCENARIO OUTCOME')
+    try:
+        judge(json.loads(Path(sys.argv[1]).read_bytes()), Path(sys.argv[2]).read_bytes().decode())
+    except Unlawful as unlawful:
+        sys.exit(f'{sys.argv[2]}: {unlawful}')

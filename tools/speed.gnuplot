@@ -4,9 +4,6 @@
 #
 # Both have a ground of their own, so that they can be read on a light page and on a dark one.
 
-if (!exists("docs")) docs = 'docs'
-if (!exists("to")) to = docs
-
 set datafile separator comma
 set datafile missing NaN
 set encoding utf8
@@ -38,7 +35,7 @@ note(row) = sprintf("commit %s, %s\n%s", strcol(5), strcol(7), strcol(6))
 
 # ---- speed.svg: a panel for each scenario, in the order of the file
 
-csv = docs.'/speed.csv'
+csv = 'docs/speed.csv'
 scenarios = ''
 titles = ''
 stats csv every ::1 using (origin = note(0), 0) nooutput
@@ -57,7 +54,7 @@ while (strlen(rest) > 0 && count < 6) {
 }
 
 set terminal svg size 960,640 name 'speed' font 'sans-serif,13' background '#ffffff'
-set output to.'/speed.svg'
+set output 'docs/speed.svg'
 set multiplot layout 2,3 title "Nanoseconds a call, by the number of threads: less is better" font ',16' \
     margins 0.06,0.985,0.12,0.86 spacing 0.055,0.16
 set logscale y
@@ -91,35 +88,33 @@ unset output
 
 # ---- sweep.svg: calls a second, as fewer records are hot
 
-csv = docs.'/sweep.csv'
-if (system("test -e '".csv."' && echo yes") eq 'yes') {
-    origin = ''
-    unset logscale y
-    set xrange [*:*]
-    set yrange [*:*]
-    stats csv every ::1 using (origin = note(0), 0) nooutput
-    set terminal svg size 960,520 name 'sweep' font 'sans-serif,13' background '#ffffff'
-    set output to.'/sweep.svg'
-    set border 3 lc '#555555'
-    set grid ytics lc '#dddddd' lt 1
-    set title "Million calls a second, ten claims a call, one of them hot: more is better" font ',16'
-    set xlabel 'contention index: 1 divided by the number of hot records'
-    set label 1 origin at screen 0.99, 0.06 right noenhanced font ',10' tc '#555555'
-    set logscale x
-    set xrange [0.00007:1.4]
-    set yrange [0:*]
-    set xtics ("0.0001" 0.0001, "0.001" 0.001, "0.01" 0.01, "0.1" 0.1, "1" 1) nomirror
-    set ytics autofreq nomirror
-    set bmargin 5
-    set key outside right center vertical samplen 3 spacing 1.5 font ',13'
-    rate(way, threads) = swept(way, threads, 1000.0 / column(4))
-    plot csv every ::1 using (1.0 / column(1)):(rate('engine', 4)) with linespoints ls 5 title '4 workers', \
-        csv every ::1 using (1.0 / column(1)):(rate('engine', 3)) with linespoints ls 10 title '3 workers', \
-        csv every ::1 using (1.0 / column(1)):(rate('engine', 2)) with linespoints ls 9 title '2 workers', \
-        csv every ::1 using (1.0 / column(1)):(rate('engine', 1)) with linespoints ls 8 title '1 worker', \
-        csv every ::1 using (1.0 / column(1)):(rate('mutex', 1)) with linespoints ls 2 title 'mutex, 1 thread', \
-        csv every ::1 using (1.0 / column(1)):(rate('mutex', 4)) with linespoints ls 6 title 'mutex, 4 threads', \
-        csv every ::1 using (1.0 / column(1)):(rate('locks', 1)) with linespoints ls 3 title 'locks, 1 thread', \
-        csv every ::1 using (1.0 / column(1)):(rate('locks', 4)) with linespoints ls 7 title 'locks, 4 threads'
-    unset output
-}
+csv = 'docs/sweep.csv'
+origin = ''
+unset logscale y
+set xrange [*:*]
+set yrange [*:*]
+stats csv every ::1 using (origin = note(0), 0) nooutput
+set terminal svg size 960,520 name 'sweep' font 'sans-serif,13' background '#ffffff'
+set output 'docs/sweep.svg'
+set border 3 lc '#555555'
+set grid ytics lc '#dddddd' lt 1
+set title "Million calls a second, ten claims a call, one of them hot: more is better" font ',16'
+set xlabel 'contention index: 1 divided by the number of hot records'
+set label 1 origin at screen 0.99, 0.06 right noenhanced font ',10' tc '#555555'
+set logscale x
+set xrange [0.00007:1.4]
+set yrange [0:*]
+set xtics ("0.0001" 0.0001, "0.001" 0.001, "0.01" 0.01, "0.1" 0.1, "1" 1) nomirror
+set ytics autofreq nomirror
+set bmargin 5
+set key outside right center vertical samplen 3 spacing 1.5 font ',13'
+rate(way, threads) = swept(way, threads, 1000.0 / column(4))
+plot csv every ::1 using (1.0 / column(1)):(rate('engine', 4)) with linespoints ls 5 title '4 workers', \
+    csv every ::1 using (1.0 / column(1)):(rate('engine', 3)) with linespoints ls 10 title '3 workers', \
+    csv every ::1 using (1.0 / column(1)):(rate('engine', 2)) with linespoints ls 9 title '2 workers', \
+    csv every ::1 using (1.0 / column(1)):(rate('engine', 1)) with linespoints ls 8 title '1 worker', \
+    csv every ::1 using (1.0 / column(1)):(rate('mutex', 1)) with linespoints ls 2 title 'mutex, 1 thread', \
+    csv every ::1 using (1.0 / column(1)):(rate('mutex', 4)) with linespoints ls 6 title 'mutex, 4 threads', \
+    csv every ::1 using (1.0 / column(1)):(rate('locks', 1)) with linespoints ls 3 title 'locks, 1 thread', \
+    csv every ::1 using (1.0 / column(1)):(rate('locks', 4)) with linespoints ls 7 title 'locks, 4 threads'
+unset output
