@@ -1,17 +1,30 @@
-"""The figures of docs/speed.csv and docs/sweep.csv: the scenarios of the first, the same ones each time, the form of both
-files, and the rows of README.md that are made of them.
+#!/usr/bin/env python3
+"""Takes the figures of docs/speed.csv and docs/sweep.csv anew, draws them, and writes README.md's rows of them.
 
-    python3 tools/figures.py            prints the names of the scenarios
-    python3 tools/figures.py NAME       prints one
+    python3 tools/figures.py [--processor WORDS] [compare] [sweep]
+    python3 tools/figures.py --scenario NAME       prints a scenario of docs/speed.csv, the same one each time
 
-256 clients make 65,536 calls in all, or 16,384 of the long ones, and at most 8 calls wait.
+It builds vll_bench, which is proved before, and runs `vll_bench compare` on each of these scenarios, and `vll_bench
+sweep`; with a word only that one. It is to be run while nothing else runs. The processor is named as the system names
+it if WORDS do not. Gnuplot draws the pictures; without it they stay as they were, and a line says so.
+
+In a scenario 256 clients make 65,536 calls in all, or 16,384 of the long ones, and at most 8 calls wait.
 """
+import argparse
 import csv
 import json
+import os
 import random
 import re
-import sys
+import shutil
+import subprocess
+from datetime import datetime, timezone
+from pathlib import Path
 
+from cases import TOP
+
+CRATE = TOP / 'crates/vll_bench'
+FILES = {'compare': TOP / 'docs/speed.csv', 'sweep': TOP / 'docs/sweep.csv'}
 # What vll_bench prints first, and the first line of a file of figures.
 PRINTED = ['scenario', 'way', 'threads', 'nanoseconds', 'calls', 'fewest', 'most']
 HEAD = ['scenario', 'way', 'threads', 'nanoseconds', 'commit', 'processor', 'date']
@@ -114,5 +127,53 @@ def with_rows(readme, text):
     return readme
 
 
+def processor():
+    """How many processors there are, and the name of the first one."""
+    found = re.search(r'^model name\s*:\s*(.*)$', Path('/proc/cpuinfo').read_text(), re.MULTILINE)
+    return f'{os.cpu_count()} x {found[1] if found else "unknown"}'
+
+
+def commit():
+    """The commit of the sources, with a + if they have changed since."""
+    def git(*words):
+        return subprocess.run(['git', '-C', str(TOP), *words], check=True, capture_output=True, text=True).stdout
+    return git('rev-parse', '--short', 'HEAD').strip() + ('+' if git('status', '--porcelain', 'crates') else '')
+
+
+def figures_of(what):
+    """The rows that vll_bench prints of a sweep, or of all scenarios, each with the scenario's name."""
+    for name in WORKLOADS if what == 'compare' else ['the sweep']:
+        print(name, flush=True)
+        given = scenario(name) if what == 'compare' else ''
+        ran = subprocess.run([CRATE / 'out/vll_bench', what], check=True, input=given, stdout=subprocess.PIPE, text=True)
+        for row in rows_below(PRINTED, ran.stdout):
+            yield [name if what == 'compare' else row[0], *row[1:4]]
+
+
+def main():
+    parser = argparse.ArgumentParser(description='Takes the figures of docs/speed.csv and docs/sweep.csv anew.')
+    parser.add_argument('--processor', default=processor())
+    parser.add_argument('--scenario', choices=WORKLOADS)
+    parser.add_argument('what', nargs='*', metavar='compare|sweep')
+    words = parser.parse_args()
+    if words.scenario:
+        print(scenario(words.scenario))
+        return
+    if not set(words.what) <= set(FILES):
+        parser.error(f'there are {" and ".join(FILES)}')
+    subprocess.run(['rt', 'run'], cwd=CRATE, check=True, stdout=subprocess.DEVNULL)
+    origin = [commit(), words.processor, f'{datetime.now(timezone.utc):%Y-%m-%d}']
+    for what in words.what or FILES:
+        rows = [[*row, *origin] for row in figures_of(what)]
+        with open(FILES[what], 'w', newline='', encoding='utf-8') as file:
+            csv.writer(file, lineterminator='\n').writerows([HEAD, *rows])
+    readme = TOP / 'README.md'
+    readme.write_text(with_rows(readme.read_text(), FILES['compare'].read_text()))
+    if shutil.which('gnuplot'):
+        subprocess.run(['gnuplot', 'tools/speed.gnuplot'], cwd=TOP, check=True)
+    else:
+        print('not drawn: there is no gnuplot')
+
+
 if __name__ == '__main__':
-    print(scenario(' '.join(sys.argv[1:])) if sys.argv[1:] else '\n'.join(WORKLOADS))
+    main()

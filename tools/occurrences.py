@@ -162,8 +162,7 @@ def why_out_of_step(word, call):
 
 
 def why_no_scan(machine):
-    waiting = [ticket for ticket in machine.unfinished() if machine.calls[ticket].status == 'waiting']
-    if not waiting:
+    if not machine.waiting():
         return 'none is waiting'
     exact = Machine({**machine.scenario, 'hash': 'modulo', 'bits': len(machine.values)})
     exact.calls = machine.calls

@@ -1,14 +1,12 @@
 #!/usr/bin/env python3
 """Says how much disk and memory the whole of `./test` wants and how much there is; with status 1 if it could not end.
 
-    python3 tools/room.py           at the top of the repository
+    python3 tools/room.py           at the top of the repository; what could go is named, and nothing removed
     python3 tools/room.py --jobs    prints how many checks `rt ci` should run at a time here, for RT_JOBS: as many as there
                                     are processors, or fewer where the free memory does not hold as many checks. It
                                     prints nothing if that is below two: `rt ci` had better choose for itself then
 
-It removes nothing. If the disk lacks room, it names what could go: the folders that checks and builds have left in this
-checkout, and what `rt ci` has kept on this machine. Processors and memory are those of the control group too, if the
-machine is a container.
+Processors and memory are those of the control group too, if the machine is a container.
 """
 import os
 import re
@@ -63,14 +61,6 @@ def memory(meminfo='/proc/meminfo', group='/sys/fs/cgroup'):
     return min(left, default=None)
 
 
-def could_go():
-    """The folders that are made anew when they are wanted, with the bytes of their files, the largest first."""
-    def bytes_of(folder):
-        return sum(os.lstat(Path(at, name)).st_blocks * 512 for at, _, names in os.walk(folder) for name in names)
-
-    return sorted(((bytes_of(it), it) for it in (*TOP.glob('crates/*/out'), TOP / 'build')), reverse=True)
-
-
 def disks():
     """For each disk: the places on it, the bytes wanted there, and those that are left."""
     by_disk = {}
@@ -86,19 +76,16 @@ def main(words):
         jobs = processors() if left is None else min(processors(), left // BYTES_OF_A_CHECK)
         print(jobs if jobs >= 2 else '')
         return 0
-    lacks = [wanted > free for _, wanted, free in disks()]
-    for place, wanted, free in disks():
-        print(f'room: ./test wants {wanted / GB:.0f} GB of the disk of {place}, and {free / GB:.1f} are left')
+    lacks_memory, lacks_disk = left is not None and left < BYTES_OF_A_CHECK, False
     if left is not None:
         print(f'room: a check takes up to {BYTES_OF_A_CHECK / GB:.1f} GB of memory, and {left / GB:.1f} are free')
-    if any(lacks):
-        print('room: the disk lacks room. These could go, and so could copies of this repository that are done with:',
-              *(f'{folder} ({size / GB:.1f} GB)' for size, folder in could_go()[:8] if size),
-              'and what `rt ci` keeps beside the kit')
-    if left is not None and left < BYTES_OF_A_CHECK:
-        print('room: there is too little memory')
-        return 1
-    return int(any(lacks))
+    for place, wanted, free in disks():
+        print(f'room: ./test wants {wanted / GB:.0f} GB of the disk of {place}, and {free / GB:.1f} are left')
+        lacks_disk = lacks_disk or free < wanted
+    if lacks_disk:
+        print(f'room: {TOP}/crates/*/out and {TOP}/build could go, which are made anew, and so could copies of this',
+              'repository that are done with, and what `rt ci` keeps beside the kit')
+    return int(lacks_memory or lacks_disk)
 
 
 if __name__ == '__main__':

@@ -36,7 +36,6 @@ note(row) = sprintf("commit %s, %s\n%s", strcol(5), strcol(7), strcol(6))
 # ---- speed.svg: a panel for each scenario, in the order of the file
 
 csv = 'docs/speed.csv'
-scenarios = ''
 titles = ''
 stats csv every ::1 using (origin = note(0), 0) nooutput
 stats csv every ::1 using ( \

@@ -86,14 +86,12 @@ class WithStandIn(unittest.TestCase):
         self.write('made', '#!/usr/bin/env bash\nprintf "%s\\n" "$*"\n', 0o755)
         self.assertEqual(self.vll(*words).stdout.decode().rstrip('\n'), ' '.join(map(os.fsdecode, words)))
         self.assertTrue(self.program.exists())
-        return self.is_called()
-
-    def is_called(self):
-        return (self.room / 'words').exists()
+        return bool(self.called())
 
     def called(self):
-        """The words with which rt was called last, and before them the folder."""
-        return (self.room / 'words').read_text().splitlines()
+        """The folder and the words with which rt was called last to run something; nothing if it was not."""
+        words = self.room / 'words'
+        return words.read_text().splitlines() if words.exists() else []
 
     def libraries(self):
         """The folders in which a library was proved, those here and those elsewhere."""
@@ -104,13 +102,12 @@ class WithStandIn(unittest.TestCase):
     def test_words_and_input_reach_the_program(self):
         """The word --unproved counts in any place, and the input comes from a file."""
         given = TRANSFER.read_bytes()
-        for words in '--unproved run --workers 3', 'run --unproved --workers 3', 'run --workers 3 --unproved':
+        for words in '--unproved run --workers 3', 'run --unproved --workers 3', 'run --workers 3 --unproved', \
+                '--unproved replay', '--unproved explain':
             self.vll(*words.split(), input=given)
-            self.assertEqual(self.called(), [str(self.room / 'crates/vll'), *'try -- run --workers 3'.split()])
+            wanted = ['try', '--', *words.replace('--unproved', '').split()]
+            self.assertEqual(self.called(), [str(self.room / 'crates/vll'), *wanted])
             self.assertEqual((self.room / 'input').read_bytes(), given)
-        for command in 'replay', 'explain':
-            self.vll('--unproved', command, input=b'{}')
-            self.assertEqual((self.room / 'input').read_bytes(), b'{}')
         self.assertFalse((self.room / 'no_file').exists())
 
     def test_outcome_and_status_are_the_programs(self):
@@ -151,7 +148,7 @@ class WithStandIn(unittest.TestCase):
         """The program that is built counts as proved, and is found through a link from another folder."""
         self.write('crates/vll/out/vll', '#!/usr/bin/env bash\nprintf proved\n', 0o755)
         self.assertEqual(self.check(['run'], 0, b'proved'), b'')
-        self.assertFalse(self.is_called())
+        self.assertEqual(self.called(), [])
         with tempfile.TemporaryDirectory() as room:
             link = Path(room, 'link')
             link.symlink_to(self.room / 'vll')
@@ -167,23 +164,27 @@ class WithStandIn(unittest.TestCase):
             for part in b'./vll --unproved', b'run [--workers N] [--cap N] [--bits N]', b'replay', b'explain':
                 self.assertIn(part, ran.stdout)
             self.assertNotIn(b'set -euo', ran.stdout)
-        self.assertFalse(self.is_called())
+        self.assertEqual(self.called(), [])
 
     def test_what_is_no_command_is_refused_before_the_program_is_there(self):
         for words in [], ['rnu'], ['scenario.json'], ['--', 'run'], ['--unproved', 'rnu'], [b'\xff']:
             self.check(words, 2, b'vll: command line\n', b'--help')
-        self.assertFalse(self.is_called())
+        self.assertEqual(self.called(), [])
 
     def test_words_of_use_have_the_program_built(self):
         """The program tests its options itself."""
-        for words in 'run', 'replay', 'explain', 'run --workers 3 --cap=4 --bits 5', 'run --workers 65', 'draw -- --count=0':
+        for words in 'run', 'replay', 'explain', 'run --workers 3 --cap=4 --bits 5', 'run --workers 65', \
+                'draw -- --count=0':
             self.assertTrue(self.is_built_for(*words.split()))
             self.assertEqual(self.called()[1:], ['run', '--', '--help'])
             self.assertFalse(self.is_built_for(*words.split()))
             shutil.rmtree(self.program.parent)
 
-    def test_it_tells_how_far_the_proofs_are(self):
+    def test_each_library_is_proved_after_those_below_it(self):
+        """It tells how far the proofs are."""
         said = self.vll('run').stderr.decode()
+        here, elsewhere = self.libraries()
+        self.assertEqual(([folder.name for folder in here], elsewhere), (['vll_deep', 'vll_part'], []))
         for part in 'this proves 3 crates', 'proving vll_deep\n', \
                 'vll_deep: 3 of 9 functions checked; 0 of 3 crates are proved', \
                 'vll_deep is proved: 1 of 3 crates, after 0 minutes', 'proving vll\n', \
@@ -193,13 +194,7 @@ class WithStandIn(unittest.TestCase):
     def test_a_library_that_is_not_proved_is_status_3(self):
         self.write('unproved', '')
         self.check(['run'], 3, b'', b'proving: vll_deep\nso far: 3 of 9')
-        self.assertEqual(len(self.libraries()[0]), 1)
-        self.assertFalse(self.is_called())
-
-    def test_each_library_is_proved_after_those_below_it(self):
-        self.assertTrue(self.is_built_for('run'))
-        here, elsewhere = self.libraries()
-        self.assertEqual(([folder.name for folder in here], elsewhere), (['vll_deep', 'vll_part'], []))
+        self.assertEqual((len(self.libraries()[0]), self.called()), (1, []))
 
     def test_what_stands_beside_the_engine_is_proved_in_a_copy_meanwhile(self):
         """If the machine holds two checks at a time, and the program is made from vll_draw."""

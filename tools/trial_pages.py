@@ -60,10 +60,6 @@ class Page(HTMLParser):
             self.marks[-1][1] = ''
         self.open.append(tag)
 
-    def handle_startendtag(self, tag, attrs):
-        self.handle_starttag(tag, attrs)
-        self.handle_endtag(tag)
-
     def handle_endtag(self, tag):
         demand(self.open and self.open.pop() == tag, f'{tag} is closed where it is not the innermost')
 
