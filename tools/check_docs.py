@@ -90,8 +90,7 @@ class Page:
 class Checks:
     """What was looked at, and what is not so."""
 
-    def __init__(self, top, sources, specs):
-        self.top = top
+    def __init__(self, sources, specs):
         self.sources = sources
         self.specs = specs
         self.looked = 0
@@ -163,19 +162,19 @@ class Checks:
                 self.look(page, number, is_so, f'no source has: {piece.strip().splitlines()[0]}')
 
     def readme(self, page):
-        scenario = (self.top / 'scenarios/transfer.json').read_text()
+        scenario = (TOP / 'scenarios/transfer.json').read_text()
         self.look(page, 1, f'```json\n{scenario}```\n' in page.text, 'scenarios/transfer.json does not stand here')
-        figures = (self.top / 'docs/speed.csv').read_text()
+        figures = (TOP / 'docs/speed.csv').read_text()
         self.look(page, 1, with_rows(page.text, figures) == page.text, 'these are not the figures of docs/speed.csv')
 
     def examples(self, page):
-        cases = {case.name: case for case in read_cases(self.top)[0] if case.place.startswith('examples/')}
+        cases = {case.name: case for case in read_cases()[0] if case.place.startswith('examples/')}
         for (number, _, block), (_, _, shown) in zip(page.blocks, page.blocks[1:]):
             found = EXAMPLE.match(block[0]) if len(block) == 1 else None
             case = found and cases.get(found[2])
             if case and not case.is_judged and not shown[0].startswith('./vll '):
                 self.look(page, number, found[1].encode().split() == case.words, 'these are not the words of the case')
-                schedule = json.loads((self.top / f'{case.place}.json').read_text()).get('schedule', [])
+                schedule = json.loads((TOP / f'{case.place}.json').read_text()).get('schedule', [])
                 events = [json.dumps(event, separators=(',', ':')) for event in schedule]
                 width = max(map(len, events), default=-3) + 3
                 lines = zip_longest(events, case.wanted().decode().splitlines(), fillvalue='')
@@ -203,7 +202,7 @@ class Checks:
         for number, text, block in page.blocks:
             found = COMMAND.search(text)
             if found:
-                wanted = self.top / f'{found[1]}.out'
+                wanted = TOP / f'{found[1]}.out'
                 is_so = wanted.exists() and wanted.read_text() == '\n'.join(block) + '\n'
                 self.look(page, number, is_so, f'{found[1]}.out is not what stands here')
 
@@ -223,16 +222,16 @@ def crate_in(heading):
     return found[0] if found else None
 
 
-def pages_of(top):
+def texts_of_pages():
     """The texts of the pages, by their names."""
-    paths = sorted([*top.glob('*.md'), *top.glob('docs/*.md'), *top.glob('examples/*.md'), *top.glob('scenarios/*.md')])
-    return {str(path.relative_to(top)): path.read_text() for path in paths}
+    paths = [path for folder in ('.', 'docs', 'examples', 'scenarios') for path in sorted((TOP / folder).glob('*.md'))]
+    return {str(path.relative_to(TOP)): path.read_text() for path in paths}
 
 
-def check(top, texts, sources, specs):
+def check(texts, sources, specs):
     """Compares pages of these texts with these sources."""
-    checks = Checks(top, sources, specs)
-    pages = {name: Page(top / name, name, text) for name, text in texts.items()}
+    checks = Checks(sources, specs)
+    pages = {name: Page(TOP / name, name, text) for name, text in texts.items()}
     anchors = {page.path: page.anchors() for page in pages.values()}
     for page in pages.values():
         checks.functions(page)
@@ -249,7 +248,8 @@ def check(top, texts, sources, specs):
 
 
 def main():
-    checks = check(TOP, pages_of(TOP), Sources(TOP), Specs(TOP))
+    sources = Sources(TOP)
+    checks = check(texts_of_pages(), sources, Specs(sources))
     for line in checks.wrong:
         print(line)
     print(f'docs: {checks.looked} things looked at, {len(checks.wrong)} not so')

@@ -25,34 +25,25 @@ MOST_BYTES = 1 << 20
 # more than 64 turns.
 MUST_REFUSE = re.compile(r'vll: scenario: (shape|size|check \d+ (1|2|8|14|15)\n)')
 
-# Scenarios that the program refuses by such a line, and the schema cannot: the reason, and their names.
-UNTOLD = {
-    'to JSON Schema 1.0, 1e3, 1e-400 and -0 are whole numbers from 0': '''
-        abort_code_with_a_point bits_with_a_point bits_with_an_exponent cap_with_a_point
-        cap_with_an_exponent client_with_a_sign index_with_a_point key_record_with_a_point
-        limit_with_a_point limit_with_an_exponent number_with_a_point number_with_an_exponent
-        record_minus_zero record_with_a_point record_with_a_small_exponent record_with_an_exponent
-        repeat_count_with_a_point through_index_with_a_point ticket_with_a_point ticket_with_an_exponent
-        version_two_with_a_point version_with_a_point version_with_an_exponent
-    ''',
-}
+# Scenarios that the program refuses by such a line, and the schema cannot: to JSON Schema 1.0, 1e3, 1e-400 and -0 are
+# whole numbers from 0.
+UNTOLD = set('''
+    abort_code_with_a_point bits_with_a_point bits_with_an_exponent cap_with_a_point cap_with_an_exponent
+    client_with_a_sign index_with_a_point key_record_with_a_point limit_with_a_point limit_with_an_exponent
+    number_with_a_point number_with_an_exponent record_minus_zero record_with_a_point record_with_a_small_exponent
+    record_with_an_exponent repeat_count_with_a_point through_index_with_a_point ticket_with_a_point
+    ticket_with_an_exponent version_two_with_a_point version_with_a_point version_with_an_exponent
+'''.split())
 
-# Scenarios that the schema refuses, and the program by a line that the schema cannot tell.
-TOLD = {
-    'a fixed record past every record': 'largest_fixed_record',
-    'more arguments than any procedure has': 'call_of_nine_arguments',
-    'an argument past all that a procedure may have': 'argument_255 key_at_argument_255',
-    'a key past all that a procedure may have': 'key_255 set_of_key_255 through_key_255',
-    'a fault that the program tells later': '''
-        lowest_faulty_procedure undeclared_argument_before_unknown_local through_an_indirect_key
-        through_itself_before_turns through_itself_before_two_indirect_keys too_long_before_two_indirect_keys
-        too_many_replies_before_turns unset_local_before_turns
-    ''',
-}
-
-
-def names_of(exceptions):
-    return {name for names in exceptions.values() for name in names.split()}
+# Scenarios that the schema refuses, and the program by a line that the schema cannot tell: for a record, an argument or
+# a key past all that there may be, for more arguments than any procedure has, and for a fault that it tells later.
+TOLD = set('''
+    largest_fixed_record argument_255 key_at_argument_255 key_255 set_of_key_255 through_key_255
+    call_of_nine_arguments
+    lowest_faulty_procedure undeclared_argument_before_unknown_local through_an_indirect_key
+    through_itself_before_turns through_itself_before_two_indirect_keys too_long_before_two_indirect_keys
+    too_many_replies_before_turns unset_local_before_turns
+'''.split())
 
 
 def scenarios():
@@ -71,12 +62,11 @@ def disagreements(schema, asked):
     """A line for each of the scenarios that disagrees with a schema, and for each exception that is no scenario."""
     Draft202012Validator.check_schema(schema)
     validator = Draft202012Validator(schema)
-    untold, told = names_of(UNTOLD), names_of(TOLD)
     for name, tree, line in asked:
-        wanted = name in told or bool(MUST_REFUSE.match(line)) and name not in untold
+        wanted = name in TOLD or bool(MUST_REFUSE.match(line)) and name not in UNTOLD
         if validator.is_valid(tree) == wanted:
             yield f'{name} is not {"refused" if wanted else "accepted"} by the schema'
-    for name in sorted((untold | told) - {name for name, _, _ in asked}):
+    for name in sorted((UNTOLD | TOLD) - {name for name, _, _ in asked}):
         yield f'{name} is named as an exception, and is no scenario'
 
 

@@ -52,8 +52,8 @@ def contracts(crates):
         exports = {name for module, many, one in EXPORT.findall(text) if module in MODULE.findall(text)
                    for name in re.findall(r'\w+', many or one)}
         files = [file for file in sources.files if file.startswith(f'{crate}/src/')]
-        rows = [(f'`{function.name}`', first_sentence(function.comment), marked(function.requires),
-                 marked(function.ensures), f'`{file[len(crate) + 1:]}`')
+        rows = [(marked([function.name]), first_sentence(function.comment), marked(function.requires),
+                 marked(function.ensures), marked([file[len(crate) + 1:]]))
                 for file in sorted(files, key=lambda file: file[:-len('.rt')])
                 for function in functions_of(sources.files[file]) if is_listed(function, exports)]
         purpose = first_sentence([line[3:].strip() for line in takewhile(lambda line: line.startswith('//!'), lib)])
@@ -67,7 +67,7 @@ def is_listed(function, exports):
 
 def definitions(crates):
     """For each crate what its files are about, the table of its definitions, and those that have no comment."""
-    specs = Specs(TOP)
+    specs = Specs(Sources(TOP))
     for crate in crates:
         listed = TOP / 'crates' / crate / 'specs/Lib.antt'
         files = re.findall(r'^pub mod (?!Private)(\w+)', listed.read_text(), re.M) if listed.exists() else []

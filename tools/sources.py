@@ -130,15 +130,16 @@ def comments_over(lines):
 class Specs:
     """The definitions of specs/, the comment over each, and which others each one cites."""
 
-    def __init__(self, top):
+    def __init__(self, sources):
         self.imports = {}
         self.texts = {}
         # The first comment of a file, and that over a definition or over its group. It is empty if there is none.
         self.heads = {}
         self.comments = {}
-        for path in sorted(top.glob('crates/*/specs/**/*.antt')):
-            crate, _, *inside = path.relative_to(top / 'crates').with_suffix('').parts
-            self.read((crate, '.'.join(inside)), path.read_text().splitlines())
+        for name, lines in sources.files.items():
+            if name.endswith('.antt'):
+                crate, _, *inside = name[:-len('.antt')].split('/')
+                self.read((crate, '.'.join(inside)), lines)
 
     def read(self, file, lines):
         self.imports[file] = {}

@@ -225,12 +225,13 @@ class Judged(unittest.TestCase):
             self.assertIn('version_with_a_point is named as an exception, and is no scenario', lines)
 
     def test_spoiled_page_is_told_of(self):
-        texts, sources, specs = check_docs.pages_of(TOP), Sources(TOP), Specs(TOP)
+        texts, sources = check_docs.texts_of_pages(), Sources(TOP)
+        specs = Specs(sources)
         for name, pattern, other, words in SPOILED:
             text = re.sub(pattern, other, texts[name], count=1)
             with self.subTest(words):
                 self.assertNotEqual(text, texts[name])
-                told = check_docs.check(TOP, {**texts, name: text}, sources, specs).wrong
+                told = check_docs.check({**texts, name: text}, sources, specs).wrong
                 self.assertTrue([line for line in told if line.startswith(name) and words in line], told)
 
 

@@ -14,7 +14,6 @@ from unittest import mock
 import judge_outcome
 import replay_model
 from cases import bytes_of, is_script, read_cases, status_of
-from checks import refusal_of
 from generate import SIZES, run_scenario, scenario_of
 from model import OPERATORS, Unlawful, depth_of, make_on, nodes_of, source_of
 from occurrences import counts_of
@@ -167,19 +166,6 @@ WRONG_FINDS = {
 
 
 class Judges(unittest.TestCase):
-
-    def test_scenarios_are_refused_by_their_lines_or_taken(self):
-        found, refused = {}, 0
-        for case in read_cases()[0]:
-            told = re.match(rb'vll: scenario: ((check|call|name) .*)\n', case.line())
-            if told or not case.line().startswith(b'vll: ') and not is_script(case.text):
-                refused += bool(told)
-                if case.text not in found:
-                    found[case.text] = refusal_of(json.loads(bytes_of(case.text)))
-                with self.subTest(case.name):
-                    self.assertEqual(found[case.text], told and told[1].decode())
-        self.assertGreater(refused, 150)
-        self.assertEqual({refusal_of(scenario) for kind in SIZES for scenario, _ in made(kind)}, {None})
 
     def test_worked_texts_are_lawful(self):
         """What scenarios print, and one outcome of some of several clients."""
