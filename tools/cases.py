@@ -6,7 +6,7 @@ import re
 import shlex
 import subprocess
 from pathlib import Path
-from typing import List, NamedTuple, Optional, Union
+from typing import List, NamedTuple, Union
 
 TOP = Path(__file__).resolve().parent.parent
 FOLDERS = ('scenarios', 'examples')
@@ -22,19 +22,16 @@ JUDGED = '@judge'
 FAULT = re.compile(rb'^vll: (run|replay|explain|draw|scenario|command line)', re.MULTILINE)
 STATUS = {b'run': 1, b'replay': 1, b'explain': 1, b'draw': 1, b'scenario': 2, b'command line': 2}
 
-# Bytes, or the file that holds them, or the script that prints them.
-Source = Union[bytes, Path]
-
 
 class Case(NamedTuple):
-    """What is given to the program, and what it has to print."""
+    """What is given to the program, and what it has to print: bytes, or the file that holds them, or the script that
+    prints them. If what is printed is judged, that is one lawful outcome or nothing."""
     name: str
     # the beginning of its files' names, or a file and the line in it
     place: str
     words: List[bytes]
-    text: Source
-    # nothing if what is printed is judged; a judged case may have a lawful outcome beside it
-    printed: Optional[Source]
+    text: Union[bytes, Path]
+    printed: Union[bytes, Path, None]
     is_judged: bool = False
 
     def wanted(self):

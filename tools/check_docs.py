@@ -3,15 +3,13 @@
 
     python3 tools/check_docs.py
 
-- docs/DEFINITIONS.md: a name in the first column of a table is declared in the file of its row, or, if the table has no
-  such column, in the crate of its section. What stands under "What the headline needs" is just what the clause
-  reaches. Any other name is declared somewhere.
-- docs/PROMISES.md: each function of a row stands in the crate that is named behind it, and the row's clauses at one of
-  its functions.
-- docs/ALGORITHM.md: each function stands in the crate that is named behind it.
-- docs/HEADLINE.md: what it quotes stands so in a source.
-- README.md: its scenario is scenarios/transfer.json, and its figures are those of docs/speed.csv.
-- examples/README.md: a block below a command has what is printed, behind the events of a schedule.
+- DEFINITIONS: a name in the first column of a table is declared in the file of its row, or, if the table has no such
+  column, in the crate of its section. What stands under "What the headline needs" is just what the clause reaches. Any
+  other name is declared somewhere.
+- PROMISES, ALGORITHM: a function stands in the crate that is named behind it, and the clauses of a row at one of its
+  functions. HEADLINE: what it quotes stands so in a source.
+- README.md: its scenario is scenarios/transfer.json, and its figures are those of docs/speed.csv. examples/README.md: a
+  block below a command has what is printed, behind the events of a schedule.
 - every page: a function that is named with its type is there, a link leads to a file and to a heading, and an outcome
   that stands below a command is the one beside the scenario.
 

@@ -90,7 +90,7 @@ WORKLOADS = {
     'transfers': ('transfers between two of 65,536 records', transfers),
     'ten claims': ('ten claims of 65,536 records, hardly a conflict', lambda rng: tens(rng, 0)),
     'ten claims with one hot': ('ten claims, one of them among ten hot records', lambda rng: tens(rng, 10)),
-    'bump of one record': ('one statement, all calls on one record', lambda rng: ([0], [BUMP], [('bump', [0])] * CALLS)),
+    'bump of one record': ('one statement, all calls on one record', lambda _: ([0], [BUMP], [('bump', [0])] * CALLS)),
 }
 
 
@@ -112,8 +112,8 @@ def rows_below(head, text):
 
 
 def with_rows(readme, text):
-    """The text of README.md with the figures of a file in its table, which has a row for each scenario: a mutex and locks
-    at their best, `Engine::call` and workers on four threads."""
+    """The text of README.md with the figures of a file in its table, which has a row for each scenario: a mutex and
+    locks at their best, `Engine::call` and workers on four threads."""
     found = {}
     for scenario, way, threads, nanoseconds, *_ in rows_below(HEAD, text):
         found.setdefault(scenario, {}).setdefault(way, {})[threads] = int(nanoseconds)
@@ -145,8 +145,8 @@ def figures_of(what):
     for name in WORKLOADS if what == 'compare' else ['the sweep']:
         print(name, flush=True)
         given = scenario(name) if what == 'compare' else ''
-        ran = subprocess.run([CRATE / 'out/vll_bench', what], check=True, input=given, stdout=subprocess.PIPE, text=True)
-        for row in rows_below(PRINTED, ran.stdout):
+        printed = subprocess.check_output([CRATE / 'out/vll_bench', what], input=given, text=True)
+        for row in rows_below(PRINTED, printed):
             yield [name if what == 'compare' else row[0], *row[1:4]]
 
 

@@ -23,9 +23,8 @@ TICKS = os.sysconf('SC_CLK_TCK')
 
 
 def work_of(words, folder):
-    """Whose work the prover does that was called with these words in this folder: the crate, one of KINDS, and of an edit
-    its number, if that is told. None for others. Proofs and tests are checked where the crate lies, in crates/NAME, and
-    an edit in a copy of it elsewhere, over a folder that has its number."""
+    """Whose work the prover does that was called with these words in this folder: the crate, one of KINDS, and the number
+    of an edit, if it is told. None for others. An edit is checked in a copy of the crate, over a folder of its number."""
     if not words[0].endswith('/rattle') or '--crate-name' not in words[:-1]:
         return None
     crate = words[words.index('--crate-name') + 1]

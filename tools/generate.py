@@ -24,7 +24,7 @@ LARGEST = 4294967295
 # Enough draws to find an event that can be taken, if there is one.
 TRIES = 20
 
-# Weights of entering, starting and the steps of calls that run: a schedule is made of phases, each with one of these rows.
+# Weights of entering, starting and the steps of running calls: a schedule is made of phases, each with a row of these.
 PHASES = [dict(zip(['enter', 'claim', 'admit', 'front', 'scan', 'step'], weights)) for weights in (
     [4, 8, 8, 1, 1, 4], [8, 8, 8, 0, 0, 1], [2, 4, 4, 0, 2, 12], [0, 1, 1, 2, 0, 8], [4, 6, 6, 0, 3, 2])]
 

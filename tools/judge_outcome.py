@@ -103,12 +103,11 @@ class Run:
         """Judges whether a call with an indirect key can have found what its line says that it has.
 
         The engine loads the value of the source before the call enters, and no claim holds that value fast. Calls
-        that have entered by then and write the source may have stored it or not, those of the same client too: a call
-        enters once the one before it has entered, which need not have ended. They store it in the order of their
-        tickets. So what is found is what the source held before the call of some ticket, not above the call's own.
-        If that is what the source holds right before the call itself, the call is made with it; by any other value
-        it is aborted as moved, and changes nothing. These are the two outcomes that a call can have, and the line
-        says which is meant: no body has this reason. Where the source has held one value alone, it has to be the first.
+        that have entered by then and write the source may have stored it or not, those of the same client too, since a
+        call need not have ended before the next one enters. They store it in the order of their tickets. So what is
+        found is what the source held before the call of some ticket, not above the call's own. If that is what the
+        source holds right before the call itself, the call is made with it; by any other value it is aborted as moved,
+        and changes nothing. The line says which is meant: no body has this reason.
 
         The ticket before which the value stood only rises from one find of a source to the next one. A client makes a
         find after its previous call has entered, and before its call enters; so the find comes after those of all calls

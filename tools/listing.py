@@ -1,8 +1,8 @@
 #!/usr/bin/env python3
 """Prints what crates promise or define, with the comments on it.
 
-    python3 tools/listing.py contracts [CRATE ..]      the public functions of libraries, with the first sentence of their
-                                                       comments and the names of their clauses
+    python3 tools/listing.py contracts [CRATE ..]      the public functions of libraries, with the first sentence of the
+                                                       comments and the names of the clauses
     python3 tools/listing.py definitions [CRATE ..]    the definitions of crates, with the comments that stand over them
 
 If no crate is named, it prints those of all, in the order of crates.txt; of functions not those of libraries that

@@ -2,9 +2,9 @@
 """Says how much disk and memory the whole of `./test` wants and how much there is; with status 1 if it could not end.
 
     python3 tools/room.py           at the top of the repository; what could go is named, and nothing removed
-    python3 tools/room.py --jobs    prints how many checks `rt ci` should run at a time here, for RT_JOBS: as many as there
-                                    are processors, or fewer where the free memory does not hold as many checks. It
-                                    prints nothing if that is below two: `rt ci` had better choose for itself then
+    python3 tools/room.py --jobs    prints how many checks `rt ci` should run at a time here, for RT_JOBS: as many as
+                                    there are processors, or fewer where the free memory holds fewer. It prints nothing
+                                    if that is below two: `rt ci` had better choose for itself then
 
 Processors and memory are those of the control group too, if the machine is a container.
 """
@@ -18,8 +18,8 @@ from pathlib import Path
 TOP = Path(__file__).resolve().parent.parent
 GB = 1_000_000_000
 
-# Room for a run from nothing, with a margin: on the disk of the checkout, where what `rt ci` keeps beside the kit mostly
-# lies too (1.1 GB were seen), and for the copies, among the temporary files, in which edits are tried.
+# Room for a run from nothing, with a margin: on the disk of the checkout, where what `rt ci` keeps beside the kit
+# mostly lies too (1.1 GB were seen), and for the copies, among the temporary files, in which edits are tried.
 BYTES_OF_OUT = 4 * GB
 BYTES_OF_COPIES = 3 * GB
 # `rt ci` keeps nothing of what passed on a disk with less left than this, and its program is not built on a full one.

@@ -99,11 +99,11 @@ WRONG = [
 ]
 
 FAULT = b'vll: scenario: check 1 9\n'
-EXPLAINED = FAULT + b'at: procs 1 ("pay"), body, statement 0, value\nwhy: local 3 is read before it is surely set: set it\n'
+EXPLAINED = FAULT + b'at: procs 1 ("pay"), body, value\nwhy: local 3 is read before it is surely set: set it\n'
 # What is changed in that, so that it explains the fault no longer.
-UNEXPLAINED = [(b'check 1', b'check 2'), (b'procs 1', b'procs 2'), (b', body', b''), (b'why: ', b''), (b'set it\n', b''),
-               (b'local 3 is read', b'key 3 is read'), (b'pay', b'\xc3\xa4'), (b'local 3', b'local 3' + b'3' * 30000),
-               (b'set it', b'a second look has not found it'), (b'set it\n', b'set it\nmore\n')]
+UNEXPLAINED = [(b'check 1', b'check 2'), (b'procs 1', b'procs 2'), (b', body', b''), (b'why: ', b''),
+               (b'set it\n', b''), (b'local 3 is read', b'key 3 is read'), (b'pay', b'\xc3\xa4'),
+               (b'local 3', b'3' * 30000), (b'set it', b'a second look has not found it'), (b'it\n', b'it\nmore\n')]
 
 # What is spoiled: the page, the first place that a pattern matches there, what stands there then, and what is told.
 SPOILED = [
@@ -124,8 +124,7 @@ SPOILED = [
 ]
 
 
-class Cases(unittest.TestCase):
-    """How cases are read, and which programs tools/scenarios takes."""
+class Scripts(unittest.TestCase):
 
     def setUp(self):
         room = tempfile.TemporaryDirectory()
@@ -172,7 +171,8 @@ class Cases(unittest.TestCase):
                 status, lines = self.said_of('scenarios', script, '--top', self.room)
                 self.assertEqual([line.partition(' FAILED: ')[0] for line in lines[:-1]],
                                  [f'scenario {name}' for name in failing.split()])
-                self.assertEqual((status, lines[-1]), (1, f'scenarios: {10 - len(lines)} passed, {len(lines) - 1} failed'))
+                self.assertEqual(status, 1)
+                self.assertEqual(lines[-1], f'scenarios: {10 - len(lines)} passed, {len(lines) - 1} failed')
 
     def test_cases_are_chosen_by_name_and_what_is_not_there_fails(self):
         for names, status, last in [('made steps/cap', 0, '2 passed, 0 failed'), ('made x', 1, '1 passed, 1 failed'),
@@ -206,10 +206,6 @@ class Cases(unittest.TestCase):
                 status, lines = self.said_of('random_tests', script, kind, *words)
                 self.assertEqual((status, lines[-1]), (1, f'{kind}: 0 passed, 3 failed'))
                 self.assertTrue(lines[0].endswith(f'; tools/random_tests {kind} 7 1 --size 30'), lines[0])
-
-
-class Judged(unittest.TestCase):
-    """What judges what is explained, the schema and the pages."""
 
     def test_what_explains_no_longer_is_refused(self):
         self.assertIsNone(unexplained(FAULT, EXPLAINED))

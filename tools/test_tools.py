@@ -3,7 +3,6 @@
 
     python3 tools/test_tools.py
 """
-import json
 import random
 import re
 import unittest
@@ -13,7 +12,6 @@ from unittest import mock
 
 import judge_outcome
 import replay_model
-from cases import bytes_of, is_script, read_cases, status_of
 from generate import SIZES, run_scenario, scenario_of
 from model import OPERATORS, Unlawful, depth_of, make_on, nodes_of, source_of
 from occurrences import counts_of
@@ -21,14 +19,6 @@ from replay_model import replay_text
 from wrong_machines import WRONG, WRONG_CALLS, WRONG_OPERATORS
 
 SEEDS = range(300)
-
-
-def worked(command):
-    """The cases of this command whose text was worked out by hand: the name, the scenario and the text."""
-    for case in read_cases()[0]:
-        is_kept = case.printed and not is_script(case.text) and not is_script(case.printed)
-        if case.words[:1] == [command] and is_kept and status_of(case.wanted()) == 0:
-            yield case.name, json.loads(bytes_of(case.text)), case.wanted().decode()
 
 
 def is_unlawful(scenario, text, judge=judge_outcome.judge):
@@ -166,15 +156,6 @@ WRONG_FINDS = {
 
 
 class Judges(unittest.TestCase):
-
-    def test_worked_texts_are_lawful(self):
-        """What scenarios print, and one outcome of some of several clients."""
-        for command, judge, least in (b'replay', replay_model.judge, 50), (b'run', judge_outcome.judge, 120):
-            texts = list(worked(command))
-            self.assertGreater(len(texts), least)
-            for name, scenario, text in texts:
-                with self.subTest(name):
-                    judge(scenario, text)
 
     def test_doctored_texts_are_unlawful(self):
         rng = random.Random(2)

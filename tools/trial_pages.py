@@ -21,7 +21,8 @@ SEEDS = 300
 DRAWN = 360
 FIRST, COUNT = 50, 30
 # What a page may have.
-ELEMENTS = set('a body code dd dl dt figcaption figure h1 h2 head html li meta ol p path rect style svg text title'.split())
+ELEMENTS = set('html head meta title style body h1 h2 p code dl dt dd figure figcaption svg path rect text a ol '
+               'li'.split())
 ATTRIBUTES = set('charset class content d height href id lang name transform viewbox width x xmlns y'.split())
 # Of a name of a procedure: what would end an element or a reference, and what a page may not hold or show as it is.
 NAMES = ['</text></svg><script>alert(1)</script>', '<!--', ']]>', '&amp;', '&lt', '"\'<', '\x00\x1f\x7f\x85\u202e',
@@ -141,32 +142,26 @@ def of_names(program):
 
 
 def of_large(program):
-    """A page of many events is not much larger than what it draws and lists."""
-    events = b','.join([b'["scan"]'] * 100000)
-    text = b'{"version":1,"records":[1],"procs":[],"clients":[],"schedule":[' + events + b']}'
-    size = len(printed(program, text, 'draw', '--count', '3600')[1])
-    if not 4000000 < size < 8000000:
-        yield f'a page of 100,000 events has {size} bytes'
-
-
-def of_largest(program):
-    """As many and as long lines as a scenario may have: a page stays far below 150 MB.
+    """A page of many events is not much larger than what it draws and lists; nor is that of as many and as long lines
+    as a scenario may have.
 
     In the list a line takes at most 23 bytes more than in the text. 1,048,576 events have lines of up to 40 bytes,
     65,536 of them 170 more with a reply of 8 numbers; 65,536 calls have up to 210 in the outcome, and as many records
     up to 61. That is 99 MB. A drawn event takes up to two kilobytes.
     """
     number, calls, events = 2**64 - 1, 65536, 1048576
-    scripts = [[{'proc': 'p', 'args': []}] * 64] * 1024
+    many = {'version': 1, 'records': [1], 'procs': [], 'clients': [], 'schedule': [['scan']] * 100000}
     schedule = []
     for ticket in range(calls):
         schedule += ['enter', 1023 - ticket // 64], ['admit'], ['finish', ticket]
-    schedule += [['claim']] * (events - len(schedule))
-    scenario = {'version': 1, 'records': [number] * 65536, 'clients': scripts, 'schedule': schedule,
-                'procs': [{'name': 'p', 'args': 0, 'keys': [], 'body': [['reply', number]] * 8}]}
-    status, page, _ = printed(program, json.dumps(scenario, separators=(',', ':')).encode(), 'draw', '--count', '3600')
-    if status or not 75000000 < len(page) < 150000000:
-        yield f'the status is {status}, and the page has {len(page)} bytes'
+    most = {'version': 1, 'records': [number] * 65536, 'clients': [[{'proc': 'p', 'args': []}] * 64] * 1024,
+            'procs': [{'name': 'p', 'args': 0, 'keys': [], 'body': [['reply', number]] * 8}],
+            'schedule': schedule + [['claim']] * (events - len(schedule))}
+    for scenario, least, largest in (many, 4000000, 8000000), (most, 75000000, 150000000):
+        text = json.dumps(scenario, separators=(',', ':')).encode()
+        status, page, _ = printed(program, text, 'draw', '--count', '3600')
+        if status or not least < len(page) < largest:
+            yield f'the status is {status}, and the page of {len(scenario["schedule"])} events has {len(page)} bytes'
 
 
 def picture(program):
@@ -182,7 +177,7 @@ def of_picture(program):
 
 
 def drawings(words, _):
-    for trial in of_cases, of_seeds, of_names, of_large, of_largest, of_picture:
+    for trial in of_cases, of_seeds, of_names, of_large, of_picture:
         yield f'pages {trial.__name__.replace("_", " ")}', trial(words.program)
 
 

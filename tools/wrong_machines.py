@@ -44,11 +44,11 @@ def claim_that_forgets_the_last_denial(self):
     return TAKE_CLAIM(self)
 
 
-def told_before(sooner, later, holds):
-    """Refusals that tell one reason before another, if it holds as well."""
+def told_before(word, sooner, later, holds):
+    """Refusals of events of this word that tell one reason before another, if it holds as well."""
     def refusal(self, event):
         reason = REFUSAL(self, event)
-        return sooner if reason == later and holds(self, event) else reason
+        return sooner if event[0] == word and reason == later and holds(self, event[-1]) else reason
     return refusal
 
 
@@ -188,6 +188,16 @@ WRONG_CALLS = {
     'the source is tested behind the body': (Body, 'make', body_before_the_test_of_moved),
 }
 
+# The word of an event, the reason that a wrong machine tells before another, and whether it holds as well.
+TOLD_BEFORE = [
+    ('enter', 'busy', 'spent', lambda self, client: self.waiting() == self.cap),
+    ('enter', 'spent', 'no call', lambda self, client: len(self.calls) == self.limit),
+    ('finish', 'not running', 'turn open', lambda self, ticket: not self.is_running(ticket)),
+    ('find', 'no call', 'turn open', lambda self, client: not self.has_call_left(client)),
+    ('enter', 'out of step', 'busy', lambda self, client: not self.is_ready(client)),
+    ('enter', 'out of step', 'spent', lambda self, client: not self.is_ready(client)),
+]
+
 # Machines that are wrong: what each does, and the function that stands in the place of a right one.
 WRONG = {
     **WRONG_CALLS,
@@ -211,12 +221,6 @@ WRONG = {
     'a repeat makes the replies of its last turn': (Body, 'run', run_with_the_first('replies')),
     'an abort ends its repeat alone': (Body, 'run', run_in_which_an_abort_ends_a_repeat),
     'aborted calls store': (Call, 'has_aborted', lambda self: False),
-    'busy comes before spent': (Machine, 'refusal', told_before(
-        'busy', 'spent', lambda self, event: self.waiting() == self.cap)),
-    'spent comes before no call': (Machine, 'refusal', told_before(
-        'spent', 'no call', lambda self, event: len(self.calls) == self.limit)),
-    'not running comes before turn open': (Machine, 'refusal', told_before(
-        'not running', 'turn open', lambda self, event: event[0] == 'finish' and not self.is_running(event[1]))),
     'calls finish in an open turn': (Machine, 'refusal', taken_in_an_open_turn('finish')),
     'front goes on in an open turn': (Machine, 'refusal', taken_in_an_open_turn('front')),
     'the scan goes on in an open turn': (Machine, 'refusal', taken_in_an_open_turn('scan')),
@@ -230,10 +234,6 @@ WRONG = {
     'a find loads the opening records': (Machine, 'take_find', find_in_the_opening_records),
     'a find goes on in the turn of its client': (Machine, 'is_turn_of', lambda self, client: False),
     'a find is refused in each open turn': (Machine, 'is_turn_of', lambda self, client: self.turn is not None),
-    'a find tells no call before turn open': (Machine, 'refusal', told_before(
-        'no call', 'turn open', lambda self, event: event[0] == 'find' and not self.has_call_left(event[1]))),
-    'enter tells that nothing was found before busy': (Machine, 'refusal', told_before(
-        'out of step', 'busy', lambda self, event: not self.is_ready(event[1]))),
-    'enter tells that nothing was found before spent': (Machine, 'refusal', told_before(
-        'out of step', 'spent', lambda self, event: not self.is_ready(event[1]))),
+    **{f'{word} tells {sooner} before {later}': (Machine, 'refusal', told_before(word, sooner, later, holds))
+       for word, sooner, later, holds in TOLD_BEFORE},
 }
