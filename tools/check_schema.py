@@ -1,12 +1,10 @@
 #!/usr/bin/env python3
 """Checks scenario.schema.json against scenarios/ and examples/, and prints a line for each scenario that disagrees.
 
-A scenario that the program runs has to be accepted by the schema. One that it refuses has to be refused
-by the schema where the schema can tell, and accepted where it cannot: MUST_REFUSE has the lines that it
-can tell, UNTOLD and TOLD the scenarios that are exceptions. What is no JSON text, what no scenario is
-read from, and what has more than MOST_BYTES is left out. The last line tells how many were looked at.
-
-The status is 0 where all agree, 1 where one disagrees, and 3 where python3 has no jsonschema for it.
+A scenario that the program runs has to be accepted by the schema. One that it refuses has to be refused by the schema
+where the schema can tell, and accepted where it cannot: MUST_REFUSE has the lines that it can tell, UNTOLD and TOLD the
+scenarios that are exceptions. What is no JSON text, what no scenario is read from, and what has more than MOST_BYTES is
+left out. The status is 0 where all agree, 1 where one disagrees, and 3 where python3 has no jsonschema for it.
 """
 import json
 import re

@@ -153,36 +153,30 @@ def any_scenario(rng, calls, clients, has_indirect_keys):
     return scenario
 
 
-def scenario_without_a_schedule(rng, seed, calls, clients):
-    scenario = any_scenario(rng, calls, clients, has_indirect_keys=seed % 3 == 2)
-    if seed % 4 == 3:
-        become_version_two(random.Random(f'version two {seed}'), scenario)
-    add_choices(rng, scenario, sum(map(len, scenario['clients'])))
-    return scenario
-
-
-def replay_scenario(seed, size=SIZES['replay']):
-    """The scenario of a replay, with its schedule."""
-    rng = random.Random(f'replay {seed} {size}')
-    scenario = scenario_without_a_schedule(rng, seed, calls=max(2, size // 4), clients=5)
-    if rng.random() < 0.96:
-        scenario['schedule'] = any_schedule(rng, scenario, size)
-    return scenario
-
-
-def run_scenario(seed, size=SIZES['run']):
-    """The scenario of a run, and the options that go with it."""
-    rng = random.Random(f'run {seed} {size}')
-    scenario = scenario_without_a_schedule(rng, seed, calls=size, clients=12)
-    if rng.random() < 0.1:
-        scenario['schedule'] = [['enter', 0], ['scan']]
+def any_options(rng):
+    """Options of a run."""
     choices = {'--workers': [1, 2, 3, 8, 64], '--cap': [1, 2, 5, 65536], '--bits': [1, 2, 7, 1048576]}
     options = []
     for option, values in choices.items():
         if rng.random() < 0.5:
             value = rng.choice(values)
             options += [f'{option}={value}'] if rng.random() < 0.5 else [option, str(value)]
-    return scenario, options
+    return options
+
+
+def scenario_of(kind, seed, size):
+    """The scenario of a seed, and the options of its run; a replay has none."""
+    rng = random.Random(f'{kind} {seed} {size}')
+    calls, clients = (max(2, size // 4), 5) if kind == 'replay' else (size, 12)
+    scenario = any_scenario(rng, calls, clients, has_indirect_keys=seed % 3 == 2)
+    if seed % 4 == 3:
+        become_version_two(random.Random(f'version two {seed}'), scenario)
+    add_choices(rng, scenario, sum(map(len, scenario['clients'])))
+    if kind == 'replay' and rng.random() < 0.96:
+        scenario['schedule'] = any_schedule(rng, scenario, size)
+    elif kind == 'run' and rng.random() < 0.1:
+        scenario['schedule'] = [['enter', 0], ['scan']]
+    return scenario, any_options(rng) if kind == 'run' else []
 
 
 def chosen_by(options):
@@ -200,11 +194,6 @@ def text_of(scenario, seed):
                for name, value in scenario.items()]
     rng.shuffle(members)
     return '{' + ',\n '.join(members) + '}'
-
-
-def scenario_of(kind, seed, size):
-    """The scenario of a seed, and the options of its run; a replay has none."""
-    return (replay_scenario(seed, size), []) if kind == 'replay' else run_scenario(seed, size)
 
 
 def main():

@@ -12,7 +12,7 @@ from unittest import mock
 
 import judge_outcome
 import replay_model
-from generate import SIZES, run_scenario, scenario_of
+from generate import SIZES, scenario_of
 from model import OPERATORS, Unlawful, depth_of, make_on, nodes_of, source_of
 from occurrences import counts_of
 from replay_model import replay_text
@@ -159,7 +159,7 @@ class Judges(unittest.TestCase):
 
     def test_doctored_texts_are_unlawful(self):
         rng = random.Random(2)
-        runs = [run_scenario(seed, 12)[0] for seed in range(30)]
+        runs = [scenario_of('run', seed, 12)[0] for seed in range(30)]
         texts = [(scenario, AnyRun(scenario, rng).text(), judge_outcome.judge) for scenario in runs]
         texts += [(scenario, replay_text(scenario), replay_model.judge) for scenario, _ in made('replay')[:3]]
         for scenario, text, judge in texts:
@@ -181,7 +181,7 @@ class Judges(unittest.TestCase):
 
     def test_wrong_runs_are_found_out(self):
         """By runs of calls with an indirect key that do these one thing wrong."""
-        scenarios = [run_scenario(seed, 12)[0] for seed in SEEDS]
+        scenarios = [scenario_of('run', seed, 12)[0] for seed in SEEDS]
         changes = {what: mock.patch.object(*change) for what, change in WRONG_CALLS.items()}
         changes.update((what, mock.patch.object(AnyRun, 'value', value)) for what, value in WRONG_FINDS.items())
         for what, change in changes.items():

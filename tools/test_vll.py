@@ -111,20 +111,19 @@ class WithStandIn(unittest.TestCase):
         self.assertFalse((self.room / 'no_file').exists())
 
     def test_outcome_and_status_are_the_programs(self):
+        """Each run says that it is unproved, and nothing of what rt says."""
         for printed, status in (OUTCOME, 0), (b'', 0), (b'no end of the line', 0), (b'\0\xff\n\n', 0), \
                 (b'vll: scenario: json\n', 1), (b'vll: scenario: json\n', 2):
             self.answer(printed, status)
-            self.check(['--unproved', 'run'], status, printed)
+            for word in 'run', 'replay', '--help':
+                said = self.check(['--unproved', word], status, printed, b'UNPROVED')
+                self.assertNotIn(b'checked: something', said)
 
     def test_help_names_the_program(self):
         usage = b'Runs it\n\nUsage: program run [OPTIONS]\n'
         self.answer(usage, 0)
         self.check(['--unproved', 'run', '--help'], 0, usage.replace(b'program', b'vll'))
         self.check(['--unproved', 'run'], 0, usage)
-
-    def test_each_run_says_that_it_is_unproved(self):
-        for word in 'run', 'replay', '--help':
-            self.assertNotIn(b'checked: something', self.check(['--unproved', word], 0, OUTCOME, b'UNPROVED'))
 
     def test_no_outcome_is_status_3(self):
         """A line of the program is not taken for the last one either."""
