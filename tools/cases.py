@@ -151,9 +151,9 @@ class Reader:
     @staticmethod
     def read_files(place, path, found):
         """Reads the case whose files begin with this path."""
-        text, printed, judge, words = (standing(path.with_name(f'{path.name}.{part}'))
-                                       for part in ('json', 'out', 'judge', 'args'))
-        if len(found) > sum(map(bool, (text, printed, judge, words))):
+        parts = [standing(path.with_name(f'{path.name}.{part}')) for part in ('json', 'out', 'judge', 'args')]
+        text, printed, judge, words = parts
+        if found - set(parts):
             raise ValueError('a part is there, and its script too')
         if not text or not printed and not judge:
             raise ValueError('there is no .json, or neither .out nor .judge')

@@ -23,8 +23,8 @@ TICKS = os.sysconf('SC_CLK_TCK')
 
 
 def work_of(words, folder):
-    """Whose work the prover does that was called with these words in this folder: the crate, one of KINDS, and the number
-    of an edit, if it is told. None for others. An edit is checked in a copy of the crate, over a folder of its number."""
+    """Whose work the prover does that was called so in this folder: the crate, one of KINDS, and the number of an edit, if
+    it is told. None for others. An edit is checked in a copy of the crate, over a folder that has its number."""
     if not words[0].endswith('/rattle') or '--crate-name' not in words[:-1]:
         return None
     crate = words[words.index('--crate-name') + 1]
@@ -52,8 +52,7 @@ def processes():
 
 
 def look(top, seen):
-    """Keeps the seconds of the prover's processes below one of this number, by the work, the process and its beginning,
-    since a number may be used again."""
+    """Keeps the seconds of the prover's processes below this one, by the work, their number and when they began."""
     found = list(processes())
     parents = {number: parent for number, parent, *_ in found}
     for number, _, began, seconds, words, folder in found:

@@ -5,11 +5,10 @@
                                                        comments and the names of the clauses
     python3 tools/listing.py definitions [CRATE ..]    the definitions of crates, with the comments that stand over them
 
-If no crate is named, it prints those of all, in the order of crates.txt; of functions not those of libraries that
-serve tests and timings alone. A function is public if src/lib.rt exports it, or the type or the trait that has it. One
-that a type has by a trait is listed if it has a comment or a clause of its own. "unnamed" stands for a clause without a
-name. Files of definitions come in the order of specs/Lib.antt; those of specs/Private/ are left out, since no contract
-of an exported item cites them.
+If no crate is named, it prints those of all, but no functions of libraries that serve tests and timings alone. A
+function is public if src/lib.rt exports it, or the type or the trait that has it. One that a type has by a trait is
+listed if it has a comment or a clause of its own. "unnamed" stands for a clause without a name. The definitions of
+specs/Private/ are left out, since no contract of an exported item cites them.
 """
 import re
 import sys

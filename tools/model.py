@@ -204,10 +204,7 @@ class Body:
 
 
 def make(procedure, args, values, found=None):
-    """Runs a call's body on the values of its records, which are a map from records.
-
-    Answers its reply as it is printed, and the values as they are behind it: an aborted call changes none.
-    """
+    """The reply of a call on these values of its records, as it is printed, and the values as they are behind it."""
     body = Body(procedure, args, values, found)
     try:
         body.make(procedure['body'])
@@ -225,10 +222,8 @@ def found_on(records, procedure, args, value=None):
 
 
 def make_on(records, procedure, args, value=None):
-    """Makes a call on the list of all records, which it changes, and answers its reply as it is printed.
-
-    The record of its indirect key, if it has one, was found by this value, or is found by the present one.
-    """
+    """Makes a call on the list of all records, which it changes, and answers its reply as it is printed. The record of an
+    indirect key was found by this value, or is found by the present one."""
     found = found_on(records, procedure, args, value)
     values = {record: records[record] for record in records_of(procedure, args, found)}
     reply, values = make(procedure, args, values, found)

@@ -18,8 +18,8 @@ from pathlib import Path
 TOP = Path(__file__).resolve().parent.parent
 GB = 1_000_000_000
 
-# Room for a run from nothing, with a margin: on the disk of the checkout, where what `rt ci` keeps beside the kit
-# mostly lies too (1.1 GB were seen), and for the copies, among the temporary files, in which edits are tried.
+# Room for a run from nothing, with a margin: on the disk of the checkout, where what `rt ci` keeps mostly lies too
+# (1.1 GB were seen), and for the copies, among the temporary files, in which edits are tried.
 BYTES_OF_OUT = 4 * GB
 BYTES_OF_COPIES = 3 * GB
 # `rt ci` keeps nothing of what passed on a disk with less left than this, and its program is not built on a full one.

@@ -29,9 +29,8 @@ def self_type(head):
 
 
 class Function(NamedTuple):
-    """A function, as its head tells it: the name, behind that of its type or trait, as `Claims::add`; whether it is `pub`
-    or one of a trait; whether an `impl` of a trait has it; the `///` lines; and the names of its clauses, in order, an
-    empty one if a clause has none."""
+    """A function, as its head tells it: its name, as `Claims::add`; whether it is `pub` or one of a trait; whether an
+    `impl` of a trait has it; the `///` lines; and the names of its clauses in order, an empty one if it has none."""
     name: str
     is_public: bool
     is_of_trait: bool

@@ -5,9 +5,9 @@ from types import SimpleNamespace
 from model import MOST, OPERATORS, Aborted, Body, Found
 from replay_model import Call, Machine
 
-MEETS, TAKE_CLAIM, REFUSAL = Machine.meets, Machine.take_claim, Machine.refusal
-STEP, TAKE_FIND, TAKE_ENTER, TAKE_STORE = Machine.step, Machine.take_find, Machine.take_enter, Machine.take_store
-VALUE, RUN = Body.value, Body.run
+MEETS, REFUSAL, STEP, VALUE, RUN = Machine.meets, Machine.refusal, Machine.step, Body.value, Body.run
+TAKE_CLAIM, TAKE_FIND = Machine.take_claim, Machine.take_find
+TAKE_ENTER, TAKE_STORE = Machine.take_enter, Machine.take_store
 
 
 def waiting(self):
