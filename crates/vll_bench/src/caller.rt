@@ -1,12 +1,12 @@
 //! The clients of an engine, each with the script of calls that it makes.
 ghost use Rattle.std.specs.Prelude.{All};
 ghost use Rattle.vll_check.specs.Calls.{Fits};
-ghost use Rattle.vll_engine.specs.Shown.{library_of};
+ghost use Rattle.vll_queue.specs.Shown.{library_of};
 
 use std::alloc::{AllocError, Global};
 use std::marker::Model;
-use vll_engine::{Client, Clients, Name};
 use vll_proc::Call;
+use vll_queue::{Client, Clients, Name};
 
 /// A client of the engine, with the calls that it makes. Contracts see the client.
 #[derive(Drop)]
@@ -19,7 +19,7 @@ impl<N: Name> Model for Caller<N> {
     ghost use Rattle.std.specs.Prelude.{All};
     ghost use Rattle.vll_check.specs.Calls.{Fits};
     ghost use Rattle.vll_counters.specs.Shown.{SessionShown};
-    ghost use Rattle.vll_engine.specs.Shown.{library_of};
+    ghost use Rattle.vll_queue.specs.Shown.{library_of};
 
     ghost Value = { SessionShown };
 

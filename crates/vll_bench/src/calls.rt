@@ -1,7 +1,7 @@
 //! The calls of scripts in the engine, without workers: each thread makes the calls of one client after another.
 ghost use Rattle.std.specs.Prelude.{◌≡◌, ◌<◌, All};
 ghost use Rattle.vll_check.specs.Calls.{Fits};
-ghost use Rattle.vll_engine.specs.Shown.{library_of, name_of};
+ghost use Rattle.vll_queue.specs.Shown.{library_of, name_of};
 ghost use Rattle.vll_sca.specs.Placing.{placing};
 
 use crate::caller::{Caller, callers};
@@ -12,8 +12,8 @@ use std::alloc::Global;
 use std::sync::{Mutex, Wait};
 use std::thread::{Threads, map_indices};
 use std::time::{Clock, Instant};
-use vll_engine::{Engine, Name, Opening, Spent};
 use vll_proc::Call;
+use vll_queue::{Engine, Name, Opening, Spent};
 use vll_sca::Placing;
 use vll_workers::Tally;
 

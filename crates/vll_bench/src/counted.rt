@@ -1,8 +1,8 @@
 //! The calls of a client, made by the parts of `Engine::call`, so that what the thread does can be counted.
 ghost use Rattle.std.specs.Prelude.{◌≡◌};
 ghost use Rattle.vll_check.specs.Calls.{Fits};
-ghost use Rattle.vll_engine.specs.Pass.{IsFresh};
-ghost use Rattle.vll_engine.specs.Shown.{library_of};
+ghost use Rattle.vll_queue.specs.Pass.{IsFresh};
+ghost use Rattle.vll_queue.specs.Shown.{library_of};
 
 use crate::caller::Caller;
 use crate::calls::Manner;
@@ -11,8 +11,8 @@ use std::hint::spin_loop;
 use std::sync::Wait;
 use std::thread::yield_now;
 use vll_core::Ticket;
-use vll_engine::{BeginRefusal, Begun, Engine, Hold, Name, Pass, Session};
 use vll_proc::Call;
+use vll_queue::{BeginRefusal, Begun, Engine, Hold, Name, Pass, Session};
 use vll_sca::Placing;
 use vll_workers::Tally;
 

@@ -1,7 +1,7 @@
 //! What a call costs in the engine on one thread, made by its parts and by the engine's own call.
 ghost use Rattle.std.specs.Prelude.{◌≡◌, IfOk};
 ghost use Rattle.vll_check.specs.Calls.{Fits};
-ghost use Rattle.vll_engine.specs.Shown.{library_of, name_of};
+ghost use Rattle.vll_queue.specs.Shown.{library_of, name_of};
 ghost use Rattle.vll_sca.specs.Placing.{placing};
 
 use crate::fault::Fault;
@@ -11,8 +11,8 @@ use std::sync::Wait;
 use std::time::{CpuClock, Duration};
 use vll_check::{CallFault, Library};
 use vll_core::MOST_CALLS;
-use vll_engine::{Begun, Client, Engine, Name, Opening, Spent};
 use vll_proc::Call;
+use vll_queue::{Begun, Client, Engine, Name, Opening, Spent};
 use vll_sca::Placing;
 
 // How many calls are made, one after the other.

@@ -1,7 +1,7 @@
 //! Whole runs of a scenario by worker threads: their times, and the outcomes of their calls.
 ghost use Rattle.std.specs.Prelude.{◌≡◌, ◌≤◌, ◌<◌, ◌^◌, All, length};
 ghost use Rattle.vll_check.specs.Calls.{Fits};
-ghost use Rattle.vll_engine.specs.Shown.{library_of, name_of};
+ghost use Rattle.vll_queue.specs.Shown.{library_of, name_of};
 ghost use Rattle.vll_sca.specs.Placing.{placing};
 
 use crate::fault::Fault;
@@ -12,8 +12,8 @@ use std::marker::Brand;
 use std::sync::Wait;
 use std::thread::Threads;
 use std::time::{Clock, Instant};
-use vll_engine::{Name, Opening};
 use vll_proc::Call;
+use vll_queue::{Name, Opening};
 use vll_sca::Placing;
 use vll_scripts::{opening, tokens};
 use vll_server::{Line, MOST_CLIENTS, Plain, read_scenario};

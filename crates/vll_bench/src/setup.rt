@@ -2,7 +2,7 @@
 use crate::fault::Fault;
 use std::alloc::{AllocError, Global};
 use vll_core::Core;
-use vll_engine::Opening;
+use vll_queue::Opening;
 use vll_sca::Placing;
 use vll_server::{Plain, Scenario, ScenarioFault, ScenarioParts, read_scenario};
 

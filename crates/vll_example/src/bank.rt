@@ -1,7 +1,7 @@
 //! A bank on the engine: calls of one client, then of two at the same time, and last news from one to the other.
 ghost use Rattle.std.specs.Prelude.{◌≡◌, IfOk, sum};
 ghost use Rattle.vll_example.specs.Bank.{procedures};
-ghost use Rattle.vll_engine.specs.Pass.{IsFresh};
+ghost use Rattle.vll_queue.specs.Pass.{IsFresh};
 
 use crate::procedures::library;
 use crate::relay::relay;
@@ -9,8 +9,8 @@ use std::alloc::Global;
 use std::marker::Brand;
 use std::sync::Wait;
 use vll_core::{Config, Ticket};
-use vll_engine::{Begun, Client, Clients, Engine, EngineFault, Name, Opening, Pass, Service};
 use vll_proc::{Reply, invariants_carry_over};
+use vll_queue::{Begun, Client, Clients, Engine, EngineFault, Name, Opening, Pass, Service};
 use vll_sca::Placing;
 
 /// Opens the engine over two accounts, for two clients, and serves them. All memory is allocated here.

@@ -9,8 +9,8 @@ ghost use Rattle.vll_example.specs.Bank.{procedures, sum_of_two, transfer, trans
 use sqlite_items::{Boxed, Items};
 use std::alloc::{AllocError, Global};
 use vll_check::{Library, check};
-use vll_engine::EngineFault;
 use vll_proc::{Edition, Expr, KeyAt, KeyDecl, Proc, Stmt, Text};
+use vll_queue::EngineFault;
 use vll_record::Mode;
 
 /// The code with which a transfer aborts if the first account holds less than the amount.
@@ -27,11 +27,7 @@ fn key(mode: Mode, argument: u8) -> KeyDecl
 }
 
 // Both operands of an operator.
-fn both(
-    alloc: Global,
-    left: Expr,
-    right: Expr,
-) -> Result<(Boxed<Expr>, Boxed<Expr>), AllocError>
+fn both(alloc: Global, left: Expr, right: Expr) -> Result<(Boxed<Expr>, Boxed<Expr>), AllocError>
     ensures { IfOk result (λ operands. (operands.0 ≡ left) × (operands.1 ≡ right)) }
 {
     let left = Boxed::new(alloc, left)?;
@@ -114,7 +110,13 @@ fn transfer(alloc: Global) -> Result<Proc, AllocError>
     ensures { IfOk result (λ p. p ≡ transfer) }
 {
     let body = transfer_body(alloc)?;
-    procedure(alloc, "transfer", 3, &[key(Mode::Write, 0), key(Mode::Write, 1)], body)
+    procedure(
+        alloc,
+        "transfer",
+        3,
+        &[key(Mode::Write, 0), key(Mode::Write, 1)],
+        body,
+    )
 }
 
 fn transfer_body(alloc: Global) -> Result<Vec<Stmt>, AllocError>
@@ -134,7 +136,13 @@ fn sum(alloc: Global) -> Result<Proc, AllocError>
 {
     let sum = add(alloc, Expr::Key(0), Expr::Key(1))?;
     let body = vec![in alloc; Stmt::Reply(sum)]?;
-    procedure(alloc, "sum", 2, &[key(Mode::Read, 0), key(Mode::Read, 1)], body)
+    procedure(
+        alloc,
+        "sum",
+        2,
+        &[key(Mode::Read, 0), key(Mode::Read, 1)],
+        body,
+    )
 }
 
 /// The library of both procedures, for this many accounts.

@@ -1,7 +1,7 @@
 //! A run by worker threads, with and without a bound on their starts.
 ghost use Rattle.std.specs.Prelude.{◌≡◌, ◌≤◌, ◌<◌, ◌^◌, All, length};
 ghost use Rattle.vll_check.specs.Calls.{Fits};
-ghost use Rattle.vll_engine.specs.Shown.{library_of, name_of};
+ghost use Rattle.vll_queue.specs.Shown.{library_of, name_of};
 ghost use Rattle.vll_sca.specs.Placing.{placing};
 
 use crate::answer::Answer;
@@ -12,8 +12,8 @@ use std::marker::Brand;
 use std::sync::Wait;
 use std::thread::Threads;
 use vll_core::Line;
-use vll_engine::{Closed, Name, Opening};
 use vll_proc::{Call, Reply};
+use vll_queue::{Closed, Name, Opening};
 use vll_sca::Placing;
 use vll_scripts::{opening, tokens};
 use vll_server::{MOST_CLIENTS, Plain, Scenario, ScenarioFault, read_scenario};

@@ -3,14 +3,14 @@ ghost use Rattle.std.specs.Prelude.{◌≡◌, ◌≤◌, ◌<◌, ◌^◌, All,
 ghost use Rattle.std.specs.List.{IsDistinct};
 ghost use Rattle.vll_check.specs.Calls.{Fits};
 ghost use Rattle.vll_counters.specs.Shown.{AreNewSessions};
-ghost use Rattle.vll_engine.specs.Shown.{library_of, name_of};
+ghost use Rattle.vll_queue.specs.Shown.{library_of, name_of};
 ghost use Rattle.vll_sca.specs.Placing.{placing};
 ghost use Rattle.vll_workers.specs.Tokens.{AreFit, clients_of};
 
 use std::alloc::{AllocError, Global};
 use vll_core::{Config, OpenFault};
-use vll_engine::{Name, Opening, Session};
 use vll_proc::Call;
+use vll_queue::{Name, Opening, Session};
 use vll_sca::Placing;
 use vll_scenario::{MOST_CLIENTS, Scenario, ScenarioParts};
 use vll_server::number_of_calls;

@@ -16,10 +16,10 @@ use Rattle.vll_core.proofs.Places.{all_at}
 use Rattle.vll_counters.specs.Shown.{AreNewSessions, SessionShown}
 use Rattle.vll_counters.specs.Steps.{new_session}
 use Rattle.vll_counters.specs.Views.{calls_by, calls_in}
-use Rattle.vll_engine.specs.Closed.{IsSerial}
-use Rattle.vll_engine.specs.Sessions.{HasItsCalls}
-use Rattle.vll_engine.specs.Shown.{Named, library_of}
-use Rattle.vll_engine.specs.declared.closed.Closed.{Closed}
+use Rattle.vll_queue.specs.Closed.{IsSerial}
+use Rattle.vll_queue.specs.Sessions.{HasItsCalls}
+use Rattle.vll_queue.specs.Shown.{Named, library_of}
+use Rattle.vll_queue.specs.declared.closed.Closed.{Closed}
 use Rattle.vll_workers.specs.Merge.{AreForScripts, IsAtStart, IsClosedWith, IsMerge}
 use Rattle.vll_workers.specs.Shown.{TokenShown, token}
 use Rattle.vll_workers.specs.Tokens.{AreBack, AreFit, IsFit, IsThrough, clients_of}

@@ -9,10 +9,10 @@ use Rattle.vll_core.specs.declared.line.Line.{Line}
 use Rattle.vll_core.specs.State.{Base, catalog_of as catalog_in}
 use Rattle.vll_core.proofs.SerialRun.{length_before}
 use Rattle.vll_counters.specs.Views.{calls_in}
-use Rattle.vll_engine.specs.declared.closed.Closed.{Closed}
-use Rattle.vll_engine.specs.Closed.{IsSerial}
-use Rattle.vll_engine.specs.Found.{AreFoundThere}
-use Rattle.vll_engine.specs.Shown.{Named, library_of}
+use Rattle.vll_queue.specs.declared.closed.Closed.{Closed}
+use Rattle.vll_queue.specs.Closed.{IsSerial}
+use Rattle.vll_queue.specs.Found.{AreFoundThere}
+use Rattle.vll_queue.specs.Shown.{Named, library_of}
 use Rattle.vll_workers.specs.Merge.{IsMerge}
 use Rattle.vll_scenario.specs.Setup.{Setup}
 use Rattle.vll_server.specs.declared.fault.ServeFault.{ServeFault}

@@ -4,8 +4,8 @@ use Rattle.vll_proc.specs.Serial.{answer, end}
 use Rattle.vll_core.specs.declared.line.Line.{Line}
 use Rattle.vll_core.specs.State.{Base}
 use Rattle.vll_counters.specs.Views.{calls_in}
-use Rattle.vll_engine.specs.declared.closed.Closed.{Closed}
-use Rattle.vll_engine.specs.Found.{AreFoundThere}
+use Rattle.vll_queue.specs.declared.closed.Closed.{Closed}
+use Rattle.vll_queue.specs.Found.{AreFoundThere}
 use Rattle.vll_workers.specs.Merge.{IsMerge}
 use Rattle.vll_scenario.specs.Setup.{Setup, catalog_of}
 use Rattle.vll_replay.specs.Text.{Text}

@@ -6,7 +6,7 @@ use Rattle.vll_proc.specs.declared.syntax.Proc.{Proc}
 use Rattle.vll_proc.specs.Serial.{Made, answer, end}
 use Rattle.vll_proc.specs.Text.{reply_text}
 use Rattle.vll_core.specs.declared.line.Line.{Line}
-use Rattle.vll_engine.specs.declared.closed.Closed.{Closed}
+use Rattle.vll_queue.specs.declared.closed.Closed.{Closed}
 use Rattle.vll_replay.specs.Text.{Text, outcome_text}
 
 -- a reply, or nothing if there is none

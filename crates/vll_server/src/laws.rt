@@ -1,7 +1,7 @@
 //! The text of a served scenario.
 ghost use Rattle.std.specs.Prelude.{◌≡◌};
 ghost use Rattle.vll_counters.specs.Views.{calls_in};
-ghost use Rattle.vll_engine.specs.declared.closed.Closed.{Closed};
+ghost use Rattle.vll_queue.specs.declared.closed.Closed.{Closed};
 ghost use Rattle.vll_scenario.specs.Setup.{Setup};
 ghost use Rattle.vll_server.specs.Serve.{IsServed};
 ghost use Rattle.vll_server.specs.Text.{closed_text, serial_text};

@@ -5,8 +5,8 @@ use Rattle.vll_proc.proofs.Joined.{carried_before, carried_to_end}
 use Rattle.vll_proc.specs.Serial.{Keeps, answer, before, end}
 use Rattle.vll_core.specs.declared.line.Line.{Line}
 use Rattle.vll_counters.specs.Views.{calls_in}
-use Rattle.vll_engine.specs.Closed.{AreSerial, GoesOn}
-use Rattle.vll_engine.specs.Shown.{Named, OpeningShown, library_of, name_of}
+use Rattle.vll_queue.specs.Closed.{AreSerial, GoesOn}
+use Rattle.vll_queue.specs.Shown.{Named, OpeningShown, library_of, name_of}
 use Rattle.vll_service_example.specs.Bank.{HoldInTotal}
 use Rattle.vll_service_example.specs.Service.{IsBank}
 use Rattle.vll_service_example.specs.Tally.{is_faulty}

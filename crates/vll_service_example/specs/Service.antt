@@ -1,7 +1,7 @@
 -- What each epoch begins with, and what it leaves.
 use Rattle.std.specs.Prelude.{◌≡◌, ℕ, ◌+◌, ◌-◌, ◌/◌, List, count_by, length}
 use Rattle.vll_core.specs.declared.line.Line.{Line}
-use Rattle.vll_engine.specs.Shown.{Named}
+use Rattle.vll_queue.specs.Shown.{Named}
 use Rattle.vll_service_example.specs.Bank.{HoldInTotal, procedures}
 use Rattle.vll_service_example.specs.Tally.{is_faulty}
 use Rattle.vll_service_example.specs.declared.epoch.TheConstants.{CLIENTS, LIMIT}

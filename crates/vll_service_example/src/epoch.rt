@@ -1,6 +1,6 @@
 //! An epoch: the calls that one engine takes, by a thread for each client.
 ghost use Rattle.std.specs.Prelude.{◌≡◌, ◌≤◌, IfOk, sum, vec_capacity};
-ghost use Rattle.vll_engine.specs.Shown.{name_of};
+ghost use Rattle.vll_queue.specs.Shown.{name_of};
 ghost use Rattle.vll_sca.specs.Placing.{placing};
 ghost use Rattle.vll_service_example.specs.Service.{IsBank, IsServed};
 
@@ -10,7 +10,7 @@ use std::alloc::Global;
 use std::sync::Wait;
 use std::thread::{Threads, map_vec};
 use vll_core::Line;
-use vll_engine::{Client, Clients, Engine, EngineFault, Name, Opening, Reopened};
+use vll_queue::{Client, Clients, Engine, EngineFault, Name, Opening, Reopened};
 use vll_sca::Placing;
 
 /// The number of clients of the bank, each on a thread of its own.

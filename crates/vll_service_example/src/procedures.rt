@@ -10,8 +10,8 @@ ghost use Rattle.vll_service_example.specs.Bank.{deposit, deposit_body, procedur
 use sqlite_items::{Boxed, Items};
 use std::alloc::{AllocError, Global};
 use vll_check::{Library, check};
-use vll_engine::EngineFault;
 use vll_proc::{Edition, Expr, KeyAt, KeyDecl, Proc, Stmt, Text};
+use vll_queue::EngineFault;
 use vll_record::Mode;
 
 /// The number of accounts of the bank. The first one is its till.
@@ -60,11 +60,7 @@ fn read(account: u32) -> KeyDecl
 }
 
 // Both operands of an operator.
-fn both(
-    alloc: Global,
-    left: Expr,
-    right: Expr,
-) -> Result<(Boxed<Expr>, Boxed<Expr>), AllocError>
+fn both(alloc: Global, left: Expr, right: Expr) -> Result<(Boxed<Expr>, Boxed<Expr>), AllocError>
     ensures { IfOk result (λ operands. (operands.0 ≡ left) × (operands.1 ≡ right)) }
 {
     let left = Boxed::new(alloc, left)?;
@@ -186,7 +182,7 @@ fn read_all(alloc: Global) -> Result<Proc, AllocError>
 fn read_all_body(alloc: Global) -> Result<Vec<Stmt>, AllocError>
     ensures { IfOk result (λ body. body.items ≡ read_all_body) }
 {
-    vec![in alloc;
+    let body = vec![in alloc;
         Stmt::Reply(Expr::Key(0)),
         Stmt::Reply(Expr::Key(1)),
         Stmt::Reply(Expr::Key(2)),
@@ -195,7 +191,8 @@ fn read_all_body(alloc: Global) -> Result<Vec<Stmt>, AllocError>
         Stmt::Reply(Expr::Key(5)),
         Stmt::Reply(Expr::Key(6)),
         Stmt::Reply(Expr::Key(7)),
-    ]
+    ]?;
+    Ok(body)
 }
 
 /// The library of the bank's procedures, in this order: `transfer`, `deposit` and `read_all`.

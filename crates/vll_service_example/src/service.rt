@@ -1,6 +1,6 @@
 //! The service: epoch after epoch over the same accounts.
 ghost use Rattle.std.specs.Prelude.{◌≡◌, IfOk, length, sum};
-ghost use Rattle.vll_engine.specs.Shown.{name_of};
+ghost use Rattle.vll_queue.specs.Shown.{name_of};
 ghost use Rattle.vll_sca.specs.Placing.{placing};
 ghost use Rattle.vll_service_example.specs.Service.{IsBank, epochs_of};
 
@@ -13,7 +13,7 @@ use std::marker::Brand;
 use std::sync::Wait;
 use std::thread::Threads;
 use vll_core::Config;
-use vll_engine::{EngineFault, Opening};
+use vll_queue::{EngineFault, Opening};
 use vll_sca::Placing;
 
 /// What each account holds at first. No transfer runs short of it, since no call moves more than 100 of it.

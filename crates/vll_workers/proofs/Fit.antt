@@ -1,7 +1,7 @@
 -- Tokens that fit, one by one.
 use Rattle.std.proofs.Common.{◌≡◌, ◌++◌, ◌∷◌, [], List, sym, subst}
 use Rattle.std.proofs.lemmas.List.Elements.{All-push}
-use Rattle.vll_engine.specs.Shown.{Named}
+use Rattle.vll_queue.specs.Shown.{Named}
 use Rattle.vll_workers.specs.Shown.{TokenShown}
 use Rattle.vll_workers.specs.Tokens.{AreFit, IsFit}
 

@@ -12,17 +12,17 @@ use Rattle.vll_core.proofs.Places.{entry_at, take_next}
 use Rattle.vll_counters.specs.declared.views.SessionView.{SessionView}
 use Rattle.vll_counters.specs.Shown.{PassShown, SessionShown}
 use Rattle.vll_counters.specs.Views.{Begins, calls_by}
-use Rattle.vll_engine.specs.declared.begun.BeginRefusal.{BeginRefusal}
-use Rattle.vll_engine.specs.declared.begun.BeginRefusal.TheVariants.{Busy, Spent}
-use Rattle.vll_engine.specs.declared.begun.Begun.{Begun}
-use Rattle.vll_engine.specs.declared.begun.Begun.TheVariants.{Free, Blocked, Refused}
-use Rattle.vll_engine.specs.declared.begun.BegunOnto.{BegunOnto}
-use Rattle.vll_engine.specs.declared.begun.BegunOnto.TheVariants as onto
-use Rattle.vll_engine.specs.Begin.{Begins as BeginsWith}
-use Rattle.vll_engine.specs.Onto.{IsOnto}
-use Rattle.vll_engine.specs.Pass.{IsFresh}
-use Rattle.vll_engine.specs.Sessions.{SawOthers, SawOwn}
-use Rattle.vll_engine.specs.Shown.{Named, library_of}
+use Rattle.vll_queue.specs.declared.begun.BeginRefusal.{BeginRefusal}
+use Rattle.vll_queue.specs.declared.begun.BeginRefusal.TheVariants.{Busy, Spent}
+use Rattle.vll_queue.specs.declared.begun.Begun.{Begun}
+use Rattle.vll_queue.specs.declared.begun.Begun.TheVariants.{Free, Blocked, Refused}
+use Rattle.vll_queue.specs.declared.begun.BegunOnto.{BegunOnto}
+use Rattle.vll_queue.specs.declared.begun.BegunOnto.TheVariants as onto
+use Rattle.vll_queue.specs.Begin.{Begins as BeginsWith}
+use Rattle.vll_queue.specs.Onto.{IsOnto}
+use Rattle.vll_queue.specs.Pass.{IsFresh}
+use Rattle.vll_queue.specs.Sessions.{SawOthers, SawOwn}
+use Rattle.vll_queue.specs.Shown.{Named, library_of}
 use Rattle.vll_workers.specs.Private.Begin.{IsBegun, begun_token}
 use Rattle.vll_workers.specs.Shown.{TokenShown}
 use Rattle.vll_workers.specs.Tokens.{Gained, IsOf, calls_between}

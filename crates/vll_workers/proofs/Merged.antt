@@ -22,10 +22,10 @@ use Rattle.vll_core.specs.declared.line.Line.{Line}
 use Rattle.vll_core.proofs.MachineState.{all_from}
 use Rattle.vll_core.proofs.Places.{all_at}
 use Rattle.vll_counters.specs.Views.{calls_by, calls_in}
-use Rattle.vll_engine.proofs.Learning.{calls_by-append}
-use Rattle.vll_engine.specs.declared.closed.Closed.{Closed}
-use Rattle.vll_engine.specs.Sessions.{HasItsCalls}
-use Rattle.vll_engine.specs.Shown.{Named, library_of}
+use Rattle.vll_queue.proofs.Learning.{calls_by-append}
+use Rattle.vll_queue.specs.declared.closed.Closed.{Closed}
+use Rattle.vll_queue.specs.Sessions.{HasItsCalls}
+use Rattle.vll_queue.specs.Shown.{Named, library_of}
 use Rattle.vll_workers.specs.Merge.{AreForScripts, HasFound, IsAtStart, IsClosedWith, IsMerge}
 use Rattle.vll_workers.specs.Shown.{TokenShown}
 use Rattle.vll_workers.specs.Tokens.{AreBack, AreFit, IsFit, IsOf, IsThrough, OneIsSpent, calls_between, clients_of}

@@ -5,7 +5,7 @@ use Rattle.std.proofs.lemmas.List.Elements.{All-weaker}
 use Rattle.vll_proc.specs.declared.call.Call.{Call}
 use Rattle.vll_check.specs.Calls.{Fits}
 use Rattle.vll_core.proofs.Places.{all_at}
-use Rattle.vll_engine.specs.Shown.{Named, library_of}
+use Rattle.vll_queue.specs.Shown.{Named, library_of}
 use Rattle.vll_workers.specs.Shown.{TokenShown}
 use Rattle.vll_workers.specs.Tokens.{AreBack, AreFit, IsFit, IsOf}
 

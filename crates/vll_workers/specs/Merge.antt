@@ -6,10 +6,10 @@ use Rattle.vll_check.specs.Calls.{AreFound}
 use Rattle.vll_check.specs.Catalog.{Catalog}
 use Rattle.vll_counters.specs.declared.views.SessionView.{SessionView}
 use Rattle.vll_counters.specs.Views.{calls_by, calls_in}
-use Rattle.vll_engine.specs.Closed.{IsSerial}
-use Rattle.vll_engine.specs.Sessions.{HasItsCalls}
-use Rattle.vll_engine.specs.Shown.{Named}
-use Rattle.vll_engine.specs.declared.closed.Closed.{Closed}
+use Rattle.vll_queue.specs.Closed.{IsSerial}
+use Rattle.vll_queue.specs.Sessions.{HasItsCalls}
+use Rattle.vll_queue.specs.Shown.{Named}
+use Rattle.vll_queue.specs.declared.closed.Closed.{Closed}
 use Rattle.vll_workers.specs.Shown.{TokenShown}
 use Rattle.vll_workers.specs.Tokens.{AreFit}
 

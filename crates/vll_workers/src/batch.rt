@@ -7,7 +7,7 @@ use crate::stack::Stack;
 use crate::taken::Taken;
 use std::alloc::{AllocError, Global};
 use vll_core::Ticket;
-use vll_engine::Released;
+use vll_queue::Released;
 
 // What a worker has under way: the tokens that it has taken, passes of calls that may run, calls that were executed,
 // and the tickets of those that are finished and not yet reported to the gate.

@@ -2,8 +2,8 @@
 ghost use Rattle.std.specs.Prelude.{◌≡◌, ◌<◌, ℕ, All, List, Some, length, slice_get, sum_by};
 ghost use Rattle.vll_proc.specs.declared.call.Call.{Call};
 ghost use Rattle.vll_counters.specs.Views.{calls_in};
-ghost use Rattle.vll_engine.specs.declared.closed.Closed.{Closed};
-ghost use Rattle.vll_engine.specs.Shown.{Named, library_of};
+ghost use Rattle.vll_queue.specs.declared.closed.Closed.{Closed};
+ghost use Rattle.vll_queue.specs.Shown.{Named, library_of};
 ghost use Rattle.vll_workers.specs.Merge.{AreForScripts, HasFound, IsClosedWith, IsMerge};
 ghost use Rattle.vll_workers.specs.Shown.{TokenShown};
 ghost use Rattle.vll_workers.specs.Tokens.{AreBack, AreFit, IsOf, IsThrough, OneIsSpent, calls_between};

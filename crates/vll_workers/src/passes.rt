@@ -1,16 +1,16 @@
 //! A worker's list of the passes of calls that may run.
 ghost use Rattle.std.specs.Prelude.{◌≡◌, ◌<◌, ◌≤◌, ◌++◌, ◌∷◌, [], All, IfNone, IfOk, IfSome, MatchBool, length};
 ghost use Rattle.vll_check.specs.Calls.{Fits};
-ghost use Rattle.vll_engine.specs.Onto.{FindsAndBeginsOnto, HasOneMore, IsOfLast};
-ghost use Rattle.vll_engine.specs.Pass.{IsFresh, IsReleased};
-ghost use Rattle.vll_engine.specs.Shown.{library_of};
+ghost use Rattle.vll_queue.specs.Onto.{FindsAndBeginsOnto, HasOneMore, IsOfLast};
+ghost use Rattle.vll_queue.specs.Pass.{IsFresh, IsReleased};
+ghost use Rattle.vll_queue.specs.Shown.{library_of};
 
 use crate::gate::Gate;
 use crate::stack::MOST_BATCH;
 use std::alloc::{AllocError, Global};
 use std::marker::Model;
-use vll_engine::{BegunOnto, Engine, Hold, Name, Pass, Released, Session};
 use vll_proc::Call;
+use vll_queue::{BegunOnto, Engine, Hold, Name, Pass, Released, Session};
 use vll_sca::Place;
 
 // The passes of calls that may run, up to MOST_BATCH. Each stays where it was made until its call is executed, so that

@@ -11,7 +11,7 @@ use std::alloc::Global;
 use std::marker::Brand;
 use std::sync::Wait;
 use std::thread::Threads;
-use vll_engine::{Engine, Name};
+use vll_queue::{Engine, Name};
 use vll_sca::Place;
 
 mod ending;

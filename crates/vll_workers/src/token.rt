@@ -8,8 +8,8 @@ ghost use Rattle.vll_workers.specs.Tokens.{IsFit, IsThrough};
 use crate::passes::Passes;
 use crate::stack::MOST_BATCH;
 use std::marker::Model;
-use vll_engine::{BegunOnto, Hold, Name, Session};
 use vll_proc::Call;
+use vll_queue::{BegunOnto, Hold, Name, Session};
 use vll_sca::Place;
 
 // How often a call is put off before it begins regardless.

@@ -1,7 +1,7 @@
 //! What the workers of a run share, and a worker's rounds, from the opening of its batch until it leaves.
 ghost use Rattle.std.specs.Prelude.{◌≡◌, ◌<◌, ◌≤◌, ◌+◌, ◌++◌, ◌∷◌, [], All, IfSome, length, suc};
 ghost use Rattle.crossbeam_queue.specs.Passes.{view};
-ghost use Rattle.vll_engine.specs.Pass.{IsFresh, IsReleased};
+ghost use Rattle.vll_queue.specs.Pass.{IsFresh, IsReleased};
 ghost use Rattle.vll_workers.specs.Private.Pool.{AreSame, HasInHand, all_parts};
 ghost use Rattle.vll_workers.specs.Private.Work.{IsAtWork};
 ghost use Rattle.vll_workers.specs.Tokens.{AreFit, IsFit, clients_of};
@@ -15,7 +15,7 @@ use crate::stack::MOST_BATCH;
 use crate::taken::Taken;
 use crate::worker::Worker;
 use std::sync::{Mutex, Wait};
-use vll_engine::{Engine, Name};
+use vll_queue::{Engine, Name};
 use vll_sca::Place;
 
 // What the workers of a run share.

@@ -1,6 +1,6 @@
 //! Tests of a run of the maximum number of workers and as many clients, which all use one record.
 ghost use Rattle.std.specs.Prelude.{◌≡◌};
-ghost use Rattle.vll_engine.specs.Shown.{name_of};
+ghost use Rattle.vll_queue.specs.Shown.{name_of};
 ghost use Rattle.vll_sca.specs.Placing.{placing};
 
 use crate::asserts::{equal, fail};
@@ -13,7 +13,7 @@ use std::sync::Wait;
 use std::test::*;
 use std::thread::Threads;
 use vll_core::{Config, Line};
-use vll_engine::{Name, Opening};
+use vll_queue::{Name, Opening};
 use vll_sca::Placing;
 use vll_workers::{MOST_WORKERS, OpenGate, run};
 

@@ -1,6 +1,6 @@
 //! Tests of runs with a bound on the threads that may be started, and of a run without one.
 ghost use Rattle.std.specs.Prelude.{◌≡◌};
-ghost use Rattle.vll_engine.specs.Shown.{name_of};
+ghost use Rattle.vll_queue.specs.Shown.{name_of};
 ghost use Rattle.vll_sca.specs.Placing.{placing};
 
 use crate::asserts::{equal, fail, holds};
@@ -14,7 +14,7 @@ use std::sync::Wait;
 use std::sync::atomic::Ordering;
 use std::test::*;
 use std::thread::Threads;
-use vll_engine::{Name, Opening};
+use vll_queue::{Name, Opening};
 use vll_sca::Placing;
 use vll_workers::{Gate, OpenGate, RunError, RunFault, run, run_limited};
 

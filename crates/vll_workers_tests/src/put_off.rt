@@ -1,7 +1,7 @@
 //! Tests of runs in which many calls wait, and of a run in which a call is put off.
 ghost use Rattle.std.specs.Prelude.{◌≡◌};
-ghost use Rattle.vll_engine.specs.Pass.{IsFresh};
-ghost use Rattle.vll_engine.specs.Shown.{name_of};
+ghost use Rattle.vll_queue.specs.Pass.{IsFresh};
+ghost use Rattle.vll_queue.specs.Shown.{name_of};
 ghost use Rattle.vll_sca.specs.Placing.{placing};
 
 use crate::asserts::{equal, fail, holds_at};
@@ -15,7 +15,7 @@ use std::sync::Wait;
 use std::test::*;
 use std::thread::Threads;
 use vll_core::{Config, Ticket};
-use vll_engine::{Engine, Name, Opening, Pass, Session};
+use vll_queue::{Engine, Name, Opening, Pass, Session};
 use vll_sca::Placing;
 use vll_workers::{OpenGate, run};
 

@@ -1,7 +1,7 @@
 //! Tests of what runs enter, execute and leave, also if the engine is spent or there are no tokens.
 ghost use Rattle.std.specs.Prelude.{◌≡◌, ◌≤◌, All};
-ghost use Rattle.vll_engine.specs.Pass.{IsFresh};
-ghost use Rattle.vll_engine.specs.Shown.{name_of};
+ghost use Rattle.vll_queue.specs.Pass.{IsFresh};
+ghost use Rattle.vll_queue.specs.Shown.{name_of};
 ghost use Rattle.vll_sca.specs.Placing.{placing};
 
 use crate::asserts::{equal, fail, holds};
@@ -18,7 +18,7 @@ use std::sync::atomic::Ordering;
 use std::test::*;
 use std::thread::Threads;
 use vll_core::Ticket;
-use vll_engine::{Begun, Engine, Name, Opening, Pass, Session};
+use vll_queue::{Begun, Engine, Name, Opening, Pass, Session};
 use vll_sca::Placing;
 use vll_workers::{MOST_WORKERS, OpenGate, RunError, RunFault, run};
 

@@ -1,7 +1,7 @@
 //! Tests of how long a worker stays.
 ghost use Rattle.std.specs.Prelude.{◌≡◌, nat_eq};
 ghost use Rattle.std.specs.List.{IsDistinct};
-ghost use Rattle.vll_engine.specs.Shown.{name_of};
+ghost use Rattle.vll_queue.specs.Shown.{name_of};
 ghost use Rattle.vll_sca.specs.Placing.{placing};
 ghost use Rattle.vll_workers.specs.Tokens.{AreFit, clients_of};
 
@@ -18,7 +18,7 @@ use std::sync::atomic::{AtomicBool, Ordering};
 use std::test::*;
 use std::thread::{Threads, join, yield_now};
 use vll_core::Ticket;
-use vll_engine::{Engine, Name, Opening, Session};
+use vll_queue::{Engine, Name, Opening, Session};
 use vll_sca::Placing;
 use vll_workers::{Gate, Token, run};
 

@@ -1,7 +1,7 @@
 //! Tests of what the workers of a run report as they leave.
 ghost use Rattle.std.specs.Prelude.{◌≡◌, ◌≤◌, nat_eq};
 ghost use Rattle.std.specs.List.{IsDistinct};
-ghost use Rattle.vll_engine.specs.Shown.{name_of};
+ghost use Rattle.vll_queue.specs.Shown.{name_of};
 ghost use Rattle.vll_sca.specs.Placing.{placing};
 ghost use Rattle.vll_workers.specs.Tokens.{AreFit, clients_of};
 
@@ -16,7 +16,7 @@ use std::sync::{Mutex, Wait};
 use std::test::*;
 use std::thread::Threads;
 use vll_core::{Config, Ticket};
-use vll_engine::{Engine, Name, Opening};
+use vll_queue::{Engine, Name, Opening};
 use vll_sca::Placing;
 use vll_workers::{Gate, MOST_WORKERS, Tally, Token, run};
 

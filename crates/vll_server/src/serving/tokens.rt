@@ -5,8 +5,8 @@ ghost use Rattle.vll_scenario.specs.Setup.{lists_of};
 ghost use Rattle.vll_server.specs.Private.Serving.{sessions_in, tokens_from};
 
 use std::alloc::{AllocError, Global};
-use vll_engine::{Name, Session};
 use vll_proc::Call;
+use vll_queue::{Name, Session};
 use vll_scenario::MOST_CLIENTS;
 use vll_workers::Token;
 

@@ -2,12 +2,12 @@
 use Rattle.std.specs.Prelude.{◌≡◌, List, Some, slice_get, suc}
 use Rattle.vll_proc.specs.declared.call.Call.{Call}
 use Rattle.vll_counters.specs.Shown.{PassShown, SessionShown}
-use Rattle.vll_engine.specs.declared.begun.Begun.{Begun}
-use Rattle.vll_engine.specs.declared.begun.Begun.TheVariants.{Free, Blocked, Refused}
-use Rattle.vll_engine.specs.declared.begun.BegunOnto.{BegunOnto}
-use Rattle.vll_engine.specs.Begin.{FindsAndBegins}
-use Rattle.vll_engine.specs.Onto.{IsOnto}
-use Rattle.vll_engine.specs.Shown.{Named}
+use Rattle.vll_queue.specs.declared.begun.Begun.{Begun}
+use Rattle.vll_queue.specs.declared.begun.Begun.TheVariants.{Free, Blocked, Refused}
+use Rattle.vll_queue.specs.declared.begun.BegunOnto.{BegunOnto}
+use Rattle.vll_queue.specs.Begin.{FindsAndBegins}
+use Rattle.vll_queue.specs.Onto.{IsOnto}
+use Rattle.vll_queue.specs.Shown.{Named}
 use Rattle.vll_workers.specs.Shown.{TokenShown}
 
 -- the session has learnt more, and one more call has entered, unless the call was refused

@@ -22,7 +22,7 @@ use std::alloc::{AllocError, Global};
 use std::sync::{Mutex, Wait};
 use std::thread;
 use std::thread::Threads;
-use vll_engine::Name;
+use vll_queue::Name;
 use vll_sca::Place;
 
 // Runs tokens that have a name, and tries at most `starts` starts.

@@ -14,7 +14,7 @@ use crate::token::Token;
 use crate::worker::Worker;
 use std::sync::{MutexGuard, Wait};
 use std::thread::{Promise, PromisedHandle, Scope, Threads};
-use vll_engine::Name;
+use vll_queue::Name;
 use vll_sca::Place;
 
 // What is ready before the workers start: what each needs, the calling thread's own worker, the tokens, and how many

@@ -7,7 +7,7 @@ use crate::roster::Roster;
 use crate::shared::Shared;
 use crate::work::Work;
 use std::sync::{Mutex, Wait};
-use vll_engine::Name;
+use vll_queue::Name;
 use vll_sca::Place;
 
 // What the workers of a run share, in the form in which it is passed to their threads.

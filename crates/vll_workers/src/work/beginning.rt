@@ -1,7 +1,7 @@
 //! What a worker does under a hold: it looks for calls that may run, and begins others.
 ghost use Rattle.std.specs.Prelude.{◌≡◌, ◌≤◌, ◌+◌, ◌++◌, [], All, length};
 ghost use Rattle.crossbeam_queue.specs.Passes.{view};
-ghost use Rattle.vll_engine.specs.Pass.{IsFresh};
+ghost use Rattle.vll_queue.specs.Pass.{IsFresh};
 ghost use Rattle.vll_workers.specs.Private.Settled.{IsSettled};
 ghost use Rattle.vll_workers.specs.Private.Work.{IsAtWork};
 ghost use Rattle.vll_workers.specs.Tokens.{AreFit, IsFit, IsOf};
@@ -16,7 +16,7 @@ use crate::taken::Taken;
 use crate::token::Token;
 use crate::worker::Worker;
 use std::sync::Wait;
-use vll_engine::{BeginRefusal, BegunOnto, Hold, Name};
+use vll_queue::{BeginRefusal, BegunOnto, Hold, Name};
 use vll_sca::Place;
 
 // What happened to a token's calls that were to begin.

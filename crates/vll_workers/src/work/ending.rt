@@ -1,7 +1,7 @@
 //! What a worker does with what it has begun: it executes calls, finishes them, and puts the tokens back.
 ghost use Rattle.std.specs.Prelude.{◌≡◌, ◌≤◌, ◌+◌, ◌++◌, [], All, length};
 ghost use Rattle.crossbeam_queue.specs.Passes.{view};
-ghost use Rattle.vll_engine.specs.Pass.{IsFresh, IsReleased};
+ghost use Rattle.vll_queue.specs.Pass.{IsFresh, IsReleased};
 ghost use Rattle.vll_workers.specs.Private.Work.{IsAtWork};
 
 use super::Work;
@@ -13,7 +13,7 @@ use crate::taken::Taken;
 use crate::worker::Worker;
 use std::sync::Wait;
 use vll_core::Ticket;
-use vll_engine::{Hold, Name, Released};
+use vll_queue::{Hold, Name, Released};
 use vll_sca::Place;
 
 impl<N: Name, H: Place + Send + Drop, T: Roster, W: Wait, G: Gate> Work<'_, N, H, T, W, G> {

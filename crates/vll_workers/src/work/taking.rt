@@ -12,7 +12,7 @@ use crate::taken::Taken;
 use crate::token::Token;
 use crate::worker::Worker;
 use std::sync::Wait;
-use vll_engine::Name;
+use vll_queue::Name;
 use vll_sca::Place;
 
 impl<N: Name, H: Place + Send + Drop, T: Roster, W: Wait, G: Gate> Work<'_, N, H, T, W, G> {

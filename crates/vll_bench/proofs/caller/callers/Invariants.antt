@@ -1,7 +1,7 @@
 -- The library makes the calls of the scripts that are left.
 use Rattle.std.proofs.Common.{All, vec_len}
 use Rattle.vll_check.specs.Calls.{Fits}
-use Rattle.vll_engine.specs.Shown.{library_of}
+use Rattle.vll_queue.specs.Shown.{library_of}
 use Rattle.vll_bench.proofs.caller.callers.Given as goal
 
 abbrev pub invariant-loop-script : goal.invariant-loop-script

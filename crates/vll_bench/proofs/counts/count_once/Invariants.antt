@@ -1,5 +1,5 @@
 use Rattle.vll_sca.specs.Placing.{placing}
-use Rattle.vll_engine.specs.Shown.{name_of}
+use Rattle.vll_queue.specs.Shown.{name_of}
 use Rattle.vll_bench.proofs.counts.count_once.Given as goal
 
 abbrev pub ghosts-time_calls : goal.ghosts-time_calls

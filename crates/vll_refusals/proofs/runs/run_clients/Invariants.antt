@@ -1,5 +1,5 @@
 use Rattle.vll_sca.specs.Placing.{placing}
-use Rattle.vll_engine.specs.Shown.{name_of}
+use Rattle.vll_queue.specs.Shown.{name_of}
 use Rattle.vll_refusals.proofs.runs.run_clients.Given as goal
 
 abbrev pub ghosts-run_named : goal.ghosts-run_named

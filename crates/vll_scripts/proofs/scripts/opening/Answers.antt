@@ -8,7 +8,7 @@ use Rattle.vll_check.specs.Catalog.{Catalog}
 use Rattle.vll_core.specs.declared.config.TheConstants.{MOST_CALLS}
 use Rattle.vll_sca.specs.declared.place.Placing.{Placing}
 use Rattle.vll_sca.specs.Placing.{placing}
-use Rattle.vll_engine.specs.Shown.{OpeningShown, library_of, name_of}
+use Rattle.vll_queue.specs.Shown.{OpeningShown, library_of, name_of}
 use Rattle.vll_scenario.proofs.Bounds.{scripts_short}
 use Rattle.vll_scripts.proofs.scripts.opening.Goals as goal
 

@@ -6,7 +6,7 @@ use Rattle.std.proofs.lemmas.List.Elements.{All-nil, All-pop, All-same}
 use Rattle.vll_proc.specs.declared.call.Call.{Call}
 use Rattle.vll_check.specs.Calls.{Fits}
 use Rattle.vll_counters.specs.Shown.{SessionShown}
-use Rattle.vll_engine.specs.Shown.{library_of}
+use Rattle.vll_queue.specs.Shown.{library_of}
 use Rattle.vll_workers.specs.Shown.{TokenShown}
 use Rattle.vll_workers.specs.Tokens.{AreFit, IsFit}
 use Rattle.vll_workers.proofs.Distinct.{above_push, distinct_none, distinct_push}

@@ -3,7 +3,7 @@ use Rattle.std.proofs.Common.{◌≤◌, ◌<◌, ◌^◌, length, nat_eq, vec_l
 use Rattle.std.specs.List.{All, IsDistinct}
 use Rattle.vll_check.specs.Calls.{Fits}
 use Rattle.vll_counters.specs.Shown.{AreNewSessions}
-use Rattle.vll_engine.specs.Shown.{library_of}
+use Rattle.vll_queue.specs.Shown.{library_of}
 use Rattle.vll_workers.specs.Tokens.{AreFit, clients_of}
 use Rattle.vll_scenario.specs.declared.limits.TheConstants.{MOST_CLIENTS}
 use Rattle.vll_scripts.proofs.scripts.tokens.Given as goal

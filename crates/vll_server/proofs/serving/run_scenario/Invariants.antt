@@ -1,6 +1,6 @@
 -- The name is that of the opening.
 use Rattle.vll_sca.specs.Placing.{placing}
-use Rattle.vll_engine.specs.Shown.{name_of}
+use Rattle.vll_queue.specs.Shown.{name_of}
 use Rattle.vll_server.proofs.serving.run_scenario.Given as goal
 
 abbrev pub ghosts-run_named : goal.ghosts-run_named

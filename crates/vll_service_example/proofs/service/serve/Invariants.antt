@@ -1,7 +1,7 @@
 -- After each epoch the engine is the bank's, with the total, and all that was counted is as it has to be.
 use Rattle.std.proofs.Common.{◌≡◌, ◌≤◌, ◌*◌, min, vec_capacity}
 use Rattle.vll_sca.specs.Placing.{placing}
-use Rattle.vll_engine.specs.Shown.{name_of}
+use Rattle.vll_queue.specs.Shown.{name_of}
 use Rattle.vll_service_example.specs.Service.{IsBank}
 use Rattle.vll_service_example.proofs.service.serve.Given as goal
 

@@ -1,5 +1,5 @@
 use Rattle.vll_sca.specs.Placing.{placing}
-use Rattle.vll_engine.specs.Shown.{name_of}
+use Rattle.vll_queue.specs.Shown.{name_of}
 use Rattle.vll_workers_tests.proofs.limited.no_tokens_without_a_start_is_well.Given as goal
 
 abbrev pub ghosts-has_none : goal.ghosts-has_none

@@ -1,4 +1,4 @@
-use Rattle.vll_engine.proofs.Opens.{new_sessions_are_there}
+use Rattle.vll_queue.proofs.Opens.{new_sessions_are_there}
 use Rattle.vll_workers.proofs.Distinct.{distinct_none}
 use Rattle.vll_workers_tests.proofs.runs.has_none.Goals as goal
 

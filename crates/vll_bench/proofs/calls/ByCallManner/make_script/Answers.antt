@@ -1,7 +1,7 @@
 -- The library makes each call of the caller's script.
 use Rattle.std.proofs.Common.{All, sym, subst}
 use Rattle.vll_check.specs.Calls.{Fits}
-use Rattle.vll_engine.specs.Shown.{library_of}
+use Rattle.vll_queue.specs.Shown.{library_of}
 use Rattle.vll_bench.proofs.calls.ByCallManner.make_script.Goals as goal
 
 pub make-requires-clause-fits : goal.make-requires-clause-fits

@@ -1,7 +1,7 @@
 use Rattle.std.proofs.Common.{ap}
 use Rattle.vll_check.specs.Calls.{Fits as FitsIn}
 use Rattle.vll_core.proofs.Places.{all_at}
-use Rattle.vll_engine.specs.Shown.{library_of}
+use Rattle.vll_queue.specs.Shown.{library_of}
 use Rattle.vll_workers.specs.Shown.{TokenShown}
 use Rattle.vll_workers.proofs.Gained.{next_call}
 use Rattle.vll_workers.proofs.token.Token.begin.Goals as goal

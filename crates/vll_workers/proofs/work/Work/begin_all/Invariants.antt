@@ -1,6 +1,6 @@
 -- The tokens that are left and those that were tried are in hand, and each call that began may run.
 use Rattle.std.proofs.Common.{◌≡◌, ◌≤◌, ◌+◌, ◌++◌, All, length}
-use Rattle.vll_engine.specs.Pass.{IsFresh}
+use Rattle.vll_queue.specs.Pass.{IsFresh}
 use Rattle.vll_workers.specs.declared.stack.TheConstants.{MOST_BATCH}
 use Rattle.crossbeam_queue.specs.Passes.{view}
 use Rattle.vll_workers.specs.Private.Work.{IsAtWork}

@@ -1,5 +1,5 @@
 use Rattle.std.proofs.Common.{◌∙◌, ap, inr, sym, rules}
-use Rattle.vll_engine.specs.declared.begun.BegunOnto.TheVariants.{Refused}
+use Rattle.vll_queue.specs.declared.begun.BegunOnto.TheVariants.{Refused}
 use Rattle.vll_workers.proofs.Gained.{client_begun, fresh_begun, of_begun, spent_session}
 use Rattle.vll_workers.proofs.Owned.{own_fits}
 use Rattle.vll_workers.proofs.work.Work.begin_calls.Goals as goal

@@ -1,6 +1,6 @@
 -- The token is the client's still and of those that were handed in, and each call that began may run.
 use Rattle.std.proofs.Common.{◌≡◌, All}
-use Rattle.vll_engine.specs.Pass.{IsFresh}
+use Rattle.vll_queue.specs.Pass.{IsFresh}
 use Rattle.vll_workers.specs.Tokens.{IsOf}
 use Rattle.vll_workers.proofs.work.Work.begin_calls.Given as goal
 

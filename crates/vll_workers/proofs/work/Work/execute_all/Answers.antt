@@ -3,7 +3,7 @@ use Rattle.std.proofs.lemmas.List.{length-append}
 use Rattle.std.proofs.lemmas.List.Elements.{All-cons, All-pop}
 use Rattle.std.specs.Prelude.{All}
 use Rattle.vll_counters.specs.Shown.{PassShown}
-use Rattle.vll_engine.specs.Pass.{DoneShown, IsFresh, IsReleased}
+use Rattle.vll_queue.specs.Pass.{DoneShown, IsFresh, IsReleased}
 use Rattle.vll_workers.proofs.work.Work.execute_all.Goals as goal
 
 pub loop-done-preserved : goal.loop-done-preserved

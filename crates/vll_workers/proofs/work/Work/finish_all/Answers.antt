@@ -1,7 +1,7 @@
 use Rattle.std.proofs.Common.{List, ℕ, ◌≡◌, ◌∷◌, length, ap, subst, arith}
 use Rattle.std.proofs.lemmas.List.Elements.{All-head, All-rest}
 use Rattle.std.specs.Prelude.{All}
-use Rattle.vll_engine.specs.Pass.{DoneShown, IsReleased}
+use Rattle.vll_queue.specs.Pass.{DoneShown, IsReleased}
 use Rattle.vll_workers.proofs.work.Work.finish_all.Goals as goal
 
 pub finish_untold-requires-clause-released : goal.finish_untold-requires-clause-released

@@ -1,6 +1,6 @@
 -- What is left has released its claims.
 use Rattle.std.proofs.Common.{◌≤◌, ◌+◌, All, length}
-use Rattle.vll_engine.specs.Pass.{IsReleased}
+use Rattle.vll_queue.specs.Pass.{IsReleased}
 use Rattle.vll_workers.specs.declared.stack.TheConstants.{MOST_BATCH}
 use Rattle.vll_workers.proofs.work.Work.finish_all.Given as goal
 

@@ -1,6 +1,0 @@
-use Rattle.std.proofs.Common.{None}
-use Rattle.vll_engine.proofs.Learning.{left_others}
-use Rattle.vll_engine.proofs.locked.Locked.visit.Goals as goal
-
-pub returns-clause-others : goal.returns-clause-others
-returns-clause-others g c = left_others c.args.words.now.base c.self.inside.seat c.join_session.new.queue c.args.session.session None c.give_session.result c.join_session.ensures.session c.join_session.ensures.queue c.give_session.ensures.session

@@ -1,5 +1,0 @@
-use Rattle.std.proofs.Common.{rules}
-use Rattle.vll_engine.proofs.locked.begin.request_all.Goals as goal
-
-pub loop-claim-init : goal.loop-claim-init
-loop-claim-init c = search rules

@@ -1,0 +1,21 @@
+use Rattle.std.proofs.Common.{◌≡◌, ◌∙◌, ap, rules}
+use Rattle.vll_check.specs.Calls.{with_found}
+use Rattle.vll_check.specs.Catalog.{Catalog}
+use Rattle.vll_queue.specs.Shown.{library_of}
+use Rattle.vll_queue.proofs.Looking.{looked_there_found, looked_up}
+use Rattle.vll_queue.proofs.finding.find.Goals as goal
+
+pub returns-clause-looked : goal.returns-clause-looked
+returns-clause-looked g c =
+    let e = g.N.Name.engine in
+    let call = c.args.call.now in
+    let is : c.with_found.result ≡ with_found (library_of e) call c.find-value.result = c.with_found.ensures.call ∙ ap (λ (l : Catalog). with_found l call c.find-value.result) c.requires.library in
+    looked_there_found e c.args.session.now.session c.find-value.new.session.session call c.with_found.result c.args.source c.find-value.result c.requires.fits c.requires.source
+    (search rules) is
+
+pub returns-clause-looked_up : goal.returns-clause-looked_up
+returns-clause-looked_up g c =
+    let e = g.N.Name.engine in
+    let call = c.args.call.now in
+    let is : c.with_found.result ≡ with_found (library_of e) call c.find-value.result = c.with_found.ensures.call ∙ ap (λ (l : Catalog). with_found l call c.find-value.result) c.requires.library in
+    looked_up e c.args.session.now.session c.find-value.new.session.session call c.with_found.result c.args.source c.find-value.result c.requires.fits c.requires.source (search rules) is

@@ -1,0 +1,161 @@
+//! Calls from entry to reply.
+ghost use Rattle.std.specs.Prelude.{◌≡◌, ◌++◌, ◌∷◌, [], IfErr, IfOk, Some};
+ghost use Rattle.vll_check.specs.Calls.{Fits};
+ghost use Rattle.vll_proc.specs.Serial.{answer};
+ghost use Rattle.vll_queue.specs.Calling.{IsCalled, IsTurnedAway};
+ghost use Rattle.vll_queue.specs.Pass.{IsFresh};
+ghost use Rattle.vll_queue.specs.Private.Attempt.{IsAttempted};
+ghost use Rattle.vll_queue.specs.Sessions.{SawOthers};
+ghost use Rattle.vll_queue.specs.Shown.{library_of};
+
+use crate::begun::{BeginRefusal, Begun};
+use crate::engine::Engine;
+use crate::hold::Hold;
+use crate::name::Name;
+use crate::pass::Pass;
+use crate::rest::Rest;
+use crate::session::Session;
+use std::sync::Wait;
+use vll_core::Ticket;
+use vll_proc::{Call, Reply};
+use vll_sca::Place;
+
+/// As many calls as the limit have entered, and the engine takes no more.
+#[derive(Clone, Copy, PartialEq, Eq, Debug)]
+pub struct Spent;
+
+impl<N: Name, H: Place + Send + Drop> Engine<N, H> {
+    /// Makes a call of the session's client, from its entry to its reply, and returns its ticket and its reply. A call
+    /// that may run is executed at once. While it waits, or as many calls as the cap wait, this thread brings other
+    /// calls to their end, of any client: the front, or what the scan finds. If there are none it rests and looks
+    /// again; it does not give up. If the engine is spent, no call has entered. A call that may run at entry takes the
+    /// lock twice. No worker is needed, and no memory is taken.
+    pub fn call(
+        &self,
+        wait: &impl Wait,
+        session: &mut Session,
+        call: &Call,
+    ) -> Result<(Ticket, Reply), Spent>
+        requires session { session.old.table ≡ N.engine.table }
+        requires fits { Fits (library_of N.engine) call.now }
+        ensures called { IfOk result (λ r. IsCalled N.engine session.old.session session.new.session call.now r.0 r.1) }
+        ensures spent { IfErr result (λ _. IsTurnedAway N.engine session.old.session session.new.session) }
+        ensures session { session.new.table ≡ session.old.table }
+    {
+        let mut rest = Rest::new();
+        for _ in wait.forever() {
+            match self.try_call(wait, session, call, &mut rest) {
+                Ok(Some(made)) => return Ok(made),
+                Ok(None) => {}
+                Err(Spent) => return Err(Spent),
+            }
+        }
+        unreachable!()
+    }
+
+    // As `call`, unless as many calls as the cap wait: then this thread helps once, and no call has entered.
+    fn try_call(
+        &self,
+        wait: &impl Wait,
+        session: &mut Session,
+        call: &Call,
+        rest: &mut Rest,
+    ) -> Result<Option<(Ticket, Reply)>, Spent>
+        requires session { session.old.table ≡ N.engine.table }
+        requires fits { Fits (library_of N.engine) call.now }
+        ensures answer { IsAttempted N.engine session.old.session session.new.session call.now result }
+        ensures session { session.new.table ≡ session.old.table }
+    {
+        let mut hold = self.hold(wait);
+        match hold.begin(session, call) {
+            Begun::Free(pass) => {
+                drop(hold);
+                Ok(Some(self.make(wait, session, pass)))
+            }
+            Begun::Blocked(ticket) => {
+                Ok(Some((ticket, self.reply_of(wait, hold, session, ticket))))
+            }
+            Begun::Refused(why) => {
+                if why == BeginRefusal::Spent {
+                    return Err(Spent);
+                }
+                self.help(wait, hold, rest);
+                Ok(None)
+            }
+        }
+    }
+
+    // Makes a call that may run, and returns its ticket and its reply.
+    fn make(&self, wait: &impl Wait, session: &mut Session, pass: Pass) -> (Ticket, Reply)
+        requires session { session.old.table ≡ N.engine.table }
+        requires pass { IsFresh N.engine pass }
+        ensures ticket { result.0 ≡ pass.pass.ticket }
+        ensures reply { answer N.engine.base.procs session.new.session.seen N.engine.base.records pass.pass.ticket ≡ Some result.1 }
+        ensures given { session.new.session.given ≡ session.old.session.given ++ pass.pass.ticket ∷ [] }
+        ensures session { (session.new.table ≡ session.old.table) × SawOthers session.old.session session.new.session }
+    {
+        let ticket = pass.ticket();
+        let hold = self.bring_to_its_end(wait, pass);
+        let reply = self.reply_of(wait, hold, session, ticket);
+        (ticket, reply)
+    }
+
+    // Returns the reply of a ticket, once it is there.
+    fn reply_of<'a>(
+        &'a self,
+        wait: &impl Wait,
+        hold: Hold<'a, N, H>,
+        session: &mut Session,
+        ticket: Ticket,
+    ) -> Reply
+        requires session { session.old.table ≡ N.engine.table }
+        ensures reply { answer N.engine.base.procs session.new.session.seen N.engine.base.records ticket ≡ Some result }
+        ensures given { session.new.session.given ≡ session.old.session.given ++ ticket ∷ [] }
+        ensures session { (session.new.table ≡ session.old.table) × SawOthers session.old.session session.new.session }
+    {
+        let mut rest = Rest::new();
+        let mut hold = hold;
+        for _ in wait.forever() {
+            if let Some(reply) = hold.reply(session, ticket) {
+                return reply;
+            }
+            hold = self.help(wait, hold, &mut rest);
+        }
+        unreachable!()
+    }
+
+    // Brings a call that may run to its end, if there is one, else rests. The lock is released meanwhile.
+    fn help<'a>(
+        &'a self,
+        wait: &impl Wait,
+        hold: Hold<'a, N, H>,
+        rest: &mut Rest,
+    ) -> Hold<'a, N, H> {
+        let mut hold = hold;
+        let found = match hold.next_front() {
+            Some(pass) => Some(pass),
+            None => hold.next_scan_if_due(),
+        };
+        drop(hold);
+        match found {
+            Some(pass) => {
+                rest.found();
+                self.bring_to_its_end(wait, pass)
+            }
+            None => {
+                rest.pause();
+                self.hold(wait)
+            }
+        }
+    }
+
+    // Executes a call, releases its claims, and finishes it under a new hold.
+    fn bring_to_its_end<'a>(&'a self, wait: &impl Wait, pass: Pass) -> Hold<'a, N, H>
+        requires { IsFresh N.engine pass }
+    {
+        let released = self.execute_and_release(pass);
+        let mut hold = self.hold(wait);
+        hold.finish(released);
+        hold
+    }
+}

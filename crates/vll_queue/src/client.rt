@@ -1,0 +1,145 @@
+//! A session whose type knows its engine, so that a caller has nothing to prove about that.
+ghost use Rattle.std.specs.Prelude.{◌≡◌, ◌++◌, ◌∷◌, [], IfErr, IfNone, IfOk, IfSome, IsOk, IsSome, Some, Err, slice_get};
+ghost use Rattle.vll_check.specs.Calls.{Fits, call_made};
+ghost use Rattle.vll_proc.specs.Serial.{answer};
+ghost use Rattle.vll_queue.specs.Begin.{FindsAndBegins};
+ghost use Rattle.vll_queue.specs.Calling.{IsCalled, IsCalledByName, IsTurnedAway};
+ghost use Rattle.vll_queue.specs.News.{Hears};
+ghost use Rattle.vll_queue.specs.Sessions.{SawOthers};
+ghost use Rattle.vll_queue.specs.Shown.{library_of};
+
+use crate::begun::{BeginRefusal, Begun};
+use crate::calling::Spent;
+use crate::engine::Engine;
+use crate::fault::EngineFault;
+use crate::name::Name;
+use crate::news::News;
+use crate::session::Session;
+use std::marker::{Model, PhantomData};
+use std::sync::Wait;
+use vll_core::Ticket;
+use vll_proc::{Call, Reply};
+use vll_sca::Place;
+
+/// A session of the engine of this name. Contracts see the session.
+#[derive(Drop)]
+pub struct Client<N: Name> {
+    session: Session,
+    of: PhantomData<N>,
+}
+
+impl<N: Name> Model for Client<N> {
+    ghost use Rattle.std.specs.Prelude.{◌≡◌};
+    ghost use Rattle.vll_counters.specs.Shown.{SessionShown};
+
+    ghost Value = { SessionShown };
+
+    ghost view = { λ c. c.session };
+
+    ghost invariant = { λ c. c.session.table ≡ N.engine.table };
+}
+
+impl<N: Name> Client<N> {
+    /// The client with this session.
+    pub fn of(session: Session) -> Client<N>
+        requires { session.table ≡ N.engine.table }
+        ensures { result ≡ session }
+    {
+        Client {
+            session,
+            of: PhantomData,
+        }
+    }
+
+    /// Returns its session.
+    pub fn into_session(self) -> Session
+        ensures session { result ≡ self }
+        ensures table { result.table ≡ N.engine.table }
+    {
+        self.session
+    }
+
+    /// Its number among the clients.
+    pub fn number(&self) -> u32
+        ensures { result ≡ self.now.session.client }
+    {
+        self.session.client()
+    }
+
+    /// Calls the procedure with this name, from entry to reply, as `Engine::call` does, and returns the call's ticket
+    /// and reply. Fails with `Call` and the fault if the library does not make the call: the client is then unchanged.
+    /// Fails with `Refused(Spent)` if the engine takes no more calls: none has entered then. There is no other fault.
+    pub fn call<H: Place + Send + Drop>(
+        &mut self,
+        wait: &impl Wait,
+        engine: &Engine<N, H>,
+        name: &str,
+        args: &[u64],
+    ) -> Result<(Ticket, Reply), EngineFault>
+        ensures called { IfOk result (λ r. IsCalledByName N.engine self.old.session self.new.session name.now args.now r.0 r.1) }
+        ensures fault { IfErr (call_made (library_of N.engine) name.now args.now) (λ why. (result ≡ Err (EngineFault.Call why)) × (self.new ≡ self.old)) }
+        ensures spent { IsOk (call_made (library_of N.engine) name.now args.now) → IfErr result (λ why. (why ≡ EngineFault.Refused BeginRefusal.Spent) × IsTurnedAway N.engine self.old.session self.new.session) }
+    {
+        let call = engine.library().call(name, args)?;
+        Ok(self.make(wait, engine, &call)?)
+    }
+
+    /// Makes a call, from entry to reply, as `Engine::call` does.
+    pub fn make<H: Place + Send + Drop>(
+        &mut self,
+        wait: &impl Wait,
+        engine: &Engine<N, H>,
+        call: &Call,
+    ) -> Result<(Ticket, Reply), Spent>
+        requires fits { Fits (library_of N.engine) call.now }
+        ensures called { IfOk result (λ r. IsCalled N.engine self.old.session self.new.session call.now r.0 r.1) }
+        ensures spent { IfErr result (λ _. IsTurnedAway N.engine self.old.session self.new.session) }
+    {
+        engine.call(wait, &mut self.session, call)
+    }
+
+    /// Enters a call, as `Engine::begin` does.
+    pub fn begin<H: Place + Send + Drop>(
+        &mut self,
+        wait: &impl Wait,
+        engine: &Engine<N, H>,
+        call: &Call,
+    ) -> Begun
+        requires fits { Fits (library_of N.engine) call.now }
+        ensures answer { FindsAndBegins N.engine self.old.session self.new.session call.now result }
+        ensures given { self.new.session.given ≡ self.old.session.given }
+    {
+        engine.begin(wait, &mut self.session, call)
+    }
+
+    /// Returns the reply of a ticket, as `Engine::reply` does.
+    pub fn reply<H: Place + Send + Drop>(
+        &mut self,
+        wait: &impl Wait,
+        engine: &Engine<N, H>,
+        ticket: Ticket,
+    ) -> Option<Reply>
+        ensures reply { IfSome result (λ reply. answer N.engine.base.procs self.new.session.seen N.engine.base.records ticket ≡ Some reply) }
+        ensures given { IfSome result (λ _. self.new.session.given ≡ self.old.session.given ++ ticket ∷ []) }
+        ensures none { IfNone result (self.new.session.given ≡ self.old.session.given) }
+        ensures ever { (k : _) → slice_get self.old.session.given k ≡ Some ticket → IsSome result }
+        ensures others { SawOthers self.old.session self.new.session }
+    {
+        engine.reply(wait, &mut self.session, ticket)
+    }
+
+    /// Returns news of what it has seen, as `Engine::tell` does.
+    pub fn tell<H: Place + Send + Drop>(&mut self, engine: &Engine<N, H>) -> News<N>
+        ensures news { result.calls ≡ self.old.session.seen }
+        ensures same { self.new ≡ self.old }
+    {
+        engine.tell(&mut self.session)
+    }
+
+    /// Hears news, as `Engine::hear` does.
+    pub fn hear<H: Place + Send + Drop>(&mut self, engine: &Engine<N, H>, news: News<N>)
+        ensures { Hears self.old.session self.new.session news.calls }
+    {
+        engine.hear(&mut self.session, news);
+    }
+}

@@ -1,0 +1,14 @@
+-- The thread that tells may have its session and its end of the channel, and every thread may see the engine.
+use denote.Param.Send.{sendable}
+use Rattle.std.proofs.Crossing.{crosses}
+use Rattle.vll_queue.proofs.Crossing.{engine}
+use Rattle.vll_queue.proofs.session.Session.TheSendSync as session
+use Rattle.vll_queue_tests.proofs.telling.Receipt.TheSendSync as receipt
+use Rattle.vll_queue_tests.proofs.telling.one_tells_and_one_hears.Goals as goal
+
+pub join-one-requires-send-F : goal.join-one-requires-send-F
+join-one-requires-send-F g c κs within =
+    let s = c.type_bounds.send-N in
+    let y = c.type_bounds.sync-N in
+    let r = c.type_bounds.sync-R in
+    search (engine, session.the_send, receipt.the_send, sendable, crosses) depth 40 fits 20000

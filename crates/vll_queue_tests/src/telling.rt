@@ -1,0 +1,140 @@
+//! Tests of news from one thread to another, by a channel.
+ghost use Rattle.std.specs.Prelude.{◌≡◌, ◌<◌, length};
+ghost use Rattle.vll_queue.specs.Shown.{name_of};
+ghost use Rattle.vll_sca.specs.Placing.{placing};
+
+use crate::asserts::{equal, fail};
+use crate::opening::opening;
+use crate::playing::{bump_of, closes, last_of, output_of, put_back, started};
+use crossbeam_channel::{Receiver, Sender, unbounded};
+use std::alloc::Global;
+use std::marker::Brand;
+use std::process::Abort;
+use std::sync::Wait;
+use std::test::*;
+use std::thread::{Threads, join};
+use vll_core::Ticket;
+use vll_queue::{Engine, Name, News, Opening, Session, Spent};
+use vll_sca::Placing;
+
+// A call was made from entry to reply: its ticket, its output, and news that has it.
+#[derive(Drop)]
+struct Receipt<N: Name> {
+    ticket: Ticket,
+    output: u64,
+    news: News<N>,
+    ghost has_it: { ticket < length news.calls },
+}
+
+// Makes a bump of record 0 for the session's client. Returns it with news of what the session has seen.
+fn makes_and_tells<N: Name, R: Wait + Abort>(
+    rt: &R,
+    engine: &Engine<N, Placing>,
+    session: &mut Session,
+) -> Receipt<N>
+    requires { session.old.table ≡ N.engine.table }
+    ensures { session.new.table ≡ N.engine.table }
+{
+    let call = bump_of(rt, engine.library(), 0);
+    match engine.call(rt, session, &call) {
+        Ok((ticket, reply)) => Receipt {
+            ticket,
+            output: output_of(&reply).unwrap_or(0),
+            news: engine.tell(session),
+        },
+        Err(Spent) => fail(rt, "the engine is spent"),
+    }
+}
+
+// Makes the session hear of a call that was made, and makes a bump after it. Returns the bump's ticket and output.
+fn hears_and_makes<N: Name, R: Wait + Abort>(
+    rt: &R,
+    engine: &Engine<N, Placing>,
+    session: &mut Session,
+    receipt: Receipt<N>,
+) -> (Ticket, u64)
+    requires { session.old.table ≡ N.engine.table }
+    ensures session { session.new.table ≡ N.engine.table }
+    ensures behind { receipt.ticket < result.0 }
+{
+    engine.hear(session, receipt.news);
+    let call = bump_of(rt, engine.library(), 0);
+    match engine.call(rt, session, &call) {
+        Ok((ticket, reply)) => (ticket, output_of(&reply).unwrap_or(0)),
+        Err(Spent) => fail(rt, "the engine is spent"),
+    }
+}
+
+// Makes one client's bump, and sends the news to the other client.
+fn tells<N: Name, R: Wait + Abort>(
+    rt: &R,
+    engine: &Engine<N, Placing>,
+    session: Session,
+    to: Sender<Receipt<N>, Global>,
+) -> Session
+    requires { session.table ≡ N.engine.table }
+    ensures { result.table ≡ N.engine.table }
+{
+    let mut session = session;
+    let receipt = makes_and_tells(rt, engine, &mut session);
+    equal(rt, (receipt.ticket, receipt.output), (Ticket(0), 1));
+    if to.send(rt, receipt).is_err() {
+        fail(rt, "nobody hears")
+    }
+    session
+}
+
+// Waits for the news, and makes the other client's bump once it has heard.
+fn hears<N: Name, R: Wait + Abort>(
+    rt: &R,
+    engine: &Engine<N, Placing>,
+    session: Session,
+    from: Receiver<Receipt<N>, Global>,
+) -> Session
+    requires { session.table ≡ N.engine.table }
+    ensures { result.table ≡ N.engine.table }
+{
+    let mut session = session;
+    let Ok(receipt) = from.recv(rt) else {
+        fail(rt, "there is no news")
+    };
+    let made = hears_and_makes(rt, engine, &mut session, receipt);
+    equal(rt, made, (Ticket(1), 2));
+    session
+}
+
+// Each client has a thread of its own.
+fn one_tells_and_one_hears<N: Name + Send + Sync, R: Wait + Threads + Abort + Sync>(
+    rt: &R,
+    alloc: Global,
+    opening: Opening<Placing>,
+) -> Result<(), Fail>
+    requires { N.engine ≡ name_of placing opening }
+{
+    let (to, from) = unbounded(alloc)?;
+    let (engine, mut sessions) = started::<N>(opening);
+    let other = last_of::<N>(rt, &mut sessions);
+    let one = last_of::<N>(rt, &mut sessions);
+    let engine_now = &engine;
+    let (one, other) = join(
+        rt,
+        move || -> Session
+            requires { one.table ≡ N.engine.table }
+            ensures { result.table ≡ N.engine.table }
+        { tells(rt, engine_now, one, to) },
+        move || -> Session
+            requires { other.table ≡ N.engine.table }
+            ensures { result.table ≡ N.engine.table }
+        { hears(rt, engine_now, other, from) },
+    );
+    put_back::<N>(rt, &mut sessions, one);
+    put_back::<N>(rt, &mut sessions, other);
+    closes(rt, engine, sessions, &[2], &[0, 1]);
+    Ok(())
+}
+
+#[test]
+fn call_that_was_told_of_comes_first(rt: HostRuntime) -> Result<(), Fail> {
+    let opening = opening(rt.alloc(), 1, 2, 1, 2)?;
+    one_tells_and_one_hears::<Brand, HostRuntime>(&rt, rt.alloc(), opening)
+}
