@@ -9,7 +9,8 @@ ghost use Rattle.vll_core.specs.Machine.{opened};
 ghost use Rattle.vll_replay.specs.Replay.{Replays, opening_for, text_of_setup};
 ghost use Rattle.vll_replay.specs.Steps.{steps};
 ghost use Rattle.vll_draw.specs.Page.{Draws, Lists};
-ghost use Rattle.vll_draw.specs.Taped.{HasTaped};
+ghost use Rattle.vll_picture.specs.Columns.{AreSteps, words_at};
+ghost use Rattle.vll_draw.specs.Taped.{HasTaped, drawn};
 ghost use Rattle.vll_draw.specs.declared.fault.DrawFault.TheVariants as fault;
 
 use crate::fault::DrawFault;
@@ -74,8 +75,10 @@ struct Taped {
 // The text of a scenario's replay, the machine in its state at the end, and what was kept of the events that are drawn.
 fn watched(alloc: Global, scenario: Scenario, window: Window) -> Result<Taped, AllocError>
     ensures text { IfOk result (λ made. string_bytes made.text ≡ text_of_setup scenario) }
-    ensures tape { IfOk result (λ made. HasTaped (opening_for scenario).base window
+    ensures tape { IfOk result (λ made. HasTaped (opening_for scenario) window
         (steps (opening_for scenario) (opened scenario.scripts) scenario.schedule) made.tape) }
+    ensures words { IfOk result (λ made. AreSteps (opening_for scenario).base (words_at made.tape.standing.words.items)
+        (drawn window (steps (opening_for scenario) (opened scenario.scripts) scenario.schedule)) made.tape.columns.items) }
 {
     let mut tape = Tape::new(alloc, window);
     let (text, core) = text_of_replay(alloc, scenario, &mut tape)?;

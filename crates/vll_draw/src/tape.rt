@@ -1,11 +1,12 @@
 //! What is kept of a replay while it runs, for the drawing: the events of the window, and the state before them.
 ghost use Rattle.std.specs.Prelude.{◌≡◌, ◌<◌, [], List, IfOk, IfSome, OnOk, length, slice_index};
-ghost use Rattle.vll_core.specs.State.{Base};
-ghost use Rattle.vll_core.specs.Shown.{AreWords};
+ghost use Rattle.vll_sca.specs.Placing.{placing};
+ghost use Rattle.vll_core.specs.State.{Opening};
+ghost use Rattle.vll_core.specs.Shown.{opening_of};
 ghost use Rattle.vll_core.specs.Next.{claim_of};
 ghost use Rattle.vll_replay.specs.Steps.{Step};
 ghost use Rattle.vll_picture.specs.Columns.{AreWordsOf, IsColumn, ticket_in, ticket_seen};
-ghost use Rattle.vll_draw.specs.Taped.{HasTaped, StandsBefore};
+ghost use Rattle.vll_draw.specs.Taped.{HasTaped, Stands, StandsBefore};
 ghost use Rattle.vll_draw.specs.declared.window.Window.{Window};
 
 use crate::window::Window;
@@ -36,7 +37,7 @@ pub(crate) struct Tape {
 
 impl Tape {
     pub(crate) fn new(alloc: Global, window: Window) -> Tape
-        ensures { (b : Base) → HasTaped b window [] result }
+        ensures { (o : Opening) → HasTaped o window [] result }
     {
         Tape {
             alloc,
@@ -54,8 +55,8 @@ impl Tape {
 
     // Keeps the state before an event, if the event is the first that is drawn.
     fn stand(&mut self, core: &Core<Placing>) -> Result<(), AllocError>
-        ensures stands { OnOk result ((w : Window) (past : List Step) → HasTaped core.now.base w past self.old
-            → HasTaped core.now.base w past self.new × StandsBefore core.now.base w past core.now.state self.new) }
+        ensures stands { OnOk result ((w : Window) (past : List Step) → let o = opening_of placing core.now in
+            HasTaped o w past self.old → HasTaped o w past self.new × StandsBefore o w past core.now.state self.new) }
         ensures claim { OnOk result (self.new.claim ≡ self.old.claim) }
     {
         if self.ahead > 0 {
@@ -75,9 +76,9 @@ impl Observer for Tape {
 
     ghost Task = { Window };
 
-    ghost saw = { λ w o past tape. HasTaped o.base w past tape };
+    ghost saw = { λ w o past tape. HasTaped o w past tape };
 
-    ghost looks = { λ w o past s event tape. Tapes o.base w past s event tape };
+    ghost looks = { λ w o past s event tape. Tapes o w past s event tape };
 
     fn before(&mut self, core: &Core<Placing>, event: &Event) -> Result<(), AllocError> {
         self.stand(core)?;
@@ -213,7 +214,7 @@ fn ticket_in(event: &Event) -> Option<usize>
 
 // The machine's words, and the phase of each entered call.
 fn standing_of(alloc: Global, core: &Core<Placing>) -> Result<Standing, AllocError>
-    ensures { IfOk result (λ standing. AreWords core.now.base core.now.state standing.words.items) }
+    ensures { IfOk result (λ standing. Stands (opening_of placing core.now) core.now.state standing.words.items) }
 {
     let mut words = Vec::new(alloc);
     words.extend_from_slice(core.words())?;

@@ -1,11 +1,13 @@
 -- The columns of a drawing, each for a step of the plain machine.
-use Rattle.std.specs.Prelude.{◌≡◌, ℕ, ◌<◌, List, [], ◌∷◌, length, take, drop, Option, Some, None, Ok, Err, IfSome}
+use Rattle.std.specs.Prelude.{◌≡◌, ℕ, suc, ◌<◌, List, [], ◌∷◌, length, take, drop, Option, Some, None, Ok, Err, IfSome, slice_get, slice_index, if◌then◌else◌}
 use Rattle.vll_record.specs.declared.claim.Claim.{Claim}
+use Rattle.vll_record.specs.Word.{value_word_of, pair_word_of_record}
 use Rattle.vll_core.specs.declared.event.Event.{Event}
 use Rattle.vll_core.specs.declared.event.Event.TheVariants as event
 use Rattle.vll_core.specs.declared.seen.Seen.{Seen}
 use Rattle.vll_core.specs.declared.seen.Seen.TheVariants as seen
 use Rattle.vll_core.specs.State.{Base, State, counter, value}
+use Rattle.vll_core.specs.Moves.{is_on}
 use Rattle.vll_core.specs.Next.{claim_of}
 use Rattle.vll_replay.specs.Steps.{Step}
 use Rattle.vll_picture.specs.declared.column.Column.{Column}
@@ -59,3 +61,21 @@ AreColumns b ss cs = ⊥
 -- at most `count` of the steps, from step `from` on
 abbrev pub window : ℕ → ℕ → List Step → List Step
 window from count ss = take count (drop from ss)
+
+-- the words of a record in the machine's list of words
+abbrev pub words_at : List ℕ → ℕ → RecordWords
+words_at words r = record { value = slice_index words (value_word_of r); pair = slice_index words (pair_word_of_record r) }
+
+-- the words of a record after a column: the column's if its claim is on the record, and else those before it
+abbrev pub next_words : ℕ → RecordWords → Column → RecordWords
+next_words r words c = if is_on r c.claim then c.words else words
+
+-- the words of a record after some columns, by those before them
+abbrev pub words_after : ℕ → RecordWords → List Column → RecordWords
+words_after r words [] = words
+words_after r words (c ∷ cs) = words_after r (next_words r words c) cs
+
+-- after each column each record has the words of the state after the column's step, if it has the words before them all
+abbrev pub AreSteps : Base → (ℕ → RecordWords) → List Step → List Column → Type 0
+AreSteps b before ss cs =
+    (n : ℕ) (s : Step) (r : ℕ) → slice_get ss n ≡ Some s → r < length b.records → AreWordsOf b s.after r (words_after r (before r) (take (suc n) cs))

@@ -1,11 +1,15 @@
 //! The lane of a record: its value and its two counters over time.
+ghost use Rattle.std.specs.Prelude.{◌≡◌};
+ghost use Rattle.vll_picture.specs.Columns.{next_words};
+
 use crate::band::Band;
-use crate::column::RecordWords;
+use crate::column::{Column, RecordWords};
 use crate::markup::{
     Area, LABELS, STEP, close_mark, left_of, open_mark, push_area, push_escaped, push_words,
 };
 use crate::scene::{Scene, Standing, id_of};
 use std::alloc::{AllocError, Global};
+use vll_record::RecordId;
 
 // The height of a row, and of the lane of its three rows.
 const ROW: usize = 19;
@@ -128,10 +132,7 @@ fn push_row(
     let mut is_new = false;
     let id = id_of(lane.record);
     for (index, column) in band.columns.iter().enumerate() {
-        let after = match column.claim {
-            Some(claim) if claim.id == id => column.words,
-            _ => shown,
-        };
+        let after = words_after(shown, column, id);
         if lane.row.number(after) != lane.row.number(shown) {
             let stretch = Stretch {
                 since,
@@ -152,6 +153,16 @@ fn push_row(
         is_new,
     };
     push_stretch(body, scene, band, lane, stretch)
+}
+
+// Returns the words of a record after a column, `before` which it has these.
+fn words_after(before: RecordWords, column: &Column, id: RecordId) -> RecordWords
+    ensures { result ≡ next_words id before column.now }
+{
+    match column.claim {
+        Some(claim) if claim.id == id => column.words,
+        _ => before,
+    }
 }
 
 // Appends the columns in which a number stays the same.
