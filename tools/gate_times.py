@@ -23,8 +23,8 @@ TICKS = os.sysconf('SC_CLK_TCK')
 
 
 def work_of(words, folder):
-    """Whose work the prover does that was called so in this folder: the crate, one of KINDS, and the number of an edit, if
-    it is told. None for others. An edit is checked in a copy of the crate, over a folder that has its number."""
+    """Whose work the prover does that was called so in this folder: the crate, one of KINDS, and the number of an edit,
+    if it is told. None for others. An edit is checked in a copy of the crate, over a folder that has its number."""
     if not words[0].endswith('/rattle') or '--crate-name' not in words[:-1]:
         return None
     crate = words[words.index('--crate-name') + 1]

@@ -222,8 +222,8 @@ def found_on(records, procedure, args, value=None):
 
 
 def make_on(records, procedure, args, value=None):
-    """Makes a call on the list of all records, which it changes, and answers its reply as it is printed. The record of an
-    indirect key was found by this value, or is found by the present one."""
+    """Makes a call on the list of all records, which it changes, and answers its reply as it is printed. The record of
+    an indirect key was found by this value, or is found by the present one."""
     found = found_on(records, procedure, args, value)
     values = {record: records[record] for record in records_of(procedure, args, found)}
     reply, values = make(procedure, args, values, found)
