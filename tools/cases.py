@@ -15,8 +15,7 @@ PART = re.compile(r'(.+)\.(?:(json|out)(\.sh)?|judge|args)')
 # In a file of several cases, the line that begins one and names it, and the line behind its scenario.
 BEGIN = re.compile(rb'^==== (.*)\n', re.MULTILINE)
 BAR = re.compile(rb'^----( judged)?\n', re.MULTILINE)
-# A cell that begins with this names a file beside the table, and JUDGED stands for an outcome that is judged.
-NAMES_FILE = '@'
+# A cell that begins with @ names a file beside the table, and this one stands for an outcome that is judged.
 JUDGED = '@judge'
 
 FAULT = re.compile(rb'^vll: (run|replay|explain|draw|scenario|command line)', re.MULTILINE)
@@ -182,11 +181,11 @@ class Reader:
 
     def file(self, table, name, cell):
         """The file that a cell of a row names, if it names one."""
-        if cell == JUDGED or not cell.startswith(NAMES_FILE):
+        if cell == JUDGED or not cell.startswith('@'):
             return None
-        found = standing((table.parent / cell[len(NAMES_FILE):]).resolve())
+        found = standing((table.parent / cell[1:]).resolve())
         if not found:
-            raise ValueError(f'there is no {cell[len(NAMES_FILE):]}')
+            raise ValueError(f'there is no {cell[1:]}')
         self.named.setdefault(found, set()).add(name)
         return found
 

@@ -8,8 +8,8 @@
   other name is declared somewhere.
 - PROMISES, ALGORITHM: a function stands in the crate that is named behind it, and the clauses of a row at one of its
   functions. HEADLINE: what it quotes stands so in a source.
-- README.md: its scenario is scenarios/transfer.json, and its figures are those of docs/speed.csv. examples/README.md: a
-  block below a command has what is printed, behind the events of a schedule.
+- README.md: its scenario is scenarios/transfer.json, and its figures are those of docs/speed.csv, as the drawings are.
+  examples/README.md: a block below a command has what is printed, behind the events of a schedule.
 - every page: a function that is named with its type is there, a link leads to a file and to a heading, and an outcome
   that stands below a command is the one beside the scenario.
 
@@ -21,7 +21,7 @@ import sys
 from itertools import zip_longest
 
 from cases import TOP, read_cases
-from figures import with_rows
+from figures import HEAD, rows_below, with_rows
 from sources import Sources, Specs
 
 NAME = re.compile(r'`([^`]+)`')
@@ -164,6 +164,10 @@ class Checks:
         self.look(page, 1, f'```json\n{scenario}```\n' in page.text, 'scenarios/transfer.json does not stand here')
         figures = (TOP / 'docs/speed.csv').read_text()
         self.look(page, 1, with_rows(page.text, figures) == page.text, 'these are not the figures of docs/speed.csv')
+        for name in 'speed', 'sweep':
+            *_, commit, _, date = rows_below(HEAD, (TOP / f'docs/{name}.csv').read_text())[-1]
+            is_so = f'commit {commit}, {date}' in (TOP / f'docs/{name}.svg').read_text()
+            self.look(page, 1, is_so, f'docs/{name}.svg was not drawn of docs/{name}.csv')
 
     def examples(self, page):
         cases = {case.name: case for case in read_cases()[0] if case.place.startswith('examples/')}

@@ -5,8 +5,6 @@ piece that the line tells of, and says what is wrong with it in words that go wi
 """
 import re
 
-# What the program says if its second look has not found the mistake.
-NOT_FOUND = 'a second look'
 # The most bytes that are printed, as docs/SCENARIO.md says.
 MOST_BYTES = 20 * 1024
 
@@ -64,7 +62,7 @@ def unexplained(line, printed):
     if not told:
         return f'no explanation stands behind the line: {printed[len(line):][:200]!r}'
     place, why = told.groups()
-    if NOT_FOUND in why:
+    if 'a second look' in why:
         return f'the mistake was not found: {why!r}'
     for pattern, text in zip(pieces_of(line.decode().split()[2:]), (place, why)):
         if not re.search(('^' if text is place else '') + pattern, text):

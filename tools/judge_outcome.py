@@ -152,4 +152,5 @@ if __name__ == '__main__':
     try:
         judge(json.loads(Path(sys.argv[1]).read_bytes()), Path(sys.argv[2]).read_bytes().decode())
     except Unlawful as unlawful:
-        sys.exit(f'{sys.argv[2]}: {unlawful}')
+        print(f'{sys.argv[2]}: {unlawful}')
+        sys.exit(1)
