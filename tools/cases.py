@@ -52,7 +52,7 @@ def is_script(source):
 
 
 def bytes_of(source, most=-1):
-    """The bytes of a source, up to so many of them."""
+    """The bytes of a source, `most` of them at most."""
     if isinstance(source, bytes):
         return source
     if not is_script(source):

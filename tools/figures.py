@@ -63,7 +63,7 @@ def long():
 
 
 def tens(rng, hot):
-    """Calls with ten claims. One is for one of so many hot records, or none is if there are none."""
+    """Calls with ten claims. One is for one of the hot records, if there are any."""
     calls = []
     for _ in range(CALLS):
         keys = [rng.randrange(hot)] if hot else []

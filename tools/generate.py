@@ -103,7 +103,7 @@ def next_event(rng, machine, phase, refused):
 
 
 def any_schedule(rng, scenario, size):
-    """A schedule of up to so many events, made along a machine that takes them."""
+    """A schedule of at most `size` events, made along a machine that takes them."""
     machine = Machine(scenario)
     refused = rng.choice([0.0, 0.02, 0.05, 0.1, 0.3])
     schedule = []
@@ -137,7 +137,7 @@ def add_choices(rng, scenario, calls):
 
 
 def any_scenario(rng, calls, clients, has_indirect_keys):
-    """A scenario without a schedule, with up to so many calls of up to so many clients."""
+    """A scenario without a schedule, with at most that many calls of at most that many clients."""
     records = rng.choice([1, 2, 3, 4, 5, 6, 8, 20]) if rng.random() < 0.995 else 4200
     is_tame = rng.random() < 0.8
     scenario = {

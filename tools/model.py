@@ -108,7 +108,7 @@ def replies_of(statements):
 
 
 class Found(NamedTuple):
-    """The value that was found for the indirect key of a call, where there are so many records."""
+    """The value that was found for the indirect key of a call, by the number of records."""
     value: int
     records: int
 

@@ -177,7 +177,7 @@ def with_indirect_key(rng, records, keys):
 
 
 def any_procedures(rng, records, most_keys, has_indirect_keys=False):
-    """Some procedures for so many records, with at most so many keys each, and at times an indirect one beside them."""
+    """Some procedures for that many records, each with at most `most_keys` keys, and at times an indirect one beside them."""
     names = rng.sample(NAMES, 3) + [f'procedure {number}' for number in range(5)]
     procedures = []
     for name in names[rng.randrange(3):rng.randint(4, 8)]:
