@@ -1,5 +1,5 @@
 -- The meaning of the actions of the command line.
-use Rattle.std.specs.Prelude.{ℕ, List, Option, None, Ok}
+use Rattle.std.specs.Prelude.{◌≡◌, ℕ, List, [], Option, None, Ok}
 use Rattle.vll_draw.specs.Page.{Draws}
 use Rattle.vll_explain.specs.Told.{Explains}
 use Rattle.vll_scenario.specs.Setup.{Setup}
@@ -17,10 +17,10 @@ abbrev pub Runs : RunOptions → Option (List ℕ) → Option (List ℕ) → (Te
 Runs options old new Holds = (setup : Setup) × IsRead old new (Ok setup) × Serves (with_options options setup) Holds
 
 -- a run serves what was read, a replay replays it, an explanation reports what it has, a drawing lists its replay, and
--- this holds of the text. `Tell` does none of these
+-- this holds of the text. `Tell` reads and writes nothing here
 abbrev pub Does : Action → Option (List ℕ) → Option (List ℕ) → (Text → Type 0) → Type 0
 Does (action.Run options) old new Holds = Runs options old new Holds
 Does action.Replay old new Holds = Replays old new Holds
 Does action.Explain old new Holds = Explains old new None Holds
 Does (action.Draw window) old new Holds = Draws old new Holds
-Does (action.Tell text) old new Holds = Unit {0}
+Does (action.Tell text) old new Holds = (new ≡ old) × Holds []
