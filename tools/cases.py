@@ -172,7 +172,7 @@ class Reader:
         name, words, printed, *lines = cells
         words_file, printed_file, text_file = (self.file(table, name, cell) for cell in (words, printed, lines[0]))
         if text_file and len(lines) > 1:
-            raise ValueError(f'there is a cell behind {lines[0]}')
+            raise ValueError(f'there is a cell after {lines[0]}')
         words = words_in(words_file) if words_file else words_of(words)
         text = text_file or '\n'.join([*lines, '']).encode()
         if printed == JUDGED:

@@ -137,7 +137,7 @@ class Checks:
             names = [name for name, _ in functions]
             theirs = set()
             for name in NAME.findall(cells['Function']):
-                self.look(page, number, name in names, f'no crate stands behind {name}')
+                self.look(page, number, name in names, f'no crate follows {name}')
             for name, crate in functions:
                 clauses = self.sources.functions(crate).get(name)
                 self.look(page, number, clauses is not None, f'{name} is no function of {crate}')
@@ -161,13 +161,13 @@ class Checks:
 
     def readme(self, page):
         scenario = (TOP / 'scenarios/transfer.json').read_text()
-        self.look(page, 1, f'```json\n{scenario}```\n' in page.text, 'scenarios/transfer.json does not stand here')
+        self.look(page, 1, f'```json\n{scenario}```\n' in page.text, 'scenarios/transfer.json is not quoted here')
         figures = (TOP / 'docs/speed.csv').read_text()
         self.look(page, 1, with_rows(page.text, figures) == page.text, 'these are not the figures of docs/speed.csv')
         for name in 'speed', 'sweep':
             *_, commit, _, date = rows_below(HEAD, (TOP / f'docs/{name}.csv').read_text())[-1]
             is_so = f'commit {commit}, {date}' in (TOP / f'docs/{name}.svg').read_text()
-            self.look(page, 1, is_so, f'docs/{name}.svg was not drawn of docs/{name}.csv')
+            self.look(page, 1, is_so, f'docs/{name}.svg was not drawn from docs/{name}.csv')
 
     def examples(self, page):
         cases = {case.name: case for case in read_cases()[0] if case.place.startswith('examples/')}
@@ -206,7 +206,7 @@ class Checks:
             if found:
                 wanted = TOP / f'{found[1]}.out'
                 is_so = wanted.exists() and wanted.read_text() == '\n'.join(block) + '\n'
-                self.look(page, number, is_so, f'{found[1]}.out is not what stands here')
+                self.look(page, number, is_so, f'{found[1]}.out is not what is quoted here')
 
 
 def names_in(text):
@@ -254,7 +254,7 @@ def main():
     checks = check(texts_of_pages(), sources, Specs(sources))
     for line in checks.wrong:
         print(line)
-    print(f'docs: {checks.looked} things looked at, {len(checks.wrong)} not so')
+    print(f'docs: {checks.looked} things checked, {len(checks.wrong)} wrong')
     return 1 if checks.wrong else 0
 
 

@@ -12,17 +12,18 @@ LISTS = 'records', 'procs', 'clients', 'schedule'
 SIZES = 'procs', 'clients', 'calls of all clients', 'schedule', 'records', 'limit', 'cap', 'bits'
 # By the number of a test, what is said of a procedure and of a call that fail it.
 CHECKS = {
-    1: r'arguments, and 8 are allowed', 2: r'keys, and version', 3: r'argument \d+ is not declared',
-    4: r'there is no record \d+', 5: r'key \d+ is not declared', 6: r'key \d+ is set, and is a "read" key',
+    1: r'arguments, but at most 8 are allowed', 2: r'keys, but version', 3: r'argument \d+ is not declared',
+    4: r'there is no record \d+', 5: r'key \d+ is not declared', 6: r'key \d+ is set, but is a "read" key',
     7: r'argument \d+ is not declared', 8: r'there is no local \d+', 9: r'local \d+ is read before it is surely set',
-    10: r'replies, and 8 are allowed', 11: r'deep, and 32 are allowed', 12: r'nodes, and 1024 are allowed',
-    13: r'its source is key \d+', 14: r'"through" key, and so is key \d+', 15: r'turns, and 64 are allowed',
-    16: r'weighs \d+, and 65536 is allowed'}
+    10: r'replies, but at most 8 are allowed', 11: r'deep, but at most 32 is allowed',
+    12: r'nodes, but at most 1024 are allowed', 13: r'its source is key \d+',
+    14: r'"through" key, and so is key \d+', 15: r'turns, but at most 64 are allowed',
+    16: r'weighs \d+, but at most 65536 is allowed'}
 # Where in the procedure that is.
 PLACES = {1: 'args', 2: 'keys', 3: r'keys, key \d+', 4: r'keys, key \d+', 13: r'keys, key \d+', 14: r'keys, key \d+',
           10: 'body', 12: 'body', 16: 'body'}
 CALLS = {
-    1: r'no procedure has the name', 2: r'number of arguments of ".*" is \d+, and not \d+',
+    1: r'no procedure has the name', 2: r'number of arguments of ".*" must be \d+, not \d+',
     3: r'there is no record \d+'}
 NAMED = r'( \("(?:[^"\\]|\\.)*"\))?'
 
@@ -44,7 +45,7 @@ def pieces_of(words):
         return rf'clients {words[1]}, call {words[2]}{NAMED}{behind}$', CALLS[number]
     return {
         'size': (rf'(standard input|the scenario, ({"|".join(SIZES)}))$',
-                 r'more than 16777216 bytes|\d+ is not from \d+ to'),
+                 r'more than 16777216 bytes|\d+ is not in the range \d+ to'),
         'json': (r'(byte \d+|line \d+, column \d+, which is byte \d+: ".*")$', ''),
         'name': (r'procs \d+ and procs \d+$', r'both have the name "'),
         'read': ('standard input$', 'cannot be read'),
@@ -57,10 +58,10 @@ def unexplained(line, printed):
     if not printed.startswith(line):
         return f'the first line is not {line!r}, but {printed[:80]!r}'
     if len(printed) > MOST_BYTES or not re.fullmatch(rb'[ -~\n]*', printed):
-        return 'it is too long, or has other characters than printable ASCII'
+        return 'it is too long, or has characters other than printable ASCII'
     told = re.fullmatch(r'at: (.+)\nwhy: (.+)\n', printed[len(line):].decode())
     if not told:
-        return f'no explanation stands behind the line: {printed[len(line):][:200]!r}'
+        return f'no explanation follows the line: {printed[len(line):][:200]!r}'
     place, why = told.groups()
     if 'a second look' in why:
         return f'the mistake was not found: {why!r}'

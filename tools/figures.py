@@ -151,7 +151,7 @@ def figures_of(what):
 
 
 def main():
-    parser = argparse.ArgumentParser(description='Takes the figures of docs/speed.csv and docs/sweep.csv anew.')
+    parser = argparse.ArgumentParser(description='Measures the figures of docs/speed.csv and docs/sweep.csv again.')
     parser.add_argument('--processor', default=processor())
     parser.add_argument('--scenario', choices=WORKLOADS)
     parser.add_argument('what', nargs='*', metavar='compare|sweep')

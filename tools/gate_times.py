@@ -1,14 +1,14 @@
 #!/usr/bin/env python3
-"""Runs a command, `rt ci` say, and writes down what each crate took of the processors meanwhile.
+"""Runs a command, such as `rt ci`, and writes down how much processor time each crate took meanwhile.
 
     python3 tools/gate_times.py FILE rt ci
 
-The output and the status are the command's. To the file goes a table of processor minutes, a line for each crate: for
-its proof, for its tests' proof, for what its must-fail edits begin from, for these edits, and in all; then the sum, and
-the edits that took most, in processor seconds. What was proved or refused before, and kept, takes nothing;
-`rt ci --anew` does all.
+The output and the status are the command's. The file gets a table of processor minutes, a line for each crate: for its
+proof, for its tests' proof, for what its must-fail edits begin from, for these edits, and in all; then the sum, and the
+edits that took most, in processor seconds. What was proved or refused before, and kept, takes no time; `rt ci --anew`
+does everything again.
 
-The minutes are those of the prover's processes that run below this command, looked at several times a second.
+The minutes are those of the prover's processes that run below this command, sampled several times a second.
 """
 import os
 import subprocess
@@ -78,7 +78,7 @@ def lines_of(seen):
         yield f'{crate:20}' + ''.join(f'{cell / 60:8.1f}' for cell in cells)
     for (crate, number), seconds in by_edit.most_common(MOST_EDITS):
         names = sorted(path.stem for path in Path('crates', crate, 'must-fail').glob('*.edit'))
-        yield f'{seconds:6.0f} s of a processor: edit {crate} {names[number] if number < len(names) else number}'
+        yield f'{seconds:6.0f} processor seconds: edit {crate} {names[number] if number < len(names) else number}'
 
 
 def main(words):

@@ -70,7 +70,7 @@ class Run:
         if not told:
             raise Unlawful(f'the line "{line}" is not that of call {ticket}')
         if int(told[1]) != ticket:
-            raise Unlawful(f'the line "{line}" stands in the place of call {ticket}')
+            raise Unlawful(f'the line "{line}" is in the place of call {ticket}')
         client = int(told[2])
         if client >= len(self.scripts):
             raise Unlawful(f'"{line}": there is no client {client}')
@@ -131,7 +131,7 @@ class Run:
         ends = [f'record {record} value {value} pair 0' for record, value in enumerate(self.records)]
         for told, end in zip(lines, ends):
             if told != end:
-                raise Unlawful(f'"{told}" stands in the place of "{end}"')
+                raise Unlawful(f'"{told}" is in the place of "{end}"')
         if len(lines) != len(ends):
             raise Unlawful(f'there are {len(lines)} lines of {len(ends)} records')
 

@@ -91,7 +91,7 @@ def main(words):
     wanted = words[1:] or crates
     sections = list(kinds[words[0]](wanted)) if words and words[0] in kinds and set(wanted) <= set(crates) else []
     if not sections:
-        print('usage: python3 tools/listing.py contracts|definitions [CRATE ..]; no crate has any so', file=sys.stderr)
+        print('usage: python3 tools/listing.py contracts|definitions [CRATE ..]; nothing to list', file=sys.stderr)
         return 2
     print('\n\n'.join('\n'.join([f'## {crate}', '', *lines]) for crate, lines in sections))
     return 0

@@ -80,11 +80,11 @@ def main(words):
     if left is not None:
         print(f'room: a check takes up to {BYTES_OF_A_CHECK / GB:.1f} GB of memory, and {left / GB:.1f} are free')
     for place, wanted, free in disks():
-        print(f'room: ./test wants {wanted / GB:.0f} GB of the disk of {place}, and {free / GB:.1f} are left')
+        print(f'room: ./test needs {wanted / GB:.0f} GB on the disk of {place}, and {free / GB:.1f} are left')
         lacks_disk = lacks_disk or free < wanted
     if lacks_disk:
-        print(f'room: {TOP}/crates/*/out and {TOP}/build could go, which are made anew, and so could copies of this',
-              'repository that are done with, and what `rt ci` keeps beside the kit')
+        print(f'room: {TOP}/crates/*/out and {TOP}/build can go, since they are made again, and so can copies of this',
+              'repository that are no longer needed, and what `rt ci` keeps beside the kit')
     return int(lacks_memory or lacks_disk)
 
 

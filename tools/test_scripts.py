@@ -78,7 +78,7 @@ RIGHT = f'''
 text=$(cat)
 case $text in *bump*) text='{LAWFUL.rstrip()}' ;; esac
 printf '%s\\n' "$text"
-[ "$*" = explain ] && printf '%s\\n' 'at: byte 0' 'why: it is no JSON text'
+[ "$*" = explain ] && printf '%s\\n' 'at: byte 0' 'why: it is not JSON text'
 case $text in 'vll: scenario'*) exit 2 ;; 'vll: replay'*) exit 1 ;; esac
 exit 0
 '''
@@ -103,7 +103,7 @@ EXPLAINED = FAULT + b'at: procs 1 ("pay"), body, value\nwhy: local 3 is read bef
 # What is changed in that, so that it explains the fault no longer.
 UNEXPLAINED = [(b'check 1', b'check 2'), (b'procs 1', b'procs 2'), (b', body', b''), (b'why: ', b''),
                (b'set it\n', b''), (b'local 3 is read', b'key 3 is read'), (b'pay', b'\xc3\xa4'),
-               (b'local 3', b'3' * 30000), (b'set it', b'a second look has not found it'), (b'it\n', b'it\nmore\n')]
+               (b'local 3', b'3' * 30000), (b'set it', b'a second look did not find it'), (b'it\n', b'it\nmore\n')]
 
 # What is spoiled: the page, the first place that a pattern matches there, what stands there then, and what is told.
 SPOILED = [
@@ -118,7 +118,7 @@ SPOILED = [
     ('docs/HEADLINE.md', r'\n```\n(\w+)', r'\n```\n\1x', 'no source has: '),
     ('docs/ARCHITECTURE.md', r'(`[A-Z]\w+::)[a-z]\w*`', r'\1unheard_of`', 'has no function unheard_of'),
     ('docs/ARCHITECTURE.md', r'(\]\([A-Z]+\.md#)[\w-]+', r'\1nowhere', 'there is no heading'),
-    ('README.md', r'committed 70', 'committed 71', 'transfer.out is not what stands here'),
+    ('README.md', r'committed 70', 'committed 71', 'transfer.out is not what is quoted here'),
     ('README.md', r'\| 2,449 \|', '| 2,448 |', 'these are not the figures of docs/speed.csv'),
     ('examples/README.md', r'0 opened', '0 closed', 'this is not what is printed'),
 ]

@@ -51,13 +51,13 @@ class Page(HTMLParser):
         demand(given.get('href', '#').startswith('#'), f'there is a link to {given.get("href")}')
         self.lists += tag == 'ol'
         if tag == 'li':
-            demand(self.open[-1:] == ['ol'], f'an item stands in {self.open}')
+            demand(self.open[-1:] == ['ol'], f'an item is in {self.open}')
             self.lines.append('')
             self.numbers.append(given.get('id'))
         if tag == 'a':
             self.marks.append([given['href'], None])
         if tag == 'title' and 'svg' in self.open:
-            demand(self.open[-1] == 'a', f'a title stands in {self.open}')
+            demand(self.open[-1] == 'a', f'a title is in {self.open}')
             self.marks[-1][1] = ''
         self.open.append(tag)
 
@@ -87,7 +87,7 @@ def judge(page, text, first=0, count=DRAWN):
     events = sum(line[0].isdigit() for line in found.lines)
     wanted = set(range(min(first, events), min(first + count, events)))
     drawn = {int(link[2:]) for link, _ in found.marks}
-    demand(drawn == wanted, f'{sorted(drawn ^ wanted)[:9]} are drawn or not as it was not asked for')
+    demand(drawn == wanted, f'{sorted(drawn ^ wanted)[:9]} are drawn but not asked for, or missing')
 
 
 def printed(program, text, *words):
@@ -173,7 +173,7 @@ def picture(program):
 
 def of_picture(program):
     if picture(program) != PICTURE.read_text(encoding='utf-8'):
-        yield 'docs/replay.svg is not the drawing of its example; python3 tools/trial_pages.py makes it anew'
+        yield 'docs/replay.svg is not the drawing of its example; python3 tools/trial_pages.py makes it again'
 
 
 def drawings(words, _):

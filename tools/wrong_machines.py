@@ -185,7 +185,7 @@ WRONG_CALLS = {
     'the record of an indirect key is not taken modulo the records': (
         Found, 'record', property(lambda self: min(self.value, self.records - 1))),
     'no source is tested for another value': (Body, 'has_moved', lambda self: False),
-    'the source is tested behind the body': (Body, 'make', body_before_the_test_of_moved),
+    'the source is tested after the body': (Body, 'make', body_before_the_test_of_moved),
 }
 
 # The word of an event, the reason that a wrong machine tells before another, and whether it holds as well.

@@ -46,7 +46,7 @@ const RUN_EXAMPLES: &str = "Examples:
 
 A smaller --cap can be worth it where many calls want the same few records, so that most of them wait: the
 scan for a call that may run then goes through fewer waiting ones, and fewer of them have open claims, each of
-which holds later calls back. The price is that a client whose call finds as many waiting is turned away, and
+which holds later calls back. The price is that a client whose call finds that many waiting is turned away, and
 its call is tried again later. No option changes which outcomes are lawful.
 
 docs/SCENARIO.md describes the format of a scenario, and what is printed.";
@@ -59,8 +59,8 @@ docs/SCENARIO.md describes the format of a scenario with its schedule, and what 
 const EXPLAIN_EXAMPLE: &str = "Example:
   vll explain < scenario.json
 
-Of a scenario that run refuses it prints the same line, where the mistake is, and what is wrong there. Of any other
-it prints ok, and what the scenario has. The exit status is that of run for a scenario that is refused, and else 0.
+For a scenario that run refuses, it prints the same line, where the mistake is, and what is wrong there. For a valid
+scenario it prints ok and what the scenario has. The exit status is that of run for a refused scenario, otherwise 0.
 
 docs/SCENARIO.md describes the format of a scenario, and what is printed.";
 
@@ -70,9 +70,9 @@ const DRAW_EXAMPLES: &str = "Examples:
 
 docs/SCENARIO.md describes the format of a scenario with its schedule, and the page.";
 
-const FROM: &str = "The number of the first event that is drawn, 0 to 1048576";
+const FROM: &str = "The number of the first event to draw, 0 to 1048576";
 
-const COUNT: &str = "How many events are drawn at most, 1 to 3600";
+const COUNT: &str = "The maximum number of events to draw, 1 to 3600";
 
 const WORKERS: &str = "Threads that make the calls, 1 to 64";
 
@@ -124,7 +124,7 @@ fn run_command<'a>(alloc: Global) -> Result<Command<'a>, AllocError> {
 fn replay_command<'a>(alloc: Global) -> Command<'a> {
     Command::new(alloc, "replay")
         .about(
-            "Takes the steps of the schedule of the scenario on standard input, and prints what each answers",
+            "Takes the steps of the schedule of the scenario on standard input, and prints the answer to each",
         )
         .after_help(REPLAY_EXAMPLE)
 }

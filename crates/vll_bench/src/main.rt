@@ -50,19 +50,19 @@ const USAGE: &str = "usage: vll_bench events
 
 events   what an event of the machine costs, on one thread
 engine   what a call of the engine costs from begin to finish, on one thread
-scan     what a scan of the queue costs that finds no call, on one thread
-bodies   what a body costs, a run and a node, on one thread
-compare  what a call of the scenario costs without the engine, one after the
-         other, behind one lock and with one lock a record, and in the engine,
-         by its own call and by workers: lines of comma-separated values, whose
-         names are in the first line
+scan     what a scan of the queue that finds no call costs, on one thread
+bodies   what a body costs, per run and per node, on one thread
+compare  what a call of the scenario costs without the engine, serially, under
+         one lock and with one lock per record, and in the engine, by its own
+         call and by workers: lines of comma-separated values, whose names are
+         in the first line
 counts   what became of the scenario's calls in the engine, by its own call and
-         by workers, and what the threads did that made them: such lines
+         by workers, and what the threads that made them did: lines of that kind
 sweep    what a call with ten claims costs while one of them is among 10,000 hot
-         records, or fewer, down to one: lines as those of compare, with the
-         number of hot records as their scenario
-WORKERS  runs the scenario by so many worker threads, 1 to 64, as often as
-ROUNDS   says, and prints the nanoseconds of each run, a line each";
+         records, or fewer, down to one: lines like those of compare, with the
+         number of hot records as the scenario
+WORKERS  how many worker threads run the scenario, 1 to 64
+ROUNDS   how many times; prints the nanoseconds of each run, one per line";
 
 fn main(rt: HostRuntime) -> Result<(), Fault> {
     let words: Vec<String> = env::args(&rt)?.collect(rt.alloc())?;

@@ -90,7 +90,7 @@ fn transfer_twice<N: Name, R: Wait + Print>(
 }
 
 fn print_order(rt: &impl Print, (told, behind): (Ticket, Ticket)) -> Result<(), EngineFault> {
-    println!(rt; "call {} comes behind call {}", behind.0, told.0)?;
+    println!(rt; "call {} comes after call {}", behind.0, told.0)?;
     Ok(())
 }
 

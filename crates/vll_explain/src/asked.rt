@@ -27,7 +27,7 @@ pub(crate) fn call_mistake(alloc: Global, tree: &Value, asked: &Value, fault: Ca
             wrong(
                 alloc,
                 format!(in alloc;
-                    "the number of arguments of {name} is {wanted}, and not {given}"
+                    "the number of arguments of {name} must be {wanted}, not {given}"
                 )?,
             )
         }
@@ -83,7 +83,7 @@ fn record_mistake(alloc: Global, keys: &[Value], args: &[Value], records: usize)
         };
         if record >= records as u64 {
             let why = format!(in alloc;
-                "there is no record {record}, which key {i} of the procedure takes from it; the number of records is {records}, and they count from 0"
+                "there is no record {record}, which key {i} takes from this argument; the number of records is {records}, and they are numbered from 0"
             )?;
             return inside_item(wrong(alloc, why)?, "argument", index);
         }

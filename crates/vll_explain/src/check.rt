@@ -45,14 +45,16 @@ pub(crate) fn check_mistake(alloc: Global, procedure: &Declared<'_>, fault: Chec
             let Measures { replies, .. } = measures_of(procedure.body);
             body_mistake(
                 alloc,
-                format!(in alloc; "it has {replies} replies, and {MOST_OUTPUTS} are allowed")?,
+                format!(in alloc;
+                    "it has {replies} replies, but at most {MOST_OUTPUTS} are allowed"
+                )?,
             )
         }
         CheckFault::TooLong => {
             let Measures { nodes, .. } = measures_of(procedure.body);
             body_mistake(
                 alloc,
-                format!(in alloc; "it has {nodes} nodes, and {MOST_NODES} are allowed")?,
+                format!(in alloc; "it has {nodes} nodes, but at most {MOST_NODES} are allowed")?,
             )
         }
         CheckFault::TooMuchWork => {
@@ -60,7 +62,7 @@ pub(crate) fn check_mistake(alloc: Global, procedure: &Declared<'_>, fault: Chec
             body_mistake(
                 alloc,
                 format!(in alloc;
-                    "it weighs {weight}, and {MOST_WEIGHT} is allowed: a repeat weighs as much as all its turns"
+                    "it weighs {weight}, but at most {MOST_WEIGHT} is allowed: a repeat weighs as much as all its turns"
                 )?,
             )
         }
@@ -77,7 +79,7 @@ fn leaf_mistake(alloc: Global, procedure: &Declared<'_>, test: Test) -> Found {
 
 fn too_many_args(alloc: Global, procedure: &Declared<'_>) -> Found {
     let args = procedure.args;
-    let why = format!(in alloc; "there are {args} arguments, and {MOST_ARGS} are allowed")?;
+    let why = format!(in alloc; "there are {args} arguments, but at most {MOST_ARGS} are allowed")?;
     inside(wrong(alloc, why)?, "args")
 }
 
@@ -95,7 +97,7 @@ fn too_many_keys(alloc: Global, procedure: &Declared<'_>) -> Found {
         ""
     };
     let why = format!(in alloc;
-        "there are {count} keys, and version {version} allows {most}{hint}"
+        "there are {count} keys, but version {version} allows at most {most}{hint}"
     )?;
     inside(wrong(alloc, why)?, "keys")
 }

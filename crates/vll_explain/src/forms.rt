@@ -28,7 +28,7 @@ fn forms_of(kind: Kind) -> Forms {
             name: "event",
             one: "an event",
             word: "event",
-            all: "there are \"claim\", \"admit\", \"front\" and \"scan\" alone, \"find\" and \"enter\" with a \
+            all: "the events are \"claim\", \"admit\", \"front\" and \"scan\" alone, \"find\" and \"enter\" with a \
                 client, and \"load\", \"store\", \"release\" and \"finish\" with a ticket",
         },
         Kind::Key => Forms {
@@ -42,8 +42,8 @@ fn forms_of(kind: Kind) -> Forms {
             name: "expression",
             one: "an expression",
             word: "operation",
-            all: "there are \"arg\", \"key\" and \"local\" with an index, \"not\" with one operand, and \"add\", \
-                \"sub\", \"mul\", \"div\", \"rem\", \"min\", \"max\", \"equal\" and \"less\" with two",
+            all: "the operations are \"arg\", \"key\" and \"local\" with an index, \"not\" with one operand, \
+                and \"add\", \"sub\", \"mul\", \"div\", \"rem\", \"min\", \"max\", \"equal\" and \"less\" with two",
         },
     }
 }
@@ -65,22 +65,22 @@ pub(crate) fn form_why(
         return key_why(alloc, list, all);
     }
     let Some(first) = list.first() else {
-        return format!(in alloc; "an empty list is no {name}; {all}");
+        return format!(in alloc; "an empty list is not a valid {name}; {all}");
     };
     let Some(word) = first.as_str() else {
         let shown = Shown(first);
-        return format!(in alloc; "{one} begins with a word, and not with {shown}; {all}");
+        return format!(in alloc; "{one} begins with a word, not with {shown}; {all}");
     };
     let shown = Quoted(word);
     match behind_word(kind, word) {
-        None => format!(in alloc; "{shown} is no {unknown}; {all}"),
+        None => format!(in alloc; "{shown} is not a valid {unknown}; {all}"),
         Some(_) if word == "repeat" && is_first(tree) => {
-            String::from_str(alloc, "version 1 has no \"repeat\"; say \"version\":2")
+            String::from_str(alloc, "version 1 has no \"repeat\"; use \"version\":2")
         }
         Some(wanted) => {
             let count = list.len() - 1;
             format!(in alloc;
-                "the number of items behind {shown} is {wanted}, and not {count}; {all}"
+                "the number of items after {shown} must be {wanted}, not {count}; {all}"
             )
         }
     }
@@ -94,7 +94,7 @@ fn is_first(tree: &Value) -> bool {
 fn key_why(alloc: Global, list: &[Value], all: &str) -> Result<String, AllocError> {
     let [mode, place, _] = list else {
         let count = list.len();
-        return format!(in alloc; "the number of items of a key is 3, and not {count}; {all}");
+        return format!(in alloc; "the number of items of a key must be 3, not {count}; {all}");
     };
     match mode.as_str() {
         Some("read" | "write") => {
@@ -103,9 +103,7 @@ fn key_why(alloc: Global, list: &[Value], all: &str) -> Result<String, AllocErro
         }
         _ => {
             let shown = Shown(mode);
-            format!(in alloc;
-                "a key begins with \"read\" or \"write\", and not with {shown}; {all}"
-            )
+            format!(in alloc; "a key begins with \"read\" or \"write\", not with {shown}; {all}")
         }
     }
 }

@@ -13,11 +13,11 @@ pub(crate) fn json_explanation(alloc: Global, bytes: &[u8]) -> Result<String, Al
         Ok(text) => text,
         Err(error) => {
             let place = error.valid_up_to();
-            return format!(in alloc; "byte {place}\nwhy: the bytes from here on are no UTF-8\n");
+            return format!(in alloc; "byte {place}\nwhy: the bytes from here on are not UTF-8\n");
         }
     };
     match Value::from_slice(alloc, bytes) {
-        Ok(_) => format!(in alloc; "the scenario\nwhy: a second look has found a JSON text\n"),
+        Ok(_) => format!(in alloc; "the scenario\nwhy: a second look found valid JSON\n"),
         Err(error) if error.is_memory() => Err(AllocError),
         Err(error) => {
             let told = place_of(bytes, error.line(), error.column());
@@ -25,11 +25,11 @@ pub(crate) fn json_explanation(alloc: Global, bytes: &[u8]) -> Result<String, Al
             let place = wrong_end.unwrap_or(told);
             let message = format!(in alloc; "{error}")?;
             let why = if wrong_end.is_some() {
-                "this closes nothing that is open, or the wrong one of a list and an object"
+                "this closes nothing, or does not match what it closes"
             } else if error.is_eof() {
-                "the text ends too early: a bracket, a brace or a quotation mark is missing, or a value"
+                "the text ends too early: a bracket, a brace, a quotation mark or a value is missing"
             } else if message.as_str().starts_with("number out of range") {
-                "the number before this place is too large to be read"
+                "the number before this place is too large to read"
             } else {
                 why_at(bytes, place)
             };
@@ -90,14 +90,13 @@ fn why_at(bytes: &[u8], place: usize) -> &'static str {
         last_before(bytes, place),
         *byte,
     ) {
-        (Surrounding::Deep, _, b'[' | b'{') =>
-            "lists and objects stand more than 127 deep inside one another",
-        (_, _, b'\'') => "texts stand in double quotation marks",
+        (Surrounding::Deep, _, b'[' | b'{') => "lists and objects are nested more than 127 deep",
+        (_, _, b'\'') => "texts need double quotation marks",
         (_, _, b'/' | b'#') => "JSON has no comments",
-        (Surrounding::Nothing, Some(_), _) => "nothing may stand behind the end of the scenario",
+        (Surrounding::Nothing, Some(_), _) => "nothing may follow the end of the scenario",
         (_, Some(b',' | b'[' | b'{' | b':'), b',') => "a value is missing before the comma",
-        (_, Some(b','), b']' | b'}') => "a value is missing behind the comma before it",
-        (_, Some(b':'), b']' | b'}') => "a value is missing behind the colon before it",
+        (_, Some(b','), b']' | b'}') => "a value is missing after the comma before it",
+        (_, Some(b':'), b']' | b'}') => "a value is missing after the colon before it",
         (_, _, b']' | b'}') => "a value is missing before it",
         (Surrounding::Object, Some(b'{' | b','), b'a'..=b'z' | b'A'..=b'Z' | b'_' | b'0'..=b'9') =>
             {
@@ -105,7 +104,7 @@ fn why_at(bytes: &[u8], place: usize) -> &'static str {
             }
         (_, Some(b',' | b'[' | b'{' | b':') | None, _) => why_no_value(*byte),
         (Surrounding::Object, _, _) => {
-            "a comma is missing before it, or a colon if a member's name stands there, or a quotation mark is too many"
+            "a comma is missing before it, or a colon after a member's name, or there is a quotation mark too many"
         }
         (_, _, _) => "a comma is missing before it",
     }
@@ -115,11 +114,11 @@ fn why_at(bytes: &[u8], place: usize) -> &'static str {
 fn why_no_value(byte: u8) -> &'static str {
     match byte {
         b'"' =>
-            "the text that begins here has a line end, a tab or an escape that JSON does not have",
+            "the text that begins here has a line break, a tab or an escape that JSON does not allow",
         b'+' | b'-' | b'.' | b'0'..=b'9' => {
-            "no number is read here: one has digits alone, no sign and no zero before others, and ends before a comma or a bracket"
+            "this is not a valid number: only digits, no sign, no leading zero, then a comma or a bracket"
         }
-        b'a'..=b'z' | b'A'..=b'Z' | b'_' => "texts stand in double quotation marks",
+        b'a'..=b'z' | b'A'..=b'Z' | b'_' => "texts need double quotation marks",
         _ => "no value begins with this character",
     }
 }

@@ -10,13 +10,13 @@ use serde_json::Value;
 use std::alloc::{AllocError, Global};
 use vll_scenario::{CallFault, CheckFault, MOST_BYTES, ScenarioFault};
 
-const UNREADABLE: &str = "standard input\nwhy: it cannot be read; give it a file or a pipe\n";
+const UNREADABLE: &str = "standard input\nwhy: it cannot be read; use a file or a pipe\n";
 
 const TOO_LITTLE_MEMORY: &str =
     "standard input\nwhy: there is not enough memory to read it; allow more, or make the scenario smaller\n";
 
 const UNKNOWN: &str =
-    "\nwhy: a second look has not found it; docs/SCENARIO.md tells what this line means\n";
+    "\nwhy: a second look did not find it; docs/SCENARIO.md says what the first line means\n";
 
 // The explanation for bytes that were not read to their end, or are not a JSON text: where the mistake is, and what is
 // wrong there.

@@ -18,7 +18,7 @@ pub(crate) fn member_why(
         let shown = Shown(value);
         write!(
             why,
-            "{shown} is no object; there has to be one with the members "
+            "{shown} is not an object; it has to be one with the members "
         )?;
         push_names(&mut why, must)?;
         return Ok(why);
@@ -28,7 +28,7 @@ pub(crate) fn member_why(
     why.push_str("; the members are ")?;
     push_names(&mut why, must)?;
     if !may.is_empty() {
-        why.push_str(", and if wanted ")?;
+        why.push_str(", and optionally ")?;
         push_names(&mut why, may)?;
     }
     Ok(why)
@@ -66,7 +66,7 @@ fn push_unknown(
     for name in members.keys() {
         if !has(must, name.as_str()) && !has(may, name.as_str()) {
             if told == MOST_TOLD {
-                return why.push_str(", and so are others");
+                return why.push_str(", nor are others");
             }
             told = told.saturating_add(1);
             let comma = comma_behind(why);

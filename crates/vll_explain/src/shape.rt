@@ -28,7 +28,7 @@ pub(crate) fn shape_why(
         _ => {
             let shown = Shown(value);
             let wanted = wanted(kind, value);
-            format!(in alloc; "{shown} is no {wanted}")
+            format!(in alloc; "{shown} is not {wanted}")
         }
     }
 }
@@ -36,36 +36,36 @@ pub(crate) fn shape_why(
 // What a piece of this kind has to be.
 fn wanted(kind: Kind, value: &Value) -> &'static str {
     match kind {
-        Kind::Version => "version; there are 1 and 2",
+        Kind::Version => "a version; the versions are 1 and 2",
         Kind::Expression if value.is_number() => NUMBER,
         Kind::Number => NUMBER,
-        Kind::Whole => "whole number from 0 to 4294967295, written in digits alone",
-        Kind::Index => "whole number from 0 to 255, written in digits alone",
-        Kind::Code => "whole number from 0 to 65535, written in digits alone",
-        Kind::Text => "text in quotation marks",
-        Kind::Hash => "hash; there are \"modulo\" and \"spread\"",
+        Kind::Whole => "a whole number from 0 to 4294967295, written in digits alone",
+        Kind::Index => "a whole number from 0 to 255, written in digits alone",
+        Kind::Code => "a whole number from 0 to 65535, written in digits alone",
+        Kind::Text => "a text in quotation marks",
+        Kind::Hash => "a hash; the hashes are \"modulo\" and \"spread\"",
         Kind::Keys =>
-            "list of keys; a key is [\"read\",\"arg\",i] with an argument's index, [\"read\",\"fixed\",r] with a \
+            "a list of keys; a key is [\"read\",\"arg\",i] with an argument's index, [\"read\",\"fixed\",r] with a \
             record, or [\"read\",\"through\",i] with a key's index, and the same with \"write\"",
         Kind::Key =>
-            "key; a key is [\"read\",\"arg\",i] with an argument's index, [\"read\",\"fixed\",r] with a record, or \
+            "a key; a key is [\"read\",\"arg\",i] with an argument's index, [\"read\",\"fixed\",r] with a record, or \
             [\"read\",\"through\",i] with a key's index, and the same with \"write\"",
-        Kind::Statements => "list of statements",
+        Kind::Statements => "a list of statements",
         Kind::Statement =>
-            "statement, which is a list; a statement is [\"let\",i,e], [\"set\",i,e], [\"if\",e,[..],[..]], \
+            "a statement, which is a list; a statement is [\"let\",i,e], [\"set\",i,e], [\"if\",e,[..],[..]], \
             [\"abort\",code], [\"reply\",e] or, in version 2, [\"repeat\",n,[..]]",
         Kind::Expression =>
-            "expression, which is a number or a list that begins with a word; there are \"arg\", \"key\" and \
-            \"local\" with an index, \"not\" with one operand, and \"add\", \"sub\", \"mul\", \"div\", \"rem\", \
+            "an expression, which is a number or a list that begins with a word; the operations are \"arg\", \"key\" \
+            and \"local\" with an index, \"not\" with one operand, and \"add\", \"sub\", \"mul\", \"div\", \"rem\", \
             \"min\", \"max\", \"equal\" and \"less\" with two",
-        Kind::Script => "list of calls",
-        Kind::Arguments => "list of numbers",
+        Kind::Script => "a list of calls",
+        Kind::Arguments => "a list of numbers",
         Kind::Event =>
-            "event, which is a list, as [\"admit\"]; there are \"claim\", \"admit\", \"front\" and \"scan\" \
+            "an event, which is a list like [\"admit\"]; the events are \"claim\", \"admit\", \"front\" and \"scan\" \
             alone, \"find\" and \"enter\" with a client, and \"load\", \"store\", \"release\" and \"finish\" with a \
             ticket",
-        _ => "list",
+        _ => "a list",
     }
 }
 
-const NUMBER: &str = "whole number from 0 to 18446744073709551615, written in digits alone";
+const NUMBER: &str = "a whole number from 0 to 18446744073709551615, written in digits alone";

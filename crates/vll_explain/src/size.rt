@@ -26,7 +26,7 @@ pub(crate) fn size_mistake(alloc: Global, tree: &Value) -> Found {
     ];
     for (name, size, least, most) in sizes {
         if size < least || size > most {
-            let why = format!(in alloc; "{size} is not from {least} to {most}")?;
+            let why = format!(in alloc; "{size} is not in the range {least} to {most}")?;
             return inside(wrong(alloc, why)?, name);
         }
     }

@@ -73,13 +73,13 @@ fn push_caption(
     if tickets > 0 {
         write!(
             page,
-            " {tickets} more calls run or wait, which have no event here and are not drawn."
+            " {tickets} more running or waiting calls have no event here and are not drawn."
         )?;
     }
     if records > 0 {
         write!(
             page,
-            " {records} more records have open claims and no event here, and are not drawn."
+            " {records} more records with open claims have no event here and are not drawn."
         )?;
     }
     page.push_str("</figcaption>\n")

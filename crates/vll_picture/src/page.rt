@@ -15,13 +15,13 @@ pub struct Counts {
 
 const LEGEND: &str = "<dl>
 <dt>turn</dt><dd>the turn of a call opens, in which it claims its records</dd>
-<dt>W3, R3</dt><dd>the call claims record 3 for writing, for reading: granted, or denied (the line around it is broken)</dd>
+<dt>W3, R3</dt><dd>the call claims record 3 for writing, for reading: granted, or denied (with a dashed outline)</dd>
 <dt>free, wait</dt><dd>it has entered, and may run or has to wait</dd>
-<dt>front, scan</dt><dd>it waited, and begins to run, as the first in the queue or as the contention analysis found it</dd>
+<dt>front, scan</dt><dd>it waited, and begins to run: it is first in the queue, or the contention analysis found it</dd>
 <dt>L3, S3, −3</dt><dd>it loads record 3, stores it, releases its claim on it</dd>
 <dt>CX, CS</dt><dd>how many claims on the record are open for writing, and for reading</dd>
 </dl>
-<p>Each mark tells its event on hovering, and leads to the event's line below.</p>
+<p>Each mark shows its event on hover, and links to the event's line below.</p>
 ";
 
 /// Appends the page up to its drawings. After `AllocError` a prefix of it may have been appended.
@@ -66,11 +66,11 @@ fn push_window(page: &mut String, counts: Counts) -> Result<(), AllocError> {
         let last = first.saturating_add(counts.drawn).saturating_sub(1);
         write!(
             page,
-            "The events {first} to {last} are drawn, and {left_out} others are not"
+            "Events {first} to {last} are drawn, and {left_out} others are not"
         )?;
     }
     page.push_str(
-        "; <code>--from</code> and <code>--count</code> choose others. The lines of all stand below.</p>\n",
+        "; <code>--from</code> and <code>--count</code> choose others. The lines of all are listed below.</p>\n",
     )
 }
 

@@ -24,7 +24,7 @@ pub(super) fn key_argument(alloc: Global, procedure: &Declared<'_>) -> Found {
             && number >= args
         {
             let why = format!(in alloc;
-                "argument {number} is not declared; the number of arguments is {args}, and they count from 0"
+                "argument {number} is not declared; the number of arguments is {args}, and they are numbered from 0"
             )?;
             return inside_item(wrong(alloc, why)?, "key", i);
         }
@@ -40,7 +40,7 @@ pub(super) fn fixed_record(alloc: Global, procedure: &Declared<'_>) -> Found {
             && number >= records as u64
         {
             let why = format!(in alloc;
-                "there is no record {number}; the number of records is {records}, and they count from 0"
+                "there is no record {number}; the number of records is {records}, and they are numbered from 0"
             )?;
             return inside_item(wrong(alloc, why)?, "key", i);
         }
@@ -57,7 +57,7 @@ pub(super) fn through_key(alloc: Global, procedure: &Declared<'_>) -> Found {
         let source = procedure.keys.get(number as usize);
         if number >= i as u64 {
             let why = format!(in alloc;
-                "its source is key {number}, which does not stand before it: put the source first"
+                "its source is key {number}, which does not come before it: put the source first"
             )?;
             return inside_item(wrong(alloc, why)?, "key", i);
         }
@@ -82,7 +82,7 @@ pub(super) fn two_through(alloc: Global, procedure: &Declared<'_>) -> Found {
             None => first = Some(i),
             Some(before) => {
                 let why = format!(in alloc;
-                    "it is a \"through\" key, and so is key {before}; a procedure has one at most"
+                    "it is a \"through\" key, and so is key {before}; a procedure has at most one"
                 )?;
                 return inside_item(wrong(alloc, why)?, "key", i);
             }

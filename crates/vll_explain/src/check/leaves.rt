@@ -79,17 +79,17 @@ fn form_fails(
     Ok(match (test, word) {
         (Test::Key, "key" | "set") if number >= keys as u64 => {
             Some(format!(in alloc;
-                "key {number} is not declared; the number of keys is {keys}, and they count from 0"
+                "key {number} is not declared; the number of keys is {keys}, and they are numbered from 0"
             )?)
         }
         (Test::Set, "set") if is_read(procedure.keys, number) => {
             Some(format!(in alloc;
-                "key {number} is set, and is a \"read\" key: make it a \"write\" key"
+                "key {number} is set, but is a \"read\" key: make it a \"write\" key"
             )?)
         }
         (Test::Arg, "arg") if number >= args => {
             Some(format!(in alloc;
-                "argument {number} is not declared; the number of arguments is {args}, and they count from 0"
+                "argument {number} is not declared; the number of arguments is {args}, and they are numbered from 0"
             )?)
         }
         (Test::Local, "local" | "let") if number >= MOST_LOCALS as u64 => {
@@ -99,7 +99,7 @@ fn form_fails(
         }
         (Test::Turns, "repeat") if number > MOST_TURNS as u64 => {
             Some(format!(in alloc;
-                "it has {number} turns, and {MOST_TURNS} are allowed: put one repeat into another"
+                "it has {number} turns, but at most {MOST_TURNS} are allowed: put one repeat inside another"
             )?)
         }
         _ => None,

@@ -89,7 +89,7 @@ fn unset(alloc: Global, form: &[Value], before: Set) -> Found {
             wrong(
                 alloc,
                 format!(in alloc;
-                    "local {local} is read before it is surely set: set it before, and in an if by both lists"
+                    "local {local} is read before it is surely set: set it earlier, and in both lists of an if"
                 )?,
             )
         }

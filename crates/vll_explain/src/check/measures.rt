@@ -91,7 +91,7 @@ pub(super) fn deep_statement(alloc: Global, body: &Value) -> Found {
         let depth = measures_of(item).depth;
         if depth > MOST_DEPTH as u64 {
             let why = format!(in alloc;
-                "it is {depth} deep, and {MOST_DEPTH} are allowed: keep values in locals"
+                "it is {depth} deep, but at most {MOST_DEPTH} is allowed: keep values in locals"
             )?;
             return inside_item(wrong(alloc, why)?, "statement", i);
         }
