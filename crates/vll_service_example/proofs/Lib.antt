@@ -1,3 +1,4 @@
 mod Bodies
 mod Calls
 mod Epochs
+mod Serial

@@ -1,5 +1,7 @@
 //! An epoch: the calls that one engine takes, by a thread for each client.
 ghost use Rattle.std.specs.Prelude.{◌≡◌, ◌≤◌, IfOk, sum, vec_capacity};
+ghost use Rattle.vll_counters.specs.Views.{calls_in};
+ghost use Rattle.vll_queue.specs.Closed.{AreSerial, GoesOn};
 ghost use Rattle.vll_queue.specs.Shown.{name_of};
 ghost use Rattle.vll_sca.specs.Placing.{placing};
 ghost use Rattle.vll_service_example.specs.Service.{IsBank, IsServed};
@@ -36,6 +38,8 @@ pub(crate) fn run_epoch<N: Name + Send + Sync, R: Threads + Wait + Sync>(
     requires bank { IsBank (sum N.engine.base.records) N.engine }
     requires room { LIMIT ≤ vec_capacity room }
     ensures served { IfOk result (λ next. IsServed (sum N.engine.base.records) calls next.journal.items (name_of placing next.opening)) }
+    ensures serial { IfOk result (λ next. AreSerial N.engine next.journal.items) }
+    ensures opening { IfOk result (λ next. GoesOn placing N.engine (calls_in next.journal.items) next.opening) }
     ensures room { IfOk result (λ next. LIMIT ≤ vec_capacity next.journal) }
 {
     let (engine, mut clients) = opening.start_clients::<N>();

@@ -2,7 +2,7 @@
 ghost use Rattle.std.specs.Prelude.{◌≡◌, IfOk, length, sum};
 ghost use Rattle.vll_queue.specs.Shown.{name_of};
 ghost use Rattle.vll_sca.specs.Placing.{placing};
-ghost use Rattle.vll_service_example.specs.Service.{IsBank, epochs_of};
+ghost use Rattle.vll_service_example.specs.Service.{IsBank, IsOneSerialRun, epochs_of};
 
 use crate::epoch::{CLIENTS, LIMIT, run_epoch};
 use crate::procedures::{ACCOUNTS, library};
@@ -29,6 +29,10 @@ pub(crate) struct Served {
 
 /// Serves `calls` calls. The lists of the engine and the journal are made before the first call, and each epoch reuses
 /// them.
+///
+/// All that is counted, and both totals, are of one serial run: that of all calls, in the order of the journals, epoch
+/// after epoch, from the first accounts on. Each call has the reply that it gets there. It is not proved that the calls
+/// are those that `make_share` draws.
 pub(crate) fn serve<R: Threads + Wait + Sync>(
     rt: &R,
     alloc: Global,
@@ -38,6 +42,7 @@ pub(crate) fn serve<R: Threads + Wait + Sync>(
     ensures epochs { IfOk result (λ s. s.tally.epochs ≡ epochs_of calls) }
     ensures faults { IfOk result (λ s. s.tally.faults ≡ 0) }
     ensures total { IfOk result (λ s. s.after ≡ s.before) }
+    ensures serial { IfOk result (λ s. IsOneSerialRun calls s) }
 {
     let accounts = vec![in alloc; EACH; ACCOUNTS as usize]?;
     let before = total_of(accounts.as_slice());
@@ -62,7 +67,8 @@ pub(crate) fn serve<R: Threads + Wait + Sync>(
 // An engine of the bank over these accounts.
 fn open(alloc: Global, accounts: Vec<u64>) -> Result<Opening<Placing>, EngineFault>
     requires { length accounts.items ≡ ACCOUNTS }
-    ensures { IfOk result (λ o. IsBank (sum accounts.items) (name_of placing o)) }
+    ensures bank { IfOk result (λ o. IsBank (sum accounts.items) (name_of placing o)) }
+    ensures records { IfOk result (λ o. o.records ≡ accounts.items) }
 {
     let library = library(alloc)?;
     let config = Config {

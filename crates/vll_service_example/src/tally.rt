@@ -25,6 +25,8 @@ impl Tally {
     pub(crate) fn new() -> Tally
         ensures epochs { result.epochs ≡ 0 }
         ensures calls { result.calls ≡ 0 }
+        ensures committed { result.committed ≡ 0 }
+        ensures aborted { result.aborted ≡ 0 }
         ensures faults { result.faults ≡ 0 }
     {
         Tally {

@@ -1,8 +1,11 @@
--- After each epoch the engine is the bank's, with the total, and all that was counted is as it has to be.
-use Rattle.std.proofs.Common.{◌≡◌, ◌≤◌, ◌*◌, min, vec_capacity}
+-- After each epoch the engine is the bank's, with the total, and all that was counted is as it has to be; the journals of
+-- the epochs so far are one serial run.
+use Rattle.std.proofs.Common.{◌≡◌, ◌≤◌, ◌*◌, List, min, vec_capacity}
+use Rattle.vll_core.specs.declared.line.Line.{Line}
 use Rattle.vll_sca.specs.Placing.{placing}
 use Rattle.vll_queue.specs.Shown.{name_of}
 use Rattle.vll_service_example.specs.Service.{IsBank}
+use Rattle.vll_service_example.proofs.Serial.{AreServed}
 use Rattle.vll_service_example.proofs.service.serve.Given as goal
 
 abbrev pub ghosts-run_epoch : goal.ghosts-run_epoch
@@ -15,4 +18,5 @@ invariant-loop-epoch g l = record {
   epochs : l.tally.epochs ≡ l.epoch;
   calls : l.tally.calls ≡ min l.calls (l.epoch * 50000);
   faults : l.tally.faults ≡ 0;
+  serial : (journals : List (List Line)) × AreServed l.before journals l.tally l.opening.records;
 }
