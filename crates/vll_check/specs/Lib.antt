@@ -1,4 +1,5 @@
 pub mod Faults
+pub mod Pieces
 pub mod Entry
 pub mod Names
 pub mod Catalog

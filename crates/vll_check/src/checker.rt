@@ -134,7 +134,7 @@ fn fault_of_forms(procedure: &Proc) -> Option<CheckFault>
 }
 
 // The greatest number of key positions that a procedure of this edition declares.
-fn most_keys(edition: Edition) -> usize
+pub(crate) fn most_keys(edition: Edition) -> usize
     ensures value { result ≡ formed.most_keys edition }
     ensures few { result ≤ MOST_CLAIMS }
 {
@@ -144,7 +144,7 @@ fn most_keys(edition: Edition) -> usize
     }
 }
 
-fn has_declared_key_args(procedure: &Proc) -> bool
+pub(crate) fn has_declared_key_args(procedure: &Proc) -> bool
     ensures { result ≡ formed.has_declared_key_args procedure.now }
 {
     let args = procedure.args;
@@ -152,7 +152,7 @@ fn has_declared_key_args(procedure: &Proc) -> bool
     keys.iter().all(|key| argument_is_declared(key, args))
 }
 
-fn argument_is_declared(key: &KeyDecl, args: u8) -> bool
+pub(crate) fn argument_is_declared(key: &KeyDecl, args: u8) -> bool
     ensures { result ≡ formed.argument_is_declared args key.now }
 {
     match key.at {
@@ -161,14 +161,14 @@ fn argument_is_declared(key: &KeyDecl, args: u8) -> bool
     }
 }
 
-fn has_records(procedure: &Proc, records: u32) -> bool
+pub(crate) fn has_records(procedure: &Proc, records: u32) -> bool
     ensures { result ≡ formed.has_records records procedure.now }
 {
     let keys = procedure.keys.as_slice();
     keys.iter().all(|key| record_is_there(key, records))
 }
 
-fn record_is_there(key: &KeyDecl, records: u32) -> bool
+pub(crate) fn record_is_there(key: &KeyDecl, records: u32) -> bool
     ensures { result ≡ formed.record_is_there records key.now }
 {
     match key.at {
@@ -228,7 +228,7 @@ fn is_short(procedure: &Proc) -> bool
     nodes_left(procedure.body.as_slice(), MOST_NODES).is_some()
 }
 
-fn has_earlier_sources(procedure: &Proc) -> bool
+pub(crate) fn has_earlier_sources(procedure: &Proc) -> bool
     requires { length procedure.now.keys ≤ MOST_CLAIMS }
     ensures { result ≡ formed.has_earlier_sources procedure.now }
 {
@@ -247,7 +247,7 @@ fn have_sources(all: &[KeyDecl], place: usize, keys: &[KeyDecl]) -> bool
     }
 }
 
-fn has_source(all: &[KeyDecl], place: usize, key: &KeyDecl) -> bool
+pub(crate) fn has_source(all: &[KeyDecl], place: usize, key: &KeyDecl) -> bool
     ensures { result ≡ formed.has_source all.now place key.now }
 {
     match key.at.source() {
@@ -256,7 +256,7 @@ fn has_source(all: &[KeyDecl], place: usize, key: &KeyDecl) -> bool
     }
 }
 
-fn is_direct(key: Option<&KeyDecl>) -> bool
+pub(crate) fn is_direct(key: Option<&KeyDecl>) -> bool
     ensures { result ≡ formed.is_direct (option_map (λ k. k.now) key.entry) }
 {
     match key {
@@ -265,7 +265,7 @@ fn is_direct(key: Option<&KeyDecl>) -> bool
     }
 }
 
-fn has_one_indirect_key(procedure: &Proc) -> bool
+pub(crate) fn has_one_indirect_key(procedure: &Proc) -> bool
     requires { length procedure.now.keys ≤ MOST_CLAIMS }
     ensures { result ≡ formed.has_one_indirect_key procedure.now }
 {

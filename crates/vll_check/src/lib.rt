@@ -22,6 +22,7 @@ mod locals;
 mod making;
 mod measure;
 mod order;
+mod piece;
 mod places;
 mod turns;
 mod walk;
@@ -34,3 +35,5 @@ pub use laws::{
     ready_calls_have_their_procedure,
 };
 pub use library::Library;
+pub use locals::Locals;
+pub use piece::{Before, Piecewise};

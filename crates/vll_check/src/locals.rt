@@ -6,9 +6,9 @@ use crate::walk::{LeafTest, all_leaves};
 use std::marker::Model;
 use vll_proc::{Expr, MOST_LOCALS, Stmt};
 
-// For each local, whether it is surely set. Contracts see this as a list.
+/// For each local, whether it is surely set. Contracts see this as a list.
 #[derive(Clone, Copy)]
-pub(crate) struct Locals {
+pub struct Locals {
     set: [bool; MOST_LOCALS],
 }
 
@@ -88,7 +88,7 @@ pub(crate) fn list_set_behind(statements: &[Stmt], before: Locals) -> Option<Loc
 // As `list_set_behind`, for a statement.
 #[cycle(set_behind)]
 #[tactic(auto, using(vll_proc::proofs::Lists::branches))]
-fn set_behind(statement: &Stmt, before: Locals) -> Option<Locals>
+pub(crate) fn set_behind(statement: &Stmt, before: Locals) -> Option<Locals>
     ensures { result ≡ (if reads_set before statement.now
         then Some (set_behind statement.now before) else None) }
 {

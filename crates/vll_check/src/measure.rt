@@ -163,7 +163,7 @@ pub(crate) fn is_within(statements: &[Stmt], limit: u32) -> bool
 // Whether a statement is no deeper than a limit.
 #[cycle(depth)]
 #[tactic(auto, using(vll_proc::proofs::Lists::branches))]
-fn statement_is_within(statement: &Stmt, limit: u32) -> bool
+pub(crate) fn statement_is_within(statement: &Stmt, limit: u32) -> bool
     ensures { result ≡ nat_le (stmt_depth statement.now) limit }
 {
     let Some(below) = limit.checked_sub(1) else {

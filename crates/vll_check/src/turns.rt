@@ -21,7 +21,7 @@ pub(crate) fn list_turns_are_few(statements: &[Stmt], edition: Edition) -> bool
 // Whether each `Repeat` in a statement, and the statement itself, is allowed in this edition.
 #[cycle(turns)]
 #[tactic(auto, using(vll_proc::proofs::Lists::branches))]
-fn turns_are_few(statement: &Stmt, edition: Edition) -> bool
+pub(crate) fn turns_are_few(statement: &Stmt, edition: Edition) -> bool
     ensures { result ≡ turns_are_few edition statement.now }
 {
     match statement {

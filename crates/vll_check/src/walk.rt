@@ -60,7 +60,7 @@ pub(crate) fn list_throughout<T: Test>(test: &T, statements: &[Stmt]) -> bool
 // Whether a statement passes, including all that it contains.
 #[cycle(throughout)]
 #[tactic(auto, using(vll_proc::proofs::Lists::branches))]
-fn throughout<T: Test>(test: &T, statement: &Stmt) -> bool
+pub(crate) fn throughout<T: Test>(test: &T, statement: &Stmt) -> bool
     ensures { result
         ≡ throughout (T.passes_leaf test.now) (T.passes_statement test.now) statement.now }
 {
