@@ -9,22 +9,22 @@ import re
 MOST_BYTES = 20 * 1024
 
 LISTS = 'records', 'procs', 'clients', 'schedule'
-SIZES = 'procs', 'clients', 'calls of all clients', 'schedule', 'records', 'limit', 'cap', 'bits'
+SIZES = 'records', 'procs', 'clients', 'cap', 'bits', 'limit', 'schedule'
 # By the number of a test, what is said of a procedure and of a call that fail it.
 CHECKS = {
     1: r'arguments, but at most 8 are allowed', 2: r'keys, but version', 3: r'argument \d+ is not declared',
     4: r'there is no record \d+', 5: r'key \d+ is not declared', 6: r'key \d+ is set, but is a "read" key',
     7: r'argument \d+ is not declared', 8: r'there is no local \d+', 9: r'local \d+ is read before it is surely set',
-    10: r'replies, but at most 8 are allowed', 11: r'deep, but at most 32 is allowed',
-    12: r'nodes, but at most 1024 are allowed', 13: r'its source is key \d+',
+    10: r'more than 8 replies', 11: r'more than 32 deep',
+    12: r'more than 1024 nodes', 13: r'its source is key \d+',
     14: r'"through" key, and so is key \d+', 15: r'turns, but at most 64 are allowed',
-    16: r'weighs \d+, but at most 65536 is allowed'}
+    16: r'weighs more than 65536'}
 # Where in the procedure that is.
 PLACES = {1: 'args', 2: 'keys', 3: r'keys, key \d+', 4: r'keys, key \d+', 13: r'keys, key \d+', 14: r'keys, key \d+',
           10: 'body', 12: 'body', 16: 'body'}
 CALLS = {
     1: r'no procedure has the name', 2: r'number of arguments of ".*" must be \d+, not \d+',
-    3: r'there is no record \d+'}
+    3: r'there is no record \d+, which key \d+ takes from argument \d+'}
 NAMED = r'( \("(?:[^"\\]|\\.)*"\))?'
 
 
@@ -41,13 +41,12 @@ def pieces_of(words):
         return rf'procs {words[1]}{NAMED}, {PLACES.get(number, "body, .*")}$', CHECKS[number]
     if kind == 'call':
         number = int(words[3])
-        behind = r', argument \d+' if number == 3 else ''
-        return rf'clients {words[1]}, call {words[2]}{NAMED}{behind}$', CALLS[number]
+        return rf'clients {words[1]}, call {words[2]}$', CALLS[number]
     return {
-        'size': (rf'(standard input|the scenario, ({"|".join(SIZES)}))$',
+        'size': (rf'(standard input|{"|".join(SIZES)})$',
                  r'more than 16777216 bytes|\d+ is not in the range \d+ to'),
         'json': (r'(byte \d+|line \d+, column \d+, which is byte \d+: ".*")$', ''),
-        'name': (r'procs \d+ and procs \d+$', r'both have the name "'),
+        'name': ('procs$', r'procs \d+ and procs \d+ both have the name "'),
         'read': ('standard input$', 'cannot be read'),
         'no': ('standard input$', 'not enough memory'),
     }[kind]

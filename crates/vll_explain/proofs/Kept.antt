@@ -1,5 +1,6 @@
 -- How the result for bytes in memory becomes the result for the reader that supplied them.
-use Rattle.std.proofs.Common.{◌≡◌, ◌≤◌, ◌⊎◌, inl, inr, refl, sym, subst, IfOk, ℕ, List, length, Option, Some, None, Result, Ok, Err, ap}
+use Rattle.std.proofs.Common.{◌≡◌, ◌≤◌, ◌⊎◌, ◌∙◌, inl, inr, refl, arith, sym, subst, IfOk, ℕ, List, length, Option, Some, None, Result, Ok, Err, ap}
+use Rattle.std.proofs.lemmas.List.{length-append}
 use Rattle.serde_json.specs.Data.{Data}
 use Rattle.vll_scenario.specs.declared.limits.TheConstants.{MOST_BYTES}
 use Rattle.vll_scenario.specs.Bytes.{ReadsAll, ReadsTooMany, fault_of}
@@ -13,7 +14,8 @@ use Rattle.vll_scenario.specs.declared.fault.ScenarioFault.TheVariants as fault
 use Rattle.vll_scenario.specs.declared.reading.bytes.ReadFault.{ReadFault}
 use Rattle.vll_scenario.specs.declared.reading.bytes.ReadFault.TheVariants as bytes
 use Rattle.vll_scenario.proofs.Answering.{reads_tell, setup_reads_nothing, shape_reads_nothing}
-use Rattle.vll_explain.specs.Told.{Explains, IsBegun, IsTold, IsToldOf, fault_in}
+use Rattle.vll_explain.specs.Private.{IsToldOf}
+use Rattle.vll_explain.specs.Told.{AreMany, Explains, IsBegun, IsTold, fault_in}
 
 -- ---- bytes that were read to their end
 
@@ -40,7 +42,8 @@ held_told old new bytes (Err fault.Json) text all told = told
 held_told old new bytes (Err (fault.Shape s)) text all (tree, (is_tree, has_fault), told) = (tree, (held_tells _ old new bytes (Ok tree) all is_tree, has_fault), told)
 held_told old new bytes (Err (fault.Check i f)) text all (tree, (is_tree, has_fault), told) = (tree, (held_tells _ old new bytes (Ok tree) all is_tree, has_fault), told)
 held_told old new bytes (Err (fault.Call c i f)) text all (tree, (is_tree, has_fault), told) = (tree, (held_tells _ old new bytes (Ok tree) all is_tree, has_fault), told)
-held_told old new bytes (Err fault.Size) text all told = told
+held_told old new bytes (Err fault.Size) text (consumed, at_end, few) (inl (many, told)) = absurd (omega (arith, many, few))
+held_told old new bytes (Err fault.Size) text all (inr (tree, (is_tree, has_fault), told)) = inr (tree, (held_tells _ old new bytes (Ok tree) all is_tree, has_fault), told)
 held_told old new bytes (Err fault.NameTwice) text all (tree, (is_tree, has_fault), told) = (tree, (held_tells _ old new bytes (Ok tree) all is_tree, has_fault), told)
 
 -- so an explanation of those bytes is one of what was read
@@ -63,17 +66,23 @@ unread old new bytes.Size many =
     let reads : Reads scenario_at old new (Err fault.Size) = (known.0, (known.1, inl known.2), inl (known.2.0, refl)) in
     (reads, reads_tell scenario_at old new (Err fault.Size) reads)
 
-unread_told : (old : Option (List ℕ)) (why : ReadFault) (text : List ℕ) → IsBegun (fault_of why) text → IsTold old (Err (fault_of why)) text
-unread_told old bytes.Read text told = told
-unread_told old bytes.NoMemory text told = told
-unread_told old bytes.Size text told = told
+-- too many bytes were read
+are_many : (old new : Option (List ℕ)) → ReadsTooMany old new → AreMany old
+are_many None new many = tt
+are_many (Some xs) None (bytes, consumed, (more, no_piece)) = absurd consumed
+are_many (Some xs) (Some ys) (bytes, consumed, (more, no_piece)) = omega (arith, ap length consumed ∙ length-append bytes ys, more)
+
+unread_told : (old new : Option (List ℕ)) (why : ReadFault) (text : List ℕ) → (why ≡ bytes.Size → ReadsTooMany old new) → IsBegun (fault_of why) text → IsTold old (Err (fault_of why)) text
+unread_told old new bytes.Read text many told = told
+unread_told old new bytes.NoMemory text many told = told
+unread_told old new bytes.Size text many told = inl (are_many old new (many refl), told)
 
 -- the explanation of bytes that were not read to their end
 pub unread_explains : (old new : Option (List ℕ)) (read : ReadFault) (why : ScenarioFault) (text : List ℕ) → why ≡ fault_of read → (read ≡ bytes.Size → ReadsTooMany old new) → IsBegun why text → Explains old new (Some why) (λ t. t ≡ text)
 unread_explains old new read why text is many told =
     let explained = subst (λ f. IsBegun f text) is told in
     subst (λ f. Explains old new (Some f) (λ t. t ≡ text)) (sym is)
-    (record { read = Err (fault_of read); is_read = unread old new read many; is_fault = refl; text = text; told = unread_told old read text explained; holds = refl })
+    (record { read = Err (fault_of read); is_read = unread old new read many; is_fault = refl; text = text; told = unread_told old new read text many explained; holds = refl })
 
 -- ---- the tree of bytes
 
@@ -95,7 +104,7 @@ tree_told bytes tree fault.Json text few is_tree is told = told
 tree_told bytes tree (fault.Shape s) text few is_tree is told = (tree, (inr (few, (Some tree, is_tree, refl)), is), told)
 tree_told bytes tree (fault.Check i f) text few is_tree is told = (tree, (inr (few, (Some tree, is_tree, refl)), is), told)
 tree_told bytes tree (fault.Call c i f) text few is_tree is told = (tree, (inr (few, (Some tree, is_tree, refl)), is), told)
-tree_told bytes tree fault.Size text few is_tree is told = told
+tree_told bytes tree fault.Size text few is_tree is told = inr (tree, (inr (few, (Some tree, is_tree, refl)), is), told)
 tree_told bytes tree fault.NameTwice text few is_tree is told = (tree, (inr (few, (Some tree, is_tree, refl)), is), told)
 
 -- the result and the explanation of a fault that lies in the tree of bytes

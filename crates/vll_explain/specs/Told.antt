@@ -1,9 +1,9 @@
 -- What `explain` writes about a scenario that was read.
-use Rattle.std.specs.Prelude.{◌≡◌, ℕ, List, [], ◌∷◌, ◌++◌, Option, Some, None, Result, Ok, Err, codes}
-use Rattle.std.specs.Fmt.{decimal}
+use Rattle.std.specs.Prelude.{◌≡◌, ◌⊎◌, ℕ, ◌<◌, List, [], ◌∷◌, ◌++◌, length, Option, Some, None, IfSome, Result, Ok, Err, codes}
 use Rattle.serde_json.specs.Data.{Data}
 use Rattle.vll_scenario.specs.declared.fault.ScenarioFault.{ScenarioFault}
 use Rattle.vll_scenario.specs.declared.fault.ScenarioFault.TheVariants as fault
+use Rattle.vll_scenario.specs.declared.limits.TheConstants.{MOST_BYTES}
 use Rattle.vll_scenario.specs.declared.piece.Step.{Step}
 use Rattle.vll_scenario.specs.Line.{fault_words}
 use Rattle.vll_scenario.specs.Reading.{IsRead, Tells}
@@ -25,45 +25,30 @@ way_words shown (part ∷ item ∷ steps) = step_words part ++ step_words item +
 abbrev pub IsBegun : ScenarioFault → List ℕ → Type 0
 IsBegun why text = (rest : List ℕ) × (text ≡ line_of why ++ codes "at: " ++ rest)
 
--- `IsBegun` for an explanation that names a place first
-abbrev pub IsAt : ScenarioFault → List ℕ → List ℕ → Type 0
-IsAt why place text = (rest : List ℕ) × (text ≡ line_of why ++ codes "at: " ++ place ++ rest)
-
--- the words of a procedure by its index, and of a call by its client and its index
-abbrev pub procedure_words : ℕ → List ℕ
-procedure_words index = codes "procs " ++ decimal index
-
-abbrev pub call_words : ℕ → ℕ → List ℕ
-call_words client index = codes "clients " ++ decimal client ++ codes ", call " ++ decimal index
-
--- the line of a fault, then the way to the piece whose shape is at fault, and then why
+-- the line of a fault, then the way to the piece at fault, and then why
 pub record IsLocated (tree : Data) (why : ScenarioFault) (text : List ℕ) : Type 0 where
   pub way : List Step
-  pub leads : LeadsToFault tree way
+  pub leads : LeadsToFault tree why way
   pub shown : List ℕ
   pub rest : List ℕ
   pub is : text ≡ line_of why ++ codes "at: " ++ way_words shown way ++ codes "\nwhy: " ++ rest
-
--- the text about a fault that lies in a tree: for the shape, the piece at fault, else the procedure or the call that it
--- names
-abbrev pub IsToldOf : Data → ScenarioFault → List ℕ → Type 0
-IsToldOf tree (fault.Shape spot) text = IsLocated tree (fault.Shape spot) text
-IsToldOf tree (fault.Check index why) text = IsAt (fault.Check index why) (procedure_words index) text
-IsToldOf tree (fault.Call client index why) text = IsAt (fault.Call client index why) (call_words client index) text
-IsToldOf tree why text = IsBegun why text
 
 -- the tree of bytes, as far as they are known, has this fault
 abbrev pub HasFault : Option (List ℕ) → Data → ScenarioFault → Type 0
 HasFault known tree why = Tells tree_or_json known (Ok tree) × (scenario_at (Some tree) ≡ Err why)
 
--- the text about the scenario of known bytes: the fault, and where in their tree it lies; or `ok`, and then what the
--- scenario has
+-- more bytes than a scenario may have, as far as they are known
+abbrev pub AreMany : Option (List ℕ) → Type 0
+AreMany known = IfSome known (λ bytes. MOST_BYTES < length bytes)
+
+-- the text about the scenario of known bytes: the fault, and, if it lies in their tree, the piece of it that is at fault;
+-- or `ok`, and then what the scenario has
 abbrev pub IsTold : Option (List ℕ) → Result Setup ScenarioFault → List ℕ → Type 0
 IsTold known (Err fault.Read) text = IsBegun fault.Read text
 IsTold known (Err fault.NoMemory) text = IsBegun fault.NoMemory text
 IsTold known (Err fault.Json) text = IsBegun fault.Json text
-IsTold known (Err fault.Size) text = IsBegun fault.Size text
-IsTold known (Err why) text = (tree : Data) × HasFault known tree why × IsToldOf tree why text
+IsTold known (Err fault.Size) text = (AreMany known × IsBegun fault.Size text) ⊎ ((tree : Data) × HasFault known tree fault.Size × IsLocated tree fault.Size text)
+IsTold known (Err why) text = (tree : Data) × HasFault known tree why × IsLocated tree why text
 IsTold known (Ok setup) text = (rest : List ℕ) × (text ≡ codes "ok\n" ++ rest)
 
 -- the fault, if there is one

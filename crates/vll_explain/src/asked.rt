@@ -1,5 +1,4 @@
 //! Why a call cannot be made.
-use crate::mistake::{Found, inside_item, wrong};
 use crate::shown::Quoted;
 use serde_json::Value;
 use std::alloc::{AllocError, Global};
@@ -8,32 +7,35 @@ use vll_scenario::CallFault;
 // The number of names that are listed.
 const MOST_NAMES: usize = 8;
 
-// The mistake for which a call is refused with this fault.
-pub(crate) fn call_mistake(alloc: Global, tree: &Value, asked: &Value, fault: CallFault) -> Found {
+// Why a call is refused with this fault.
+pub(crate) fn call_why(
+    alloc: Global,
+    tree: &Value,
+    client: u32,
+    index: u32,
+    fault: CallFault,
+) -> Result<String, AllocError> {
+    let script = items_of(items_of(tree.get("clients")).get(client as usize));
+    let asked = script.get(index as usize);
+    let name = asked
+        .and_then(|asked| asked.get("proc"))
+        .and_then(Value::as_str)
+        .unwrap_or("");
+    let args = items_of(asked.and_then(|asked| asked.get("args")));
     let procs = items_of(tree.get("procs"));
-    let name = asked.get("proc").and_then(Value::as_str).unwrap_or("");
-    let args = items_of(asked.get("args"));
-    if fault == CallFault::UnknownProc {
-        return wrong(alloc, unknown_name(alloc, procs, name)?);
-    }
     let Some(procedure) = procs.iter().find(|procedure| name_of(procedure) == name) else {
-        return Ok(None);
+        return unknown_name(alloc, procs, name);
     };
     match fault {
-        CallFault::ArgCount => {
+        CallFault::RecordRange => {
+            let records = items_of(tree.get("records")).len();
+            record_why(alloc, items_of(procedure.get("keys")), args, records)
+        }
+        _ => {
             let name = Quoted(name);
             let wanted = procedure.get("args").and_then(Value::as_u64).unwrap_or(0);
             let given = args.len();
-            wrong(
-                alloc,
-                format!(in alloc;
-                    "the number of arguments of {name} must be {wanted}, not {given}"
-                )?,
-            )
-        }
-        _ => {
-            let records = items_of(tree.get("records")).len();
-            record_mistake(alloc, items_of(procedure.get("keys")), args, records)
+            format!(in alloc; "the number of arguments of {name} must be {wanted}, not {given}")
         }
     }
 }
@@ -71,8 +73,13 @@ fn unknown_name(alloc: Global, procs: &[Value], name: &str) -> Result<String, Al
     Ok(why)
 }
 
-// The argument that a key takes as its record, if there is no such record.
-fn record_mistake(alloc: Global, keys: &[Value], args: &[Value], records: usize) -> Found {
+// Which argument is taken as a record that is not there.
+fn record_why(
+    alloc: Global,
+    keys: &[Value],
+    args: &[Value],
+    records: usize,
+) -> Result<String, AllocError> {
     for (i, key) in keys.iter().enumerate() {
         if key.get(1).and_then(Value::as_str) != Some("arg") {
             continue;
@@ -82,11 +89,10 @@ fn record_mistake(alloc: Global, keys: &[Value], args: &[Value], records: usize)
             continue;
         };
         if record >= records as u64 {
-            let why = format!(in alloc;
-                "there is no record {record}, which key {i} takes from this argument; the number of records is {records}, and they are numbered from 0"
-            )?;
-            return inside_item(wrong(alloc, why)?, "argument", index);
+            return format!(in alloc;
+                "there is no record {record}, which key {i} takes from argument {index}; the number of records is {records}, and they are numbered from 0"
+            );
         }
     }
-    Ok(None)
+    format!(in alloc; "there is no record that a key takes from an argument")
 }

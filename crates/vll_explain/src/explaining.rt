@@ -6,19 +6,19 @@ ghost use Rattle.vll_scenario.specs.Scenario.{scenario_at};
 ghost use Rattle.vll_scenario.specs.Setup.{Setup};
 ghost use Rattle.vll_scenario.specs.Streams.{AppendsBeginning};
 ghost use Rattle.vll_scenario.specs.declared.fault.ScenarioFault.{ScenarioFault};
-ghost use Rattle.vll_scenario.specs.declared.fault.ScenarioFault.TheVariants.{Call, Check, Read};
+ghost use Rattle.vll_scenario.specs.declared.fault.ScenarioFault.TheVariants.{Read};
 ghost use Rattle.serde_json.specs.View.{view};
-ghost use Rattle.vll_explain.specs.Told.{Explains, IsAt, IsBegun, IsLocated, IsTold, IsToldOf, call_words, fault_in, procedure_words};
+ghost use Rattle.vll_explain.specs.Told.{Explains, IsBegun, IsLocated, IsTold, fault_in};
+ghost use Rattle.vll_explain.specs.Private.{IsToldOf};
 
-use crate::looking::{call_explanation, check_explanation, explanation_of, unread_explanation};
-use crate::shape::shape_why;
+use crate::reason::{reason_of, unread_explanation};
 use crate::summary::summary_of;
 use crate::way::{push_way, shown_name};
 use serde_json::Value;
 use std::alloc::{AllocError, Global};
 use vll_scenario::{
-    CallFault, CheckFault, MOST_BYTES, Reading, Scenario, ScenarioFault, Sink, Source, Way,
-    WriteFault, read_bytes, reading_of, way_to_fault, write_text,
+    MOST_BYTES, Reading, Scenario, ScenarioFault, Sink, Source, Way, WriteFault, read_bytes,
+    reading_of, way_to_fault, write_text,
 };
 
 /// Reads a scenario as `read_scenario` does, and writes a report: if it is refused, the line of its fault, followed by
@@ -110,17 +110,14 @@ fn text_of_fault(alloc: Global, why: ScenarioFault, tree: &Value) -> Result<Stri
     ensures { IfOk result (λ text. IsToldOf (view tree.now) why (string_bytes text)) }
 {
     match why {
-        ScenarioFault::Shape(_) => text_of_shape(alloc, why, tree),
-        ScenarioFault::Check { index, fault } => text_of_check(alloc, tree, index, fault),
-        ScenarioFault::Call {
-            client,
-            index,
-            fault,
-        } => text_of_call(alloc, tree, client, index, fault),
-        _ => {
-            let explanation = explanation_of(alloc, why, tree)?;
-            begun_with(alloc, why, explanation.as_str())
+        ScenarioFault::Read | ScenarioFault::NoMemory | ScenarioFault::Json => {
+            text_of_unread(alloc, why, &[])
         }
+        ScenarioFault::Shape(_)
+        | ScenarioFault::Size
+        | ScenarioFault::NameTwice
+        | ScenarioFault::Check { .. }
+        | ScenarioFault::Call { .. } => text_of_piece(alloc, why, tree),
     }
 }
 
@@ -130,48 +127,15 @@ fn begun_with(alloc: Global, why: ScenarioFault, explanation: &str) -> Result<St
     format!(in alloc; "vll: scenario: {why}\nat: {explanation}")
 }
 
-// The line of a procedure's fault, the procedure, and an explanation.
-fn text_of_check(
-    alloc: Global,
-    tree: &Value,
-    index: u32,
-    fault: CheckFault,
-) -> Result<String, AllocError>
-    ensures { IfOk result (λ text. IsAt (Check index fault) (procedure_words index) (string_bytes text)) }
-{
-    let why = ScenarioFault::Check { index, fault };
-    let explanation = check_explanation(alloc, tree, index, fault)?;
-    format!(in alloc; "vll: scenario: {why}\nat: procs {index}{explanation}")
-}
-
-// The line of a call's fault, the call, and an explanation.
-fn text_of_call(
-    alloc: Global,
-    tree: &Value,
-    client: u32,
-    index: u32,
-    fault: CallFault,
-) -> Result<String, AllocError>
-    ensures { IfOk result (λ text. IsAt (Call client index fault) (call_words client index) (string_bytes text)) }
-{
-    let why = ScenarioFault::Call {
-        client,
-        index,
-        fault,
-    };
-    let explanation = call_explanation(alloc, tree, client, index, fault)?;
-    format!(in alloc; "vll: scenario: {why}\nat: clients {client}, call {index}{explanation}")
-}
-
-// The line of a fault, the way to the piece whose shape is at fault, and what is wrong with it.
-fn text_of_shape(alloc: Global, why: ScenarioFault, tree: &Value) -> Result<String, AllocError>
+// The line of a fault, the way to the piece at fault, and what is wrong with it.
+fn text_of_piece(alloc: Global, why: ScenarioFault, tree: &Value) -> Result<String, AllocError>
     ensures { IfOk result (λ text. IsLocated (view tree.now) why (string_bytes text)) }
 {
-    let Way { steps, piece } = way_to_fault(alloc, tree)?;
+    let Way { steps, piece } = way_to_fault(alloc, tree, why)?;
     let shown = shown_name(alloc, tree, steps.as_slice())?;
     let mut place = String::new(alloc);
     push_way(&mut place, steps.as_slice(), shown.as_str())?;
-    let reason = shape_why(alloc, tree, piece)?;
+    let reason = reason_of(alloc, tree, why, piece)?;
     format!(in alloc; "vll: scenario: {why}\nat: {place}\nwhy: {reason}\n")
 }
 

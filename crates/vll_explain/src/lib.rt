@@ -1,7 +1,6 @@
 //! Explanations for a person: what is wrong with a scenario and where, or, if nothing is, what the scenario has. It is
 //! the whole of the program's `vll explain`. The crate proves that the text names the fault of the bytes that were
-//! read, and the place of a wrong shape, of a refused procedure and of a refused call; the wording of reasons is not
-//! proved. Start at `explain`.
+//! read, and the way to the piece that is at fault; the wording of reasons is not proved. Start at `explain`.
 //!
 //! ```rattle
 //! let mut reader = Plain::new(rt.reader());
@@ -16,10 +15,9 @@ mod check;
 mod explaining;
 mod forms;
 mod json_place;
-mod looking;
 mod members;
-mod mistake;
 mod names;
+mod reason;
 mod shape;
 mod shown;
 mod size;

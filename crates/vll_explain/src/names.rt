@@ -1,16 +1,29 @@
 //! Two procedures with the same name.
+use crate::shown::Quoted;
 use serde_json::Value;
 use std::alloc::{AllocError, Global};
 
+// Which procedures have the same name.
+pub(crate) fn name_twice_why(alloc: Global, procs: &[Value]) -> Result<String, AllocError> {
+    let Some((first, second)) = name_twice(alloc, procs)? else {
+        return format!(in alloc; "two procedures have the same name; rename one");
+    };
+    let name = Quoted(name_at(procs.get(second)));
+    format!(in alloc; "procs {first} and procs {second} both have the name {name}; rename one")
+}
+
+fn name_at(procedure: Option<&Value>) -> &str {
+    procedure
+        .and_then(|procedure| procedure.get("name"))
+        .and_then(Value::as_str)
+        .unwrap_or("")
+}
+
 // The lowest procedure with the name of an earlier one: the index of the first with this name, and its own.
-pub(crate) fn name_twice(
-    alloc: Global,
-    procs: &[Value],
-) -> Result<Option<(usize, usize)>, AllocError> {
+fn name_twice(alloc: Global, procs: &[Value]) -> Result<Option<(usize, usize)>, AllocError> {
     let mut names = Vec::new(alloc);
     for (i, procedure) in procs.iter().enumerate() {
-        let name = procedure.get("name").and_then(Value::as_str).unwrap_or("");
-        names.push((name, i))?;
+        names.push((name_at(Some(procedure)), i))?;
     }
     names.sort()?;
     let mut lowest: Option<(usize, usize)> = None;

@@ -1,58 +1,43 @@
-//! What in a scenario is outside its limits.
-use crate::mistake::{Found, inside, wrong};
+//! Which limit of a scenario a part of it exceeds, in words.
+use crate::asked::items_of;
 use serde_json::Value;
-use std::alloc::Global;
+use std::alloc::{AllocError, Global};
 use vll_core::{MOST_CALLS, MOST_RECORDS, MOST_WAITING};
 use vll_sca::MOST_BITS;
-use vll_scenario::{MOST_CLIENTS, MOST_EVENTS, MOST_PROCS};
+use vll_scenario::{Found, MOST_CLIENTS, MOST_EVENTS, MOST_PROCS, Step};
 
-// The first size outside its limit, in the order in which sizes are checked.
-pub(crate) fn size_mistake(alloc: Global, tree: &Value) -> Found {
-    let calls = calls_in(tree);
-    let sizes = [
-        ("procs", count_of(tree, "procs"), 0, MOST_PROCS as u64),
-        ("clients", count_of(tree, "clients"), 0, MOST_CLIENTS as u64),
-        ("calls of all clients", calls, 0, MOST_CALLS as u64),
-        (
-            "schedule",
-            count_of(tree, "schedule"),
+// The size of a part, and the limits on it.
+pub(crate) fn size_why(alloc: Global, piece: Option<Found<'_>>) -> Result<String, AllocError> {
+    let Some(Found { step, value, .. }) = piece else {
+        return format!(in alloc; "it is not within its limits");
+    };
+    let count = items_of(Some(value)).len() as u64;
+    let number = value.as_u64().unwrap_or(0);
+    let (what, size, least, most) = match step {
+        Step::Procs => (" for the number of procedures", count, 0, MOST_PROCS as u64),
+        Step::Clients if count > MOST_CLIENTS as u64 => {
+            (" for the number of clients", count, 0, MOST_CLIENTS as u64)
+        }
+        Step::Clients => (
+            " for the number of all calls",
+            calls_in(value),
             0,
-            MOST_EVENTS as u64,
+            MOST_CALLS as u64,
         ),
-        ("records", count_of(tree, "records"), 1, MOST_RECORDS as u64),
-        ("limit", option_of(tree, "limit"), 1, MOST_CALLS as u64),
-        ("cap", option_of(tree, "cap"), 1, MOST_WAITING as u64),
-        ("bits", option_of(tree, "bits"), 1, MOST_BITS as u64),
-    ];
-    for (name, size, least, most) in sizes {
-        if size < least || size > most {
-            let why = format!(in alloc; "{size} is not in the range {least} to {most}")?;
-            return inside(wrong(alloc, why)?, name);
-        }
-    }
-    Ok(None)
+        Step::Schedule => (" for the number of events", count, 0, MOST_EVENTS as u64),
+        Step::Records => (" for the number of records", count, 1, MOST_RECORDS as u64),
+        Step::Cap => ("", number, 1, MOST_WAITING as u64),
+        Step::Bits => ("", number, 1, MOST_BITS as u64),
+        _ => ("", number, 1, MOST_CALLS as u64),
+    };
+    format!(in alloc; "{size} is not in the range {least} to {most}{what}")
 }
 
-// The length of a list.
-fn count_of(tree: &Value, name: &str) -> u64 {
-    match tree.get(name).and_then(Value::as_array) {
-        Some(list) => list.len() as u64,
-        None => 0,
-    }
-}
-
-// The value of an option; for an absent one a value within its limits.
-fn option_of(tree: &Value, name: &str) -> u64 {
-    tree.get(name).and_then(Value::as_u64).unwrap_or(1)
-}
-
-fn calls_in(tree: &Value) -> u64 {
+// The number of calls of all clients together.
+fn calls_in(scripts: &Value) -> u64 {
     let mut calls = 0u64;
-    if let Some(scripts) = tree.get("clients").and_then(Value::as_array) {
-        for script in scripts {
-            let count = script.as_array().map_or(0, Vec::len);
-            calls = calls.saturating_add(count as u64);
-        }
+    for script in items_of(Some(scripts)) {
+        calls = calls.saturating_add(items_of(Some(script)).len() as u64);
     }
     calls
 }

@@ -1,10 +1,10 @@
 -- A way goes from a piece to one that nests less deeply, and so it ends.
-use Rattle.std.proofs.Common.{◌≡◌, ℕ, suc, ◌<◌, ◌≤◌, ◌++◌, ◌==◌, max, Bool, true, false, List, [], ◌∷◌, length, drop, Option, Some, None, Ordering, Less, Equal, Greater, if◌then◌else◌, is_some, option_map, map, refl, sym, ap, subst, subst₂, append-nil, ◌∙◌, ◌+◌, add-one, append_assoc, arith}
+use Rattle.std.proofs.Common.{◌≡◌, ℕ, suc, ◌<◌, ◌≤◌, ◌++◌, ◌==◌, max, Bool, true, false, List, [], ◌∷◌, length, Option, Some, None, Ordering, Less, Equal, Greater, if◌then◌else◌, is_some, option_map, refl, sym, ap, subst, subst₂, append-nil, ◌∙◌, ◌+◌, add-one, append_assoc, arith}
 use Rattle.std.specs.Prelude.{⊤, codes}
 use Rattle.std.specs.Ordering.{nat_cmp}
 use Rattle.std.specs.Cmp.Lexicographic.{slice_cmp}
 use Rattle.std.specs.Ordering.{match_ordering}
-use Rattle.serde_json.specs.Data.{Data, null, boolean, number, string, array, object, Items, no_items, item, Members, no_members, member, depth, items_depth, members_depth}
+use Rattle.serde_json.specs.Data.{Data, string, array, object, Items, no_items, item, Members, no_members, member, depth, items_depth, members_depth}
 use Rattle.serde_json.specs.Events.{items_len}
 use Rattle.serde_json.specs.Find.{as_array, as_str, get, get_member}
 use Rattle.serde_json.specs.View.{items_of, items_view, view}
@@ -15,16 +15,20 @@ use Rattle.vll_scenario.specs.declared.piece.Kind.TheVariants as kind
 use Rattle.vll_scenario.specs.declared.piece.Slot.{Slot}
 use Rattle.vll_scenario.specs.declared.piece.Step.{Step}
 use Rattle.vll_scenario.specs.declared.piece.Step.TheVariants as step
-use Rattle.vll_scenario.specs.Pieces.{Piece, form_of, is_read, item_kind, item_step, items_from, member_piece, piece_if, pieces_behind, pieces_by, pieces_of, pieces_of_call, pieces_of_form, pieces_of_key, pieces_of_list, pieces_of_place, pieces_of_procedure, pieces_of_scenario, pieces_of_slots, pieces_of_words, places, word_form}
+use Rattle.vll_scenario.specs.Pieces.{Piece, form_of, item_kind, item_step, items_from, member_piece, piece_if, pieces_behind, pieces_by, pieces_of, pieces_of_call, pieces_of_form, pieces_of_key, pieces_of_list, pieces_of_place, pieces_of_procedure, pieces_of_slots, pieces_of_words, places, word_form}
 use Rattle.vll_scenario.specs.Syntax.{has_exactly, mode_at, proc_names}
-use Rattle.vll_scenario.specs.Private.Found.{piece_of}
-use Rattle.vll_scenario.specs.Ways.{Leads, LeadsToFault, edition_in, first_faulty}
-use Rattle.vll_scenario.specs.declared.reading.way.Found.{Found}
+use Rattle.vll_check.specs.declared.piece.Before.{Before}
+use Rattle.vll_check.specs.Pieces.{nothing_before}
+use Rattle.vll_scenario.specs.declared.reading.piece_test.PieceTest.{PieceTest}
+use Rattle.vll_scenario.specs.declared.reading.way.Faulty.{Faulty}
+use Rattle.vll_scenario.specs.PieceTests.{after, passes}
+use Rattle.vll_scenario.specs.Private.Found.{faulty_of, piece_of}
+use Rattle.vll_scenario.specs.Ways.{Leads, first_faulty}
 
--- one more than how deeply a piece nests; 0 if there is none
-abbrev pub height : Option Piece → ℕ
+-- one more than how deeply a piece that was found nests; 0 if there is none
+abbrev pub height : Option (Before × Piece) → ℕ
 height None = 0
-height (Some p) = suc (depth p.value)
+height (Some at) = suc (depth at.1.value)
 
 -- each piece of a list nests less deep than a number
 abbrev pub Shallow : ℕ → List Piece → Type 0
@@ -117,44 +121,71 @@ shallow-by : (edition : Edition) (k : Kind) (of : Option Kind) (d : Data) → Sh
 shallow-by edition k None d = shallow-form edition k d
 shallow-by edition k (Some of) d = shallow-list k of d
 
-by_test : (n : ℕ) (b : Bool) (p q : Piece) (others : Option Piece) → (if b then others else Some p) ≡ Some q → (others ≡ Some q → depth q.value < n) → depth p.value < n → depth q.value < n
-by_test n true p q others is more here = more is
-by_test n false p q others is more here = let same : p ≡ q = cc in subst (λ (r : Piece). depth r.value < n) same here
+by_test : (n : ℕ) (b : Bool) (before : Before) (p : Piece) (at : Before × Piece) (others : Option (Before × Piece)) → (if b then others else Some (before, p)) ≡ Some at → (others ≡ Some at → depth at.1.value < n)
+    → depth p.value < n → depth at.1.value < n
+by_test n true before p at others is more here = more is
+by_test n false before p at others is more here = let same : p ≡ at.1 = cc in subst (λ (r : Piece). depth r.value < n) same here
 
-first-shallow : (edition : Edition) (n : ℕ) (ps : List Piece) (q : Piece) → Shallow n ps → first_faulty edition ps ≡ Some q → depth q.value < n
-first-shallow edition n [] q all is = absurd (cc)
-first-shallow edition n (p ∷ ps) q all is = by_test n (is_read edition p.kind p.value) p q (first_faulty edition ps) is (λ found. first-shallow edition n ps q all.1 found) all.0
+-- what is found next nests less deep
+module _ (edition : Edition) (test : PieceTest) where
+  first-shallow : (before : Before) (n : ℕ) (ps : List Piece) (at : Before × Piece) → Shallow n ps → first_faulty edition test before ps ≡ Some at → depth at.1.value < n
+  first-shallow before n [] at all is = absurd (cc)
+  first-shallow before n (p ∷ ps) at all is =
+      let next = after edition before p.kind p.value in
+      by_test n (passes edition test before p) before p at (first_faulty edition test next ps) is (λ found. first-shallow next n ps at all.1 found) all.0
 
-height-less : (n : ℕ) (o : Option Piece) → ((q : Piece) → o ≡ Some q → depth q.value < n) → height o < suc n
-height-less n None less = omega arith
-height-less n (Some q) less = omega (arith, less q refl)
+  height-less : (n : ℕ) (o : Option (Before × Piece)) → ((at : Before × Piece) → o ≡ Some at → depth at.1.value < n) → height o < suc n
+  height-less n None less = omega arith
+  height-less n (Some at) less = omega (arith, less at refl)
 
--- what is found in a piece nests less deep than it
-pub found-less : (edition : Edition) (p : Piece) → height (first_faulty edition (pieces_of edition p.kind p.value)) < height (Some p)
-found-less edition p = height-less (depth p.value) _ (λ q is. first-shallow edition (depth p.value) _ q (shallow-by edition p.kind (item_kind p.kind) p.value) is)
+  found-less : (before : Before) (p : Piece) → height (first_faulty edition test before (pieces_of edition p.kind p.value)) < height (Some (before, p))
+  found-less before p =
+      height-less (depth p.value) _ (λ at is. first-shallow before (depth p.value) _ at (shallow-by edition p.kind (item_kind p.kind) p.value) is)
+
+  pub next-smaller : (now next : Option Faulty) (f : Faulty) → now ≡ Some f
+      → option_map faulty_of next ≡ first_faulty edition test f.before (pieces_of edition f.piece.kind (view f.piece.value.now)) → height (option_map faulty_of next) < height (option_map faulty_of now)
+  next-smaller now next f is found =
+      subst₂ (λ a b. height a < height b) (sym found) (sym (ap (option_map faulty_of) is)) (found-less f.before (piece_of f.piece))
 
 -- ---- a way goes on
 
--- what is found next nests less deep
-pub next-smaller : (edition : Edition) (now next : Option Found) (f : Found) → now ≡ Some f → option_map piece_of next ≡ first_faulty edition (pieces_of edition f.kind (view f.value.now))
-    → height (option_map piece_of next) < height (option_map piece_of now)
-next-smaller edition now next f is found = subst₂ (λ a b. height a < height b) (sym found) (sym (ap (option_map piece_of) is)) (found-less edition (piece_of f))
+-- a way after some steps, and the piece found next
+pub record OnWay (edition : Edition) (test : PieceTest) (start : List Piece) (begun steps : List Step) (next : Option Faulty) : Type 0 where
+  pub done : List Step
+  pub before : Before
+  pub ps : List Piece
+  pub is : steps ≡ begun ++ done
+  pub found : option_map faulty_of next ≡ first_faulty edition test before ps
+  pub on : (rest : List Step) → Leads edition test before ps rest → Leads edition test nothing_before start (done ++ rest)
 
--- a way after some steps
-abbrev pub GoesOn : Edition → List Piece → List Step → List Piece → Type 0
-GoesOn edition start steps ps = (rest : List Step) → Leads edition ps rest → Leads edition start (steps ++ rest)
+module _ (edition : Edition) (test : PieceTest) (start : List Piece) (begun : List Step) where
+  pub way-begins : (steps : List Step) (next : Option Faulty) → steps ≡ begun → option_map faulty_of next ≡ first_faulty edition test nothing_before start → OnWay edition test start begun steps next
+  way-begins steps next is found = record {
+    done = [];
+    before = nothing_before;
+    ps = start;
+    is = is ∙ sym (append-nil begun);
+    found = found;
+    on = λ rest leads. leads;
+  }
 
-pub next-goes_on : (edition : Edition) (start ps : List Piece) (steps new : List Step) (now : Option Found) (f : Found) → now ≡ Some f → option_map piece_of now ≡ first_faulty edition ps → new ≡ steps ++ f.step ∷ []
-    → GoesOn edition start steps ps → GoesOn edition start new (pieces_of edition f.kind (view f.value.now))
-next-goes_on edition start ps steps new now f is found pushed before rest leads =
-    let first : first_faulty edition ps ≡ Some (piece_of f) = sym found ∙ ap (option_map piece_of) is in
-    subst (Leads edition start) (sym (ap (λ xs. xs ++ rest) pushed ∙ append_assoc steps (f.step ∷ []) rest)) (before (f.step ∷ rest) (piece_of f, first, refl, leads))
+  pub way-goes_on : (steps new : List Step) (now next : Option Faulty) (f : Faulty) → now ≡ Some f → new ≡ steps ++ f.piece.step ∷ []
+      → option_map faulty_of next ≡ first_faulty edition test f.before (pieces_of edition f.piece.kind (view f.piece.value.now)) → OnWay edition test start begun steps now → OnWay edition test start begun new next
+  way-goes_on steps new now next f is pushed found so_far =
+      let here : first_faulty edition test so_far.before so_far.ps ≡ Some (f.before, piece_of f.piece) = sym so_far.found ∙ ap (option_map faulty_of) is in
+      record {
+        done = so_far.done ++ f.piece.step ∷ [];
+        before = f.before;
+        ps = pieces_of edition f.piece.kind (view f.piece.value.now);
+        is = pushed ∙ ap (λ xs. xs ++ f.piece.step ∷ []) so_far.is ∙ append_assoc begun so_far.done (f.piece.step ∷ []);
+        found = found;
+        on = λ rest leads. subst (Leads edition test nothing_before start) (sym (append_assoc so_far.done (f.piece.step ∷ []) rest)) (so_far.on (f.piece.step ∷ rest) ((f.before, piece_of f.piece), here, refl, leads));
+      }
 
-pub way-ends : (edition : Edition) (d : Data) (ps : List Piece) (steps : List Step) (now : Option Found) → edition ≡ edition_in d → now ≡ None → option_map piece_of now ≡ first_faulty edition ps
-    → GoesOn edition (pieces_of_scenario d) steps ps → LeadsToFault d steps
-way-ends edition d ps steps now is none found before =
-    let last : first_faulty edition ps ≡ None = sym found ∙ ap (option_map piece_of) none in
-    subst₂ (λ e xs. Leads e (pieces_of_scenario d) xs) is (append-nil steps) (before [] last)
+  pub way-ends : (steps : List Step) (next : Option Faulty) → next ≡ None → OnWay edition test start begun steps next → (rest : List Step) × (steps ≡ begun ++ rest) × Leads edition test nothing_before start rest
+  way-ends steps next none so_far =
+      let last : first_faulty edition test so_far.before so_far.ps ≡ None = sym so_far.found ∙ ap (option_map faulty_of) none in
+      (so_far.done, so_far.is, subst (Leads edition test nothing_before start) (append-nil so_far.done) (so_far.on [] last))
 
 -- ---- the items from one on
 
@@ -166,21 +197,17 @@ if-false : {A : Type 0} (b : Bool) (x y : A) → b ≡ false → (if b then x el
 if-false true x y is = absurd (cc)
 if-false false x y is = refl
 
-pub items-next : (edition : Edition) (list k : Kind) (i : ℕ) (d : Data) (ds : List Data) → is_read edition k d ≡ true
-    → first_faulty edition (items_from list k (i + 1) (items_of ds)) ≡ first_faulty edition (items_from list k i (items_of (d ∷ ds)))
-items-next edition list k i d ds is = ap (λ j. first_faulty edition (items_from list k j (items_of ds))) (add-one i) ∙ sym (if-true _ _ _ is)
-
-pub items-found : (edition : Edition) (list k : Kind) (i : ℕ) (d : Data) (ds : List Data) → is_read edition k d ≡ false
-    → first_faulty edition (items_from list k i (items_of (d ∷ ds))) ≡ Some (record { step = item_step list i; kind = k; value = d })
-items-found edition list k i d ds is = if-false _ _ _ is
-
-abbrev made : Step → Kind → Data → Piece
+abbrev pub made : Step → Kind → Data → Piece
 made s k d = record { step = s; kind = k; value = d }
 
-pub step_is : (list : Kind) (i : ℕ) (s : Step) (k : Kind) (d : Data) → s ≡ item_step list i → Some (made s k d) ≡ Some (made (item_step list i) k d)
-step_is list i s k d is = ap (λ t. Some (made t k d)) is
+pub items-next : (edition : Edition) (test : PieceTest) (before : Before) (list k : Kind) (i : ℕ) (d : Data) (ds : List Data) → passes edition test before (made (item_step list i) k d) ≡ true
+    → first_faulty edition test (after edition before k d) (items_from list k (i + 1) (items_of ds)) ≡ first_faulty edition test before (items_from list k i (items_of (d ∷ ds)))
+items-next edition test before list k i d ds is =
+    ap (λ j. first_faulty edition test (after edition before k d) (items_from list k j (items_of ds))) (add-one i) ∙ sym (if-true _ _ _ is)
 
--- ---- what follows a word
+pub items-found : (edition : Edition) (test : PieceTest) (before : Before) (list k : Kind) (i : ℕ) (d : Data) (ds : List Data) → passes edition test before (made (item_step list i) k d) ≡ false
+    → first_faulty edition test before (items_from list k i (items_of (d ∷ ds))) ≡ Some (before, made (item_step list i) k d)
+items-found edition test before list k i d ds is = if-false _ _ _ is
 
 pub items_len-view : (vs : List Value) → items_len (items_view vs) ≡ length vs
 items_len-view [] = refl

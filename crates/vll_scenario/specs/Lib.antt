@@ -4,6 +4,7 @@ pub mod Schedule
 pub mod Shape
 pub mod Setup
 pub mod Pieces
+pub mod PieceTests
 pub mod Ways
 pub mod Scenario
 pub mod Reading

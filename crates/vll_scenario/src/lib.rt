@@ -26,6 +26,7 @@ pub use limits::{MOST_BYTES, MOST_CLIENTS, MOST_EVENTS, MOST_PROCS};
 pub use piece::{Kind, Step};
 pub use plain::Plain;
 pub use reading::bytes::{ReadFault, read_bytes};
+pub use reading::piece_test::PieceTest;
 pub use reading::way::{Found, Way, way_to_fault};
 pub use reading::{Reading, read_scenario, reading_of};
 pub use scenario::{Scenario, ScenarioParts};

@@ -11,6 +11,7 @@ mod asked;
 pub(crate) mod bytes;
 mod members;
 mod options;
+pub(crate) mod piece_test;
 mod schedule;
 mod setup;
 mod shape;

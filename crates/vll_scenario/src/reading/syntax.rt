@@ -53,7 +53,7 @@ fn proc_of(alloc: Global, edition: Edition, value: &Value) -> Result<Proc, Misre
     })
 }
 
-fn key_of(value: &Value) -> Result<KeyDecl, Misread>
+pub(crate) fn key_of(value: &Value) -> Result<KeyDecl, Misread>
     ensures { Gives result (key_at (view value.now)) }
 {
     match value {

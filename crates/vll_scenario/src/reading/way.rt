@@ -1,25 +1,25 @@
-//! The way to the piece of a scenario whose shape is at fault. It is searched for only if there is a fault.
-ghost use Rattle.std.specs.Prelude.{◌≡◌, ◌++◌, Option, Some, IfOk, OnOk, is_some, map, option_map};
+//! The way to the piece of a scenario that is at fault. It is searched for only if there is a fault.
+ghost use Rattle.std.specs.Prelude.{◌≡◌, ◌++◌, List, Some, IfOk, OnOk, map, option_map};
 ghost use Rattle.serde_json.specs.View.{items_view, view};
-ghost use Rattle.vll_scenario.specs.Pieces.{is_read, items_from, member_piece, pieces_behind, pieces_of, pieces_of_call, pieces_of_form, pieces_of_key, pieces_of_place, pieces_of_procedure, pieces_of_scenario, pieces_of_slots, pieces_of_words};
-ghost use Rattle.vll_scenario.specs.Private.Reading.{Gives};
-ghost use Rattle.vll_scenario.specs.Private.Found.{piece_of};
-ghost use Rattle.vll_scenario.specs.Ways.{LeadsToFault, edition_in, first_faulty};
+ghost use Rattle.vll_check.specs.Pieces.{nothing_before};
+ghost use Rattle.vll_scenario.specs.Pieces.{items_from, member_piece, pieces_behind, pieces_of, pieces_of_call, pieces_of_form, pieces_of_key, pieces_of_place, pieces_of_procedure, pieces_of_scenario, pieces_of_slots, pieces_of_words};
+ghost use Rattle.vll_scenario.specs.Private.Found.{faulty_of, piece_of};
+ghost use Rattle.vll_scenario.specs.Ways.{Leads, LeadsToFault, edition_in, first_faulty, procedure_in, records_in};
+ghost use Rattle.vll_scenario.specs.declared.fault.ScenarioFault.TheVariants.{Check};
+ghost use Rattle.vll_scenario.specs.declared.piece.Step.{Step};
 
+use crate::fault::ScenarioFault;
 use crate::piece::{Kind, Slot, Step, form_of, item_kind, item_step, place_form};
-use crate::reading::asked::Asked;
 use crate::reading::members::{has_exactly, has_members};
+use crate::reading::piece_test::{PieceTest, count_in, if_read, is_some, note};
 use crate::reading::shape::{MAY_NAMES, MUST_NAMES};
-use crate::reading::syntax::expression::expr_of;
-use crate::reading::syntax::statement::{code_of, stmt_of, stmts_of};
-use crate::reading::syntax::{index_of, mode_of};
-use crate::reading::tree::{Misread, Reads};
+use crate::reading::syntax::mode_of;
+use crate::reading::tree::Reads;
 use serde_json::Value;
-use sqlite_items::Items;
 use std::alloc::{AllocError, Global};
-use vll_core::Event;
-use vll_proc::{Edition, KeyDecl, Proc, Text};
-use vll_sca::Placing;
+use vll_check::{Before, CheckFault, Piecewise};
+use vll_core::MOST_RECORDS;
+use vll_proc::{Edition, Proc};
 
 /// A piece of a scenario's JSON tree: the step to it from the enclosing piece, what it has to be, and its value.
 #[derive(Clone, Copy)]
@@ -29,26 +29,135 @@ pub struct Found<'v> {
     pub value: &'v Value,
 }
 
-/// The steps from a scenario to the piece whose shape is at fault, and that piece; none if it is the scenario itself.
+/// The steps from a scenario to the piece at fault, and that piece; none if it is the scenario itself, a call or the
+/// names of all procedures.
 #[derive(Drop)]
 pub struct Way<'v> {
     pub steps: Vec<Step>,
     pub piece: Option<Found<'v>>,
 }
 
-/// Finds the way from a scenario's JSON tree to the piece whose shape is at fault, if its shape is.
-pub fn way_to_fault<'v>(alloc: Global, tree: &'v Value) -> Result<Way<'v>, AllocError>
-    ensures { IfOk result (λ way. LeadsToFault (view tree.now) way.steps.items) }
+// The first piece that does not pass a test, and what came before it.
+#[derive(Clone, Copy)]
+pub(crate) struct Faulty<'v> {
+    pub(crate) before: Before,
+    pub(crate) piece: Found<'v>,
+}
+
+/// Finds the way from a scenario's JSON tree to the piece at fault, for the fault that reading it has returned.
+pub fn way_to_fault<'v>(
+    alloc: Global,
+    tree: &'v Value,
+    why: ScenarioFault,
+) -> Result<Way<'v>, AllocError>
+    ensures { IfOk result (λ way. LeadsToFault (view tree.now) why way.steps.items) }
+{
+    match why {
+        ScenarioFault::Shape(_) => way_in_scenario(alloc, tree, &PieceTest::Shape),
+        ScenarioFault::Size => way_in_scenario(alloc, tree, &PieceTest::Sizes),
+        ScenarioFault::Check { index, fault } => way_in_procedure(alloc, tree, index, fault),
+        ScenarioFault::NameTwice => way_of(alloc, &[Step::Procs]),
+        ScenarioFault::Call { client, index, .. } => {
+            let client = Step::Item(client as usize);
+            way_of(alloc, &[Step::Clients, client, Step::Call(index as usize)])
+        }
+        _ => way_of(alloc, &[]),
+    }
+}
+
+// The way of these steps, whose piece no test has found.
+fn way_of<'v>(alloc: Global, steps: &[Step]) -> Result<Way<'v>, AllocError>
+    ensures { IfOk result (λ way. way.steps.items ≡ steps.now) }
+{
+    Ok(Way {
+        steps: Vec::from_slice(alloc, steps)?,
+        piece: None,
+    })
+}
+
+// The way to the first part of a scenario that does not pass a test, and on.
+fn way_in_scenario<'v>(
+    alloc: Global,
+    tree: &'v Value,
+    test: &PieceTest,
+) -> Result<Way<'v>, AllocError>
+    ensures { IfOk result (λ way. Leads (edition_in (view tree.now)) test.now nothing_before (pieces_of_scenario (view tree.now)) way.steps.items) }
+{
+    let pieces = pieces_of_scenario(alloc, tree)?;
+    way_on(alloc, edition_in(tree), test, pieces.as_slice(), &[])
+}
+
+// The way to a procedure that is refused, and on to the piece of it that does not pass the test.
+fn way_in_procedure<'v>(
+    alloc: Global,
+    tree: &'v Value,
+    index: u32,
+    fault: CheckFault,
+) -> Result<Way<'v>, AllocError>
+    ensures { IfOk result (λ way. LeadsToFault (view tree.now) (Check index fault) way.steps.items) }
 {
     let edition = edition_in(tree);
-    let pieces = pieces_of_scenario(alloc, tree)?;
-    let mut steps = Vec::new(alloc);
+    let start = [Step::Procs, Step::Item(index as usize)];
+    let Some(value) = procedure_in(tree, index) else {
+        return way_of(alloc, &start);
+    };
+    let Some(procedure) = if_read(Proc::read(alloc, edition, value))? else {
+        return way_of(alloc, &start);
+    };
+    let test = PieceTest::Check(Piecewise {
+        procedure,
+        records: records_in(tree),
+        fault,
+    });
+    let pieces = pieces_of_procedure(alloc, value)?;
+    way_on(alloc, edition, &test, pieces.as_slice(), &start)
+}
+
+// The procedure at an index.
+fn procedure_in<'v>(tree: &'v Value, index: u32) -> Option<&'v Value>
+    ensures { option_map (λ v. view v.now) result ≡ procedure_in (view tree.now) index }
+{
+    tree.get("procs")?.get(index as usize)
+}
+
+// The number of records, no more than a scenario may have.
+fn records_in(tree: &Value) -> u32
+    ensures { result ≡ records_in (view tree.now) }
+{
+    match tree.get("records") {
+        Some(records) => count_in(records).min(MOST_RECORDS as usize) as u32,
+        None => 0,
+    }
+}
+
+// The way that begins with some steps and leads from some pieces into the first that does not pass a test, and on.
+fn way_on<'v>(
+    alloc: Global,
+    edition: Edition,
+    test: &PieceTest,
+    pieces: &[Found<'v>],
+    begun: &[Step],
+) -> Result<Way<'v>, AllocError>
+    ensures { IfOk result (λ way. (rest : List Step) × (way.steps.items ≡ begun.now ++ rest)
+        × Leads edition test.now nothing_before (map piece_of pieces.now) rest) }
+{
+    let mut steps = Vec::from_slice(alloc, begun)?;
     let mut piece = None;
-    let mut next = first_of(alloc, edition, pieces.as_slice())?;
+    let mut next = match first_of(alloc, edition, test, Before::new(), pieces) {
+        Ok(next) => next,
+        Err(why) => return Err(why),
+    };
     'steps: while let Some(faulty) = next {
-        steps.push(faulty.step)?;
-        piece = Some(faulty);
-        next = first_in(alloc, edition, faulty.kind, faulty.value)?;
+        let Faulty {
+            before,
+            piece: found,
+        } = faulty;
+        steps.push(found.step)?;
+        piece = Some(found);
+        next = match first_in(alloc, edition, test, before, found) {
+            Ok(next) => next,
+            Err(why) => return Err(why),
+        };
     }
     Ok(Way { steps, piece })
 }
@@ -63,105 +172,80 @@ fn edition_in(tree: &Value) -> Edition
     }
 }
 
-// The first faulty piece of a value.
+// The first piece inside another one that does not pass a test.
 fn first_in<'v>(
     alloc: Global,
     edition: Edition,
-    kind: Kind,
-    value: &'v Value,
-) -> Result<Option<Found<'v>>, AllocError>
-    ensures { IfOk result (λ found. option_map piece_of found
-        ≡ first_faulty edition (pieces_of edition kind (view value.now))) }
+    test: &PieceTest,
+    before: Before,
+    outer: Found<'v>,
+) -> Result<Option<Faulty<'v>>, AllocError>
+    ensures { IfOk result (λ found. option_map faulty_of found
+        ≡ first_faulty edition test.now before (pieces_of edition outer.entry.kind (view outer.entry.value.now))) }
 {
+    let Found { kind, value, .. } = outer;
     match item_kind(kind) {
         Some(item) => match value.as_array() {
-            Some(list) => first_of_items(alloc, edition, kind, item, list.as_slice()),
+            Some(list) => first_of_items(alloc, edition, test, before, kind, item, list.as_slice()),
             None => Ok(None),
         },
         None => {
             let pieces = pieces_of_form(alloc, edition, kind, value)?;
-            first_of(alloc, edition, pieces.as_slice())
+            first_of(alloc, edition, test, before, pieces.as_slice())
         }
     }
 }
 
-// The first faulty one of some pieces.
+// The first one of some pieces that does not pass a test.
 fn first_of<'v>(
     alloc: Global,
     edition: Edition,
+    test: &PieceTest,
+    before: Before,
     pieces: &[Found<'v>],
-) -> Result<Option<Found<'v>>, AllocError>
-    ensures { IfOk result (λ found. option_map piece_of found ≡ first_faulty edition (map piece_of pieces.now)) }
+) -> Result<Option<Faulty<'v>>, AllocError>
+    ensures { IfOk result (λ found. option_map faulty_of found ≡ first_faulty edition test.now before (map piece_of pieces.now)) }
 {
     match pieces {
         [] => Ok(None),
         [piece, others @ ..] => {
-            if is_read(alloc, edition, piece.kind, piece.value)? {
-                first_of(alloc, edition, others)
+            if test.passes(alloc, edition, &before, piece)? {
+                let mut next = before;
+                note(alloc, edition, &mut next, piece)?;
+                first_of(alloc, edition, test, next, others)
             } else {
-                Ok(Some(*piece))
+                Ok(Some(Faulty {
+                    before,
+                    piece: *piece,
+                }))
             }
         }
     }
 }
 
-// The first faulty item of a list. No list is made of the others.
+// The first item of a list that does not pass a test. No list is made of the others.
 fn first_of_items<'v>(
     alloc: Global,
     edition: Edition,
+    test: &PieceTest,
+    first: Before,
     list: Kind,
     kind: Kind,
     values: &'v [Value],
-) -> Result<Option<Found<'v>>, AllocError>
-    ensures { IfOk result (λ found. option_map piece_of found
-        ≡ first_faulty edition (items_from list kind 0 (items_view values.now))) }
+) -> Result<Option<Faulty<'v>>, AllocError>
+    ensures { IfOk result (λ found. option_map faulty_of found
+        ≡ first_faulty edition test.now first (items_from list kind 0 (items_view values.now))) }
 {
+    let mut before = first;
     for (i, value) in values.iter().enumerate() {
-        if !is_read(alloc, edition, kind, value)? {
-            let step = item_step(list, i);
-            return Ok(Some(Found { step, kind, value }));
+        let step = item_step(list, i);
+        let piece = Found { step, kind, value };
+        if !test.passes(alloc, edition, &before, &piece)? {
+            return Ok(Some(Faulty { before, piece }));
         }
+        note(alloc, edition, &mut before, &piece)?;
     }
     Ok(None)
-}
-
-// Whether a value is what it has to be.
-fn is_read(alloc: Global, edition: Edition, kind: Kind, value: &Value) -> Result<bool, AllocError>
-    ensures { IfOk result (λ is. is ≡ is_read edition kind (view value.now)) }
-{
-    match kind {
-        Kind::Version => Ok(matches!(value.as_u64(), Some(1) | Some(2))),
-        Kind::Number => is_some(u64::read(alloc, edition, value)),
-        Kind::Whole => is_some(u32::read(alloc, edition, value)),
-        Kind::Index => is_some(index_of(value)),
-        Kind::Code => is_some(code_of(value)),
-        Kind::Text => Ok(value.as_str().is_some()),
-        Kind::Hash => is_some(Placing::read(alloc, edition, value)),
-        Kind::Records | Kind::Arguments => is_some(Items::<u64>::read(alloc, edition, value)),
-        Kind::Procedures => is_some(Items::<Proc>::read(alloc, edition, value)),
-        Kind::Procedure => is_some(Proc::read(alloc, edition, value)),
-        Kind::Keys => is_some(Items::<KeyDecl>::read(alloc, edition, value)),
-        Kind::Key => is_some(KeyDecl::read(alloc, edition, value)),
-        Kind::Statements => is_some(stmts_of(alloc, edition, value)),
-        Kind::Statement => is_some(stmt_of(alloc, edition, value)),
-        Kind::Expression => is_some(expr_of(alloc, value)),
-        Kind::Scripts => is_some(Items::<Items<Asked>>::read(alloc, edition, value)),
-        Kind::Script => is_some(Items::<Asked>::read(alloc, edition, value)),
-        Kind::Call => is_some(Asked::read(alloc, edition, value)),
-        Kind::Schedule => is_some(Items::<Event>::read(alloc, edition, value)),
-        Kind::Event => is_some(Event::read(alloc, edition, value)),
-    }
-}
-
-// Whether a value was read, unless memory ran out.
-fn is_some<T: Drop>(read: Result<T, Misread>) -> Result<bool, AllocError>
-    ensures { IfOk result (λ is. (reading : Option T) → Gives read reading → is ≡ is_some reading) }
-{
-    match read {
-        Ok(_) => Ok(true),
-        Err(Misread::Faulty) => Ok(false),
-        Err(Misread::NoMemory) => Err(AllocError),
-    }
 }
 
 // The pieces of a scenario.

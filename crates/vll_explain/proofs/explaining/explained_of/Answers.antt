@@ -2,7 +2,8 @@ use Rattle.std.proofs.Common.{refl, Ok, None, string_bytes, subst, IfOk}
 use Rattle.serde_json.specs.View.{view}
 use Rattle.vll_scenario.specs.Reading.{IsScenarioOf}
 use Rattle.vll_scenario.proofs.Results.{ok_before}
-use Rattle.vll_explain.specs.Told.{IsBegun, IsTold, IsToldOf}
+use Rattle.vll_explain.specs.Private.{IsToldOf}
+use Rattle.vll_explain.specs.Told.{IsBegun, IsTold}
 use Rattle.vll_explain.proofs.Kept.{reads_not, tree_explains, tree_tells, treeless_explains}
 use Rattle.vll_explain.proofs.explaining.explained_of.Goals as goal
 

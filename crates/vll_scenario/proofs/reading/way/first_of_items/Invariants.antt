@@ -1,4 +1,4 @@
--- The items before this one are what they have to be.
+-- The items before this one pass.
 use Rattle.std.proofs.Common.{◌≡◌, drop}
 use Rattle.serde_json.specs.View.{items_view}
 use Rattle.vll_scenario.specs.Pieces.{items_from}
@@ -6,4 +6,5 @@ use Rattle.vll_scenario.specs.Ways.{first_faulty}
 use Rattle.vll_scenario.proofs.reading.way.first_of_items.Given as goal
 
 abbrev pub invariant-loop-i : goal.invariant-loop-i
-invariant-loop-i l = first_faulty l.edition (items_from l.list l.kind l.i (items_view (drop l.i l.values))) ≡ first_faulty l.edition (items_from l.list l.kind 0 (items_view l.values))
+invariant-loop-i l =
+    first_faulty l.edition l.test l.before (items_from l.list l.kind l.i (items_view (drop l.i l.values))) ≡ first_faulty l.edition l.test l.fn.first (items_from l.list l.kind 0 (items_view l.values))

@@ -3,13 +3,13 @@ use Rattle.serde_json.specs.View.{view}
 use Rattle.vll_scenario.specs.Ways.{LeadsToFault}
 use Rattle.vll_explain.specs.Told.{way_words}
 use Rattle.vll_explain.proofs.Texts.{located_by}
-use Rattle.vll_explain.proofs.explaining.text_of_shape.Goals as goal
+use Rattle.vll_explain.proofs.explaining.text_of_piece.Goals as goal
 
 pub returns : goal.returns
 returns c =
     let tree = view c.args.tree.now in
     let way = c.as_slice-2.result.now in
     let shown = c.as_str.result.now in
-    let leads = subst (LeadsToFault tree) (sym c.as_slice-2.ensures.value) c.in_ok-steps.ensures in
+    let leads = subst (LeadsToFault tree c.args.why) (sym c.as_slice-2.ensures.value) c.in_ok-steps.ensures in
     let words = c.in_ok-push_way.ensures ∙ ap (λ before. before ++ way_words shown way) c.new-place.ensures.bytes in
     located_by string_bytes c.format.result tree c.args.why way shown (string_bytes c.push_way.new.text) (string_bytes c.in_ok-reason.reason ++ 10 ∷ []) leads words c.format.ensures.ok
