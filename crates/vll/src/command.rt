@@ -46,8 +46,8 @@ const RUN_EXAMPLES: &str = "Examples:
 
 A smaller --cap can be worth it where many calls want the same few records, so that most of them wait: the
 scan for a call that may run then goes through fewer waiting ones, and fewer of them have open claims, each of
-which holds later calls back. The price is that a client whose call finds that many waiting is turned away, and
-its call is tried again later. No option changes which outcomes are lawful.
+which holds later calls back. The price is that a call that finds the cap reached is refused, and
+is tried again later. No option changes which outcomes are lawful.
 
 docs/SCENARIO.md describes the format of a scenario, and what is printed.";
 
@@ -60,7 +60,7 @@ const EXPLAIN_EXAMPLE: &str = "Example:
   vll explain < scenario.json
 
 For a scenario that run refuses, it prints the same line, where the mistake is, and what is wrong there. For a valid
-scenario it prints ok and what the scenario has. The exit status is that of run for a refused scenario, otherwise 0.
+scenario it prints ok and a summary. The exit status is that of run for a refused scenario, otherwise 0.
 
 docs/SCENARIO.md describes the format of a scenario, and what is printed.";
 
@@ -124,14 +124,14 @@ fn run_command<'a>(alloc: Global) -> Result<Command<'a>, AllocError> {
 fn replay_command<'a>(alloc: Global) -> Command<'a> {
     Command::new(alloc, "replay")
         .about(
-            "Takes the steps of the schedule of the scenario on standard input, and prints the answer to each",
+            "Takes the steps of the schedule of the scenario on standard input, and prints the result of each",
         )
         .after_help(REPLAY_EXAMPLE)
 }
 
 fn explain_command<'a>(alloc: Global) -> Command<'a> {
     Command::new(alloc, "explain")
-        .about("Explains why the scenario on standard input is refused, or tells what it has")
+        .about("Explains why the scenario on standard input is refused, or summarizes it")
         .after_help(EXPLAIN_EXAMPLE)
 }
 

@@ -91,7 +91,7 @@ fn why_at(bytes: &[u8], place: usize) -> &'static str {
         *byte,
     ) {
         (Surrounding::Deep, _, b'[' | b'{') => "lists and objects are nested more than 127 deep",
-        (_, _, b'\'') => "texts need double quotation marks",
+        (_, _, b'\'') => "strings need double quotation marks",
         (_, _, b'/' | b'#') => "JSON has no comments",
         (Surrounding::Nothing, Some(_), _) => "nothing may follow the end of the scenario",
         (_, Some(b',' | b'[' | b'{' | b':'), b',') => "a value is missing before the comma",
@@ -104,7 +104,7 @@ fn why_at(bytes: &[u8], place: usize) -> &'static str {
             }
         (_, Some(b',' | b'[' | b'{' | b':') | None, _) => why_no_value(*byte),
         (Surrounding::Object, _, _) => {
-            "a comma is missing before it, or a colon after a member's name, or there is a quotation mark too many"
+            "a comma is missing before it, or a colon after a member's name, or there is an extra quotation mark"
         }
         (_, _, _) => "a comma is missing before it",
     }
@@ -114,11 +114,11 @@ fn why_at(bytes: &[u8], place: usize) -> &'static str {
 fn why_no_value(byte: u8) -> &'static str {
     match byte {
         b'"' =>
-            "the text that begins here has a line break, a tab or an escape that JSON does not allow",
+            "the string that begins here has a line break, a tab or an escape that JSON does not allow",
         b'+' | b'-' | b'.' | b'0'..=b'9' => {
             "this is not a valid number: only digits, no sign, no leading zero, then a comma or a bracket"
         }
-        b'a'..=b'z' | b'A'..=b'Z' | b'_' => "texts need double quotation marks",
+        b'a'..=b'z' | b'A'..=b'Z' | b'_' => "strings need double quotation marks",
         _ => "no value begins with this character",
     }
 }

@@ -42,7 +42,7 @@ fn wanted(kind: Kind, value: &Value) -> &'static str {
         Kind::Whole => "a whole number from 0 to 4294967295, written in digits alone",
         Kind::Index => "a whole number from 0 to 255, written in digits alone",
         Kind::Code => "a whole number from 0 to 65535, written in digits alone",
-        Kind::Text => "a text in quotation marks",
+        Kind::Text => "a string in double quotation marks",
         Kind::Hash => "a hash; the hashes are \"modulo\" and \"spread\"",
         Kind::Keys =>
             "a list of keys; a key is [\"read\",\"arg\",i] with an argument's index, [\"read\",\"fixed\",r] with a \
