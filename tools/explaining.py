@@ -24,7 +24,7 @@ PLACES = {1: 'args', 2: 'keys', 3: r'keys, key \d+', 4: r'keys, key \d+', 13: r'
           10: 'body', 12: 'body', 16: 'body'}
 CALLS = {
     1: r'no procedure has the name', 2: r'number of arguments of ".*" must be \d+, not \d+',
-    3: r'there is no record \d+, which key \d+ takes from argument \d+'}
+    3: r'there is no record \d+, which key \d+ of ".*" takes from argument \d+'}
 NAMED = r'( \("(?:[^"\\]|\\.)*"\))?'
 
 

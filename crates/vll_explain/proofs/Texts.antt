@@ -5,7 +5,7 @@ use Rattle.vll_scenario.specs.declared.fault.ScenarioFault.{ScenarioFault}
 use Rattle.vll_scenario.specs.declared.piece.Step.{Step}
 use Rattle.vll_scenario.specs.Line.{fault_words}
 use Rattle.vll_scenario.specs.Ways.{LeadsToFault}
-use Rattle.vll_explain.specs.Told.{IsBegun, IsLocated, line_of, way_words}
+use Rattle.vll_explain.specs.Told.{IsBegun, IsLocated, IsShown, line_of, way_words}
 
 spelled : (a w rest : List ℕ) → a ++ (w ++ (10 ∷ 97 ∷ 116 ∷ 58 ∷ 32 ∷ rest)) ≡ (a ++ w ++ codes "\n") ++ codes "at: " ++ rest
 spelled a w rest = simp append_assoc
@@ -20,9 +20,9 @@ spelled_way : (a w place rest : List ℕ) → a ++ (w ++ (10 ∷ 97 ∷ 116 ∷ 
 spelled_way a w place rest = simp append_assoc
 
 -- a line, a way and a reason
-pub located_by : {T E : Type 0} (of : T → List ℕ) (r : Result T E) (tree : Data) (why : ScenarioFault) (way : List Step) (shown place rest : List ℕ) → LeadsToFault tree why way → place ≡ way_words shown way
+pub located_by : {T E : Type 0} (of : T → List ℕ) (r : Result T E) (tree : Data) (why : ScenarioFault) (way : List Step) (shown place rest : List ℕ) → LeadsToFault tree why way → IsShown way shown → place ≡ way_words shown way
     → IfOk r (λ t. of t ≡ codes "vll: scenario: " ++ (fault_words why ++ (10 ∷ 97 ∷ 116 ∷ 58 ∷ 32 ∷ (place ++ (10 ∷ 119 ∷ 104 ∷ 121 ∷ 58 ∷ 32 ∷ rest)))))
     → IfOk r (λ t. IsLocated tree why (of t))
-located_by of (Ok t) tree why way shown place rest leads words is =
-    record { way = way; leads = leads; shown = shown; rest = rest; is = is ∙ spelled_way (codes "vll: scenario: ") (fault_words why) place rest ∙ ap (λ p. line_of why ++ codes "at: " ++ p ++ codes "\nwhy: " ++ rest) words }
-located_by of (Err e) tree why way shown place rest leads words is = tt
+located_by of (Ok t) tree why way shown place rest leads names words is =
+    record { way = way; leads = leads; shown = shown; is_shown = names; rest = rest; is = is ∙ spelled_way (codes "vll: scenario: ") (fault_words why) place rest ∙ ap (λ p. line_of why ++ codes "at: " ++ p ++ codes "\nwhy: " ++ rest) words }
+located_by of (Err e) tree why way shown place rest leads names words is = tt

@@ -5,6 +5,7 @@ use Rattle.vll_scenario.specs.declared.fault.ScenarioFault.{ScenarioFault}
 use Rattle.vll_scenario.specs.declared.fault.ScenarioFault.TheVariants as fault
 use Rattle.vll_scenario.specs.declared.limits.TheConstants.{MOST_BYTES}
 use Rattle.vll_scenario.specs.declared.piece.Step.{Step}
+use Rattle.vll_scenario.specs.declared.piece.Step.TheVariants as step
 use Rattle.vll_scenario.specs.Line.{fault_words}
 use Rattle.vll_scenario.specs.Reading.{IsRead, Tells}
 use Rattle.vll_scenario.specs.Scenario.{scenario_at, tree_or_json}
@@ -15,7 +16,12 @@ use Rattle.vll_scenario.specs.Ways.{LeadsToFault, step_words, words_of}
 abbrev pub line_of : ScenarioFault → List ℕ
 line_of why = codes "vll: scenario: " ++ fault_words why ++ codes "\n"
 
--- the words of a way: its steps, and after the second one the name, as shown, of the item to which it leads
+-- what is shown after the second step of a way: after one to a procedure perhaps its name in parentheses, else nothing
+abbrev pub IsShown : List Step → List ℕ → Type 0
+IsShown (step.Procs ∷ step.Item i ∷ steps) shown = (shown ≡ []) ⊎ ((name : List ℕ) × (shown ≡ codes " (" ++ name ++ codes ")"))
+IsShown way shown = shown ≡ []
+
+-- the words of a way: its steps, and what is shown after the second one
 abbrev pub way_words : List ℕ → List Step → List ℕ
 way_words shown [] = codes "the scenario"
 way_words shown (part ∷ []) = step_words part
@@ -30,6 +36,7 @@ pub record IsLocated (tree : Data) (why : ScenarioFault) (text : List ℕ) : Typ
   pub way : List Step
   pub leads : LeadsToFault tree why way
   pub shown : List ℕ
+  pub is_shown : IsShown way shown
   pub rest : List ℕ
   pub is : text ≡ line_of why ++ codes "at: " ++ way_words shown way ++ codes "\nwhy: " ++ rest
 

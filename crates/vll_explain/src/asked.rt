@@ -29,7 +29,7 @@ pub(crate) fn call_why(
     match fault {
         CallFault::RecordRange => {
             let records = items_of(tree.get("records")).len();
-            record_why(alloc, items_of(procedure.get("keys")), args, records)
+            record_why(alloc, name, items_of(procedure.get("keys")), args, records)
         }
         _ => {
             let name = Quoted(name);
@@ -76,6 +76,7 @@ fn unknown_name(alloc: Global, procs: &[Value], name: &str) -> Result<String, Al
 // Which argument is taken as a record that is not there.
 fn record_why(
     alloc: Global,
+    name: &str,
     keys: &[Value],
     args: &[Value],
     records: usize,
@@ -89,8 +90,9 @@ fn record_why(
             continue;
         };
         if record >= records as u64 {
+            let name = Quoted(name);
             return format!(in alloc;
-                "there is no record {record}, which key {i} takes from argument {index}; the number of records is {records}, and they are numbered from 0"
+                "there is no record {record}, which key {i} of {name} takes from argument {index}; the number of records is {records}, and they are numbered from 0"
             );
         }
     }

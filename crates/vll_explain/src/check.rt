@@ -7,7 +7,7 @@ use vll_proc::{
     MOST_WEIGHT,
 };
 use vll_record::MOST_CLAIMS;
-use vll_scenario::{CheckFault, Found, Kind};
+use vll_scenario::{CheckFault, Found, Kind, Step};
 
 // What is wrong with a piece of the procedure at an index.
 pub(crate) fn check_why(
@@ -38,7 +38,7 @@ pub(crate) fn check_why(
                 "there is no record {number}; the number of records is {records}, and they are numbered from 0"
             )
         }
-        CheckFault::ThroughKey => through_why(alloc, keys, number),
+        CheckFault::ThroughKey => through_why(alloc, piece, number),
         CheckFault::TwoThrough => {
             let before = keys.iter().position(is_through).unwrap_or(0);
             format!(in alloc;
@@ -63,7 +63,10 @@ pub(crate) fn check_why(
         CheckFault::Turns => format!(in alloc;
             "it has {number} turns, but at most {MOST_TURNS} are allowed: put one repeat inside another"
         ),
-        _ => measure_why(alloc, fault),
+        CheckFault::TooManyReplies
+        | CheckFault::TooDeep
+        | CheckFault::TooLong
+        | CheckFault::TooMuchWork => measure_why(alloc, fault),
     }
 }
 
@@ -98,9 +101,14 @@ fn too_many_keys(alloc: Global, count: usize, version: u64) -> Result<String, Al
 }
 
 // Why a key cannot find its record through the key with this number.
-fn through_why(alloc: Global, keys: &[Value], number: u64) -> Result<String, AllocError> {
-    match keys.get(number as usize) {
-        Some(source) if is_through(source) => format!(in alloc;
+fn through_why(alloc: Global, key: Option<Found<'_>>, number: u64) -> Result<String, AllocError> {
+    match key {
+        Some(
+            Found {
+                step: Step::Key(place),
+                ..
+            },
+        ) if number < place as u64 => format!(in alloc;
             "its source is key {number}, which is a \"through\" key itself"
         ),
         _ => format!(in alloc;

@@ -47,6 +47,9 @@ pub(crate) fn reason_of(
         } => call_why(alloc, tree, client, index, fault),
         ScenarioFault::NameTwice => name_twice_why(alloc, items_of(tree.get("procs"))),
         ScenarioFault::Size => size_why(alloc, piece),
-        _ => shape_why(alloc, tree, piece),
+        ScenarioFault::Shape(_)
+        | ScenarioFault::Read
+        | ScenarioFault::Json
+        | ScenarioFault::NoMemory => shape_why(alloc, tree, piece),
     }
 }

@@ -1,6 +1,6 @@
 //! The way to a piece, in words.
-ghost use Rattle.std.specs.Prelude.{◌≡◌, ◌++◌, OnOk, string_bytes};
-ghost use Rattle.vll_explain.specs.Told.{way_words};
+ghost use Rattle.std.specs.Prelude.{◌≡◌, ◌++◌, IfOk, OnOk, string_bytes};
+ghost use Rattle.vll_explain.specs.Told.{IsShown, way_words};
 ghost use Rattle.vll_scenario.specs.Ways.{words_of};
 
 use crate::asked::items_of;
@@ -35,17 +35,21 @@ fn push_steps(text: &mut String, steps: &[Step]) -> Result<(), AllocError>
 }
 
 // The name, as shown, of the procedure into which steps lead, nothing if they lead into none or it has no name.
-pub(crate) fn shown_name(
-    alloc: Global,
-    tree: &Value,
-    steps: &[Step],
-) -> Result<String, AllocError> {
+pub(crate) fn shown_name(alloc: Global, tree: &Value, steps: &[Step]) -> Result<String, AllocError>
+    ensures { IfOk result (λ shown. IsShown steps.now (string_bytes shown)) }
+{
     if let [Step::Procs, Step::Item(index), ..] = steps
         && let Some(procedure) = items_of(tree.get("procs")).get(*index)
         && let Some(name) = procedure.get("name").and_then(Value::as_str)
     {
-        let name = Quoted(name);
+        let name = quoted(alloc, name)?;
         return format!(in alloc; " ({name})");
     }
     Ok(String::new(alloc))
+}
+
+// A name as it is shown.
+fn quoted(alloc: Global, name: &str) -> Result<String, AllocError> {
+    let name = Quoted(name);
+    format!(in alloc; "{name}")
 }

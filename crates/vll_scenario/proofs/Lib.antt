@@ -11,3 +11,4 @@ pub mod Written
 pub mod Results
 mod Rows
 pub mod Ways
+mod Refused

@@ -131,7 +131,7 @@ module _ (edition : Edition) (test : PieceTest) where
   first-shallow : (before : Before) (n : ℕ) (ps : List Piece) (at : Before × Piece) → Shallow n ps → first_faulty edition test before ps ≡ Some at → depth at.1.value < n
   first-shallow before n [] at all is = absurd (cc)
   first-shallow before n (p ∷ ps) at all is =
-      let next = after edition before p.kind p.value in
+      let next = after edition test before p.kind p.value in
       by_test n (passes edition test before p) before p at (first_faulty edition test next ps) is (λ found. first-shallow next n ps at all.1 found) all.0
 
   height-less : (n : ℕ) (o : Option (Before × Piece)) → ((at : Before × Piece) → o ≡ Some at → depth at.1.value < n) → height o < suc n
@@ -201,9 +201,9 @@ abbrev pub made : Step → Kind → Data → Piece
 made s k d = record { step = s; kind = k; value = d }
 
 pub items-next : (edition : Edition) (test : PieceTest) (before : Before) (list k : Kind) (i : ℕ) (d : Data) (ds : List Data) → passes edition test before (made (item_step list i) k d) ≡ true
-    → first_faulty edition test (after edition before k d) (items_from list k (i + 1) (items_of ds)) ≡ first_faulty edition test before (items_from list k i (items_of (d ∷ ds)))
+    → first_faulty edition test (after edition test before k d) (items_from list k (i + 1) (items_of ds)) ≡ first_faulty edition test before (items_from list k i (items_of (d ∷ ds)))
 items-next edition test before list k i d ds is =
-    ap (λ j. first_faulty edition test (after edition before k d) (items_from list k j (items_of ds))) (add-one i) ∙ sym (if-true _ _ _ is)
+    ap (λ j. first_faulty edition test (after edition test before k d) (items_from list k j (items_of ds))) (add-one i) ∙ sym (if-true _ _ _ is)
 
 pub items-found : (edition : Edition) (test : PieceTest) (before : Before) (list k : Kind) (i : ℕ) (d : Data) (ds : List Data) → passes edition test before (made (item_step list i) k d) ≡ false
     → first_faulty edition test before (items_from list k i (items_of (d ∷ ds))) ≡ Some (before, made (item_step list i) k d)

@@ -25,7 +25,7 @@ use Rattle.vll_scenario.specs.Tree.{number_at}
 -- the first of some pieces that does not pass a test, and what came before it
 abbrev pub first_faulty : Edition → PieceTest → Before → List Piece → Option (Before × Piece)
 first_faulty edition test before [] = None
-first_faulty edition test before (p ∷ ps) = if passes edition test before p then first_faulty edition test (after edition before p.kind p.value) ps else Some (before, p)
+first_faulty edition test before (p ∷ ps) = if passes edition test before p then first_faulty edition test (after edition test before p.kind p.value) ps else Some (before, p)
 
 -- a way leads from some pieces into the first faulty one, and on through its pieces, until none of them is faulty
 abbrev pub Leads : Edition → PieceTest → Before → List Piece → List Step → Type 0
@@ -44,13 +44,13 @@ records_in d = min (unwrap_or (option_map count_in (get (codes "records") d)) 0)
 abbrev pub procedure_in : Data → ℕ → Option Data
 procedure_in d index = option_and_then (at index) (get (codes "procs") d)
 
--- a way leads from a procedure to the piece at fault, if the procedure is there
+-- a way leads from a procedure to the piece at fault; no step if the procedure is not there
 abbrev pub LeadsInto : Edition → ℕ → CheckFault → Option Data → Option Proc → List Step → Type 0
 LeadsInto edition records why (Some d) (Some p) rest = Leads edition (test.Check (record { procedure = p; records = records; fault = why })) nothing_before (pieces_of_procedure d) rest
 LeadsInto edition records why _ _ rest = rest ≡ []
 
--- the way from a scenario to the piece at fault; no step if it is the scenario itself. A call, and the names of all
--- procedures, are one piece
+-- the way from a scenario to the piece at fault; no step if it is the scenario itself, or if the fault lies in no tree. A
+-- call, and the names of all procedures, are one piece
 abbrev pub LeadsToFault : Data → ScenarioFault → List Step → Type 0
 LeadsToFault d (fault.Shape spot) way = Leads (edition_in d) test.Shape nothing_before (pieces_of_scenario d) way
 LeadsToFault d fault.Size way = Leads (edition_in d) test.Sizes nothing_before (pieces_of_scenario d) way

@@ -1,7 +1,9 @@
 //! The tests that find the piece at fault, each of one piece after another.
-ghost use Rattle.std.specs.Prelude.{◌≡◌, Option, IfOk, OnOk, is_some, option_map, true, unwrap_or};
-ghost use Rattle.serde_json.specs.View.{view};
-ghost use Rattle.vll_scenario.specs.PieceTests.{after, calls_are_few, check_passes, count_in, has_size, option_has_size, passes, place_of, scripts_at};
+ghost use Rattle.std.specs.Prelude.{◌≡◌, Option, IfOk, OnOk, is_some, nat_le, option_map, true, unwrap_or};
+ghost use Rattle.serde_json.specs.Find.{as_array};
+ghost use Rattle.serde_json.specs.View.{items_view, view};
+ghost use Rattle.vll_core.specs.declared.config.TheConstants.{MOST_CALLS};
+ghost use Rattle.vll_scenario.specs.PieceTests.{after, calls_in, check_passes, count_in, has_size, option_has_size, passes, place_of};
 ghost use Rattle.vll_core.specs.Faults.{is_up_to};
 ghost use Rattle.vll_check.specs.Pieces.{expression_passes, key_passes, list_passes, statement_passes};
 ghost use Rattle.vll_scenario.specs.Pieces.{is_read};
@@ -13,7 +15,6 @@ ghost use Rattle.vll_scenario.specs.Private.Found.{piece_of};
 use crate::limits::{MOST_CLIENTS, MOST_EVENTS, MOST_PROCS};
 use crate::piece::{Kind, Step};
 use crate::reading::asked::Asked;
-use crate::reading::setup::has_few_calls;
 use crate::reading::syntax::expression::expr_of;
 use crate::reading::syntax::statement::{code_of, stmt_of, stmts_of};
 use crate::reading::syntax::{index_of, key_of};
@@ -52,7 +53,7 @@ impl PieceTest {
         let Found { step, kind, value } = *piece;
         match self {
             PieceTest::Shape => is_read(alloc, edition, kind, value),
-            PieceTest::Sizes => has_size(alloc, edition, step, kind, value),
+            PieceTest::Sizes => has_size(step, kind, value),
             PieceTest::Check(test) => check_passes(alloc, edition, test, before, piece),
         }
     }
@@ -62,11 +63,15 @@ impl PieceTest {
 pub(crate) fn note(
     alloc: Global,
     edition: Edition,
+    test: &PieceTest,
     before: &mut Before,
     piece: &Found<'_>,
 ) -> Result<(), AllocError>
-    ensures { OnOk result (before.new ≡ after edition before.old piece.now.kind (view piece.now.value.now)) }
+    ensures { OnOk result (before.new ≡ after edition test.now before.old piece.now.kind (view piece.now.value.now)) }
 {
+    let PieceTest::Check(_) = test else {
+        return Ok(());
+    };
     match piece.kind {
         Kind::Key => if let Some(key) = if_read(key_of(piece.value))? {
             before.pass_key(&key);
@@ -82,20 +87,14 @@ pub(crate) fn note(
 }
 
 // Whether a part is within its limits.
-fn has_size(
-    alloc: Global,
-    edition: Edition,
-    step: Step,
-    kind: Kind,
-    value: &Value,
-) -> Result<bool, AllocError>
+fn has_size(step: Step, kind: Kind, value: &Value) -> Result<bool, AllocError>
     ensures { IfOk result (λ has. has ≡ has_size step kind (view value.now)) }
 {
     let count = count_in(value);
     match kind {
         Kind::Records => Ok(1 <= count && count <= MOST_RECORDS as usize),
         Kind::Procedures => Ok(count <= MOST_PROCS),
-        Kind::Scripts => Ok(count <= MOST_CLIENTS && calls_are_few(alloc, edition, value)?),
+        Kind::Scripts => Ok(count <= MOST_CLIENTS && calls_are_few(value)),
         Kind::Schedule => Ok(count <= MOST_EVENTS),
         Kind::Whole => option_has_size(step, value),
         _ => Ok(true),
@@ -112,16 +111,26 @@ pub(crate) fn count_in(value: &Value) -> usize
     }
 }
 
-// Whether the scripts of all clients together have few calls.
-fn calls_are_few(alloc: Global, edition: Edition, value: &Value) -> Result<bool, AllocError>
-    ensures { IfOk result (λ are. are ≡ unwrap_or (option_map calls_are_few (scripts_at (view value.now))) true) }
+// Whether the scripts of all clients together have no more calls than a number.
+fn have_at_most(scripts: &[Value], most: usize) -> bool
+    ensures { result ≡ nat_le (calls_in (items_view scripts.now)) most }
 {
-    Ok(
-        match if_read(Items::<Items<Asked>>::read(alloc, edition, value))? {
-            Some(scripts) => has_few_calls(scripts.as_slice()),
-            None => true,
-        },
-    )
+    match scripts {
+        [] => true,
+        [script, others @ ..] => {
+            let count = count_in(script);
+            count <= most && have_at_most(others, most - count)
+        }
+    }
+}
+
+fn calls_are_few(scripts: &Value) -> bool
+    ensures { result ≡ nat_le (unwrap_or (option_map calls_in (as_array (view scripts.now))) 0) MOST_CALLS }
+{
+    match scripts.as_array() {
+        Some(list) => have_at_most(list.as_slice(), MOST_CALLS as usize),
+        None => true,
+    }
 }
 
 // Whether the option to which a step leads is within its limits.
@@ -157,7 +166,7 @@ fn check_passes(
 {
     let Found { step, kind, value } = *piece;
     match kind {
-        Kind::Index => Ok(test.args_pass()),
+        Kind::Index => Ok(step != Step::Args || test.args_pass()),
         Kind::Keys => Ok(test.keys_pass()),
         Kind::Key => key_passes(test, before, place_of(step), value),
         Kind::Statements => list_passes(alloc, edition, test, before, value),

@@ -97,7 +97,7 @@ fn calls_in(scripts: &[Items<Asked>]) -> u32
 }
 
 // Whether all scripts together have at most `MOST_CALLS` calls.
-pub(crate) fn has_few_calls(scripts: &[Items<Asked>]) -> bool
+fn has_few_calls(scripts: &[Items<Asked>]) -> bool
     ensures { IsTrue result ↔ (sum_by length scripts.now ≤ MOST_CALLS) }
 {
     let mut left = MOST_CALLS as usize;

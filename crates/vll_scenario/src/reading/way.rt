@@ -29,8 +29,8 @@ pub struct Found<'v> {
     pub value: &'v Value,
 }
 
-/// The steps from a scenario to the piece at fault, and that piece; none if it is the scenario itself, a call or the
-/// names of all procedures.
+/// The steps from a scenario to the piece at fault, and that piece; no piece if it is the scenario itself, a call, the
+/// names of all procedures or a procedure that is not there.
 #[derive(Drop)]
 pub struct Way<'v> {
     pub steps: Vec<Step>,
@@ -44,7 +44,9 @@ pub(crate) struct Faulty<'v> {
     pub(crate) piece: Found<'v>,
 }
 
-/// Finds the way from a scenario's JSON tree to the piece at fault, for the fault that reading it has returned.
+/// Finds the way from a scenario's JSON tree to the piece at fault, for the fault that reading it has returned. It has
+/// no step for a fault that lies in no tree, and ends at a procedure that is not there. `AllocError` means that memory
+/// ran out.
 pub fn way_to_fault<'v>(
     alloc: Global,
     tree: &'v Value,
@@ -143,6 +145,7 @@ fn way_on<'v>(
 {
     let mut steps = Vec::from_slice(alloc, begun)?;
     let mut piece = None;
+    // `?` takes no value that has both a reference and locals
     let mut next = match first_of(alloc, edition, test, Before::new(), pieces) {
         Ok(next) => next,
         Err(why) => return Err(why),
@@ -211,7 +214,7 @@ fn first_of<'v>(
         [piece, others @ ..] => {
             if test.passes(alloc, edition, &before, piece)? {
                 let mut next = before;
-                note(alloc, edition, &mut next, piece)?;
+                note(alloc, edition, test, &mut next, piece)?;
                 first_of(alloc, edition, test, next, others)
             } else {
                 Ok(Some(Faulty {
@@ -243,7 +246,7 @@ fn first_of_items<'v>(
         if !test.passes(alloc, edition, &before, &piece)? {
             return Ok(Some(Faulty { before, piece }));
         }
-        note(alloc, edition, &mut before, &piece)?;
+        note(alloc, edition, test, &mut before, &piece)?;
     }
     Ok(None)
 }
