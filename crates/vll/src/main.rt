@@ -2,25 +2,58 @@
 //! its fault, and writes the result.
 #![tactic(auto)]
 
-ghost use Rattle.std.specs.Prelude.{◌≡◌, ◌↔◌, IsOk};
+ghost use Rattle.std.specs.Prelude.{◌≡◌, ◌↔◌, false, IsOk, OnOk};
+ghost use Rattle.std.specs.Io.KnownBytes.{Appends};
 ghost use Rattle.std.specs.Process.{exit_status};
+ghost use Rattle.vll.specs.Private.Acting.{Performs};
 
 mod acting;
 mod command;
 mod fault;
 
 use crate::acting::act;
-use crate::command::action_of;
+use crate::command::{Action, action_of};
 use crate::fault::Fault;
 use std::process::ExitCode;
 use std::rt::Env;
 use std::sync::Wait;
 use std::thread::Threads;
 use std::{env, io};
-use vll_server::Plain;
+use vll_server::{Plain, Sink, Source};
 
+// It passes standard input as the reader, and standard output as the writer.
 fn main(rt: HostRuntime) -> ExitCode {
-    let done = work(&rt);
+    let asked = action_asked(&rt);
+    let mut reader = Plain::new(rt.reader());
+    let mut writer = Plain::new(io::writer(&rt));
+    work(&rt, asked, &mut reader, &mut writer)
+}
+
+// What the command line asks for.
+fn action_asked<R: Env + AllocGlobal>(rt: &R) -> Result<Action, Fault> {
+    let words = words_of(rt).map_err(|_| Fault::CommandLine)?;
+    action_of(rt.alloc(), words.as_slice())
+}
+
+// The words of the command line. One that is not text is an error.
+fn words_of(rt: &(impl Env + AllocGlobal)) -> io::Result<Vec<String>> {
+    Ok(env::args(rt)?.collect(rt.alloc())?)
+}
+
+// Performs the action that was asked for, and prints the line of a fault. The exit status is 0 only if the action was
+// performed.
+fn work<R: Print + Eprint + AllocGlobal + Threads + Wait + Sync, S: Source, W: Sink>(
+    rt: &R,
+    asked: Result<Action, Fault>,
+    reader: &mut S,
+    writer: &mut W,
+) -> ExitCode
+    requires reader { S.failed reader.old ≡ false }
+    requires writer { W.failed writer.old ≡ false }
+    ensures { exit_status result ≡ 0 → Performs asked (S.remaining reader.old) (S.remaining reader.new)
+        (Appends (W.contents writer.old) (W.contents writer.new)) }
+{
+    let done = perform(rt, asked, reader, writer);
     if let Err(fault) = &done
         && !matches!(fault, Fault::Explained(_))
     {
@@ -28,6 +61,24 @@ fn main(rt: HostRuntime) -> ExitCode {
         let _ = println!(rt; "{fault}");
     }
     exit_code(&done)
+}
+
+// Performs the action, if the command line asks for one.
+fn perform<R: Print + Eprint + AllocGlobal + Threads + Wait + Sync, S: Source, W: Sink>(
+    rt: &R,
+    asked: Result<Action, Fault>,
+    reader: &mut S,
+    writer: &mut W,
+) -> Result<(), Fault>
+    requires reader { S.failed reader.old ≡ false }
+    requires writer { W.failed writer.old ≡ false }
+    ensures { OnOk result (Performs asked (S.remaining reader.old) (S.remaining reader.new)
+        (Appends (W.contents writer.old) (W.contents writer.new))) }
+{
+    match asked {
+        Ok(action) => act(rt, action, reader, writer),
+        Err(why) => Err(why),
+    }
 }
 
 // The program's exit status, which is 0 exactly if all went well.
@@ -38,20 +89,4 @@ fn exit_code(done: &Result<(), Fault>) -> ExitCode
         Ok(()) => ExitCode::from(0),
         Err(fault) => ExitCode::from(fault.status()),
     }
-}
-
-// Does what the command line asks for, with standard input as the reader and standard output as the writer.
-fn work<R: Env + Input + Print + Eprint + AllocGlobal + Threads + Wait + Sync>(
-    rt: &R,
-) -> Result<(), Fault> {
-    let words = words_of(rt).map_err(|_| Fault::CommandLine)?;
-    let action = action_of(rt.alloc(), words.as_slice())?;
-    let mut reader = Plain::new(rt.reader());
-    let mut writer = Plain::new(io::writer(rt));
-    act(rt, action, &mut reader, &mut writer)
-}
-
-// The words of the command line. One that is not text is an error.
-fn words_of(rt: &(impl Env + AllocGlobal)) -> io::Result<Vec<String>> {
-    Ok(env::args(rt)?.collect(rt.alloc())?)
 }

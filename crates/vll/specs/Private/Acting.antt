@@ -1,5 +1,5 @@
 -- The meaning of the actions of the command line.
-use Rattle.std.specs.Prelude.{◌≡◌, ℕ, List, [], Option, None, Ok}
+use Rattle.std.specs.Prelude.{◌≡◌, ℕ, List, [], Option, None, Result, Ok}
 use Rattle.vll_draw.specs.Page.{Draws}
 use Rattle.vll_explain.specs.Told.{Explains}
 use Rattle.vll_scenario.specs.Setup.{Setup}
@@ -10,6 +10,7 @@ use Rattle.vll_server.specs.Serve.{Serves}
 use Rattle.vll_replay.specs.Text.{Text}
 use Rattle.vll_server.specs.declared.options.RunOptions.{RunOptions}
 use Rattle.vll.specs.declared.command.Action.{Action}
+use Rattle.vll.specs.declared.fault.Fault.{Fault}
 use Rattle.vll.specs.declared.command.Action.TheVariants as action
 
 -- a scenario was read, and this holds of the text of serving it with these options
@@ -24,3 +25,7 @@ Does action.Replay old new Holds = Replays old new Holds
 Does action.Explain old new Holds = Explains old new None Holds
 Does (action.Draw window) old new Holds = Draws old new Holds
 Does (action.Tell text) old new Holds = (new ≡ old) × Holds []
+
+-- the action that was asked for was performed, and this holds of the text
+abbrev pub Performs : Result Action Fault → Option (List ℕ) → Option (List ℕ) → (Text → Type 0) → Type 0
+Performs asked old new Holds = (action : Action) × (asked ≡ Ok action) × Does action old new Holds
