@@ -4,9 +4,9 @@
     python3 tools/figures.py [--processor WORDS] [compare] [sweep]
     python3 tools/figures.py --scenario NAME       prints a scenario of docs/speed.csv, the same one each time
 
-It builds vll_bench, which is proved before, and runs `vll_bench compare` on each of these scenarios, and `vll_bench
-sweep`; with a word only that one. It is to be run while nothing else runs. The processor is named as the system names
-it if WORDS do not. Gnuplot draws the pictures; without it they stay as they were, and a line says so.
+It builds vll_bench, which is proved before, and runs `vll_bench compare` on each of these scenarios, and on those of
+a sweep, with ever fewer hot records; with a word only on these. It is to be run while nothing else runs. The processor
+is named as the system names it if WORDS do not. Without gnuplot the pictures stay as they were.
 
 In a scenario 256 clients make 65,536 calls in all, or 16,384 of the long ones, and at most 8 calls wait.
 """
@@ -26,7 +26,7 @@ from cases import TOP
 CRATE = TOP / 'crates/vll_bench'
 FILES = {'compare': TOP / 'docs/speed.csv', 'sweep': TOP / 'docs/sweep.csv'}
 # What vll_bench prints first, and the first line of a file of figures.
-PRINTED = ['scenario', 'way', 'threads', 'nanoseconds', 'calls', 'fewest', 'most']
+PRINTED = ['way', 'threads', 'nanoseconds', 'calls', 'fewest', 'most']
 HEAD = ['scenario', 'way', 'threads', 'nanoseconds', 'commit', 'processor', 'date']
 
 RECORDS = 65536
@@ -37,6 +37,7 @@ CAP = 8
 # The procedures with ten claims read two records each that no call writes; these are the last ones.
 TENS = 64
 WRITTEN = RECORDS - 2 * TENS
+HOT = 10000, 3000, 1000, 300, 100, 30, 10, 3, 1
 
 BUMP = {'name': 'bump', 'args': 1, 'keys': [['write', 'arg', 0]],
         'body': [['set', 0, ['add', ['key', 0], 1]], ['reply', ['key', 0]]]}
@@ -95,8 +96,8 @@ WORKLOADS = {
 
 
 def scenario(name):
-    """The scenario, as JSON text."""
-    records, procs, calls = WORKLOADS[name][1](random.Random(name))
+    """The scenario of this name, or that of a sweep with so many hot records, as JSON text."""
+    records, procs, calls = WORKLOADS.get(name, ('', lambda rng: tens(rng, name)))[1](random.Random(name))
     made = [{'proc': proc, 'args': args} for proc, args in calls]
     clients = [made[first::CLIENTS] for first in range(CLIENTS)]
     return json.dumps({'version': 1, 'records': records, 'procs': procs, 'clients': clients, 'cap': CAP},
@@ -142,12 +143,11 @@ def commit():
 
 def figures_of(what):
     """The rows that vll_bench prints of a sweep, or of all scenarios, each with the scenario's name."""
-    for name in WORKLOADS if what == 'compare' else ['the sweep']:
+    for name in WORKLOADS if what == 'compare' else HOT:
         print(name, flush=True)
-        given = scenario(name) if what == 'compare' else ''
-        printed = subprocess.check_output([CRATE / 'out/vll_bench', what], input=given, text=True)
+        printed = subprocess.check_output([CRATE / 'out/vll_bench', 'compare'], input=scenario(name), text=True)
         for row in rows_below(PRINTED, printed):
-            yield [name if what == 'compare' else row[0], *row[1:4]]
+            yield [name, *row[:3]]
 
 
 def main():

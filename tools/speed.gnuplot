@@ -1,8 +1,5 @@
-# Draws speed.svg from speed.csv, and sweep.svg from sweep.csv, in docs/. At the top of the repository:
-#
-#     gnuplot tools/speed.gnuplot
-#
-# Both have a ground of their own, so that they can be read on a light page and on a dark one.
+# `gnuplot tools/speed.gnuplot`, at the top of the repository, draws speed.svg from speed.csv, and sweep.svg from
+# sweep.csv, in docs/. Both have a ground of their own, so that they can be read on a light page and on a dark one.
 
 set datafile separator comma
 set datafile missing NaN
@@ -22,7 +19,6 @@ set style line 6 lc '#b94a00' lw 2 pt 5  ps 0.8 dt 2
 set style line 7 lc '#8a5fa8' lw 2 pt 9  ps 1.0 dt 2
 set style line 8 lc '#9cc3e6' lw 2 pt 7  ps 0.7
 set style line 9 lc '#5a9bd0' lw 2 pt 7  ps 0.7
-set style line 10 lc '#2a75b3' lw 2 pt 7  ps 0.7
 
 # The number in a column of a row of a scenario and a way; nothing in other rows.
 of(scenario, way, column) = strcol(1) eq scenario && strcol(2) eq way ? column(column) : NaN
@@ -109,7 +105,6 @@ set bmargin 5
 set key outside right center vertical samplen 3 spacing 1.5 font ',13'
 rate(way, threads) = swept(way, threads, 1000.0 / column(4))
 plot csv every ::1 using (1.0 / column(1)):(rate('engine', 4)) with linespoints ls 5 title '4 workers', \
-    csv every ::1 using (1.0 / column(1)):(rate('engine', 3)) with linespoints ls 10 title '3 workers', \
     csv every ::1 using (1.0 / column(1)):(rate('engine', 2)) with linespoints ls 9 title '2 workers', \
     csv every ::1 using (1.0 / column(1)):(rate('engine', 1)) with linespoints ls 8 title '1 worker', \
     csv every ::1 using (1.0 / column(1)):(rate('mutex', 1)) with linespoints ls 2 title 'mutex, 1 thread', \

@@ -15,52 +15,15 @@ use std::time::{Clock, Instant};
 use vll_proc::Call;
 use vll_queue::{Engine, Name, Opening, Spent};
 use vll_sca::Placing;
-use vll_workers::Tally;
 
-/// How a thread makes the calls of a client.
-pub(crate) trait Manner {
-    /// Makes them, and adds to the tally what the thread did, if that is counted.
-    fn make_script<N: Name>(
-        rt: &impl Wait,
-        engine: &Engine<N, Placing>,
-        caller: Caller<N>,
-        tally: &mut Tally,
-    ) -> Result<(), Fault>;
-}
-
-/// Makes calls with the engine's own call. Nothing is counted.
-#[derive(Drop)]
-pub(crate) struct ByCall;
-
-impl Manner for ByCall {
-    fn make_script<N: Name>(
-        rt: &impl Wait,
-        engine: &Engine<N, Placing>,
-        caller: Caller<N>,
-        _tally: &mut Tally,
-    ) -> Result<(), Fault> {
-        let Caller { mut client, script } = caller;
-        for call in &script {
-            if let Err(Spent) = client.make(rt, engine, call) {
-                return Err(Fault::Refused);
-            }
-        }
-        Ok(())
-    }
-}
-
-/// Times the calls made by `threads` threads in an engine of this name, and returns what the threads did.
-pub(crate) fn time_calls<
-    N: Name + Send + Sync,
-    R: Threads + Wait + Clock + Sync,
-    M: Manner + Send + Sync,
->(
+/// Times the calls made by `threads` threads in an engine of this name, with `Engine::call`.
+pub(crate) fn time_calls<N: Name + Send + Sync, R: Threads + Wait + Clock + Sync>(
     rt: &R,
     alloc: Global,
     opening: Opening<Placing>,
     scripts: Vec<Vec<Call>>,
     threads: usize,
-) -> Result<(Timed, Tally), Fault>
+) -> Result<Timed, Fault>
     requires some { 0 < threads }
     requires named { N.engine ≡ name_of placing opening }
     requires fits { All (λ script. All (Fits (library_of N.engine)) script.items) scripts.items }
@@ -72,34 +35,47 @@ pub(crate) fn time_calls<
         rt,
         alloc,
         threads,
-        &|_| { make_share::<N, M>(rt, &engine, &callers) },
+        &|_| { make_share(rt, &engine, &callers) },
     )?;
     let time = start.elapsed(rt)?;
-    let mut tally = Tally::none();
     for made in shares.iter() {
-        tally = tally.with((*made)?);
+        (*made)?;
     }
     match engine.close(Vec::new(alloc)) {
-        Ok(closed) => {
-            let count = count_of(closed.journal.as_slice());
-            Ok((Timed { time, count }, tally))
-        }
+        Ok(closed) => Ok(Timed {
+            time,
+            count: count_of(closed.journal.as_slice()),
+        }),
         Err(_) => Err(Fault::Unfinished),
     }
 }
 
 // Makes the calls of one client after another, until none is left.
-fn make_share<N: Name, M: Manner>(
+fn make_share<N: Name>(
     rt: &impl Wait,
     engine: &Engine<N, Placing>,
     callers: &Mutex<Vec<Caller<N>>>,
-) -> Result<Tally, Fault> {
-    let mut tally = Tally::none();
+) -> Result<(), Fault> {
     for _ in rt.forever() {
         let Some(caller) = callers.lock(rt).pop() else {
-            return Ok(tally);
+            return Ok(());
         };
-        M::make_script(rt, engine, caller, &mut tally)?;
+        make_script(rt, engine, caller)?;
     }
-    Ok(tally)
+    Ok(())
+}
+
+// Makes the calls of a client, one after the other.
+fn make_script<N: Name>(
+    rt: &impl Wait,
+    engine: &Engine<N, Placing>,
+    caller: Caller<N>,
+) -> Result<(), Fault> {
+    let Caller { mut client, script } = caller;
+    for call in &script {
+        if let Err(Spent) = client.make(rt, engine, call) {
+            return Err(Fault::Refused);
+        }
+    }
+    Ok(())
 }

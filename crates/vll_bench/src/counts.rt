@@ -1,14 +1,11 @@
-//! The outcomes of the calls of a scenario in the engine, and what the threads that made them did.
+//! The outcomes of the calls of a scenario in the engine, and what the workers that made them did.
 ghost use Rattle.std.specs.Prelude.{◌≤◌};
 ghost use Rattle.vll_workers.specs.declared.running.TheConstants.{MOST_WORKERS};
 
 use crate::adding::Adding;
-use crate::calls::time_calls;
-use crate::counted::ByParts;
 use crate::fault::Fault;
 use crate::runs;
 use crate::timed::Count;
-use crate::ways::Way;
 use std::io::Read;
 use std::marker::Brand;
 use std::sync::Wait;
@@ -18,47 +15,20 @@ use vll_scripts::opening;
 use vll_server::{Plain, read_scenario};
 use vll_workers::{MOST_WORKERS, Tally};
 
-// How many threads make the calls.
-const THREADS: [u32; 3] = [1, 2, 4];
+const WORKERS: [u32; 3] = [1, 2, 4];
 
-/// Makes the calls of the scenario on standard input once by the steps of `Engine::call` and once by workers, for each
-/// number of threads, and prints their outcomes.
+/// Makes the calls of the scenario on standard input once for each number of workers, and prints their outcomes.
 pub(crate) fn count_ways<R: Threads + Wait + Clock + Input + Print + AllocGlobal + Sync>(
     rt: &R,
 ) -> Result<(), Fault> {
     let mut bytes = Vec::new(rt.alloc());
     rt.reader().read_to_end(&mut bytes)?;
-    let bytes = bytes.as_slice();
-    println!(rt; "way,threads,calls,committed,aborted,moved,blocked,busy,front,scan,holds,rests")?;
-    for threads in THREADS {
-        let (count, tally) = count_once(rt, bytes, threads)?;
-        print_line(rt, Way::Call.name(), threads, count, tally)?;
-    }
-    for workers in THREADS {
-        let (count, tally) = count_run(rt, bytes, workers)?;
-        print_line(rt, Way::Engine.name(), workers, count, tally)?;
+    println!(rt; "workers,calls,committed,aborted,moved,blocked,busy,front,scan,holds,rests")?;
+    for workers in WORKERS {
+        let (count, tally) = count_run(rt, bytes.as_slice(), workers)?;
+        print_line(rt, workers, count, tally)?;
     }
     Ok(())
-}
-
-// Makes the calls with `threads` threads, on a scenario that is read anew.
-fn count_once<R: Threads + Wait + Clock + AllocGlobal + Sync>(
-    rt: &R,
-    bytes: &[u8],
-    threads: u32,
-) -> Result<(Count, Tally), Fault>
-    requires { 1 ≤ threads }
-{
-    let scenario = read_scenario(rt.alloc(), &mut Plain::new(bytes))?;
-    let (opening, scripts) = opening(rt.alloc(), scenario)?;
-    let (timed, tally) = time_calls::<Brand, R, ByParts>(
-        rt,
-        rt.alloc(),
-        opening,
-        scripts,
-        threads as usize,
-    )?;
-    Ok((timed.count, tally))
 }
 
 // Makes the calls with `workers` workers, on a scenario that is read anew.
@@ -76,16 +46,10 @@ fn count_run<R: Threads + Wait + Clock + AllocGlobal + Sync>(
     Ok((timed.count, adding.into_tally()))
 }
 
-// Prints the line for this number of threads.
-fn print_line(
-    rt: &impl Print,
-    name: &'static str,
-    threads: u32,
-    count: Count,
-    tally: Tally,
-) -> Result<(), Fault> {
+// Prints the line for this number of workers.
+fn print_line(rt: &impl Print, workers: u32, count: Count, tally: Tally) -> Result<(), Fault> {
     println!(rt;
-        "{name},{threads},{},{},{},{},{},{},{},{},{},{}",
+        "{workers},{},{},{},{},{},{},{},{},{},{}",
         count.calls,
         count.committed,
         count.aborted(),

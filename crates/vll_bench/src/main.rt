@@ -6,21 +6,17 @@ mod bodies;
 mod caller;
 mod calls;
 mod compare;
-mod contention;
-mod counted;
 mod counts;
 mod engine;
 mod events;
 mod fault;
 mod locks;
 mod plain;
-mod rows;
 mod runs;
 mod scans;
 mod setup;
 mod shapes;
 mod shares;
-mod sweep;
 mod task;
 mod timed;
 mod ways;
@@ -34,7 +30,6 @@ use crate::events::measure_events;
 use crate::fault::Fault;
 use crate::runs::measure_runs;
 use crate::scans::measure_scans;
-use crate::sweep::sweep;
 use crate::task::{Task, task_of};
 use std::env;
 use vll_workers::MOST_WORKERS;
@@ -45,7 +40,6 @@ const USAGE: &str = "usage: vll_bench events
        vll_bench bodies
        vll_bench compare < scenario
        vll_bench counts < scenario
-       vll_bench sweep
        vll_bench WORKERS ROUNDS < scenario
 
 events   what an event of the machine costs, on one thread
@@ -56,11 +50,8 @@ compare  what a call of the scenario costs without the engine, serially, under
          one lock and with one lock per record, and in the engine, by its own
          call and by workers: lines of comma-separated values, whose names are
          in the first line
-counts   what became of the scenario's calls in the engine, by its own call and
-         by workers, and what the threads that made them did: lines of that kind
-sweep    what a call with ten claims costs while one of them is among 10,000 hot
-         records, or fewer, down to one: lines like those of compare, with the
-         number of hot records as the scenario
+counts   what became of the scenario's calls by workers in the engine, and what
+         these did: lines of that kind
 WORKERS  how many worker threads run the scenario, 1 to 64
 ROUNDS   how many times; prints the nanoseconds of each run, one per line";
 
@@ -73,7 +64,6 @@ fn main(rt: HostRuntime) -> Result<(), Fault> {
         Task::Bodies => measure_bodies(&rt),
         Task::Compare => compare_ways(&rt),
         Task::Counts => count_ways(&rt),
-        Task::Sweep => sweep(&rt),
         Task::Runs { workers, rounds } if 1 <= workers && workers <= MOST_WORKERS => {
             measure_runs(&rt, workers, rounds)
         }

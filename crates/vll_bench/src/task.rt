@@ -11,7 +11,6 @@ pub(crate) enum Task {
     Bodies,
     Compare,
     Counts,
-    Sweep,
     Runs { workers: u32, rounds: u32 },
 }
 
@@ -32,7 +31,6 @@ fn task_of_word(word: &str) -> Task {
         "bodies" => Task::Bodies,
         "compare" => Task::Compare,
         "counts" => Task::Counts,
-        "sweep" => Task::Sweep,
         _ => Task::Usage,
     }
 }

@@ -1,5 +1,5 @@
 //! The ways of making the calls of a scenario, with the engine and without it.
-use crate::calls::{ByCall, time_calls};
+use crate::calls::time_calls;
 use crate::fault::Fault;
 use crate::locks::ByLocks;
 use crate::plain::{ByMutex, time_serial};
@@ -61,8 +61,7 @@ impl Way {
         }
         if let Way::Call = self {
             let (opening, scripts) = opening(alloc, scenario)?;
-            let (timed, _) = time_calls::<Brand, R, ByCall>(rt, alloc, opening, scripts, threads)?;
-            return Ok(timed);
+            return time_calls::<Brand, R>(rt, alloc, opening, scripts, threads);
         }
         let ScenarioParts {
             mut records,
