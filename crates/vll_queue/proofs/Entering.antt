@@ -1,10 +1,11 @@
 -- What a call's entry does to the queue's seat, to its session and to the invariant of the lock's type, and why a call
 -- is refused.
-use Rattle.std.proofs.Common.{◌≡◌, ℕ, suc, ◌+◌, ◌<◌, Bool, true, false, nat_le, List, [], ◌∷◌, ◌++◌, length, All, Option, Some, None, slice_get, refl, sym, ap, ◌∙◌, subst, arith, if◌then◌else◌}
+use Rattle.std.proofs.Common.{◌≡◌, ℕ, suc, ◌+◌, ◌<◌, Bool, true, false, nat_le, List, [], ◌∷◌, ◌++◌, length, All, Option, Some, None, slice_get, refl, sym, ap, ◌∙◌, subst, arith, cond, if◌then◌else◌}
 use Rattle.std.specs.Prelude.{IfSome, count_by}
 use Rattle.std.proofs.lemmas.Bool.{leb-true}
 use Rattle.std.proofs.lemmas.List.{map-append, length-map, take_all, length-append}
 use Rattle.std.proofs.lemmas.List.Elements.{All-push}
+use Rattle.std.proofs.lemmas.List.Sums.{sum_by-append}
 use Rattle.atomic_table.specs.Seated.{TableId}
 use Rattle.vll_record.specs.declared.claim.Claim.{Claim}
 use Rattle.vll_proc.specs.declared.call.Call.{Call}
@@ -170,6 +171,13 @@ entered_own e place base old seat q g client call free left ticket kept knows en
     ∙ map-append (λ (l : Line). (l.client, l.call)) old.lines (line_of client call ∷ [])
     ∙ ap (λ (n : ℕ). calls_in old.lines ++ (n, call) ∷ []) (sym own))
     (next_ticket e place old q ticket kept last ∙ sym (length-map old.lines (λ (l : Line). (l.client, l.call))))
+
+-- a blocked call is among those that wait
+pub blocked_waits : (old seat : QueueShown) (g : SessionView) (client : ℕ) (call : Call) (free : Bool) (left : SessionShown) → HasEntered old seat g client call free left → free ≡ false → 0 < left.session.waited
+blocked_waits old seat g client call free left entered is =
+    let waited = ap (λ (s : SessionShown). s.session.waited) entered.session_is ∙ ap (λ (b : Bool). count_by is_waiting (old.statuses ++ status_of b ∷ [])) is in
+    let one = sum_by-append (λ (s : Status). cond (is_waiting s) 1 0) old.statuses (Waiting ∷ []) in
+    omega (arith, waited, one)
 
 -- the pass of the call that has entered
 pub pass_is : {H : Type 0} (e : Named) (place : H → ℕ → ℕ) (old given : QueueShown) (q : Queued H) (g : SessionView) (client : ℕ) (call : Call) (free : Bool) (t : ℕ) (table : TableId) (p : PassShown)

@@ -70,4 +70,4 @@ pub calls_in_order : NewsOrdersCalls
 calls_in_order e one after_one other after_other a b t u reply answered chain calls first handed second all =
     let on = begins_further first.entered.seen after_one.seen other.seen (others_begin first.entered after_one first.others) (handed_on after_one.seen other.seen chain handed) in
     let more = begins_further second.entered.seen after_other.seen calls (others_begin second.entered after_other second.others) all in
-    entries_in_order one first.entered other second.entered _ _ t u [] calls first.begins.begins on second.begins.begins more
+    entries_in_order one first.entered other second.entered _ _ t u [] calls first.enters.enters on second.enters.enters more

@@ -92,7 +92,7 @@ saw_more old mid new first then = record {
   seen = then.seen ∙ ap (λ (l : List Made). l ++ then.others) first.seen ∙ append_assoc old.seen first.others then.others;
 }
 
-saw_more_own : (old mid new : SessionView) (call : Call) (t : ℕ) → SawOthers old mid → SawOwn mid new call t → SawOwn old new call t
+pub saw_more_own : (old mid new : SessionView) (call : Call) (t : ℕ) → SawOthers old mid → SawOwn mid new call t → SawOwn old new call t
 saw_more_own old mid new call t first then =
     let whole : mid.seen ++ then.others ≡ old.seen ++ (first.others ++ then.others) = ap (λ (l : List Made). l ++ then.others) first.seen ∙ append_assoc old.seen first.others then.others in
     record {
@@ -106,7 +106,7 @@ saw_more_own old mid new call t first then =
 -- the answer for a session that has looked before
 pub begins_more : (e : Named) (old mid new : SessionView) (call : Call) (begun : Begun) → SawOthers old mid → Begins e mid new call begun → Begins e old new call begun
 begins_more e old mid new call (Free pass) first h = (saw_more_own old mid new call pass.pass.ticket first h.0, h.1)
-begins_more e old mid new call (Blocked ticket) first h = saw_more_own old mid new call ticket first h
+begins_more e old mid new call (Blocked ticket) first h = (saw_more_own old mid new call ticket first h.0, h.1)
 begins_more e old mid new call (Refused why) first h = (saw_more old mid new first h.0, h.1)
 
 -- a call that was seen is the one that is seen at its ticket later
@@ -140,7 +140,7 @@ found_own e mid new call ticket r v saw same was known =
 found_begun : (e : Named) (mid new : SessionView) (call : Call) (begun : Begun) (r v : ℕ) → Begins e mid new call begun → new.given ≡ mid.given
     → WasThere e.base mid.seen mid.given (length mid.seen) r v → ((k t : ℕ) → slice_get mid.given k ≡ Some t → t < length mid.seen) → WasFound e new r v begun
 found_begun e mid new call (Free pass) r v h same was known = found_own e mid new call pass.pass.ticket r v h.0 same was known
-found_begun e mid new call (Blocked ticket) r v h same was known = found_own e mid new call ticket r v h same was known
+found_begun e mid new call (Blocked ticket) r v h same was known = found_own e mid new call ticket r v h.0 same was known
 found_begun e mid new call (Refused why) r v h same was known = tt
 
 -- a session looks, and then its call begins

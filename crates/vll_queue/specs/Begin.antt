@@ -1,6 +1,6 @@
 -- What it means that a call begins: it enters, requests all its claims and gets a ticket under one hold of the lock, or
 -- is refused.
-use Rattle.std.specs.Prelude.{◌≡◌, ℕ, nat_le, length, count_by, Option, Some, None, if◌then◌else◌}
+use Rattle.std.specs.Prelude.{◌≡◌, ◌<◌, ℕ, nat_le, length, count_by, Option, Some, None, if◌then◌else◌}
 use Rattle.vll_proc.specs.declared.call.Call.{Call}
 use Rattle.vll_check.specs.Calls.{bare, source, with_found}
 use Rattle.vll_sca.specs.Status.{is_waiting}
@@ -28,11 +28,11 @@ abbrev pub IsRefused : Named → SessionView → BeginRefusal → Type 0
 IsRefused e new Spent = length new.seen ≡ e.config.limit
 IsRefused e new Busy = new.waited ≡ e.config.cap
 
--- what the answer says of the session: after an entry its last call is this one, under its ticket, and after a refusal
--- it has entered none
+-- what the answer says of the session: after an entry its last call is this one, under its ticket; a blocked one is
+-- among those that then wait; and after a refusal the session has entered none
 abbrev pub Begins : Named → SessionView → SessionView → Call → Begun → Type 0
 Begins e old new call (Free pass) = SawOwn old new call pass.pass.ticket × IsPassFor e new call pass
-Begins e old new call (Blocked ticket) = SawOwn old new call ticket
+Begins e old new call (Blocked ticket) = SawOwn old new call ticket × (0 < new.waited)
 Begins e old new call (Refused why) = SawOthers old new × IsRefused e new why
 
 -- after an entry: the value was in the record loaded for the call. If the entered calls run one at a time, it is the

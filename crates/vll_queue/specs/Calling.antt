@@ -3,19 +3,25 @@ use Rattle.std.specs.Prelude.{◌≡◌, ℕ, [], ◌∷◌, ◌++◌, length, L
 use Rattle.vll_proc.specs.declared.call.Call.{Call}
 use Rattle.vll_proc.specs.declared.call.Reply.{Reply}
 use Rattle.vll_proc.specs.Serial.{answer}
-use Rattle.vll_check.specs.Calls.{call_made}
+use Rattle.vll_check.specs.Calls.{bare, call_made, source, with_found}
 use Rattle.vll_counters.specs.declared.views.SessionView.{SessionView}
-use Rattle.vll_queue.specs.declared.begun.Begun.TheVariants.{Blocked}
-use Rattle.vll_queue.specs.Begin.{FindsAndBegins}
-use Rattle.vll_queue.specs.Sessions.{SawOthers}
+use Rattle.vll_counters.specs.Told.{WasThere}
+use Rattle.vll_queue.specs.Sessions.{SawOthers, SawOwn}
 use Rattle.vll_queue.specs.Shown.{Named, library_of}
 
--- the call has entered under this ticket with what it found, as `begin` says of a blocked call; since then the session
--- has seen only calls of other clients; and it was given the reply, which is the ticket's in the serial run of the
--- calls it has seen
+-- the call has entered under this ticket with what it found, otherwise unchanged, as `FindsAndBegins` says of a call
+-- that begins; whether it had to wait is not said
+pub record FindsAndEnters (e : Named) (old new : SessionView) (call : Call) (ticket : ℕ) : Type 0 where
+  pub value : ℕ
+  pub enters : SawOwn old new (with_found (library_of e) call value) ticket
+  pub same : bare (with_found (library_of e) call value) ≡ bare call
+  pub found : (r : ℕ) → source (library_of e) call ≡ Some r → WasThere e.base new.seen new.given ticket r value
+
+-- the call has entered under this ticket with what it found; since then the session has seen only calls of other
+-- clients; and it was given the reply, which is the ticket's in the serial run of the calls it has seen
 pub record IsCalled (e : Named) (old new : SessionView) (call : Call) (ticket : ℕ) (reply : Reply) : Type 0 where
   pub entered : SessionView
-  pub begins : FindsAndBegins e old entered call (Blocked ticket)
+  pub enters : FindsAndEnters e old entered call ticket
   pub same : entered.given ≡ old.given
   pub others : SawOthers entered new
   pub given : new.given ≡ old.given ++ ticket ∷ []

@@ -43,4 +43,4 @@ abbrev pub NewsOrdersCalls : Type 0
 NewsOrdersCalls =
     (e : Named) (one after_one other after_other : SessionView) (a b : Call) (t u : ℕ) (reply answered : Reply) (chain : List (List Made)) (calls : List Made)
     → (first : IsCalled e one after_one a t reply) → IsHandedOn after_one.seen chain other.seen → (second : IsCalled e other after_other b u answered) → Begins after_other.seen calls
-    → ComesBefore calls (one.client, with_found (library_of e) a first.begins.value) (other.client, with_found (library_of e) b second.begins.value) t u
+    → ComesBefore calls (one.client, with_found (library_of e) a first.enters.value) (other.client, with_found (library_of e) b second.enters.value) t u

@@ -68,7 +68,7 @@ impl<N: Name> Client<N> {
 
     /// Calls the procedure with this name, from entry to reply, as `Engine::call` does, and returns the call's ticket
     /// and reply. Fails with `Call` and the fault if the library does not make the call: the client is then unchanged.
-    /// Fails with `Refused(Spent)` if the engine takes no more calls: none has entered then. There is no other fault.
+    /// Fails with `Refused(Spent)` if the engine takes no more calls: the call has not entered. There is no other fault.
     pub fn call<H: Place + Send + Drop>(
         &mut self,
         wait: &impl Wait,

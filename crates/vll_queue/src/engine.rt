@@ -32,7 +32,7 @@ use vll_proc::{Call, Reply};
 use vll_sca::Place;
 
 /// The engine. Many threads may share it. Only a function that takes `wait` takes the lock: `call` takes it as often as
-/// it needs, every other one once, and `hold` keeps it for several calls.
+/// it needs, each of the others once, and `hold` keeps it for several calls.
 #[derive(Drop)]
 pub struct Engine<N: Name, H: Place + Send + Drop> {
     library: Library,
@@ -133,7 +133,7 @@ impl<N: Name, H: Place + Send + Drop> Engine<N, H> {
     }
 
     /// Returns a pass for the first waiting ticket that has no hash conflict with an earlier one that runs or waits, by
-    /// the places of this opening's hash.
+    /// the places of the engine's hash.
     pub fn next_scan(&self, wait: &impl Wait) -> Option<Pass>
         ensures { IfSome result (IsFresh N.engine) }
     {

@@ -10,11 +10,11 @@ use vll_check::{CallFault, CheckFault, NameTwice};
 use vll_core::OpenFault;
 use vll_sca::Place;
 
-/// Why a program with an embedded engine stops: `?` makes one of each fault possible between making procedures and
-/// closing the engine.
+/// Why a program with an embedded engine stops: `?` converts each fault possible between making procedures and closing
+/// the engine.
 #[derive(Clone, Copy, PartialEq, Eq, Debug, Error)]
 pub enum EngineFault {
-    #[error("memory was refused")]
+    #[error("out of memory")]
     NoMemory,
     #[error("input or output failed")]
     Output,
@@ -27,13 +27,13 @@ pub enum EngineFault {
     #[error("a call fails check {0}")]
     Call(CallFault),
     /// The engine cannot be opened.
-    #[error("the engine does not open: {0:?}")]
+    #[error("the engine cannot be opened: {0:?}")]
     Open(OpenFault),
     /// A call may not begin.
     #[error("a call may not begin: {0:?}")]
     Refused(BeginRefusal),
     /// Calls still run or wait that should have ended, as in an engine that is to be closed.
-    #[error("calls are left")]
+    #[error("calls are unfinished")]
     Left,
 }
 

@@ -7,7 +7,7 @@ use vll_workers::RunFault;
 /// nothing.
 #[derive(Clone, Copy, PartialEq, Eq, Debug, Error)]
 pub enum ServeFault {
-    /// The workers' run did not end well; this is the fault that it returned.
+    /// The workers' run failed; this is the fault that it returned.
     #[error("{0}")]
     Run(RunFault),
     /// After the run, calls were left in the engine, of which `running` run and `waiting` wait.

@@ -180,14 +180,14 @@ fn run_named<N: Name + Send + Sync, R: Threads + Wait + Sync, W: Wait + Sync, G:
     }
 }
 
-// The fault to return if the workers' run did not end well.
+// The fault to return if the workers' run failed.
 fn run_fault(error: RunError) -> ServeFault
     ensures { result ≡ ServeFault.Run error.fault }
 {
     ServeFault::Run(error.fault)
 }
 
-// Closes the engine and returns what it leaves, or how many calls are left in it.
+// Closes the engine and returns what it leaves, or how many calls are unfinished.
 fn close<N: Name>(engine: Engine<N, Placing>, sessions: Vec<Session>) -> Result<Closed, ServeFault>
     requires { All (λ s. s.table ≡ N.engine.table) sessions.items }
     ensures serial { IfOk result (IsSerial N.engine) }

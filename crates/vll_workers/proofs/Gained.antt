@@ -161,7 +161,7 @@ of_own handed t s call entering ticket of next table same saw =
 begun_of : (e : Named) (handed : List TokenShown) (t new : TokenShown) (call entering : Call) (begun : Begun) → IsOf handed t → slice_get t.script t.next ≡ Some call
     → new ≡ begun_token t new.session begun → bare entering ≡ bare call → BeginsWith e t.session.session new.session.session entering begun → new.session.table ≡ t.session.table → IsOf handed new
 begun_of e handed t new call entering (Free pass) of next is same begins table = subst (IsOf handed) (sym is) (of_own handed t new.session call entering pass.pass.ticket of next table same begins.0)
-begun_of e handed t new call entering (Blocked ticket) of next is same begins table = subst (IsOf handed) (sym is) (of_own handed t new.session call entering ticket of next table same begins)
+begun_of e handed t new call entering (Blocked ticket) of next is same begins table = subst (IsOf handed) (sym is) (of_own handed t new.session call entering ticket of next table same begins.0)
 begun_of e handed t new call entering (Refused why) of next is same begins table = subst (IsOf handed) (sym is) (of_others handed t new.session of table begins.0)
 
 -- the token's next call, as its script lends it

@@ -1,10 +1,10 @@
-//! Why a run did not end well, and its tokens then.
+//! Why a run failed, and its tokens then.
 ghost use Rattle.std.specs.Prelude.{◌≡◌};
 
 use crate::token::Token;
 use thiserror::Error;
 
-/// Why a run did not end well.
+/// Why a run failed.
 #[derive(Clone, Copy, PartialEq, Eq, Debug, Error)]
 pub enum RunFault {
     /// The run did not begin for lack of memory: the tokens are as they were passed.
@@ -18,7 +18,7 @@ pub enum RunFault {
     Spent,
 }
 
-/// Why a run did not end well, with its tokens.
+/// Why a run failed, with its tokens.
 #[derive(Drop)]
 pub struct RunError {
     pub fault: RunFault,

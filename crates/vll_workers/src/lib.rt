@@ -2,7 +2,7 @@
 //! takes a token for each client, with its session and its script, and returns the tokens once the workers have ended.
 //! Proved: every token comes back, and of its client's calls its session has seen just those of its script enter, in
 //! order; once all have entered, the journal of an engine that is closed with these sessions merges the scripts. Start
-//! at `run` and `Token`; `RunError` says why a run did not end well, and a `Gate` observes the calls and receives each
+//! at `run` and `Token`; `RunError` says why a run failed, and a `Gate` observes the calls and receives each
 //! worker's `Tally`.
 //!
 //! ```rattle

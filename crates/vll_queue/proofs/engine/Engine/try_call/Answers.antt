@@ -1,7 +1,7 @@
 -- The call has entered, and its session was given its reply.
 use Rattle.std.proofs.Common.{ℕ, sym, subst}
 use Rattle.vll_queue.specs.Calling.{IsCalled}
-use Rattle.vll_queue.proofs.Attempts.{entered_free, is_called}
+use Rattle.vll_queue.proofs.Attempts.{entered_blocked, entered_free, is_called}
 use Rattle.vll_queue.proofs.engine.Engine.try_call.Goals as goal
 
 pub returns-in-Free-clause-answer : goal.returns-in-Free-clause-answer
@@ -19,4 +19,4 @@ returns-in-Free-clause-answer g c =
 pub returns-in-Blocked-clause-answer : goal.returns-in-Blocked-clause-answer
 returns-in-Blocked-clause-answer g c =
     is_called g.N.Name.engine c.args.session.now.session c.begin.new.session.session c.reply_of.new.session.session c.args.call.now c.in-Blocked.ticket c.reply_of.result
-    c.in-Blocked.ensures.answer c.in-Blocked.ensures.given c.reply_of.ensures.session.1 c.reply_of.ensures.given c.reply_of.ensures.reply
+    (entered_blocked g.N.Name.engine c.args.session.now.session c.begin.new.session.session c.args.call.now c.in-Blocked.ticket c.in-Blocked.ensures.answer) c.in-Blocked.ensures.given c.reply_of.ensures.session.1 c.reply_of.ensures.given c.reply_of.ensures.reply

@@ -1,6 +1,6 @@
 use Rattle.std.proofs.Common.{ap, ◌∙◌}
 use Rattle.vll_counters.specs.Shown.{PassShown, WordsShown}
-use Rattle.vll_queue.proofs.Entering.{claims_there, all_asked, entered_blocked, pass_given_seat, entered_free, kept_entered, entered_own, pass_is, pass_for}
+use Rattle.vll_queue.proofs.Entering.{claims_there, all_asked, entered_blocked, pass_given_seat, entered_free, kept_entered, entered_own, blocked_waits, pass_is, pass_for}
 use Rattle.vll_queue.proofs.locked.Locked.enter.Goals as goal
 
 pub request_all-free-requires-clause-there : goal.request_all-free-requires-clause-there
@@ -26,9 +26,11 @@ returns-then-not-free-clause-answer g c =
     let free = c.request_all-free.result in
     let left = c.give_session-session in
     let asked = all_asked old c.join_session.new.queue c.request_all-free.new.seat come c.args.client c.args.call.now free c.join_session.ensures.queue c.request_all-free.ensures.turn in
-    let entered = entered_blocked old c.request_all-free.new.seat left.new.queue come c.args.client c.args.call.now free left.result asked left.ensures.queue left.ensures.session in
-    entered_own g.N.Name.engine g.H.Place.place_of c.args.words.now.base old left.new.queue c.self.inside.queue come c.args.client c.args.call.now free left.result c.admit-ticket.result
-    c.self.invariant c.join_session.ensures.session entered c.requires.client c.admit-ticket.ensures.ticket
+    let entered = entered_blocked old c.request_all-free.new.seat left.new.queue come c.args.client c.args.call.now free left.result asked left.ensures.queue left.ensures.session in (
+      entered_own g.N.Name.engine g.H.Place.place_of c.args.words.now.base old left.new.queue c.self.inside.queue come c.args.client c.args.call.now free left.result c.admit-ticket.result
+          c.self.invariant c.join_session.ensures.session entered c.requires.client c.admit-ticket.ensures.ticket,
+      blocked_waits old left.new.queue come c.args.client c.args.call.now free left.result entered c.if-not-free.true,
+    )
 
 -- the call is free
 
