@@ -1,16 +1,26 @@
 -- The laws of the rule.
 use Rattle.std.proofs.Common.{sym, ap, ◌∙◌, refl, Some}
 use Rattle.std.specs.Option.{option_map}
-use Rattle.vll_core.specs.State.{Entered, entered}
+use Rattle.vll_core.specs.State.{Entered, entered, is_clear}
+use Rattle.vll_core.proofs.Events.{running_not_waiting}
 use Rattle.vll_core.proofs.Reached.{clear_reached}
 use Rattle.vll_core.specs.Machine.{if_running}
 use Rattle.std.proofs.Common.{Option, Bool, None, if◌then◌else◌}
 use Rattle.vll_counters.specs.Rule.{widest, pass_for}
-use Rattle.vll_counters.specs.Laws.{TicketsAreClear, RunningTicketsHaveAPass, PassesAreOfRunningTickets, TicketsHaveOnePass, ClientsHaveOneSession}
+use Rattle.vll_counters.specs.declared.views.PassView.{PassView}
+use Rattle.vll_counters.specs.declared.views.View.TheVariants.{Pass}
+use Rattle.vll_counters.specs.Laws.{TicketsAreClear, PassesAreClear, RunningTicketsHaveAPass, PassesAreOfRunningTickets, TicketsHaveOnePass, ClientsHaveOneSession}
 use Rattle.vll_counters.proofs.States.{pass_is}
 
 pub clear : TicketsAreClear
 clear base m rule t e at busy = clear_reached (widest base) rule.state t e rule.shows.reached at busy
+
+pub clear_pass : PassesAreClear
+clear_pass base p now =
+    let s = now.rule.state in
+    let o = pass_is base s p.ticket p (now.rule.passes.each now.seat (Pass p) p now.at refl).1 in
+    ap (λ (q : PassView). is_clear s p.ticket q.call.claims) o.is
+    ∙ clear base now.moment now.rule p.ticket o.entry o.at (running_not_waiting o.entry.status o.runs)
 
 pub has_pass : RunningTicketsHaveAPass
 has_pass base m rule t e at runs =

@@ -14,12 +14,17 @@ use Rattle.vll_counters.specs.declared.views.View.TheVariants.{Queue}
 use Rattle.vll_counters.specs.Views.{pass_in, session_in}
 use Rattle.vll_counters.specs.Open.{open_in}
 use Rattle.vll_counters.specs.Rule.{Moment, Rule}
+use Rattle.vll_counters.specs.Told.{IsClear}
 
 -- each ticket that is running or gone is clear
 abbrev pub TicketsAreClear : Type 0
 TicketsAreClear =
     (base : Base) (m : Moment) (rule : Rule base m) (t : ℕ) (e : Entered)
     → slice_get rule.state.entries t ≡ Some e → is_waiting e.status ≡ false → is_clear rule.state t e.call.claims ≡ true
+
+-- each pass is of a clear ticket
+abbrev pub PassesAreClear : Type 0
+PassesAreClear = (base : Base) (p : PassView) → IsClear base p
 
 -- each running ticket has a pass, at some seat
 abbrev pub RunningTicketsHaveAPass : Type 0

@@ -11,7 +11,7 @@ use Rattle.vll_proc.specs.declared.call.Call.{Call}
 use Rattle.vll_sca.specs.declared.status.Status.{Status}
 use Rattle.vll_sca.specs.declared.status.Status.TheVariants.{Running, Waiting, Gone}
 use Rattle.vll_sca.specs.Status.{is_gone}
-use Rattle.vll_core.specs.State.{Base, entered, counter, value, writes, is_aborted}
+use Rattle.vll_core.specs.State.{Base, entered, counter, value, writes, is_aborted, is_clear}
 use Rattle.vll_core.specs.declared.line.Line.{Line}
 use Rattle.vll_proc.specs.Serial.{Made, answer, before, end}
 use Rattle.vll_counters.specs.declared.views.TurnView.{TurnView}
@@ -46,6 +46,11 @@ pub record PassMoment (base : Base) (p : PassView) : Type 0 where
   pub rule : Rule base moment
   pub seat : ℕ
   pub at : get_elem? moment.views seat ≡ opt.some (Pass p)
+
+-- at each moment at which a seat has this pass, no claim that a lower ticket has requested and not released conflicts
+-- with a claim of its call
+abbrev pub IsClear : Base → PassView → Type 0
+IsClear base p = (now : PassMoment base p) → is_clear now.rule.state p.ticket p.call.claims ≡ true
 
 -- a fact about the view of a session
 abbrev pub AtSession : (SessionView → Type 0) → View → Type 0

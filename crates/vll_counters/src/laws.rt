@@ -1,10 +1,15 @@
 //! Laws that hold between any two atomic steps, as the rule does, each the contract of a function that does nothing.
-ghost use Rattle.vll_counters.specs.Laws.{TicketsAreClear, RunningTicketsHaveAPass, PassesAreOfRunningTickets, TicketsHaveOnePass, ClientsHaveOneSession, PairWordsCountOpenClaims};
+ghost use Rattle.vll_counters.specs.Laws.{TicketsAreClear, PassesAreClear, RunningTicketsHaveAPass, PassesAreOfRunningTickets, TicketsHaveOnePass, ClientsHaveOneSession, PairWordsCountOpenClaims};
 
 /// A ticket that is running or gone is clear: no claim that a lower ticket has requested and not released conflicts
 /// with a claim of its own.
 pub fn tickets_are_clear()
     ensures { TicketsAreClear }
+{}
+
+/// The ticket of a pass is clear for as long as a seat has the pass.
+pub fn passes_are_clear()
+    ensures { PassesAreClear }
 {}
 
 /// Each running ticket has exactly one pass, and every other ticket has none.

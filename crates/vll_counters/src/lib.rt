@@ -24,7 +24,7 @@ mod views;
 mod words;
 
 pub use laws::{
-    clients_have_one_session, pair_words_count_open_claims, tickets_are_clear,
+    clients_have_one_session, pair_words_count_open_claims, passes_are_clear, tickets_are_clear,
     tickets_have_one_pass,
 };
 pub use news_seat::NewsSeat;

@@ -19,6 +19,7 @@ use Rattle.vll_counters.specs.Views.{calls_in}
 use Rattle.vll_counters.specs.Shown.{QueueShown, PassShown, WordsShown}
 use Rattle.vll_counters.specs.Steps.{new_pass}
 use Rattle.vll_counters.specs.Told.{MayStart}
+use Rattle.vll_counters.proofs.Between.{clear_pass}
 use Rattle.vll_queue.specs.Shown.{Named, library_of, words_of}
 use Rattle.vll_queue.specs.Pass.{IsFresh}
 use Rattle.vll_queue.specs.Private.Begun.{IsPassAt}
@@ -175,6 +176,7 @@ new_pass_fresh e table p ls t l same own at is = subst (IsFresh e) (sym is) (rec
   no_loads = refl;
   no_stores = refl;
   no_releases = refl;
+  clear = clear_pass e.base (new_pass t l.call ls);
 })
 
 pub given_fresh : {H : Type 0} {seat : QueueShown} {new : Queued H} {t : ℕ} (q : Queued H) (e : Named) (place : H → ℕ → ℕ) (words : WordsShown) (p : PassShown) → (b : Begins seat q new t) → IsKept e place seat q → words ≡ words_of e

@@ -28,8 +28,8 @@ abbrev pub IsRefused : Named → SessionView → BeginRefusal → Type 0
 IsRefused e new Spent = length new.seen ≡ e.config.limit
 IsRefused e new Busy = new.waited ≡ e.config.cap
 
--- what the answer says of the session: after an entry its last call is this one, under its ticket; a blocked one is
--- among those that then wait; and after a refusal the session has entered none
+-- what the answer says of the session: after an entry its last call is this one, under its ticket; if it is
+-- blocked, some call then waits; and after a refusal the session has entered none
 abbrev pub Begins : Named → SessionView → SessionView → Call → Begun → Type 0
 Begins e old new call (Free pass) = SawOwn old new call pass.pass.ticket × IsPassFor e new call pass
 Begins e old new call (Blocked ticket) = SawOwn old new call ticket × (0 < new.waited)

@@ -6,7 +6,7 @@ use Rattle.vll_proc.specs.Serial.{answer}
 use Rattle.vll_check.specs.Calls.{IsReady}
 use Rattle.vll_counters.specs.declared.views.PassView.{PassView}
 use Rattle.vll_counters.specs.Shown.{PassShown}
-use Rattle.vll_counters.specs.Told.{has_stored_pass}
+use Rattle.vll_counters.specs.Told.{IsClear, has_stored_pass}
 use Rattle.vll_queue.specs.Shown.{Named, library_of}
 
 -- what contracts see of a call that was executed: its pass and its reply
@@ -22,12 +22,13 @@ pub record IsOf (e : Named) (table : TableId) (p : PassView) : Type 0 where
   pub client : ℕ
   pub last : slice_get p.seen p.ticket ≡ Some (client, p.call)
 
--- a pass whose call has made no step
+-- a pass of a clear ticket whose call has made no step
 pub record IsFresh (e : Named) (p : PassShown) : Type 0 where
   pub of : IsOf e p.table p.pass
   pub no_loads : p.pass.loads ≡ 0
   pub no_stores : p.pass.stores ≡ 0
   pub no_releases : p.pass.releases ≡ 0
+  pub clear : IsClear e.base p.pass
 
 -- the reply is that of the pass's call, if the calls that the pass has seen run one at a time
 abbrev pub IsReply : Named → DoneShown → Type 0
