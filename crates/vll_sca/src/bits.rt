@@ -4,7 +4,8 @@ ghost use Rattle.vll_sca.specs.Scan.{scan};
 ghost use Rattle.vll_sca.specs.declared.bits.BitsFault.TheVariants as BitsFault;
 
 use crate::claim_marks::ClaimMarks;
-use crate::entries::Entries;
+use crate::entries::{Entries, Listed};
+use crate::entry::Entry;
 use crate::place::Place;
 use std::alloc::Global;
 use std::marker::Model;
@@ -66,7 +67,15 @@ impl Bits {
     /// have the same place, modulo the number of bits, and at least one of the two is Write. So a collision can only
     /// hold an entry back. Earlier scans have no effect. Allocates nothing. The cost grows with the number of entries
     /// passed, not with the number of bits.
-    pub fn scan<H: Place, E: Entries>(&mut self, hash: &H, entries: &E) -> Option<usize>
+    pub fn scan<H: Place>(&mut self, hash: &H, entries: &[Entry]) -> Option<usize>
+        ensures found { result ≡ scan (H.place_of hash.now) self.old entries.now }
+        ensures same { self.new ≡ self.old }
+    {
+        self.scan_among(hash, &Listed(entries))
+    }
+
+    /// Scans entries that need not lie in one slice: the same as `scan` of the list of them.
+    pub fn scan_among<H: Place, E: Entries>(&mut self, hash: &H, entries: &E) -> Option<usize>
         ensures found { result ≡ scan (H.place_of hash.now) self.old (E.entries_of entries.now) }
         ensures same { self.new ≡ self.old }
     {

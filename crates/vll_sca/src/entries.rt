@@ -2,6 +2,7 @@
 ghost use Rattle.std.specs.Prelude.{◌≡◌, ◌<◌, length, Some, slice_get};
 ghost use Rattle.std.specs.Option.{option_map};
 
+use crate::entry::Entry;
 use crate::status::Status;
 use vll_record::Claims;
 
@@ -25,4 +26,25 @@ pub trait Entries {
     fn claims(&self, index: usize) -> &Claims
         requires { index < length (entries_of self.now) }
         ensures { option_map (λ e. e.claims) (slice_get (entries_of self.now) index) ≡ Some result.now };
+}
+
+// Entries that lie in one slice.
+#[derive(Drop)]
+pub(crate) struct Listed<'a>(pub(crate) &'a [Entry]);
+
+impl Entries for Listed<'_> {
+    ghost entries_of = { λ l. l.0.now };
+
+    fn len(&self) -> usize {
+        self.0.len()
+    }
+
+    fn status(&self, index: usize) -> Status {
+        self.0[index].status
+    }
+
+    fn claims(&self, index: usize) -> &Claims {
+        let entry = &self.0[index];
+        &entry.claims
+    }
 }

@@ -7,7 +7,7 @@
 //! ```rattle
 //! let mut bits = Bits::new(alloc, 1_024)?;
 //! let entries = WindowEntries { tickets, journal, statuses }; // in vll_core: a type that implements `Entries`
-//! let found = bits.scan(&Placing::Spread, &entries); // the index of the entry that may run, or `None`
+//! let found = bits.scan_among(&Placing::Spread, &entries); // the index of the entry that may run, or `None`
 //! let ticket = tickets.get(found?).copied();
 //! ```
 #![tactic(auto)]

@@ -4,7 +4,7 @@ use std::test::Fail;
 use vll_record::Mode::{self, Read, Write};
 use vll_record::{Claim, Claims, RecordId};
 use vll_sca::Status::{self, Gone, Running, Waiting};
-use vll_sca::{Bits, BitsFault, Entries, Entry, Place, Placing};
+use vll_sca::{Bits, BitsFault, Entry, Place, Placing};
 
 // Returns an entry with one claim.
 fn entry(status: Status, mode: Mode, id: u32) -> Entry {
@@ -14,27 +14,6 @@ fn entry(status: Status, mode: Mode, id: u32) -> Entry {
         mode,
     });
     Entry { claims, status }
-}
-
-// Entries in a list.
-#[derive(Drop)]
-struct Listed<'a>(&'a [Entry]);
-
-impl Entries for Listed<'_> {
-    ghost entries_of = { λ l. l.0.now };
-
-    fn len(&self) -> usize {
-        self.0.len()
-    }
-
-    fn status(&self, index: usize) -> Status {
-        self.0[index].status
-    }
-
-    fn claims(&self, index: usize) -> &Claims {
-        let entry = &self.0[index];
-        &entry.claims
-    }
 }
 
 // A hash that gives every record the same place.
@@ -67,13 +46,9 @@ fn records_collide_modulo_the_number_of_bits(rt: HostRuntime) -> Result<(), Fail
     let entries = [entry(Running, Write, 0), entry(Waiting, Write, 2)];
     let mut two = Bits::new(rt.alloc(), 2)?;
     let mut three = Bits::new(rt.alloc(), 3)?;
-    equal(&rt, two.scan(&Placing::Modulo, &Listed(&entries)), None);
-    equal(
-        &rt,
-        three.scan(&Placing::Modulo, &Listed(&entries)),
-        Some(1),
-    );
-    equal(&rt, three.scan(&Zero, &Listed(&entries)), None);
+    equal(&rt, two.scan(&Placing::Modulo, &entries), None);
+    equal(&rt, three.scan(&Placing::Modulo, &entries), Some(1));
+    equal(&rt, three.scan(&Zero, &entries), None);
     Ok(())
 }
 
@@ -83,10 +58,10 @@ fn reads_and_gone_entries_hold_none_back(rt: HostRuntime) -> Result<(), Fail> {
     let gone = [entry(Gone, Write, 0), entry(Waiting, Write, 0)];
     let mut one = Bits::new(rt.alloc(), 1)?;
     let mut most = Bits::new(rt.alloc(), 1_048_576)?;
-    equal(&rt, one.scan(&Placing::Modulo, &Listed(&reads)), Some(1));
-    equal(&rt, one.scan(&Placing::Modulo, &Listed(&gone)), Some(1));
-    equal(&rt, most.scan(&Zero, &Listed(&reads)), Some(1));
-    equal(&rt, most.scan(&Zero, &Listed(&gone)), Some(1));
+    equal(&rt, one.scan(&Placing::Modulo, &reads), Some(1));
+    equal(&rt, one.scan(&Placing::Modulo, &gone), Some(1));
+    equal(&rt, most.scan(&Zero, &reads), Some(1));
+    equal(&rt, most.scan(&Zero, &gone), Some(1));
     Ok(())
 }
 
@@ -98,8 +73,8 @@ fn waiting_entry_holds_later_ones_back(rt: HostRuntime) -> Result<(), Fail> {
         entry(Waiting, Read, 0),
     ];
     let mut one = Bits::new(rt.alloc(), 1)?;
-    equal(&rt, one.scan(&Placing::Modulo, &Listed(&entries)), None);
-    equal(&rt, one.scan(&Placing::Modulo, &Listed(&[])), None);
+    equal(&rt, one.scan(&Placing::Modulo, &entries), None);
+    equal(&rt, one.scan(&Placing::Modulo, &[]), None);
     Ok(())
 }
 
@@ -114,26 +89,10 @@ fn earlier_scan_leaves_nothing(rt: HostRuntime) -> Result<(), Fail> {
     let read_waits = [entry(Waiting, Read, 1)];
     let read_below = [entry(Running, Read, 2), entry(Waiting, Write, 3)];
     let read_above = [entry(Running, Read, 3), entry(Waiting, Write, 2)];
-    equal(
-        &rt,
-        four.scan(&Placing::Modulo, &Listed(&three_entries)),
-        Some(2),
-    );
-    equal(
-        &rt,
-        four.scan(&Placing::Modulo, &Listed(&read_waits)),
-        Some(0),
-    );
-    equal(
-        &rt,
-        four.scan(&Placing::Modulo, &Listed(&read_below)),
-        Some(1),
-    );
-    equal(
-        &rt,
-        four.scan(&Placing::Modulo, &Listed(&read_above)),
-        Some(1),
-    );
+    equal(&rt, four.scan(&Placing::Modulo, &three_entries), Some(2));
+    equal(&rt, four.scan(&Placing::Modulo, &read_waits), Some(0));
+    equal(&rt, four.scan(&Placing::Modulo, &read_below), Some(1));
+    equal(&rt, four.scan(&Placing::Modulo, &read_above), Some(1));
     Ok(())
 }
 
@@ -147,16 +106,12 @@ fn places_past_the_first_word_are_told_apart(rt: HostRuntime) -> Result<(), Fail
         entry(Waiting, Write, 65),
     ];
     let round_the_end = [entry(Running, Read, 0), entry(Waiting, Write, 130)];
-    equal(&rt, room.scan(&Placing::Modulo, &Listed(&last_twice)), None);
+    equal(&rt, room.scan(&Placing::Modulo, &last_twice), None);
     equal(
         &rt,
-        room.scan(&Placing::Modulo, &Listed(&same_bit_of_other_words)),
+        room.scan(&Placing::Modulo, &same_bit_of_other_words),
         Some(2),
     );
-    equal(
-        &rt,
-        room.scan(&Placing::Modulo, &Listed(&round_the_end)),
-        None,
-    );
+    equal(&rt, room.scan(&Placing::Modulo, &round_the_end), None);
     Ok(())
 }

@@ -78,7 +78,7 @@ impl Window {
             journal,
             statuses,
         };
-        let index = bits.scan(hash, &entries)?;
+        let index = bits.scan_among(hash, &entries)?;
         self.tickets.get(index).copied()
     }
 

@@ -4,7 +4,7 @@ use Rattle.vll_sca.specs.Scan.{hashed}
 use Rattle.vll_sca.specs.Private.ClaimMarks.{HasRoom, IsClear, with_claims, claims_left, passed}
 use Rattle.vll_sca.proofs.Finding.{passed_within}
 use Rattle.vll_sca.proofs.Meeting.{HasRoom-with_claims, IsClear-taken_back}
-use Rattle.vll_sca.proofs.bits.Bits.scan.Goals as goal
+use Rattle.vll_sca.proofs.bits.Bits.scan_among.Goals as goal
 
 -- how many entries are passed, by how many there are
 how_many : (found : Option ℕ) (passed n many : ℕ) → passed ≡ unwrap_or found n → n ≡ many → passed ≡ unwrap_or found many
