@@ -12,6 +12,7 @@
 //! ```
 #![tactic(auto)]
 
+mod fault;
 mod key;
 mod laws;
 mod news_seat;
@@ -23,6 +24,7 @@ mod steps;
 mod views;
 mod words;
 
+pub use fault::NoMemory;
 pub use laws::{
     clients_have_one_session, pair_words_count_open_claims, passes_are_clear, tickets_are_clear,
     tickets_have_one_pass,

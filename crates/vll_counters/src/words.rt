@@ -7,6 +7,7 @@ ghost use Rattle.vll_counters.specs.Shown.{shown_queue, AreNewSessions};
 ghost use Rattle.vll_counters.specs.Steps.{first_queue};
 ghost use Rattle.vll_counters.specs.Told.{IsAtEnd};
 
+use crate::fault::NoMemory;
 use crate::key::Key;
 use crate::queue_seat::QueueSeat;
 use crate::rule::Law;
@@ -104,7 +105,7 @@ impl Words {
         records: &[u64],
         library: &Library,
         clients: u32,
-    ) -> Result<(Words, QueueSeat, Vec<SessionSeat>), AllocError>
+    ) -> Result<(Words, QueueSeat, Vec<SessionSeat>), NoMemory>
         requires records { library.now.records ≡ length records.now }
         ensures words { IfOk result (λ o. o.0.base ≡ record { procs = library.now.procs; records = records.now }) }
         ensures queue { IfOk result (λ o. o.1 ≡ shown_queue o.0.table (first_queue clients)) }
@@ -127,14 +128,14 @@ impl Words {
         mut room: Vec<u64>,
         records: &[u64],
         library: &Library,
-    ) -> Result<(Words, QueueSeat), AllocError>
+    ) -> Result<(Words, QueueSeat), NoMemory>
         requires records { library.now.records ≡ length records.now }
         requires room { 1 + 2 * length records.now ≤ vec_capacity room }
         ensures words { IfOk result (λ o. o.0.base ≡ record { procs = library.now.procs; records = records.now }) }
         ensures queue { IfOk result (λ o. o.1 ≡ shown_queue o.0.table (first_queue 0)) }
     {
         copy(&mut room, records);
-        Words::laid(alloc, room, records, library)
+        Ok(Words::laid(alloc, room, records, library)?)
     }
 
     // Returns the words of the records that the list holds, which keep the list for closing, and the queue's seat.

@@ -32,7 +32,9 @@ fn threads_share_words_and_own_seats() {
 fn words_without_calls_keep_the_records(rt: HostRuntime) -> Result<(), Fail> {
     let alloc = rt.alloc();
     let library = library(alloc, 2)?;
-    let (words, queue, sessions) = Words::open(alloc, &[5, 7], &library, 3)?;
+    let Ok((words, queue, sessions)) = Words::open(alloc, &[5, 7], &library, 3) else {
+        fail(&rt, "there is no memory")
+    };
     equal(&rt, sessions.len(), 3);
     equal(
         &rt,
@@ -178,7 +180,9 @@ fn a_read_finds_the_record_and_leaves_no_claim(rt: HostRuntime) -> Result<(), Fa
     let alloc = rt.alloc();
     let library = library(alloc, 1)?;
     let call = ready_call(&rt, &library, "read")?;
-    let (words, mut queue, sessions) = Words::open(alloc, &[5], &library, 1)?;
+    let Ok((words, mut queue, sessions)) = Words::open(alloc, &[5], &library, 1) else {
+        fail(&rt, "there is no memory")
+    };
     let session = only_session(&words, sessions).expect(&rt, "a session");
     let claim = only_claim(&call).expect(&rt, "a claim");
     let (requested, mut pass, _) = enter(&rt, &words, &mut queue, session, &call, &claim);
@@ -196,7 +200,9 @@ fn a_session_finds_what_a_pass_has_stored(rt: HostRuntime) -> Result<(), Fail> {
     let alloc = rt.alloc();
     let library = library(alloc, 1)?;
     let call = ready_call(&rt, &library, "bump")?;
-    let (words, mut queue, sessions) = Words::open(alloc, &[5], &library, 1)?;
+    let Ok((words, mut queue, sessions)) = Words::open(alloc, &[5], &library, 1) else {
+        fail(&rt, "there is no memory")
+    };
     let mut session = only_session(&words, sessions).expect(&rt, "a session");
     let claim = only_claim(&call).expect(&rt, "a claim");
     let first = words.find(&mut session, claim.id);

@@ -5,10 +5,10 @@ use crate::answer::Answer;
 use crate::runs::four_clients;
 use crate::unready::Unready;
 use crate::{begin, end};
-use std::alloc::{AllocError, Global};
+use std::alloc::Global;
 use vll_check::Library;
 use vll_core::{Core, OpenFault, Queue};
-use vll_counters::Words;
+use vll_counters::{NoMemory, Words};
 use vll_queue::Opening;
 use vll_sca::{Bits, BitsFault, MOST_BITS};
 use vll_server::ScenarioParts;
@@ -68,12 +68,12 @@ pub(crate) fn words(rt: &(impl Print + AllocGlobal)) -> Result<Answer, Unready> 
     end(rt)?;
     Ok(match made {
         Ok(seats) => Answer::Ample.only_if(seats == 4),
-        Err(AllocError) => Answer::NoMemory,
+        Err(NoMemory) => Answer::NoMemory,
     })
 }
 
 // The number of sessions' seats that are made with the words of these records for four clients.
-fn number_of_seats(alloc: Global, records: &[u64], library: &Library) -> Result<usize, AllocError>
+fn number_of_seats(alloc: Global, records: &[u64], library: &Library) -> Result<usize, NoMemory>
     requires { library.now.records ≡ length records.now }
 {
     let (_words, _queue, seats) = Words::open(alloc, records, library, 4)?;

@@ -6,4 +6,4 @@ use Rattle.vll_counters_tests.proofs.words.a_read_finds_the_record_and_leaves_no
 
 pub enter-requested-requires-clause-ready : goal.enter-requested-requires-clause-ready
 enter-requested-requires-clause-ready g c =
-    subst (λ (l : Catalog). IsReady l c.in_ok-call.call) (library_is c.in_ok-library.library _ c.in_ok-words.words.base (sym c.in_ok-words.ensures.words) c.in_ok-library.ensures) c.in_ok-call.ensures
+    subst (λ (l : Catalog). IsReady l c.in_ok-call.call) (library_is c.in_ok-library.library _ c.in-Ok.words.base (sym c.in-Ok.ensures.words) c.in_ok-library.ensures) c.in_ok-call.ensures
