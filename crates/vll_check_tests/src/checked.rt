@@ -1,11 +1,10 @@
 //! Tests of `check`: the checked procedure that it returns, and in which edition a procedure may repeat.
 use crate::asserts::{equal, holds};
 use crate::procedures::procedure;
-use sqlite_items::Items;
 use std::alloc::{AllocError, Global};
 use std::test::Fail;
 use vll_check::{CheckFault, check};
-use vll_proc::{Edition, Proc, Stmt, Text};
+use vll_proc::{Edition, Items, Proc, Stmt, Text};
 
 // A procedure of this edition whose body is a `Repeat` of no statements in no turns.
 fn repeat_of_nothing(alloc: Global, edition: Edition) -> Result<Proc, AllocError> {

@@ -2,11 +2,10 @@
 ghost use Rattle.std.specs.Prelude.{◌≡◌, IfOk};
 ghost use Rattle.vll_check.specs.Calls.{Fits};
 
-use sqlite_items::Items;
 use std::alloc::{AllocError, Global};
 use std::test::Fail;
 use vll_check::{Checked, Library, check};
-use vll_proc::{Call, Edition, KeyAt, KeyDecl, Proc, Text};
+use vll_proc::{Call, Edition, Items, KeyAt, KeyDecl, Proc, Text};
 use vll_record::Mode;
 
 // A procedure of edition One without statements.

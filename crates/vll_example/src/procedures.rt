@@ -6,10 +6,9 @@ ghost use Rattle.vll_proc.specs.declared.syntax.KeyAt.TheVariants as at;
 ghost use Rattle.vll_proc.specs.declared.syntax.Stmt.{Abort, If, Set};
 ghost use Rattle.vll_example.specs.Bank.{procedures, sum_of_two, transfer, transfer_body};
 
-use sqlite_items::{Boxed, Items};
 use std::alloc::{AllocError, Global};
 use vll_check::{Library, check};
-use vll_proc::{Edition, Expr, KeyAt, KeyDecl, Proc, Stmt, Text};
+use vll_proc::{Boxed, Edition, Expr, Items, KeyAt, KeyDecl, Proc, Stmt, Text};
 use vll_queue::EngineFault;
 use vll_record::Mode;
 

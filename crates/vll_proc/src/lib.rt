@@ -34,4 +34,5 @@ pub use limits::{
 };
 pub use outputs::Outputs;
 pub use property::Property;
+pub use sqlite_items::{Boxed, Items};
 pub use syntax::{Edition, Expr, KeyAt, KeyDecl, Proc, Stmt, Text};

@@ -156,6 +156,13 @@ impl Text {
         Text { inner: text }
     }
 
+    /// Returns the `String`.
+    pub fn into_string(self) -> String
+        ensures { string_bytes result ≡ self }
+    {
+        self.inner
+    }
+
     /// Returns the text as a `str`.
     pub fn as_str(&self) -> &str
         ensures { result.now ≡ self.now }

@@ -5,11 +5,11 @@ ghost use Rattle.vll_proc.specs.Made.{IsCallOf};
 ghost use Rattle.vll_proc.specs.WellFormed.{IsWellFormed};
 
 use crate::asserts::equal;
-use sqlite_items::{Boxed, Items};
 use std::alloc::{AllocError, Global};
 use std::test::Fail;
 use vll_proc::{
-    Call, Edition, Expr, Frame, KeyAt, KeyDecl, Outputs, Proc, Reason, Reply, Stmt, Text,
+    Boxed, Call, Edition, Expr, Frame, Items, KeyAt, KeyDecl, Outputs, Proc, Reason, Reply, Stmt,
+    Text,
 };
 use vll_record::{Claim, Claims, MOST_CLAIMS, Mode, RecordId};
 

@@ -7,10 +7,9 @@ ghost use Rattle.vll_proc.specs.declared.syntax.Stmt.{Abort, If, Set};
 ghost use Rattle.vll_record.specs.declared.claim.Mode.TheVariants.{Read, Write};
 ghost use Rattle.vll_service_example.specs.Bank.{deposit, deposit_body, procedures, read_all, read_all_body, transfer, transfer_body};
 
-use sqlite_items::{Boxed, Items};
 use std::alloc::{AllocError, Global};
 use vll_check::{Library, check};
-use vll_proc::{Edition, Expr, KeyAt, KeyDecl, Proc, Stmt, Text};
+use vll_proc::{Boxed, Edition, Expr, Items, KeyAt, KeyDecl, Proc, Stmt, Text};
 use vll_queue::EngineFault;
 use vll_record::Mode;
 
