@@ -85,11 +85,11 @@ impl<H: Place> Core<H> {
     /// Opens a turn for `call`, for a client that has a script, even an empty one; the script and the value kept for it
     /// do not change. Refused with `TurnOpen`, `Spent` or `Busy`, tested in this order, as for Enter. A refusal changes
     /// nothing. Allocates nothing.
-    pub fn enter(&mut self, client: u32, call: Call) -> Result<(), Refusal>
+    pub fn enter(&mut self, client: u32, call: &Call) -> Result<(), Refusal>
         requires client { client < length self.old.state.scripts }
-        requires ready { IsReady (library_of self.old) call }
-        ensures answer { result ≡ entered (move (opening_of H.place_of self.old) self.old.state (hand client call)) }
-        ensures state { self.new ≡ after self.old (move (opening_of H.place_of self.old) self.old.state (hand client call)) }
+        requires ready { IsReady (library_of self.old) call.now }
+        ensures answer { result ≡ entered (move (opening_of H.place_of self.old) self.old.state (hand client call.now)) }
+        ensures state { self.new ≡ after self.old (move (opening_of H.place_of self.old) self.old.state (hand client call.now)) }
     {
         self.machine.enter(&self.library, client, call)
     }

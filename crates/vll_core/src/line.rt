@@ -7,8 +7,8 @@ use vll_record::{Claims, MOST_CLAIMS};
 /// A line of the journal: a call, the client that entered it, and its reply once it is finished.
 #[derive(Clone, Copy)]
 pub struct Line {
-    pub call: Call,
     pub client: u32,
+    pub call: Call,
     pub reply: Option<Reply>,
 }
 
@@ -27,8 +27,8 @@ impl Line {
             cells: [0; MOST_CLAIMS],
         };
         Line {
-            call,
             client: 0,
+            call,
             reply: None,
         }
     }

@@ -53,7 +53,7 @@ fn handed(core: &mut Core<Placing>, call: &Call) -> &'static str
     ensures library { library_of core.new ≡ library_of core.old }
     ensures clients { length core.new.state.scripts ≡ length core.old.state.scripts }
 {
-    match core.enter(0, *call) {
+    match core.enter(0, call) {
         Ok(()) => "opened",
         Err(refusal) => words_of(refusal),
     }

@@ -19,12 +19,12 @@ impl<H: Place> Machine<H> {
     /// Opens a turn for `call`, for a client that has a script, even an empty one; the script and the value kept for it
     /// do not change. Refused with `TurnOpen`, `Spent` or `Busy`, tested in this order, as for Enter. A refusal changes
     /// nothing. `library` is the one of the opening. Allocates nothing.
-    pub fn enter(&mut self, library: &Library, client: u32, call: Call) -> Result<(), Refusal>
+    pub fn enter(&mut self, library: &Library, client: u32, call: &Call) -> Result<(), Refusal>
         requires same { library.now ≡ library_of self.old }
         requires client { client < length self.old.state.scripts }
-        requires ready { IsReady (library_of self.old) call }
-        ensures answer { result ≡ entered (move (opening_of H.place_of self.old) self.old.state (hand client call)) }
-        ensures state { self.new ≡ after self.old (move (opening_of H.place_of self.old) self.old.state (hand client call)) }
+        requires ready { IsReady (library_of self.old) call.now }
+        ensures answer { result ≡ entered (move (opening_of H.place_of self.old) self.old.state (hand client call.now)) }
+        ensures state { self.new ≡ after self.old (move (opening_of H.place_of self.old) self.old.state (hand client call.now)) }
     {
         let _ = library;
         if self.turn.is_some() {
@@ -33,7 +33,7 @@ impl<H: Place> Machine<H> {
         self.room()?;
         self.turn = Some(OpenTurn {
             client,
-            call,
+            call: *call,
             requested: 0,
             granted: true,
         });

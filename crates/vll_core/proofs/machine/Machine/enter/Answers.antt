@@ -7,5 +7,5 @@ use Rattle.vll_core.proofs.machine.Machine.enter.Goals as goal
 pub invariant_of-self : goal.invariant_of-self
 invariant_of-self g c =
     core_handed _ _ _ c.self.invariant (closed_turn _ _ c.is_some.ensures c.if-is_some.false)
-    (subst (λ library. IsReady library c.args.call) (library_same c.self.inside _ _ c.self.invariant c.self.view_is refl) c.requires.ready)
+    (subst (λ library. IsReady library c.args.call.now) (library_same c.self.inside _ _ c.self.invariant c.self.view_is refl) c.requires.ready)
     (room_inside c.self.inside _ _ _ c.self.view_is c.in_ok-room.was (record { spent = c.room.ensures.spent; busy = c.room.ensures.busy; ok = c.room.ensures.ok }))
