@@ -110,17 +110,35 @@ fn key_why(alloc: Global, list: &[Value], all: &str) -> Result<String, AllocErro
 
 // The number of items that follow a word, if it is known.
 fn behind_word(kind: Kind, word: &str) -> Option<usize> {
-    match (kind, word) {
-        (Kind::Event, "claim" | "admit" | "front" | "scan") => Some(0),
-        (Kind::Event, "find" | "enter" | "load" | "store" | "release" | "finish") => Some(1),
-        (Kind::Statement, "abort" | "reply") => Some(1),
-        (Kind::Statement, "let" | "set" | "repeat") => Some(2),
-        (Kind::Statement, "if") => Some(3),
-        (Kind::Expression, "arg" | "key" | "local" | "not") => Some(1),
-        (
-            Kind::Expression,
-            "add" | "sub" | "mul" | "div" | "rem" | "min" | "max" | "equal" | "less",
-        ) => Some(2),
+    match kind {
+        Kind::Event => behind_event(word),
+        Kind::Statement => behind_statement(word),
+        Kind::Expression => behind_operation(word),
+        _ => None,
+    }
+}
+
+fn behind_event(word: &str) -> Option<usize> {
+    match word {
+        "claim" | "admit" | "front" | "scan" => Some(0),
+        "find" | "enter" | "load" | "store" | "release" | "finish" => Some(1),
+        _ => None,
+    }
+}
+
+fn behind_statement(word: &str) -> Option<usize> {
+    match word {
+        "abort" | "reply" => Some(1),
+        "let" | "set" | "repeat" => Some(2),
+        "if" => Some(3),
+        _ => None,
+    }
+}
+
+fn behind_operation(word: &str) -> Option<usize> {
+    match word {
+        "arg" | "key" | "local" | "not" => Some(1),
+        "add" | "sub" | "mul" | "div" | "rem" | "min" | "max" | "equal" | "less" => Some(2),
         _ => None,
     }
 }

@@ -3,7 +3,7 @@ ghost use Rattle.std.specs.Prelude.{◌≡◌, Option, IfOk, OnOk, is_some, nat_
 ghost use Rattle.serde_json.specs.Find.{as_array};
 ghost use Rattle.serde_json.specs.View.{items_view, view};
 ghost use Rattle.vll_core.specs.declared.config.TheConstants.{MOST_CALLS};
-ghost use Rattle.vll_scenario.specs.PieceTests.{after, calls_in, check_passes, count_in, has_size, option_has_size, passes, place_of};
+ghost use Rattle.vll_scenario.specs.PieceTests.{after, calls_in, check_passes, count_in, has_size, once_key, once_statement, option_has_size, passes, place_of};
 ghost use Rattle.vll_core.specs.Faults.{is_up_to};
 ghost use Rattle.vll_check.specs.Pieces.{expression_passes, key_passes, list_passes, statement_passes};
 ghost use Rattle.vll_scenario.specs.Pieces.{is_read};
@@ -69,19 +69,37 @@ pub(crate) fn note(
 ) -> Result<(), AllocError>
     ensures { OnOk result (before.new ≡ after edition test.now before.old piece.now.kind (view piece.now.value.now)) }
 {
-    let PieceTest::Check(_) = test else {
-        return Ok(());
-    };
-    match piece.kind {
-        Kind::Key => if let Some(key) = if_read(key_of(piece.value))? {
-            before.pass_key(&key);
+    match test {
+        PieceTest::Check(_) => match piece.kind {
+            Kind::Key => note_key(before, piece.value),
+            Kind::Statement => note_statement(alloc, edition, before, piece.value),
+            _ => Ok(()),
         },
-        Kind::Statement => {
-            if let Some(statement) = if_read(stmt_of(alloc, edition, piece.value))? {
-                before.pass_statement(&statement);
-            }
-        }
-        _ => {}
+        _ => Ok(()),
+    }
+}
+
+// The same for a key position, if the value is read as one.
+fn note_key(before: &mut Before, value: &Value) -> Result<(), AllocError>
+    ensures { OnOk result (before.new ≡ once_key before.old (key_at (view value.now))) }
+{
+    if let Some(key) = if_read(key_of(value))? {
+        before.pass_key(&key);
+    }
+    Ok(())
+}
+
+// The same for a statement.
+fn note_statement(
+    alloc: Global,
+    edition: Edition,
+    before: &mut Before,
+    value: &Value,
+) -> Result<(), AllocError>
+    ensures { OnOk result (before.new ≡ once_statement before.old (stmt_at edition (view value.now))) }
+{
+    if let Some(statement) = if_read(stmt_of(alloc, edition, value))? {
+        before.pass_statement(&statement);
     }
     Ok(())
 }

@@ -40,10 +40,11 @@ pub fn expr_of(alloc: Global, value: &Value) -> Result<Expr, Misread>
 fn leaf_of(word: &str, index: &Value) -> Result<Expr, Misread>
     ensures { Gives result (leaf word.now (index_at (view index.now))) }
 {
+    let index = index_of(index)?;
     match word {
-        "arg" => Ok(Expr::Arg(index_of(index)?)),
-        "key" => Ok(Expr::Key(index_of(index)?)),
-        "local" => Ok(Expr::Local(index_of(index)?)),
+        "arg" => Ok(Expr::Arg(index)),
+        "key" => Ok(Expr::Key(index)),
+        "local" => Ok(Expr::Local(index)),
         _ => Err(Misread::Faulty),
     }
 }
