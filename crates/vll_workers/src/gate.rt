@@ -3,10 +3,9 @@ use crate::tally::Tally;
 use vll_core::Ticket;
 
 /// An observer of each call that a run executes, and of each worker that leaves. Its functions are called outside the
-/// engine's lock, by the thread that executes the call, and the call waits for as long as they take. A worker may begin
-/// several calls at once, execute them one after the other, and finish them together: `before` of a call may come
-/// before `after` of an earlier one. So a function that waits for another call waits for ever if the same worker is to
-/// execute that call later; a run with fewer than two tokens for each worker begins one call at a time.
+/// engine's lock, by the thread that executes the call, and the call waits for as long as they take. If the gate may
+/// wait, a function of it that waits for another call to enter and to be executed goes on once another worker has done
+/// that, if one is free.
 pub trait Gate {
     /// Called when a call is about to be executed.
     fn before(&self, ticket: Ticket);
@@ -18,9 +17,10 @@ pub trait Gate {
     /// the calls that are left.
     fn left(&self, _tally: Tally) {}
 
-    /// Whether a function of this gate may wait for another call. If so, a worker puts its clients' tokens back before
-    /// it calls `before` or `after`, so that other workers can make those clients' next calls. If not, it may keep them
-    /// in hand for some time.
+    /// Whether a function of this gate may wait for another call. If so, a worker begins one call at a time, and its
+    /// client's token is back in the pool before the call is executed, so that other workers can make that client's
+    /// next calls. If not, a worker may keep tokens in hand for some time, begin several calls at once, execute them
+    /// one after the other and finish them together: `before` of a call may then come before `after` of an earlier one.
     fn may_wait(&self) -> bool {
         true
     }

@@ -150,6 +150,11 @@ impl Pace {
         }
     }
 
+    // Lets the worker take tokens only under a hold, and so begin one call at a time.
+    pub(crate) fn take_under_holds(&mut self) {
+        self.most = 0;
+    }
+
     // Lets the worker keep tokens in hand, if there are enough for all.
     pub(crate) fn keep_tokens(&mut self) {
         self.keeps = self.takes_ahead();

@@ -70,7 +70,8 @@ impl<'a, N: Name, H: Place + Send + Drop, T: Roster, W: Wait, G: Gate> Work<'a, 
         unreachable!()
     }
 
-    // Opens a batch with nothing under way. Tokens may stay in hand between rounds if the gate does not wait for calls.
+    // Opens a batch with nothing under way. If the gate may wait for calls, they begin one by one, and no token stays
+    // in hand after a hold.
     fn open(self, room: BatchRoom) -> Batch
         ensures untried { result.taken.untried ≡ [] }
         ensures tried { result.taken.tried ≡ [] }
@@ -79,7 +80,9 @@ impl<'a, N: Name, H: Place + Send + Drop, T: Roster, W: Wait, G: Gate> Work<'a, 
         ensures finished { result.finished ≡ [] }
     {
         let mut batch = room.open();
-        if !self.gate.may_wait() {
+        if self.gate.may_wait() {
+            batch.pace.take_under_holds();
+        } else {
             batch.pace.keep_tokens();
         }
         batch

@@ -1,5 +1,7 @@
 //! Gates for the tests, which count calls, or hold calls or workers back.
+use std::alloc::Global;
 use std::sync::atomic::{AtomicBool, AtomicU64, Ordering};
+use std::test::Fail;
 use std::thread::yield_now;
 use vll_core::Ticket;
 use vll_workers::Gate;
@@ -123,6 +125,58 @@ impl Gate for Patient {
     }
 }
 
+// Holds each call with an even ticket back until the call with the next one has its reply.
+#[derive(Drop)]
+pub(crate) struct Pairs {
+    // Whether the second call of each pair has its reply.
+    is_met: Vec<AtomicBool>,
+    pub(crate) has_given_up: AtomicBool,
+}
+
+impl Pairs {
+    pub(crate) fn new(alloc: Global, pairs: u32) -> Result<Pairs, Fail> {
+        let mut is_met = Vec::new(alloc);
+        for _ in 0..pairs {
+            is_met.push(AtomicBool::new(false))?;
+        }
+        Ok(Pairs {
+            is_met,
+            has_given_up: AtomicBool::new(false),
+        })
+    }
+
+    fn is_met(&self, ticket: Ticket) -> bool {
+        match self.is_met.get(ticket.0 as usize / 2) {
+            Some(is_met) => is_met.load(Ordering::SeqCst),
+            None => false,
+        }
+    }
+}
+
+impl Gate for Pairs {
+    fn before(&self, ticket: Ticket) {
+        if ticket.0 % 2 == 1 {
+            return;
+        }
+        for _ in 0..PATIENT_TURNS {
+            if self.is_met(ticket) {
+                return;
+            }
+            yield_now();
+        }
+        self.has_given_up.store(true, Ordering::SeqCst);
+    }
+
+    fn after(&self, ticket: Ticket) {
+        if ticket.0 % 2 == 0 {
+            return;
+        }
+        if let Some(is_met) = self.is_met.get(ticket.0 as usize / 2) {
+            is_met.store(true, Ordering::SeqCst);
+        }
+    }
+}
+
 // How long a call is held back for others to come.
 const CROWD_TURNS: u64 = 5_000_000;
 
@@ -193,5 +247,10 @@ impl Gate for Halt {
             }
             yield_now();
         }
+    }
+
+    // It waits for a thread beside the run, and for no call.
+    fn may_wait(&self) -> bool {
+        false
     }
 }
