@@ -49,5 +49,5 @@ checked = let p = proc in search (sendable, crosses) depth 60 fits 20000
 library : IsSync Library.the_row
 library = let c = checked in search (sendable, crosses) depth 30
 
-pub engine : (N H : RattleType) (n : name.Ghosts N.Denot) (p : place.Ghosts H.Denot) → IsSend N → IsSync N → IsSend H → IsSync H → IsSync (Engine.the_row N H n p)
-engine N H n p sn yn sh yh = search (library, words.the_sync, locked.the_send, room.the_sync, sendable, crosses) depth 40
+pub engine : (N H : RattleType) (n : name.Ghosts N.Denot) (p : place.Ghosts H.Denot) → IsSend N → IsSync N → IsSend H → IsSync (Engine.the_row N H n p)
+engine N H n p sn yn sh = search (library, words.the_sync, locked.the_send, room.the_sync, sendable, crosses) depth 40

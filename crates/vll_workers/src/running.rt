@@ -42,7 +42,7 @@ const _: () = prove!(MOST_WORKERS == 64);
 /// left, and its session has seen as many calls enter as the engine's limit.
 pub fn run<
     N: Name + Send + Sync,
-    H: Place + Send + Sync + Drop,
+    H: Place + Send + Drop,
     R: Threads + Wait + Sync,
     W: Wait + Sync,
     G: Gate + Sync,
@@ -74,7 +74,7 @@ pub fn run<
 /// without tokens succeeds, and starts no thread.
 pub fn run_limited<
     N: Name + Send + Sync,
-    H: Place + Send + Sync + Drop,
+    H: Place + Send + Drop,
     R: Threads + Wait + Sync,
     W: Wait + Sync,
     G: Gate + Sync,

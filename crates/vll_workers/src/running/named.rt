@@ -29,7 +29,7 @@ use vll_sca::Place;
 pub(super) fn run_named<
     'a,
     N: Name + Send + Sync + 'a,
-    H: Place + Send + Sync + Drop + 'a,
+    H: Place + Send + Drop + 'a,
     X: Shared<N, H> + Sync,
     T: Roster + Send + Sync,
     R: Threads + Wait + Sync,
@@ -92,7 +92,7 @@ pub(super) fn run_named<
 fn work_through<
     'a,
     N: Name + Send + Sync + 'a,
-    H: Place + Send + Sync + Drop + 'a,
+    H: Place + Send + Drop + 'a,
     X: Shared<N, H> + Sync,
     T: Roster + Send + Sync,
     R: Threads + Wait + Sync,

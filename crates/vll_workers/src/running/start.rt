@@ -45,7 +45,7 @@ pub(super) fn start<
     's,
     E,
     N: Name + Send + Sync + 's,
-    H: Place + Send + Sync + Drop + 's,
+    H: Place + Send + Drop + 's,
     X: Shared<N, H> + Sync,
     T: Roster + Send + Sync,
     R: Threads,
