@@ -10,6 +10,7 @@ use Rattle.vll_core.specs.declared.config.Config.{Config}
 use Rattle.vll_core.specs.declared.config.TheConstants.{MOST_CALLS}
 use Rattle.vll_core.specs.declared.event.Event.{Event}
 use Rattle.vll_core.specs.Faults.{open_fault}
+use Rattle.vll_scenario.specs.declared.scenario.ScenarioParts.{ScenarioParts}
 use Rattle.vll_scenario.specs.declared.limits.TheConstants.{MOST_CLIENTS, MOST_EVENTS, MOST_PROCS}
 
 -- a `Scenario` in contracts: records, procedures, calls, the machine's settings, the hash, and the schedule
@@ -40,6 +41,17 @@ pub record HasSizes {C : Type 0} (procs : List Proc) (scripts : List (List C)) (
   pub few_clients : length scripts ≤ MOST_CLIENTS
   pub few_calls : sum_by length scripts ≤ MOST_CALLS
   pub few_events : length schedule ≤ MOST_EVENTS
+
+-- a scenario with these parts
+abbrev pub setup_with : ScenarioParts → Setup
+setup_with p = record {
+  records = p.records.items;
+  procs = p.library.procs;
+  scripts = lists_of p.scripts.items;
+  config = p.config;
+  placing = p.placing;
+  schedule = p.schedule;
+}
 
 -- the invariant of a scenario: its sizes are within limits, a machine opens for it, and its library makes each call
 pub record IsSetup (s : Setup) : Type 0 where

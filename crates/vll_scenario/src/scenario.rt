@@ -1,7 +1,7 @@
 //! A checked scenario, and what callers do with it: take its parts, or change its cap and its bits.
-ghost use Rattle.std.specs.Prelude.{◌≡◌, ◌≤◌, All};
+ghost use Rattle.std.specs.Prelude.{◌≡◌, ◌≤◌, All, length};
 ghost use Rattle.vll_check.specs.Calls.{Fits};
-ghost use Rattle.vll_scenario.specs.Setup.{lists_of, IsSetup, catalog_of};
+ghost use Rattle.vll_scenario.specs.Setup.{lists_of, IsSetup, catalog_of, setup_with};
 
 use sqlite_items::Items;
 use std::marker::Model;
@@ -13,7 +13,8 @@ use vll_sca::{MOST_BITS, Placing};
 /// A scenario: the records' first values, the procedures, each client's script of calls, the machine's settings, and
 /// the events that a replay takes.
 ///
-/// Made only by `read_scenario` and `reading_of`, and from another scenario by `with_cap` and `with_bits`. It keeps the
+/// Made by `read_scenario` and `reading_of`, of parts in memory by `from_parts`, and from another scenario by
+/// `with_cap` and `with_bits`. It keeps the
 /// limits on a scenario's sizes, each of its procedures is well-formed for its records, and each of its calls was made
 /// for one of its procedures, on existing records; `into_parts` states this for callers. In contracts its procedures
 /// stand for the library, and each of its lists is a plain list.
@@ -60,6 +61,31 @@ pub struct ScenarioParts {
 }
 
 impl Scenario {
+    /// Returns the scenario with these parts. Allocates no memory. The library is for as many records as there are, and
+    /// the rest is as `into_parts` states it.
+    pub fn from_parts(parts: ScenarioParts) -> Scenario
+        requires records { parts.library.records ≡ length parts.records.items }
+        requires kept { IsSetup (setup_with parts) }
+        ensures { result ≡ setup_with parts }
+    {
+        let ScenarioParts {
+            records,
+            library,
+            scripts,
+            config,
+            placing,
+            schedule,
+        } = parts;
+        Scenario {
+            records,
+            library,
+            scripts,
+            config,
+            placing,
+            schedule,
+        }
+    }
+
     /// Returns the scenario's parts. Allocates no memory.
     ///
     /// Its sizes and settings are within their limits, and the library makes each call of each script.

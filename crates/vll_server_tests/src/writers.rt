@@ -1,14 +1,23 @@
 //! Tests of writers that get full or fail while a scenario is served or replayed.
+ghost use Rattle.std.specs.Prelude.{◌≡◌};
+
 use crate::asserts::{equal, holds};
 use crate::streams::{Full, Narrow, Slow};
 use crate::texts::{BLOCKED, BLOCKED_TEXT, TRANSFER, TRANSFER_TEXT};
 use std::alloc::Global;
 use std::sync::Wait;
 use std::thread::Threads;
-use vll_server::{Plain, ReplayFault, ServeFault, read_scenario, replay, serve};
+use vll_server::{Plain, ReplayFault, Scenario, ServeFault, read_scenario, replay, serve};
 use vll_workers::OpenGate;
 
-// What `serve` returns for the transfer, which is read a byte at a time. None: it was not read.
+// The scenario made anew of its parts, as a program makes one that has them in memory.
+fn remade(scenario: Scenario) -> Scenario
+    ensures { result ≡ scenario }
+{
+    Scenario::from_parts(scenario.into_parts())
+}
+
+// What `serve` returns for the transfer, which is read a byte at a time, and made anew. None: it was not read.
 fn served<R: Threads + Wait + Sync>(
     rt: &R,
     alloc: Global,
@@ -22,6 +31,7 @@ fn served<R: Threads + Wait + Sync>(
         return None;
     };
     let mut writer = Plain::new(narrow);
+    let scenario = remade(scenario);
     Some(serve(rt, rt, alloc, scenario, 1, &OpenGate, &mut writer))
 }
 

@@ -48,10 +48,21 @@ impl Token {
         requires few { length script.items < 2 ^ 32 }
         ensures { result ≡ token client script.items 0 session }
     {
+        Token::resume(client, session, script, 0)
+    }
+
+    /// A token that goes on where another one was: `next` calls of the script have entered. The session is the
+    /// client's, and the script has fewer than 2^32 calls.
+    pub fn resume(client: u32, session: Session, script: Vec<Call>, next: u32) -> Token
+        requires session { session.session.client ≡ client }
+        requires few { length script.items < 2 ^ 32 }
+        requires within { next ≤ length script.items }
+        ensures { result ≡ token client script.items next session }
+    {
         Token {
             client,
             script,
-            next: 0,
+            next,
             session,
             put_off: 0,
             ready: 0,
@@ -79,6 +90,16 @@ impl Token {
         ensures within { self.now.next ≤ length self.now.script }
     {
         self.next
+    }
+
+    /// The client's session and script.
+    pub fn into_parts(self) -> (Session, Vec<Call>)
+        ensures session { result.0 ≡ self.session }
+        ensures script { result.1.items ≡ self.script }
+        ensures whose { result.0.session.client ≡ self.client }
+        ensures few { length result.1.items < 2 ^ 32 }
+    {
+        (self.session, self.script)
     }
 
     /// The client's session.

@@ -14,6 +14,8 @@ mod opening;
 #[cfg(test)]
 mod put_off;
 #[cfg(test)]
+mod resumed;
+#[cfg(test)]
 mod runs;
 #[cfg(test)]
 mod staying;
