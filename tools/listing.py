@@ -18,7 +18,7 @@ from cases import TOP
 from sources import Sources, Specs, functions_of
 
 CRATE = re.compile(r'^(\w+):', re.MULTILINE)
-LEFT_OUT = re.compile(r'\w+_tests|vll_test_procedures|vll_scripts')
+LEFT_OUT = re.compile(r'\w+_tests|vll_test_procedures')
 MODULE = re.compile(r'^mod (\w+);', re.MULTILINE)
 EXPORT = re.compile(r'^pub use (\w+)::(?:\w+::)*(?:\{([^}]*)\}|(\w+));', re.MULTILINE)
 SENTENCE = re.compile(r'.*?[.!?](?= |$)')

@@ -11,8 +11,7 @@ use std::marker::Brand;
 use std::sync::Wait;
 use std::thread::Threads;
 use std::time::Clock;
-use vll_scripts::opening;
-use vll_server::{Plain, read_scenario};
+use vll_server::{Plain, opening_of, read_scenario};
 use vll_workers::{MOST_WORKERS, Tally};
 
 const WORKERS: [u32; 3] = [1, 2, 4];
@@ -40,7 +39,7 @@ fn count_run<R: Threads + Wait + Clock + AllocGlobal + Sync>(
     requires { (1 ≤ workers) × (workers ≤ MOST_WORKERS) }
 {
     let scenario = read_scenario(rt.alloc(), &mut Plain::new(bytes))?;
-    let (opening, scripts) = opening(rt.alloc(), scenario)?;
+    let (opening, scripts) = opening_of(rt.alloc(), scenario)?;
     let adding = Adding::new(rt);
     let timed = runs::time_of::<Brand, R, _>(rt, rt.alloc(), opening, scripts, workers, &adding)?;
     Ok((timed.count, adding.into_tally()))

@@ -7,7 +7,7 @@ use vll_server::ScenarioFault;
 use vll_workers::RunFault;
 
 /// Why nothing could be measured.
-#[derive(Clone, Copy, Debug, PartialEq, Eq)]
+#[derive(Clone, Copy, Debug)]
 pub(crate) enum Fault {
     NoMemory,
     /// The command line, the clock or standard output failed.

@@ -1,4 +1,4 @@
-//! Measures the machine, the engine, bodies and whole runs. The measurements are printed, and nothing depends on them.
+//! Measures the machine, the engine, bodies and runs. The measurements are printed, and nothing depends on them.
 #![tactic(auto)]
 
 mod adding;
@@ -28,11 +28,9 @@ use crate::counts::count_ways;
 use crate::engine::measure_engine;
 use crate::events::measure_events;
 use crate::fault::Fault;
-use crate::runs::measure_runs;
 use crate::scans::measure_scans;
 use crate::task::{Task, task_of};
 use std::env;
-use vll_workers::MOST_WORKERS;
 
 const USAGE: &str = "usage: vll_bench events
        vll_bench engine
@@ -40,7 +38,6 @@ const USAGE: &str = "usage: vll_bench events
        vll_bench bodies
        vll_bench compare < scenario
        vll_bench counts < scenario
-       vll_bench WORKERS ROUNDS < scenario
 
 events   what an event of the machine costs, on one thread
 engine   what a call of the engine costs from begin to finish, on one thread
@@ -51,9 +48,7 @@ compare  what a call of the scenario costs without the engine, serially, under
          call and by workers: lines of comma-separated values, whose names are
          in the first line
 counts   what became of the scenario's calls by workers in the engine, and what
-         these did: lines of that kind
-WORKERS  how many worker threads run the scenario, 1 to 64
-ROUNDS   how many times; prints the nanoseconds of each run, one per line";
+         these did: lines of that kind";
 
 fn main(rt: HostRuntime) -> Result<(), Fault> {
     let words: Vec<String> = env::args(&rt)?.collect(rt.alloc())?;
@@ -64,9 +59,6 @@ fn main(rt: HostRuntime) -> Result<(), Fault> {
         Task::Bodies => measure_bodies(&rt),
         Task::Compare => compare_ways(&rt),
         Task::Counts => count_ways(&rt),
-        Task::Runs { workers, rounds } if 1 <= workers && workers <= MOST_WORKERS => {
-            measure_runs(&rt, workers, rounds)
-        }
-        Task::Runs { .. } | Task::Usage => Ok(println!(&rt; "{USAGE}")?),
+        Task::Usage => Ok(println!(&rt; "{USAGE}")?),
     }
 }

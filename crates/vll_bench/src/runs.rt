@@ -7,37 +7,14 @@ ghost use Rattle.vll_sca.specs.Placing.{placing};
 use crate::fault::Fault;
 use crate::timed::{Count, Timed};
 use std::alloc::Global;
-use std::io::Read;
-use std::marker::Brand;
 use std::sync::Wait;
 use std::thread::Threads;
 use std::time::{Clock, Instant};
 use vll_proc::Call;
 use vll_queue::{Name, Opening};
 use vll_sca::Placing;
-use vll_scripts::{opening, tokens};
-use vll_server::{Line, MOST_CLIENTS, Plain, read_scenario};
-use vll_workers::{Gate, MOST_WORKERS, OpenGate, RunError, run};
-
-/// Runs the scenario on standard input `rounds` times with `workers` worker threads, and prints how many nanoseconds
-/// each run takes, without reading the scenario and without what follows the run.
-pub(crate) fn measure_runs<R: Threads + Wait + Clock + Input + Print + AllocGlobal + Sync>(
-    rt: &R,
-    workers: u32,
-    rounds: u32,
-) -> Result<(), Fault>
-    requires { (1 ≤ workers) × (workers ≤ MOST_WORKERS) }
-{
-    let mut bytes = Vec::new(rt.alloc());
-    rt.reader().read_to_end(&mut bytes)?;
-    for _ in 0..rounds {
-        let scenario = read_scenario(rt.alloc(), &mut Plain::new(bytes.as_slice()))?;
-        let (opening, scripts) = opening(rt.alloc(), scenario)?;
-        let timed = time_of::<Brand, R, _>(rt, rt.alloc(), opening, scripts, workers, &OpenGate)?;
-        println!(rt; "{}", timed.time.as_nanos())?;
-    }
-    Ok(())
-}
+use vll_server::{Line, MOST_CLIENTS, tokens_of};
+use vll_workers::{Gate, MOST_WORKERS, RunError, run};
 
 /// Times the run in an engine of this name.
 pub(crate) fn time_of<N: Name + Send + Sync, R: Threads + Wait + Clock + Sync, G: Gate + Sync>(
@@ -56,7 +33,7 @@ pub(crate) fn time_of<N: Name + Send + Sync, R: Threads + Wait + Clock + Sync, G
     requires fits { All (λ script. All (Fits (library_of N.engine)) script.items) scripts.items }
 {
     let (engine, sessions) = opening.start::<N>();
-    let tokens = tokens::<N>(alloc, sessions, scripts)?;
+    let tokens = tokens_of::<N>(alloc, sessions, scripts)?;
     let start = Instant::now(rt)?;
     let ran = run(rt, rt, alloc, &engine, tokens, workers, gate);
     let time = start.elapsed(rt)?;

@@ -4,7 +4,7 @@ use std::alloc::{AllocError, Global};
 use vll_core::Core;
 use vll_queue::Opening;
 use vll_sca::Placing;
-use vll_server::{Plain, Scenario, ScenarioFault, ScenarioParts, read_scenario};
+use vll_server::{Plain, Scenario, ScenarioFault, ScenarioParts, opening_of, read_scenario};
 
 // A scenario up to its list of records: its procedure adds 1 to the record that the argument names, and replies the
 // sum.
@@ -29,7 +29,7 @@ pub(crate) fn core(alloc: Global, records: u32, calls: u32) -> Result<Core<Placi
 
 /// Opens an engine over `records` records that hold 0, with one client, for `calls` bumps, at least 1.
 pub(crate) fn opening(alloc: Global, records: u32, calls: u32) -> Result<Opening<Placing>, Fault> {
-    let (opening, _) = vll_scripts::opening(alloc, scenario(alloc, records, calls)?)?;
+    let (opening, _) = opening_of(alloc, scenario(alloc, records, calls)?)?;
     Ok(opening)
 }
 

@@ -11,14 +11,12 @@ pub(crate) enum Task {
     Bodies,
     Compare,
     Counts,
-    Runs { workers: u32, rounds: u32 },
 }
 
 /// Reads the words of the command line, the first of which is the program's name. Unknown words ask for the usage.
 pub(crate) fn task_of(words: &[String]) -> Task {
     match words {
         [_, word] => task_of_word(word.as_str()),
-        [_, workers, rounds] => task_of_numbers(workers.as_str(), rounds.as_str()),
         _ => Task::Usage,
     }
 }
@@ -31,13 +29,6 @@ fn task_of_word(word: &str) -> Task {
         "bodies" => Task::Bodies,
         "compare" => Task::Compare,
         "counts" => Task::Counts,
-        _ => Task::Usage,
-    }
-}
-
-fn task_of_numbers(workers: &str, rounds: &str) -> Task {
-    match (workers.parse::<u32>(), rounds.parse::<u32>()) {
-        (Ok(workers), Ok(rounds)) => Task::Runs { workers, rounds },
         _ => Task::Usage,
     }
 }

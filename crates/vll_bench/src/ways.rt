@@ -10,8 +10,7 @@ use std::marker::Brand;
 use std::sync::Wait;
 use std::thread::Threads;
 use std::time::Clock;
-use vll_scripts::opening;
-use vll_server::{Plain, ScenarioParts, read_scenario};
+use vll_server::{Plain, ScenarioParts, opening_of, read_scenario};
 use vll_workers::{MOST_WORKERS, OpenGate};
 
 /// How the calls are made.
@@ -56,11 +55,11 @@ impl Way {
         let threads = workers as usize;
         let scenario = read_scenario(alloc, &mut Plain::new(bytes))?;
         if let Way::Engine = self {
-            let (opening, scripts) = opening(alloc, scenario)?;
+            let (opening, scripts) = opening_of(alloc, scenario)?;
             return runs::time_of::<Brand, R, _>(rt, alloc, opening, scripts, workers, &OpenGate);
         }
         if let Way::Call = self {
-            let (opening, scripts) = opening(alloc, scenario)?;
+            let (opening, scripts) = opening_of(alloc, scenario)?;
             return time_calls::<Brand, R>(rt, alloc, opening, scripts, threads);
         }
         let ScenarioParts {

@@ -15,8 +15,9 @@ use vll_core::Line;
 use vll_proc::{Call, Reply};
 use vll_queue::{Closed, Name, Opening};
 use vll_sca::Placing;
-use vll_scripts::{opening, tokens};
-use vll_server::{MOST_CLIENTS, Plain, Scenario, ScenarioFault, read_scenario};
+use vll_server::{
+    MOST_CLIENTS, Plain, Scenario, ScenarioFault, opening_of, read_scenario, tokens_of,
+};
 use vll_workers::{OpenGate, RunFault, Token, run, run_limited};
 
 pub(crate) const CLIENTS: usize = 4;
@@ -50,7 +51,7 @@ pub(crate) fn run_clients<R: Print + AllocGlobal + Threads + Wait + Sync>(
     starts: Option<u32>,
 ) -> Result<Answer, Unready> {
     let scenario = four_clients(rt.alloc())?;
-    let (opening, scripts) = opening(rt.alloc(), scenario)?;
+    let (opening, scripts) = opening_of(rt.alloc(), scenario)?;
     run_named::<Brand, R>(rt, rt.alloc(), opening, scripts, starts)
 }
 
@@ -69,7 +70,7 @@ fn run_named<N: Name + Send + Sync, R: Print + Threads + Wait + Sync>(
     requires fits { All (λ script. All (Fits (library_of N.engine)) script.items) scripts.items }
 {
     let (engine, sessions) = opening.start::<N>();
-    let tokens = tokens::<N>(alloc, sessions, scripts)?;
+    let tokens = tokens_of::<N>(alloc, sessions, scripts)?;
     begin(rt)?;
     let ran = match starts {
         None => run(rt, rt, alloc, &engine, tokens, WORKERS, &OpenGate),
@@ -108,9 +109,9 @@ fn are_through(tokens: &[Token]) -> bool {
     tokens.len() == CLIENTS
 }
 
-// Whether the tokens are in the order in which they were passed, the last client's first, and none has entered a call.
+// Whether the tokens are in the order in which they were passed, that of their clients, and none has entered a call.
 fn are_as_they_came(tokens: &[Token]) -> bool {
-    for (client, token) in tokens.iter().rev().enumerate() {
+    for (client, token) in tokens.iter().enumerate() {
         if token.client() as usize != client || token.next() != 0 {
             return false;
         }

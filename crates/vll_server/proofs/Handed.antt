@@ -26,7 +26,8 @@ use Rattle.vll_workers.specs.Tokens.{AreBack, AreFit, IsFit, IsThrough, clients_
 use Rattle.vll_workers.proofs.Merged.{merged}
 use Rattle.vll_scenario.specs.Setup.{lists_of}
 use Rattle.vll_server.specs.declared.fault.ServeFault.{ServeFault}
-use Rattle.vll_server.specs.Private.Serving.{sessions_in, tokens_from}
+use Rattle.vll_server.specs.Scripts.{tokens_from}
+use Rattle.vll_server.specs.Private.Serving.{sessions_in}
 
 -- a client's session that has seen nothing, and its token, of which no call has entered
 abbrev pub session_at : TableId → ℕ → SessionShown
@@ -119,7 +120,7 @@ length-tokens table client [] = refl
 length-tokens table client (script ∷ scripts) = ap suc (length-tokens table (suc client) scripts)
 
 -- the library fits the calls of the scripts' tokens
-are_fit : (e : Named) (scripts : List (Vec Call)) → All (λ (script : Vec Call). All (Fits (library_of e)) script.items) scripts → AreFit e (tokens_from e.table 0 (lists_of scripts))
+pub are_fit : (e : Named) (scripts : List (Vec Call)) → All (λ (script : Vec Call). All (Fits (library_of e)) script.items) scripts → AreFit e (tokens_from e.table 0 (lists_of scripts))
 are_fit e scripts fits = all_from (IsFit e) (tokens_from e.table 0 (lists_of scripts)) each
   where
     listed : All (All (Fits (library_of e))) (lists_of scripts)

@@ -23,7 +23,7 @@ pub use choosing::serve_as;
 pub use fault::ServeFault;
 pub use laws::served_texts_are_serial;
 pub use options::{Bits, Cap, RunOptions, Workers};
-pub use serving::{number_of_calls, run_scenario, serve};
+pub use serving::{opening_of, run_scenario, serve, tokens_of};
 pub use text::outcome::write_outcome;
 pub use vll_core::Line;
 pub use vll_queue::Closed;

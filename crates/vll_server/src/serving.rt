@@ -10,7 +10,8 @@ ghost use Rattle.vll_sca.specs.Placing.{placing};
 ghost use Rattle.vll_scenario.specs.Setup.{lists_of, catalog_of};
 ghost use Rattle.vll_workers.specs.Merge.{IsMerge};
 ghost use Rattle.vll_server.specs.Serve.{IsServed, Serves};
-ghost use Rattle.vll_server.specs.Private.Serving.{AreLeft, config_for};
+ghost use Rattle.vll_server.specs.Scripts.{config_for};
+ghost use Rattle.vll_server.specs.Private.Serving.{AreLeft};
 ghost use Rattle.vll_scenario.specs.Streams.{AppendsBeginning};
 
 mod tokens;
@@ -21,7 +22,8 @@ use std::alloc::{AllocError, Global};
 use std::marker::Brand;
 use std::sync::Wait;
 use std::thread::Threads;
-use tokens::{into_sessions, tokens_of};
+use tokens::into_sessions;
+pub use tokens::tokens_of;
 use vll_core::{Config, MOST_CALLS, OpenFault};
 use vll_proc::Call;
 use vll_queue::{Closed, Engine, Name, NotClosed, Opening, Session};
@@ -91,19 +93,21 @@ pub fn run_scenario<R: Threads + Wait + Sync, W: Wait + Sync, G: Gate + Sync>(
     run_named::<Brand, R, W, G>(rt, wait, alloc, opening, scripts, workers, gate)
 }
 
-// Opens an engine over a scenario's records and procedures, which has no name yet, and returns it with the scripts. The
-// engine has the scenario's cap, bits and hash, a client for each script, and takes as many calls as the scripts have.
-// All its memory is allocated here.
-fn opening_of(
+/// Opens an engine over a scenario's records and procedures, which has no name yet, and returns it with the scripts. It
+/// is for programs that run the workers themselves: `tokens_of` makes their tokens. The engine has the scenario's cap,
+/// bits and hash, a client for each script, and takes as many calls as the scripts have. All its memory is allocated
+/// here; it fails if the allocation fails.
+pub fn opening_of(
     alloc: Global,
     scenario: Scenario,
 ) -> Result<(Opening<Placing>, Vec<Vec<Call>>), AllocError>
     ensures opened { IfOk result (λ made. made.0 ≡ opening made.0.table (catalog_of scenario) scenario.records (config_for
         scenario) scenario.placing (length scenario.scripts)) }
     ensures scripts { IfOk result (λ made. lists_of made.1.items ≡ scenario.scripts) }
+    ensures clients { IfOk result (λ made. made.0.clients ≡ length made.1.items) }
     ensures few { IfOk result (λ made. length made.1.items ≤ MOST_CLIENTS) }
     ensures short { IfOk result (λ made. All (λ script. length script.items < 2 ^ 32) made.1.items) }
-    ensures fits { IfOk result (λ made. All (λ script. All (Fits (catalog_of scenario)) script.items) made.1.items) }
+    ensures fits { IfOk result (λ made. All (λ script. All (Fits (library_of (name_of placing made.0))) script.items) made.1.items) }
 {
     let ScenarioParts {
         records,
@@ -129,8 +133,8 @@ fn opening_of(
     }
 }
 
-/// The number of calls of all scripts together, at most 65,536.
-pub fn number_of_calls(scripts: &[Vec<Call>]) -> u32
+// The number of calls of all scripts together, at most 65,536.
+fn number_of_calls(scripts: &[Vec<Call>]) -> u32
     requires { sum_by length (lists_of scripts.now) ≤ MOST_CALLS }
     ensures { result ≡ sum_by length (lists_of scripts.now) }
 {

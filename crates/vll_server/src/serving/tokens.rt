@@ -1,8 +1,13 @@
 //! The tokens that are passed to the workers, and the sessions of those that come back.
-ghost use Rattle.std.specs.Prelude.{◌≡◌, ◌≤◌, ◌<◌, ◌^◌, [], All, IfOk, length, vec_capacity};
+ghost use Rattle.std.specs.Prelude.{◌≡◌, ◌≤◌, ◌<◌, ◌^◌, [], All, IfOk, length, nat_eq, vec_capacity};
+ghost use Rattle.std.specs.List.{IsDistinct};
+ghost use Rattle.vll_check.specs.Calls.{Fits};
 ghost use Rattle.vll_counters.specs.Shown.{AreNewSessions};
+ghost use Rattle.vll_queue.specs.Shown.{library_of};
+ghost use Rattle.vll_workers.specs.Tokens.{AreFit, clients_of};
 ghost use Rattle.vll_scenario.specs.Setup.{lists_of};
-ghost use Rattle.vll_server.specs.Private.Serving.{sessions_in, tokens_from};
+ghost use Rattle.vll_server.specs.Scripts.{tokens_from};
+ghost use Rattle.vll_server.specs.Private.Serving.{sessions_in};
 
 use std::alloc::{AllocError, Global};
 use vll_proc::Call;
@@ -10,9 +15,9 @@ use vll_queue::{Name, Session};
 use vll_scenario::MOST_CLIENTS;
 use vll_workers::Token;
 
-// Makes a token for each client, in order, with its session and its script. The sessions are those with which an engine
-// of this name starts, one for each script, in order.
-pub(crate) fn tokens_of<N: Name>(
+/// Makes a token for each client, in order, with its session and its script. The sessions are those with which an
+/// engine of this name starts, one for each script, in order. It fails if an allocation fails.
+pub fn tokens_of<N: Name>(
     alloc: Global,
     sessions: Vec<Session>,
     scripts: Vec<Vec<Call>>,
@@ -20,7 +25,10 @@ pub(crate) fn tokens_of<N: Name>(
     requires sessions { AreNewSessions N.engine.table (length scripts.items) sessions.items }
     requires few { length scripts.items ≤ MOST_CLIENTS }
     requires short { All (λ script. length script.items < 2 ^ 32) scripts.items }
-    ensures { IfOk result (λ tokens. tokens.items ≡ tokens_from N.engine.table 0 (lists_of scripts.items)) }
+    requires fits { All (λ script. All (Fits (library_of N.engine)) script.items) scripts.items }
+    ensures tokens { IfOk result (λ tokens. tokens.items ≡ tokens_from N.engine.table 0 (lists_of scripts.items)) }
+    ensures fit { IfOk result (λ tokens. AreFit N.engine tokens.items) }
+    ensures distinct { IfOk result (λ tokens. IsDistinct nat_eq (clients_of tokens.items)) }
 {
     let mut sessions = sessions;
     let mut scripts = scripts;

@@ -1,10 +1,6 @@
-use Rattle.std.proofs.Common.{IfOk, List, arith, sym, ap, subst, length}
+use Rattle.std.proofs.Common.{IfOk, List, arith, ap, length}
 use Rattle.std.specs.Prelude.{sum_by}
-use Rattle.std.specs.Global.{Vec}
-use Rattle.std.specs.List.{All}
 use Rattle.vll_proc.specs.declared.call.Call.{Call}
-use Rattle.vll_check.specs.Calls.{Fits}
-use Rattle.vll_check.specs.Catalog.{Catalog}
 use Rattle.vll_sca.specs.declared.place.Placing.{Placing}
 use Rattle.vll_sca.specs.Placing.{placing}
 use Rattle.vll_counters.specs.Views.{calls_in}
@@ -27,13 +23,7 @@ returns-clause-ok g c =
     let merge : IfOk c.run_named.result (λ (closed : Closed). IsMerge (library_of engine) (calls_in closed.journal.items) scripts) = c.run_named.ensures.merge in
     all_served c.args.scenario engine scripts c.run_named.result (ap (λ (o : OpeningShown Placing). (name_of placing o).base) opened) c.in_ok-opening.ensures.scripts serial merge
 
--- its library makes the calls
-pub run_named-requires-clause-fits : goal.run_named-requires-clause-fits
-run_named-requires-clause-fits g c κs within =
-    let library = ap (λ (o : OpeningShown Placing). library_of (name_of placing o)) c.in_ok-opening.ensures.opened in
-    subst (λ (library : Catalog). All (λ (script : Vec Call). All (Fits library) script.items) c.in_ok-opening.scripts.items) (sym library) c.in_ok-opening.ensures.fits
-
--- and it takes as many calls as the scripts have
+-- it takes as many calls as the scripts have
 pub run_named-requires-clause-limit : goal.run_named-requires-clause-limit
 run_named-requires-clause-limit g c κs within =
     let limit = ap (λ (o : OpeningShown Placing). o.config.limit) c.in_ok-opening.ensures.opened in

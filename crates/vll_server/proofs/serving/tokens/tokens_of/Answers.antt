@@ -1,4 +1,5 @@
-use Rattle.std.proofs.Common.{◌≡◌, ◌<◌, ◌^◌, ◌++◌, ◌∷◌, [], List, suc, ◌∙◌, sym, ap, length, reverse, arith, length-append, add-one}
+use Rattle.std.proofs.Common.{◌≡◌, ◌<◌, ◌^◌, ◌++◌, ◌∷◌, [], List, suc, ◌∙◌, sym, ap, subst, length, nat_eq, reverse, arith, rules, length-append, add-one}
+use Rattle.std.specs.List.{IsDistinct}
 use Rattle.std.specs.Global.{Vec}
 use Rattle.std.specs.Option.{option_to_list}
 use Rattle.std.proofs.lemmas.List.Elements.{All-pop}
@@ -6,8 +7,9 @@ use Rattle.vll_proc.specs.declared.call.Call.{Call}
 use Rattle.vll_counters.specs.Shown.{SessionShown}
 use Rattle.vll_workers.specs.Shown.{TokenShown, token}
 use Rattle.vll_scenario.specs.Setup.{lists_of}
-use Rattle.vll_server.specs.Private.Serving.{tokens_from}
-use Rattle.vll_server.proofs.Handed.{last_session, session_at, tokens-next}
+use Rattle.vll_server.specs.Scripts.{tokens_from}
+use Rattle.vll_workers.specs.Tokens.{AreFit, clients_of}
+use Rattle.vll_server.proofs.Handed.{are_distinct, are_fit, last_session, session_at, tokens-next}
 use Rattle.vll_server.proofs.serving.tokens.tokens_of.Goals as goal
 
 pub new-requires-clause-session : goal.new-requires-clause-session
@@ -37,3 +39,18 @@ loop-script-preserved g c =
       tokens = ap (λ (ts : List TokenShown). tokens_from table 0 (lists_of new) ++ reverse ts) pushed
           ∙ tokens-next table c.loop-script.scripts.items new c.in-Some.script c.len-client.result c.loop-script.tokens.items (tokens_from table 0 (lists_of c.args.scripts.items)) c.in-Some.ensures.items client c.loop-script.invariant.tokens;
     }
+
+pub returns-clause-tokens : goal.returns-clause-tokens
+returns-clause-tokens g c = search rules
+
+-- they are the scripts' tokens, whose calls the library makes
+pub returns-clause-fit : goal.returns-clause-fit
+returns-clause-fit g c =
+    let made : c.reverse.new.self.items ≡ tokens_from g.N.Name.engine.table 0 (lists_of c.args.scripts.items) = search rules in
+    subst (λ (ts : List TokenShown). AreFit g.N.Name.engine ts) (sym made) (are_fit g.N.Name.engine c.args.scripts.items c.requires.fits)
+
+-- and which are of distinct clients
+pub returns-clause-distinct : goal.returns-clause-distinct
+returns-clause-distinct g c =
+    let made : c.reverse.new.self.items ≡ tokens_from g.N.Name.engine.table 0 (lists_of c.args.scripts.items) = search rules in
+    subst (λ (ts : List TokenShown). IsDistinct nat_eq (clients_of ts)) (sym made) (are_distinct g.N.Name.engine.table 0 (lists_of c.args.scripts.items))

@@ -4,7 +4,7 @@ use Rattle.std.specs.List.{All}
 use Rattle.vll_counters.specs.Shown.{AreNewSessions}
 use Rattle.vll_scenario.specs.declared.limits.TheConstants.{MOST_CLIENTS}
 use Rattle.vll_scenario.specs.Setup.{lists_of}
-use Rattle.vll_server.specs.Private.Serving.{tokens_from}
+use Rattle.vll_server.specs.Scripts.{tokens_from}
 use Rattle.vll_server.proofs.serving.tokens.tokens_of.Given as goal
 
 abbrev pub invariant-loop-script : goal.invariant-loop-script

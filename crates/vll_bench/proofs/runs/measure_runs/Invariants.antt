@@ -1,6 +1,0 @@
-use Rattle.vll_sca.specs.Placing.{placing}
-use Rattle.vll_queue.specs.Shown.{name_of}
-use Rattle.vll_bench.proofs.runs.measure_runs.Given as goal
-
-abbrev pub ghosts-time_of : goal.ghosts-time_of
-ghosts-time_of g a = record { engine = name_of placing a.opening }
