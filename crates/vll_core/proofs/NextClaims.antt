@@ -1,11 +1,11 @@
 -- The claim that an event of a running call is of, by the work of the call.
-use Rattle.std.proofs.Common.{◌≡◌, ℕ, refl, sym, ap, ◌∙◌, subst, slice_get, slice_index_or, Option, Some, None, option_map}
+use Rattle.std.proofs.Common.{◌≡◌, ℕ, sym, ap, ◌∙◌, slice_get, slice_index_or, Option, Some, None, option_map}
 use Rattle.vll_record.specs.declared.claim.Claim.{Claim}
 use Rattle.vll_proc.specs.declared.call.Call.{Call}
 use Rattle.vll_core.specs.declared.machine.Machine.TheInside.{Inside}
 use Rattle.vll_core.specs.declared.work.Work.{Work}
 use Rattle.vll_core.specs.Machine.{running}
-use Rattle.vll_core.specs.State.{Entered, State, writes}
+use Rattle.vll_core.specs.State.{Entered, writes}
 use Rattle.vll_core.specs.Moves.{entry_store, entry_release}
 use Rattle.vll_core.specs.Next.{entry_load}
 use Rattle.vll_core.specs.Shown.{Shown}

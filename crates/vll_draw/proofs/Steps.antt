@@ -1,23 +1,21 @@
 -- The words of each record after each step that is drawn, by the columns and the words before them.
-use Rattle.std.proofs.Common.{◌≡◌, ℕ, zero, ◌<◌, List, [], ◌∷◌, length, suc, take, drop, Bool, true, false, Option, Some, None, Result, Ok, Err, IfSome, refl, sym, ap, ◌∙◌, subst, arith, slice_get, if◌then◌else◌}
+use Rattle.std.proofs.Common.{◌≡◌, ℕ, zero, ◌<◌, List, [], ◌∷◌, length, suc, take, drop, Bool, true, false, Option, Some, None, Ok, Err, IfSome, refl, sym, ap, ◌∙◌, subst, arith, slice_get, if◌then◌else◌}
 use Rattle.std.proofs.lemmas.Bool.{eqb-true}
 use Rattle.vll_record.specs.declared.claim.Claim.{Claim}
 use Rattle.vll_core.specs.declared.event.Event.{Event}
 use Rattle.vll_core.specs.declared.event.Event.TheVariants as event
 use Rattle.vll_core.specs.declared.seen.Seen.{Seen}
-use Rattle.vll_core.specs.declared.refusal.Refusal.{Refusal}
 use Rattle.vll_core.specs.declared.refusal.Refusal.TheVariants.{NotRunning}
 use Rattle.vll_record.specs.Counter.{delta_of}
 use Rattle.vll_sca.specs.Status.{is_running}
-use Rattle.vll_core.specs.State.{Base, Opening, Entered, State, counter, value}
-use Rattle.vll_core.specs.Machine.{Outcome, if_running, or_refuse, running, state_after, step, told}
+use Rattle.vll_core.specs.State.{Opening, Entered, State, counter}
+use Rattle.vll_core.specs.Machine.{Outcome, if_running, or_refuse, state_after, step, told}
 use Rattle.vll_core.specs.Moves.{IsReached, by_event, moved, entry_release, entry_store, is_on, delta_if, requested_by, released_by, stored_by, turn_request}
 use Rattle.vll_core.specs.Next.{claim_of}
-use Rattle.vll_core.specs.Shown.{AreWords}
 use Rattle.vll_core.proofs.Counters.{counters_change}
 use Rattle.vll_core.proofs.Values.{others_stay}
 use Rattle.vll_replay.specs.Steps.{Step, step_of, steps}
-use Rattle.vll_picture.specs.Columns.{AreColumns, AreSteps, AreWordsOf, IsColumn, claim_of_step, next_words, words_after, words_at, window}
+use Rattle.vll_picture.specs.Columns.{AreColumns, AreSteps, AreWordsOf, IsColumn, next_words, words_after, words_at}
 use Rattle.vll_picture.specs.declared.column.Column.{Column}
 use Rattle.vll_picture.specs.declared.column.RecordWords.{RecordWords}
 use Rattle.vll_draw.specs.Taped.{HasTaped, Stands, drawn}
