@@ -1,6 +1,6 @@
 -- What lists are as forms: their items by number, and none if a list has another length than a form has.
-use Rattle.std.proofs.Common.{◌≡◌, ◌≢◌, ℕ, List, [], ◌∷◌, length, map, get_or, Some, None, Vec, Global, refl, ap, ◌∙◌, arith}
-use Rattle.std.specs.Prelude.{codes}
+use Rattle.std.proofs.Common.{◌≡◌, ◌≢◌, ℕ, List, [], ◌∷◌, length, map, get_or, Option, Some, None, Vec, Global, refl, ap, ◌∙◌, arith}
+use Rattle.std.specs.Prelude.{codes, option_and_then, option_map}
 use Rattle.std.specs.Str.{bytes_eq}
 use Rattle.std.proofs.lemmas.Bool.{cond-true, cond-false, false_from_ne_true}
 use Rattle.std.proofs.lemmas.Slice.Eq.{bytes_eq-Decides}
@@ -12,7 +12,9 @@ use Rattle.serde_json.proofs.Views.{view-Array}
 use Rattle.std.proofs.lemmas.List.{length-map}
 use Rattle.vll_proc.specs.declared.syntax.Edition.{Edition}
 use Rattle.vll_scenario.specs.Schedule.{event_at}
-use Rattle.vll_scenario.specs.Syntax.{expr_at, index_at, key_at, let_or_set, repeat, stmt_at, stmts_at}
+use Rattle.vll_proc.specs.declared.syntax.Expr.{Expr, Not}
+use Rattle.vll_proc.specs.declared.syntax.Stmt.{Stmt}
+use Rattle.vll_scenario.specs.Syntax.{both_of, branch, expr_at, find_word, index_at, key_at, leaf, let_or_set, operation, operations, repeat, stmt_at, stmts_at}
 
 -- ---- the items of a list of one, two, three or four
 
@@ -58,6 +60,15 @@ view-four v list a b c d is n first second third fourth = ap view is ∙ view-Ar
 pub view-one : (v : Value) (list : Vec Value Global) (a : Value) → v ≡ Array list → length list.items ≡ 1 → a ≡ get_or list.items 0 a → view v ≡ array (item (view a) no_items)
 view-one v list a is n first = ap view is ∙ view-Array list ∙ ap array (one list.items a n first)
 
+-- ---- a word with one item
+
+pub expr_at-not : (word : List ℕ) (d : Data) → word ≡ codes "not" → expr_at (array (item (string word) (item d no_items))) ≡ option_map Not (expr_at d)
+expr_at-not word d is = cond-true (bytes_eq word (codes "not")) _ _ ((bytes_eq-Decides word (codes "not")).1 is)
+
+pub expr_at-other_word : (word : List ℕ) (d : Data) → word ≢ codes "not" → expr_at (array (item (string word) (item d no_items))) ≡ leaf word (index_at d)
+expr_at-other_word word d other =
+    cond-false (bytes_eq word (codes "not")) _ _ (false_from_ne_true (bytes_eq word (codes "not")) (λ same. other ((bytes_eq-Decides word (codes "not")).0 same)))
+
 -- ---- a word with two items
 
 pub stmt_at-repeat : (edition : Edition) (word : List ℕ) (d e : Data) → word ≡ codes "repeat" → stmt_at edition (array (item (string word) (item d (item e no_items)))) ≡ repeat edition (index_at d) (stmts_at edition e)
@@ -66,6 +77,39 @@ stmt_at-repeat edition word d e is = cond-true (bytes_eq word (codes "repeat")) 
 pub stmt_at-other_word : (edition : Edition) (word : List ℕ) (d e : Data) → word ≢ codes "repeat" → stmt_at edition (array (item (string word) (item d (item e no_items)))) ≡ let_or_set word d e
 stmt_at-other_word edition word d e other =
     cond-false (bytes_eq word (codes "repeat")) _ _ (false_from_ne_true (bytes_eq word (codes "repeat")) (λ same. other ((bytes_eq-Decides word (codes "repeat")).0 same)))
+
+-- ---- an operation or an `if` that lacks something
+
+pub operation-no_left : (word : List ℕ) (left right : Option Expr) → left ≡ None → operation word left right ≡ None
+operation-no_left word left right none = rw none (without_left (find_word word operations))
+  where
+    without_left : (make : Option (Expr → Expr → Expr)) → option_and_then (λ f. both_of f None right) make ≡ None
+    without_left None = refl
+    without_left (Some f) = refl
+
+pub operation-no_right : (word : List ℕ) (left right : Option Expr) → right ≡ None → operation word left right ≡ None
+operation-no_right word left right none = rw none (without_right left (find_word word operations))
+  where
+    without_right : (left : Option Expr) (make : Option (Expr → Expr → Expr)) → option_and_then (λ f. both_of f left None) make ≡ None
+    without_right left None = refl
+    without_right None (Some f) = refl
+    without_right (Some e) (Some f) = refl
+
+pub branch-other_word : (word : List ℕ) (test : Option Expr) (first second : Option (List Stmt)) → word ≢ codes "if" → branch word test first second ≡ None
+branch-other_word word None first second other = refl
+branch-other_word word (Some e) None second other = refl
+branch-other_word word (Some e) (Some xs) None other = refl
+branch-other_word word (Some e) (Some xs) (Some ys) other =
+    cond-false (bytes_eq word (codes "if")) _ _ (false_from_ne_true (bytes_eq word (codes "if")) (λ same. other ((bytes_eq-Decides word (codes "if")).0 same)))
+
+pub branch-no_first : (word : List ℕ) (test : Option Expr) (second : Option (List Stmt)) → branch word test None second ≡ None
+branch-no_first word None second = refl
+branch-no_first word (Some e) second = refl
+
+pub branch-no_second : (word : List ℕ) (test : Option Expr) (first second : Option (List Stmt)) → second ≡ None → branch word test first second ≡ None
+branch-no_second word None first second none = refl
+branch-no_second word (Some e) None second none = refl
+branch-no_second word (Some e) (Some xs) second none = rw none
 
 -- ---- lists of another length
 

@@ -100,6 +100,8 @@ fn note_statement(
 {
     if let Some(statement) = if_read(stmt_of(alloc, edition, value))? {
         before.pass_statement(&statement);
+        // proved faster than the drop at the end of the block
+        drop(statement);
     }
     Ok(())
 }
@@ -232,10 +234,15 @@ fn statement_passes(
 ) -> Result<bool, AllocError>
     ensures { IfOk result (λ is. is ≡ unwrap_or (option_map (statement_passes test.now.fault test.now.procedure before.now) (stmt_at edition (view value.now))) true) }
 {
-    Ok(match if_read(stmt_of(alloc, edition, value))? {
-        Some(statement) => test.statement_passes(before, &statement),
-        None => true,
-    })
+    match if_read(stmt_of(alloc, edition, value))? {
+        Some(statement) => {
+            let passes = test.statement_passes(before, &statement);
+            // as in `note_statement`
+            drop(statement);
+            Ok(passes)
+        }
+        None => Ok(true),
+    }
 }
 
 fn expression_passes(

@@ -11,6 +11,7 @@ use sqlite_items::Boxed;
 use std::alloc::Global;
 use vll_proc::Expr;
 
+#[cycle(expressions)]
 pub fn expr_of(alloc: Global, value: &Value) -> Result<Expr, Misread>
     ensures { Gives result (expr_at (view value.now)) }
 {
@@ -18,22 +19,28 @@ pub fn expr_of(alloc: Global, value: &Value) -> Result<Expr, Misread>
         Value::Number(n) => n.as_u64().map(Expr::Num).ok_or(Misread::Faulty),
         Value::Array(list) => match list.len() {
             2 => match word_of(&list[0])? {
-                "not" => {
-                    let operand = expr_of(alloc, &list[1])?;
-                    Ok(Expr::Not(Boxed::new(alloc, operand)?))
-                }
+                "not" => Ok(Expr::Not(operand_of(alloc, &list[1])?)),
                 word => leaf_of(word, &list[1]),
             },
             3 => {
                 let word = word_of(&list[0])?;
-                let left = expr_of(alloc, &list[1])?;
-                let right = expr_of(alloc, &list[2])?;
-                operation_of(alloc, word, left, right)
+                let (left, right) = (&list[1], &list[2]);
+                let left = operand_of(alloc, left)?;
+                let right = operand_of(alloc, right)?;
+                operation_of(word, left, right)
             }
             _ => Err(Misread::Faulty),
         },
         _ => Err(Misread::Faulty),
     }
+}
+
+#[cycle(expressions)]
+fn operand_of(alloc: Global, value: &Value) -> Result<Boxed<Expr>, Misread>
+    ensures { Gives result (expr_at (view value.now)) }
+{
+    let operand = expr_of(alloc, value)?;
+    Ok(Boxed::new(alloc, operand)?)
 }
 
 // An argument, a key or a local.
@@ -50,11 +57,9 @@ fn leaf_of(word: &str, index: &Value) -> Result<Expr, Misread>
 }
 
 // An operation on two operands.
-fn operation_of(alloc: Global, word: &str, left: Expr, right: Expr) -> Result<Expr, Misread>
+fn operation_of(word: &str, left: Boxed<Expr>, right: Boxed<Expr>) -> Result<Expr, Misread>
     ensures { Gives result (operation word.now (Some left) (Some right)) }
 {
-    let left = Boxed::new(alloc, left)?;
-    let right = Boxed::new(alloc, right)?;
     match word {
         "add" => Ok(Expr::Add(left, right)),
         "sub" => Ok(Expr::Sub(left, right)),

@@ -1,7 +1,7 @@
 //! Reading statements from JSON.
 ghost use Rattle.std.specs.Prelude.{Some};
 ghost use Rattle.serde_json.specs.View.{items_view, view};
-ghost use Rattle.vll_scenario.specs.Syntax.{abort_or_reply, branch, code_at, each_stmt, let_or_set, repeat, stmt_at, stmts_at};
+ghost use Rattle.vll_scenario.specs.Syntax.{abort_or_reply, branch, code_at, each_stmt, expr_at, let_or_set, repeat, stmt_at, stmts_at};
 ghost use Rattle.vll_scenario.specs.Private.Reading.{Gives};
 
 use super::expression::expr_of;
@@ -10,7 +10,7 @@ use crate::reading::tree::Misread;
 use serde_json::Value;
 use sqlite_items::Items;
 use std::alloc::Global;
-use vll_proc::{Edition, Expr, Stmt};
+use vll_proc::{Edition, Stmt};
 
 // The statements of a list.
 #[cycle(statements)]
@@ -52,10 +52,9 @@ pub fn stmt_of(alloc: Global, edition: Edition, value: &Value) -> Result<Stmt, M
             4 => {
                 let word = word_of(&list[0])?;
                 let (test, first, second) = (&list[1], &list[2], &list[3]);
-                let test = expr_of(alloc, test)?;
                 let first = stmts_of(alloc, edition, first)?;
                 let second = stmts_of(alloc, edition, second)?;
-                branch_of(word, test, first, second)
+                branch_of(alloc, word, test, first, second)
             }
             _ => Err(Misread::Faulty),
         },
@@ -65,15 +64,16 @@ pub fn stmt_of(alloc: Global, edition: Edition, value: &Value) -> Result<Stmt, M
 
 // An `if` with an expression and two lists.
 fn branch_of(
+    alloc: Global,
     word: &str,
-    test: Expr,
+    test: &Value,
     first: Items<Stmt>,
     second: Items<Stmt>,
 ) -> Result<Stmt, Misread>
-    ensures { Gives result (branch word.now (Some test) (Some first) (Some second)) }
+    ensures { Gives result (branch word.now (expr_at (view test.now)) (Some first) (Some second)) }
 {
     match word {
-        "if" => Ok(Stmt::If(test, first, second)),
+        "if" => Ok(Stmt::If(expr_of(alloc, test)?, first, second)),
         _ => Err(Misread::Faulty),
     }
 }

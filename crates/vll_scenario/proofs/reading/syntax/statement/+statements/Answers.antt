@@ -1,8 +1,8 @@
-use Rattle.std.proofs.Common.{◌≡◌, ◌∙◌, ◌+◌, ◌++◌, ◌∷◌, ap, arith, drop, map, option_map, rules, sym}
+use Rattle.std.proofs.Common.{Some, ◌≡◌, ◌∙◌, ◌+◌, ◌++◌, ◌∷◌, ap, arith, drop, map, option_map, rules, sym}
 use Rattle.serde_json.specs.View.{items_view, view}
-use Rattle.vll_scenario.specs.Syntax.{each_stmt}
+use Rattle.vll_scenario.specs.Syntax.{each_stmt, expr_at, stmts_at}
 use Rattle.vll_scenario.proofs.Fitting.{drop-next}
-use Rattle.vll_scenario.proofs.Forms.{as_str-string, stmt_at-other_length, stmt_at-other_word, stmt_at-repeat, view-two, view-three, view-four}
+use Rattle.vll_scenario.proofs.Forms.{as_str-string, branch-no_first, branch-no_second, stmt_at-other_length, stmt_at-other_word, stmt_at-repeat, view-two, view-three, view-four}
 use Rattle.vll_scenario.proofs.Lists.{behind-stmt}
 use Rattle.vll_scenario.proofs.reading.syntax.statement.+statements.Goals as goal
 
@@ -60,7 +60,6 @@ stmt_of-returns-in_ok-second-in-4 t c =
     rw (
       view-four _ c.in-Array.list _ _ _ _ c.in-Array.is (omega arith) c.index-in-4.ensures c.index-in-4-2.ensures c.index-in-4-3.ensures c.index-in-4-4.ensures,
       as_str-string _ _ c.in_ok-word-in-4.ensures.ok,
-      c.in_ok-test-in-4.ensures,
       c.in_ok-first-in-4.ensures,
       c.in_ok-second-in-4.ensures,
     ) c.branch_of.ensures
@@ -70,14 +69,12 @@ stmt_of-returns-in_err-first-in-4 t c =
     rw (
       view-four _ c.in-Array.list _ _ _ _ c.in-Array.is (omega arith) c.index-in-4.ensures c.index-in-4-2.ensures c.index-in-4-3.ensures c.index-in-4-4.ensures,
       as_str-string _ _ c.in_ok-word-in-4.ensures.ok,
-      c.in_ok-test-in-4.ensures,
-    ) (search rules)
+    ) (search (rules, branch-no_first))
 
 pub stmt_of-returns-in_err-second-in-4 : goal.stmt_of-returns-in_err-second-in-4
 stmt_of-returns-in_err-second-in-4 t c =
     rw (
       view-four _ c.in-Array.list _ _ _ _ c.in-Array.is (omega arith) c.index-in-4.ensures c.index-in-4-2.ensures c.index-in-4-3.ensures c.index-in-4-4.ensures,
       as_str-string _ _ c.in_ok-word-in-4.ensures.ok,
-      c.in_ok-test-in-4.ensures,
       c.in_ok-first-in-4.ensures,
-    ) (search rules)
+    ) (search (rules, branch-no_second c.in_ok-word-in-4.word.now (expr_at (view c.index-in-4-2.result.now)) (Some c.in_ok-first-in-4.first) (stmts_at c.args.edition (view c.index-in-4-4.result.now))))
