@@ -11,7 +11,7 @@ use std::alloc::{AllocError, Global};
 use vll_proc::{Edition, Text};
 
 /// Why a value of a JSON tree was not read.
-#[derive(Debug, Drop)]
+#[derive(Drop)]
 pub enum Misread {
     NoMemory,
     Faulty,
@@ -29,7 +29,7 @@ impl From<AllocError> for Misread {
 }
 
 /// Why a list of a JSON tree was not read: memory, or the index of the first faulty item.
-#[derive(Debug, Drop)]
+#[derive(Drop)]
 pub enum FirstFault {
     NoMemory,
     At(usize),
