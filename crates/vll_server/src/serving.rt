@@ -90,7 +90,7 @@ pub fn run_scenario<R: Threads + Wait + Sync, W: Wait + Sync, G: Gate + Sync>(
     ensures unfinished { (running waiting : ℕ) → result ≡ Err (ServeFault.Unfinished running waiting) → 0 < running + waiting }
 {
     let (opening, scripts) = opening_of(alloc, scenario)?;
-    run_named::<Brand, R, W, G>(rt, wait, alloc, opening, scripts, workers, gate)
+    run_scripts::<Brand, R, W, G>(rt, wait, alloc, opening, scripts, workers, gate)
 }
 
 /// Opens an engine over a scenario's records and procedures, which has no name yet, and returns it with the scripts. It
@@ -146,7 +146,7 @@ fn number_of_calls(scripts: &[Vec<Call>]) -> u32
 }
 
 // Runs the scripts in an engine of this name, and returns what it leaves.
-fn run_named<N: Name + Send + Sync, R: Threads + Wait + Sync, W: Wait + Sync, G: Gate + Sync>(
+fn run_scripts<N: Name + Send + Sync, R: Threads + Wait + Sync, W: Wait + Sync, G: Gate + Sync>(
     rt: &R,
     wait: &W,
     alloc: Global,

@@ -19,12 +19,12 @@ returns-clause-ok g c =
     let engine : Named = name_of placing opening in
     let opened = c.in_ok-opening.ensures.opened in
     let scripts = lists_of c.in_ok-opening.scripts.items in
-    let serial : IfOk c.run_named.result (IsSerial engine) = c.run_named.ensures.serial in
-    let merge : IfOk c.run_named.result (λ (closed : Closed). IsMerge (library_of engine) (calls_in closed.journal.items) scripts) = c.run_named.ensures.merge in
-    all_served c.args.scenario engine scripts c.run_named.result (ap (λ (o : OpeningShown Placing). (name_of placing o).base) opened) c.in_ok-opening.ensures.scripts serial merge
+    let serial : IfOk c.run_scripts.result (IsSerial engine) = c.run_scripts.ensures.serial in
+    let merge : IfOk c.run_scripts.result (λ (closed : Closed). IsMerge (library_of engine) (calls_in closed.journal.items) scripts) = c.run_scripts.ensures.merge in
+    all_served c.args.scenario engine scripts c.run_scripts.result (ap (λ (o : OpeningShown Placing). (name_of placing o).base) opened) c.in_ok-opening.ensures.scripts serial merge
 
 -- it takes as many calls as the scripts have
-pub run_named-requires-clause-limit : goal.run_named-requires-clause-limit
-run_named-requires-clause-limit g c κs within =
+pub run_scripts-requires-clause-limit : goal.run_scripts-requires-clause-limit
+run_scripts-requires-clause-limit g c κs within =
     let limit = ap (λ (o : OpeningShown Placing). o.config.limit) c.in_ok-opening.ensures.opened in
     omega (arith, limit, ap (λ (scripts : List (List Call)). sum_by length scripts) c.in_ok-opening.ensures.scripts)

@@ -3,5 +3,5 @@ use Rattle.vll_sca.specs.Placing.{placing}
 use Rattle.vll_queue.specs.Shown.{name_of}
 use Rattle.vll_server.proofs.serving.run_scenario.Given as goal
 
-abbrev pub ghosts-run_named : goal.ghosts-run_named
-ghosts-run_named g a = record { engine = name_of placing a.opening }
+abbrev pub ghosts-run_scripts : goal.ghosts-run_scripts
+ghosts-run_scripts g a = record { engine = name_of placing a.opening }

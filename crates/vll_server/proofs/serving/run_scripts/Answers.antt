@@ -10,7 +10,7 @@ use Rattle.vll_workers.specs.Shown.{TokenShown}
 use Rattle.vll_workers.proofs.Merged.{are_own, count_back, spent_early}
 use Rattle.vll_scenario.specs.Setup.{lists_of}
 use Rattle.vll_server.proofs.Handed.{closed_with, for_scripts, merges}
-use Rattle.vll_server.proofs.serving.run_named.Goals as goal
+use Rattle.vll_server.proofs.serving.run_scripts.Goals as goal
 
 -- there is room for the session of each script's token
 pub into_sessions-requires-clause-room : goal.into_sessions-requires-clause-room
