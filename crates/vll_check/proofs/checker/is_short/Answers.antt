@@ -1,0 +1,5 @@
+use Rattle.std.proofs.Common.{rules}
+use Rattle.vll_check.proofs.checker.is_short.Goals as goal
+
+pub returns : goal.returns
+returns c = search rules
