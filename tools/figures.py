@@ -114,7 +114,7 @@ def rows_below(head, text):
 
 def with_rows(readme, text):
     """The text of README.md with the figures of a file in its table, which has a row for each scenario: a mutex and
-    locks at their best, `Engine::call` and workers on four threads."""
+    locks at their best, `Client::call` and workers on four threads."""
     found = {}
     for scenario, way, threads, nanoseconds, *_ in rows_below(HEAD, text):
         found.setdefault(scenario, {}).setdefault(way, {})[threads] = int(nanoseconds)

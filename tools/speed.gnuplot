@@ -75,7 +75,7 @@ set label 1 origin at graph -0.08, graph 0.12 left noenhanced font ',10' tc '#55
 plot NaN with lines ls 1 title 'serial: one thread, no lock', \
     NaN with linespoints ls 2 title 'one mutex round each call', \
     NaN with linespoints ls 3 title 'a lock in each record', \
-    NaN with linespoints ls 4 title 'Engine::call', \
+    NaN with linespoints ls 4 title 'Client::call', \
     NaN with linespoints ls 5 title "the engine's workers"
 unset multiplot
 unset label 1

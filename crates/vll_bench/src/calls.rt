@@ -16,7 +16,7 @@ use vll_proc::Call;
 use vll_queue::{Engine, Name, Opening, Spent};
 use vll_sca::Placing;
 
-/// Times the calls made by `threads` threads in an engine of this name, with `Engine::call`.
+/// Times the calls made by `threads` threads in an engine of this name, with `Client::make`.
 pub(crate) fn time_calls<N: Name + Send + Sync, R: Threads + Wait + Clock + Sync>(
     rt: &R,
     alloc: Global,

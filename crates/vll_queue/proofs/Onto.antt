@@ -1,7 +1,8 @@
 -- A call that begins, with its pass appended to a list.
-use Rattle.std.proofs.Common.{◌≡◌, ℕ, ◌<◌, ◌-◌, List, [], ◌∷◌, ◌++◌, None, Option, Some, suc, length, take, set, get_or, sym, ap, ◌∙◌, arith}
+use Rattle.std.proofs.Common.{◌≡◌, ℕ, ◌<◌, ◌≤◌, ◌+◌, ◌-◌, List, [], ◌∷◌, ◌++◌, All, None, Option, Some, suc, length, take, set, get_or, sym, ap, ◌∙◌, subst, length-append, arith}
 use Rattle.std.proofs.Math.Seq.{take-length, take-suc}
 use Rattle.std.proofs.lemmas.List.{get_or-set_same, take-set}
+use Rattle.std.proofs.lemmas.List.Elements.{All-push}
 use Rattle.std.proofs.lemmas.Option.{same_Some}
 use Rattle.vll_proc.specs.declared.call.Call.{Call}
 use Rattle.vll_check.specs.Calls.{Fits, source}
@@ -10,6 +11,7 @@ use Rattle.vll_counters.specs.declared.views.SessionView.{SessionView}
 use Rattle.vll_counters.specs.Shown.{PassShown}
 use Rattle.vll_queue.specs.declared.begun.BegunOnto.{BegunOnto}
 use Rattle.vll_queue.specs.Onto.{FindsAndBeginsOnto}
+use Rattle.vll_queue.specs.Pass.{IsFresh}
 use Rattle.vll_queue.specs.Private.Looked.{HasLooked}
 use Rattle.vll_queue.specs.Private.Onto.{BeginsOnto}
 use Rattle.vll_queue.specs.Shown.{Named, library_of}
@@ -51,3 +53,15 @@ put_last before mid count len p taken off count_is len_is some mid_is off_is tak
     let less : len - 1 ≡ count - 1 = omega (arith, len_is, count_is, some) in
     let there : get_or mid (len - 1) p ≡ p = (λ i. get_or (mid_is i) (less i) p) ∙ get_or-set_same before (count - 1) p p within in
     same_Some p taken (ap Some (sym there) ∙ sym off_is ∙ taken_is)
+
+-- a list with room for one more pass has it appended
+pub one_more : (e : Named) (before now after : List PassShown) (p : PassShown) (most room more_room : ℕ) → All (IsFresh e) before × (length before ≤ most) × (most ≤ room) → before ≡ now → length now < most
+    → IsFresh e p → after ≡ before ++ p ∷ [] → more_room ≡ room → All (IsFresh e) after × (length after ≤ most) × (most ≤ more_room)
+one_more e before now after p most room more_room all same less fresh more is =
+    let within : length before < most = subst (λ (l : List PassShown). length l < most) (sym same) less in
+    let long : length after ≡ length before + 1 = ap length more ∙ length-append before (p ∷ []) in
+    let large = all.2 in (
+      subst (All (IsFresh e)) (sym more) (All-push (IsFresh e) before p all.0 fresh),
+      omega (arith, within, long),
+      omega (arith, large, is),
+    )

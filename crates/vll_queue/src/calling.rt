@@ -25,12 +25,9 @@ use vll_sca::Place;
 pub struct Spent;
 
 impl<N: Name, H: Place + Send + Drop> Engine<N, H> {
-    /// Makes a call of the session's client, from its entry to its reply, and returns its ticket and its reply. A call
-    /// that may run is executed at once. While it waits, or as many calls as the cap wait, this thread brings other
-    /// calls to their end, of any client: the front, or what the scan finds. If there are none it rests and looks
-    /// again; it does not give up. If the engine is spent, no call has entered. A call that may run at entry takes the
-    /// lock twice. No worker is needed, and no memory is taken.
-    pub fn call(
+    // Makes a call of the session's client, from its entry to its reply, as `Client::make` says. A call that may run at
+    // entry takes the lock twice.
+    pub(crate) fn call(
         &self,
         wait: &impl Wait,
         session: &mut Session,
@@ -134,7 +131,7 @@ impl<N: Name, H: Place + Send + Drop> Engine<N, H> {
         let mut hold = hold;
         let found = match hold.next_front() {
             Some(pass) => Some(pass),
-            None => hold.next_scan_if_due(),
+            None => hold.next_scan(true),
         };
         drop(hold);
         match found {
@@ -153,7 +150,7 @@ impl<N: Name, H: Place + Send + Drop> Engine<N, H> {
     fn bring_to_its_end<'a>(&'a self, wait: &impl Wait, pass: Pass) -> Hold<'a, N, H>
         requires { IsFresh N.engine pass }
     {
-        let released = self.execute_and_release(pass);
+        let released = self.run(pass);
         let mut hold = self.hold(wait);
         hold.finish(released);
         hold

@@ -66,8 +66,8 @@ impl<N: Name> Client<N> {
         self.session.client()
     }
 
-    /// Calls the procedure with this name, from entry to reply, as `Engine::call` does, and returns the call's ticket
-    /// and reply. Fails with `Call` and the fault if the library does not make the call: the client is then unchanged.
+    /// Calls the procedure with this name, from entry to reply, as `make` does, and returns the call's ticket and reply.
+    /// Fails with `Call` and the fault if the library does not make the call: the client is then unchanged.
     /// Fails with `Refused(Spent)` if the engine takes no more calls: the call has not entered. There is no other fault.
     pub fn call<H: Place + Send + Drop>(
         &mut self,
@@ -84,7 +84,10 @@ impl<N: Name> Client<N> {
         Ok(self.make(wait, engine, &call)?)
     }
 
-    /// Makes a call, from entry to reply, as `Engine::call` does.
+    /// Makes a call, from its entry to its reply, and returns its ticket and its reply. A call that may run is executed
+    /// at once. While it waits, or as many calls as the cap wait, this thread brings other calls to their end, of any
+    /// client: the front, or what the scan finds. If there are none it rests and looks again; it does not give up. If
+    /// the engine is spent, no call has entered. No worker is needed, and no memory is taken.
     pub fn make<H: Place + Send + Drop>(
         &mut self,
         wait: &impl Wait,
@@ -128,7 +131,8 @@ impl<N: Name> Client<N> {
         engine.reply(wait, &mut self.session, ticket)
     }
 
-    /// Returns news of what it has seen, as `Engine::tell` does.
+    /// Returns news of what it has seen: its own calls, and all that entered before it was last at the lock, found or
+    /// heard. It can be called any number of times. Takes no lock.
     pub fn tell<H: Place + Send + Drop>(&mut self, engine: &Engine<N, H>) -> News<N>
         ensures news { result.calls ≡ self.old.session.seen }
         ensures same { self.new ≡ self.old }
@@ -136,9 +140,10 @@ impl<N: Name> Client<N> {
         engine.tell(&mut self.session)
     }
 
-    /// Hears news, as `Engine::hear` does.
+    /// Hears news of this engine: what it has seen now begins with the calls of the news, so each of its later calls
+    /// gets a higher ticket than all of them. What it has seen grows by calls of other clients only. Takes no lock.
     pub fn hear<H: Place + Send + Drop>(&mut self, engine: &Engine<N, H>, news: News<N>)
-        ensures { Hears self.old.session self.new.session news.calls }
+        ensures heard { Hears self.old.session self.new.session news.calls }
     {
         engine.hear(&mut self.session, news);
     }

@@ -34,8 +34,8 @@ impl<N: Name> Model for Clients<N> {
 }
 
 impl<N: Name> Clients<N> {
-    /// The clients with these sessions, of an engine with `all` clients.
-    pub fn of(sessions: Vec<Session>, all: u32) -> Clients<N>
+    // The clients with these sessions, of an engine with `all` clients.
+    pub(crate) fn of(sessions: Vec<Session>, all: u32) -> Clients<N>
         requires sessions { All (λ s. s.table ≡ N.engine.table) sessions.items }
         requires all { all ≡ N.engine.clients }
         ensures { result ≡ sessions.items }
@@ -60,13 +60,6 @@ impl<N: Name> Clients<N> {
         ensures { result ≡ length self.now }
     {
         self.sessions.len()
-    }
-
-    /// The number of clients of the engine.
-    pub fn all(&self) -> u32
-        ensures { result ≡ N.engine.clients }
-    {
-        self.all
     }
 
     /// Whether the list has as many clients as the engine, as `Engine::reopen` requires.

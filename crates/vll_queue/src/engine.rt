@@ -31,8 +31,8 @@ use vll_counters::Words;
 use vll_proc::{Call, Reply};
 use vll_sca::Place;
 
-/// The engine. Many threads may share it. Only a function that takes `wait` takes the lock: `call` takes it as often as
-/// it needs, each of the others once, and `hold` keeps it for several calls.
+/// The engine. Many threads may share it. Only a function that takes `wait` takes the lock: `hold` keeps it for several
+/// calls, and each of the others takes it once.
 #[derive(Drop)]
 pub struct Engine<N: Name, H: Place + Send + Drop> {
     library: Library,
@@ -137,7 +137,7 @@ impl<N: Name, H: Place + Send + Drop> Engine<N, H> {
     pub fn next_scan(&self, wait: &impl Wait) -> Option<Pass>
         ensures { IfSome result (IsFresh N.engine) }
     {
-        self.hold(wait).next_scan()
+        self.hold(wait).next_scan(false)
     }
 
     /// Loads each claim's record, runs the body, and stores each Write claim's record unless the call aborts. Takes no
@@ -163,36 +163,26 @@ impl<N: Name, H: Place + Send + Drop> Engine<N, H> {
         execution::release::<N>(&self.words, done)
     }
 
-    /// Executes the call and releases its claims, as `execute` and then `release`, with fewer copies.
+    // Executes the call and releases its claims, as `execute` and then `release`, with fewer copies.
     #[inline(always)]
-    pub fn execute_and_release(&self, pass: Pass) -> Released
+    pub(crate) fn run(&self, pass: Pass) -> Released
         requires pass { IsFresh N.engine pass }
         ensures released { IsReleased N.engine result }
         ensures same { StaysOf pass.pass result.pass }
     {
-        execution::execute_and_release::<N>(&self.words, &self.library, pass)
+        let mut pass = pass;
+        let reply = self.run_in_place(&mut pass);
+        pass.into_released(reply)
     }
 
-    /// Takes the last pass off a list, executes its call and releases the claims, as `execute_and_release`, but without
-    /// copying the call. Returns `None` exactly if the list is empty.
+    // Executes the call of a borrowed pass and releases its claims. Returns the reply.
     #[inline(always)]
-    pub fn run_last(&self, passes: &mut Vec<Pass>) -> Option<Released>
-        requires passes { All (IsFresh N.engine) passes.old.items }
-        ensures released { IfSome result (IsReleased N.engine) }
-        ensures same { IfSome result (λ r. IsOfLast passes.old.items passes.new.items r.pass) }
-        ensures none { IfNone result ((passes.old.items ≡ []) × (passes.new.items ≡ [])) }
-        ensures room { vec_capacity passes.new ≡ vec_capacity passes.old }
+    pub(crate) fn run_in_place(&self, pass: &mut Pass) -> Reply
+        requires pass { IsFresh N.engine pass.old }
+        ensures released { IsReleased N.engine (record { table = pass.new.table; pass = pass.new.pass; reply = result }) }
+        ensures same { StaysOf pass.old.pass pass.new.pass }
     {
-        let count = passes.len();
-        if count == 0 {
-            return None;
-        }
-        let last = &mut passes[count - 1];
-        let reply = execution::run_in_place::<N>(&self.words, &self.library, last);
-        let Some(pass) = passes.pop() else {
-            unreachable!()
-        };
-        Some(pass.into_released(reply))
+        execution::run_in_place::<N>(&self.words, &self.library, pass)
     }
 
     /// Finishes the call: it is gone, and its line gets the reply. Returns its ticket and its reply.
@@ -201,7 +191,8 @@ impl<N: Name, H: Place + Send + Drop> Engine<N, H> {
         ensures ticket { result.0 ≡ released.pass.ticket }
         ensures reply { result.1 ≡ released.reply }
     {
-        self.hold(wait).finish(released)
+        let reply = released.reply;
+        (self.hold(wait).finish(released), reply)
     }
 
     /// Returns the reply in the ticket's line; `None` if there is no such line or it has no reply yet. The reply is the

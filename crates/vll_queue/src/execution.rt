@@ -63,31 +63,7 @@ pub(crate) fn execute<N: Name>(words: &Words, library: &Library, pass: Pass) -> 
     }
 }
 
-// As `execute`, and then releases each of the call's claims.
-#[inline(always)]
-pub(crate) fn execute_and_release<N: Name>(words: &Words, library: &Library, pass: Pass) -> Released
-    requires words { words.now ≡ words_of N.engine }
-    requires library { library.now ≡ library_of N.engine }
-    requires catalog { IsCatalog (library_of N.engine) }
-    requires pass { IsFresh N.engine pass }
-    ensures released { IsReleased N.engine result }
-    ensures same { StaysOf pass.pass result.pass }
-{
-    let Pass {
-        call,
-        mut seat,
-        ticket,
-    } = pass;
-    let reply = work::<N>(words, library, &mut seat, &call);
-    release_all(words, &mut seat, &call.claims);
-    Released {
-        seat,
-        ticket,
-        reply,
-    }
-}
-
-// As `execute_and_release`, on a borrowed pass. Returns the reply.
+// As `execute` on a borrowed pass, and then releases each of the call's claims. Returns the reply.
 #[inline(always)]
 pub(crate) fn run_in_place<N: Name>(words: &Words, library: &Library, pass: &mut Pass) -> Reply
     requires words { words.now ≡ words_of N.engine }

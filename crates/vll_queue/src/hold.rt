@@ -32,9 +32,9 @@ use vll_sca::Place;
 /// hold, or calls a function of the engine that takes `wait`, waits; a thread that does so under its own hold waits
 /// forever. `Engine::execute` and `Engine::release` need no hold, and are best called outside one.
 pub struct Hold<'a, N: Name, H: Place + Send + Drop> {
-    guard: MutexGuard<'a, Locked<N, H>>,
-    words: &'a Words,
-    library: &'a Library,
+    pub(crate) guard: MutexGuard<'a, Locked<N, H>>,
+    pub(crate) words: &'a Words,
+    pub(crate) library: &'a Library,
     // The latch, if this hold has taken it: only then does it open it.
     latch: Option<&'a Latch>,
     ghost words_are: { words.now ≡ words_of N.engine },
@@ -82,7 +82,7 @@ impl<'a, N: Name, H: Place + Send + Drop> Hold<'a, N, H> {
 
     // As `begin_ready`, but a call that may run has its seat in place of a pass.
     #[inline(always)]
-    fn admit(&mut self, session: &mut Session, call: &Call) -> Admission
+    pub(crate) fn admit(&mut self, session: &mut Session, call: &Call) -> Admission
         requires session { session.old.table ≡ N.engine.table }
         requires ready { IsReady (library_of N.engine) call.now }
         requires looked_up { IsLookedUp N.engine session.old.session call.now }
@@ -120,110 +120,6 @@ impl<'a, N: Name, H: Place + Send + Drop> Hold<'a, N, H> {
         }
     }
 
-    /// As `begin`, but the pass of a call that may run is appended to `passes`, which has room for it. So the call is
-    /// copied once, to where its pass is kept.
-    #[inline(always)]
-    pub fn begin_onto(
-        &mut self,
-        session: &mut Session,
-        call: &Call,
-        passes: &mut Vec<Pass>,
-    ) -> BegunOnto
-        requires session { session.old.table ≡ N.engine.table }
-        requires fits { Fits (library_of N.engine) call.now }
-        requires room { length passes.old.items < vec_capacity passes.old }
-        ensures answer { FindsAndBeginsOnto N.engine session.old.session session.new.session call.now result passes.old.items passes.new.items }
-        ensures given { session.new.session.given ≡ session.old.session.given }
-        ensures session { session.new.table ≡ session.old.table }
-        ensures room { vec_capacity passes.new ≡ vec_capacity passes.old }
-    {
-        match self.library.source(call) {
-            None => self.begin_ready_onto(session, call, passes),
-            Some(source) => self.find_and_begin_onto(session, call, source, passes),
-        }
-    }
-
-    // As `begin_onto`, for a call with an indirect key. It is not inlined, so that other calls make no room for it.
-    #[inline(never)]
-    fn find_and_begin_onto(
-        &mut self,
-        session: &mut Session,
-        call: &Call,
-        source: RecordId,
-        passes: &mut Vec<Pass>,
-    ) -> BegunOnto
-        requires session { session.old.table ≡ N.engine.table }
-        requires fits { Fits (library_of N.engine) call.now }
-        requires source { source_in (library_of N.engine) call.now ≡ Some source }
-        requires there { source < (library_of N.engine).records }
-        requires room { length passes.old.items < vec_capacity passes.old }
-        ensures answer { FindsAndBeginsOnto N.engine session.old.session session.new.session call.now result passes.old.items passes.new.items }
-        ensures given { session.new.session.given ≡ session.old.session.given }
-        ensures session { session.new.table ≡ session.old.table }
-        ensures room { vec_capacity passes.new ≡ vec_capacity passes.old }
-    {
-        let call = find::<N>(self.words, self.library, session, call, source);
-        self.begin_ready_onto(session, &call, passes)
-    }
-
-    // As `begin_onto`, for a ready call.
-    #[inline(always)]
-    fn begin_ready_onto(
-        &mut self,
-        session: &mut Session,
-        ready: &Call,
-        passes: &mut Vec<Pass>,
-    ) -> BegunOnto
-        requires session { session.old.table ≡ N.engine.table }
-        requires ready { IsReady (library_of N.engine) ready.now }
-        requires looked_up { IsLookedUp N.engine session.old.session ready.now }
-        requires room { length passes.old.items < vec_capacity passes.old }
-        ensures answer { BeginsOnto N.engine session.old.session session.new.session ready.now result passes.old.items passes.new.items }
-        ensures given { session.new.session.given ≡ session.old.session.given }
-        ensures session { session.new.table ≡ session.old.table }
-        ensures room { vec_capacity passes.new ≡ vec_capacity passes.old }
-    {
-        match self.admit(session, ready) {
-            Admission::Free(seat, ticket) => {
-                passes.push_reserved(Pass {
-                    call: *ready,
-                    seat,
-                    ticket,
-                });
-                BegunOnto::Free
-            }
-            Admission::Blocked(ticket) => BegunOnto::Blocked(ticket),
-            Admission::Refused(why) => BegunOnto::Refused(why),
-        }
-    }
-
-    /// As `next_front`, but the pass is appended to `passes`, which has room for it. Returns whether there is one.
-    #[inline(always)]
-    pub fn next_front_onto(&mut self, passes: &mut Vec<Pass>) -> bool
-        requires room { length passes.old.items < vec_capacity passes.old }
-        ensures pass { MatchBool result (HasOneMore N.engine passes.old.items passes.new.items) (passes.new.items ≡ passes.old.items) }
-        ensures room { vec_capacity passes.new ≡ vec_capacity passes.old }
-    {
-        let Some((seat, ticket)) = self.guard.next_front(self.words) else {
-            return false;
-        };
-        self.guard.push_pass(seat, ticket, passes);
-        true
-    }
-
-    /// As `next_scan`, but the pass is appended to `passes`, which has room for it. Returns whether there is one.
-    pub fn next_scan_onto(&mut self, passes: &mut Vec<Pass>) -> bool
-        requires room { length passes.old.items < vec_capacity passes.old }
-        ensures pass { MatchBool result (HasOneMore N.engine passes.old.items passes.new.items) (passes.new.items ≡ passes.old.items) }
-        ensures room { vec_capacity passes.new ≡ vec_capacity passes.old }
-    {
-        let Some((seat, ticket)) = self.guard.next_scan(self.words) else {
-            return false;
-        };
-        self.guard.push_pass(seat, ticket, passes);
-        true
-    }
-
     /// Returns a pass for the lowest ticket that is not gone, if it waits, as `Engine::next_front`.
     #[inline(always)]
     pub fn next_front(&mut self) -> Option<Pass>
@@ -234,42 +130,31 @@ impl<'a, N: Name, H: Place + Send + Drop> Hold<'a, N, H> {
     }
 
     /// Returns a pass for the ticket that the contention analysis finds, if any, as `Engine::next_scan`.
-    pub fn next_scan(&mut self) -> Option<Pass>
+    ///
+    /// If the scan may be put off, it may also return `None` though it would find a call. A scan that finds no call adds
+    /// a debt of as many entries as calls wait. Each finished call pays off eight of them, and each time that a scan is
+    /// put off here, 64. A scan is put off while 64 or more entries are owed and 64 or more calls wait, at most once in
+    /// a row for each 64 that wait, so that what such scans cost a call does not grow with the number of waiting calls.
+    /// A caller that is about to leave the engine alone does not let it be put off.
+    pub fn next_scan(&mut self, may_be_put_off: bool) -> Option<Pass>
         ensures { IfSome result (IsFresh N.engine) }
     {
-        let (seat, ticket) = self.guard.next_scan(self.words)?;
+        let found = if may_be_put_off {
+            self.guard.next_scan_if_due(self.words)
+        } else {
+            self.guard.next_scan(self.words)
+        };
+        let (seat, ticket) = found?;
         Some(self.guard.pass(seat, ticket))
     }
 
-    /// As `next_scan`, unless a scan is put off. A scan that finds no call adds a debt of as many entries as calls
-    /// wait. Each finished call pays off eight of them, and each time that a scan is put off here, 64. A scan is put
-    /// off while 64 or more entries are owed and 64 or more calls wait, so that what such scans cost a call does not
-    /// grow with the number of waiting calls. At most once in a row for each 64 that wait, this returns `None` though a
-    /// scan would find a call. A caller that is about to leave the engine alone uses `next_scan` instead.
-    pub fn next_scan_if_due(&mut self) -> Option<Pass>
-        ensures { IfSome result (IsFresh N.engine) }
-    {
-        let (seat, ticket) = self.guard.next_scan_if_due(self.words)?;
-        Some(self.guard.pass(seat, ticket))
-    }
-
-    /// Finishes the call: it is gone, and its line gets the reply, as `Engine::finish`.
+    /// Finishes the call: it is gone, and its line gets the reply. Returns its ticket.
     #[inline(always)]
-    pub fn finish(&mut self, released: Released) -> (Ticket, Reply)
-        requires released { IsReleased N.engine released }
-        ensures ticket { result.0 ≡ released.pass.ticket }
-        ensures reply { result.1 ≡ released.reply }
-    {
-        self.guard.finish(self.words, released)
-    }
-
-    /// As `finish`, but the reply is not returned: it is only in the line.
-    #[inline(always)]
-    pub fn finish_untold(&mut self, released: Released) -> Ticket
+    pub fn finish(&mut self, released: Released) -> Ticket
         requires released { IsReleased N.engine released }
         ensures { result ≡ released.pass.ticket }
     {
-        self.guard.finish_untold(self.words, released)
+        self.guard.finish(self.words, released)
     }
 
     /// Returns the reply in the ticket's line, if there is one yet, as `Engine::reply`.

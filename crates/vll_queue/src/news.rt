@@ -9,8 +9,8 @@ use std::marker::{Model, PhantomData};
 use vll_counters::NewsSeat;
 use vll_sca::Place;
 
-/// A causality token: it stands for the calls that a session had seen when `Engine::tell` made it. Each of them is
-/// ordered before every call that a session enters after hearing the news. It takes no bytes, and can reach another
+/// A causality token: it stands for the calls that a client had seen when `Client::tell` made it. Each of them is
+/// ordered before every call that a client enters after hearing the news. It takes no bytes, and can reach another
 /// thread in any way, such as a channel or a lock. Contracts see the calls.
 #[derive(Drop)]
 pub struct News<N: Name> {
@@ -30,9 +30,8 @@ impl<N: Name> Model for News<N> {
 }
 
 impl<N: Name, H: Place + Send + Drop> Engine<N, H> {
-    /// Returns news of what the session has seen: its own calls, and all that entered before it was last at the lock,
-    /// found or heard. It can be called any number of times. Takes no lock.
-    pub fn tell(&self, session: &mut Session) -> News<N>
+    // Returns news of what the session has seen, as `Client::tell` says.
+    pub(crate) fn tell(&self, session: &mut Session) -> News<N>
         requires session { session.old.table ≡ N.engine.table }
         ensures news { result.calls ≡ session.old.session.seen }
         ensures session { session.new ≡ session.old }
@@ -46,10 +45,8 @@ impl<N: Name, H: Place + Send + Drop> Engine<N, H> {
         }
     }
 
-    /// Makes the session hear news of this engine: what it has seen now begins with the calls of the news, so each of
-    /// its later calls gets a higher ticket than all of them. What it has seen grows by calls of other clients only.
-    /// Takes no lock.
-    pub fn hear(&self, session: &mut Session, news: News<N>)
+    // Makes the session hear news of this engine, as `Client::hear` says.
+    pub(crate) fn hear(&self, session: &mut Session, news: News<N>)
         requires session { session.old.table ≡ N.engine.table }
         ensures heard { Hears session.old.session session.new.session news.calls }
         ensures session { session.new.table ≡ session.old.table }

@@ -16,21 +16,18 @@ use std::sync::atomic::{AtomicBool, Ordering};
 use std::test::*;
 use std::thread::{Threads, join, yield_now};
 use vll_core::{Line, Ticket};
-use vll_queue::{BeginRefusal, Begun, Engine, Name, Opening, Session, Spent};
+use vll_queue::{BeginRefusal, Begun, Client, Engine, Name, Opening, Session, Spent};
 use vll_sca::Placing;
 
-// Makes a bump of a record for the session's client. Returns its ticket and its output.
+// Makes a client's bump of a record. Returns its ticket and its output.
 fn bumps<N: Name, R: Wait + Abort>(
     rt: &R,
     engine: &Engine<N, Placing>,
-    session: &mut Session,
+    client: &mut Client<N>,
     record: u64,
-) -> (Ticket, u64)
-    requires { session.old.table ≡ N.engine.table }
-    ensures { session.new.table ≡ N.engine.table }
-{
+) -> (Ticket, u64) {
     let call = bump_of(rt, engine.library(), record);
-    match engine.call(rt, session, &call) {
+    match client.make(rt, engine, &call) {
         Ok((ticket, reply)) => (ticket, output_of(&reply).unwrap_or(0)),
         Err(Spent) => fail(rt, "the engine is spent"),
     }
@@ -48,15 +45,15 @@ fn bumps_often<N: Name, R: Wait + Abort>(
     requires { session.table ≡ N.engine.table }
     ensures { result.table ≡ N.engine.table }
 {
-    let mut session = session;
+    let mut client = Client::<N>::of(session);
     let mut before: u64 = 0;
     for _ in 0..BUMPS {
-        let (ticket, output) = bumps(rt, engine, &mut session, 0);
+        let (ticket, output) = bumps(rt, engine, &mut client, 0);
         holds(rt, before < output);
         equal(rt, u64::from(ticket.0) + 1, output);
         before = output;
     }
-    session
+    client.into_session()
 }
 
 // The calls reply 1, 2 and so on, each once.
@@ -114,8 +111,9 @@ fn helps_in_a_full_queue<N: Name, R: Wait + Abort>(rt: &R, opening: Opening<Plac
     let zero = begins_free(rt, &engine, &mut session, 0, 0);
     begins_blocked(rt, &engine, &mut session, 0, 1);
     finishes(rt, &engine, zero, 1);
-    equal(rt, bumps(rt, &engine, &mut session, 0), (Ticket(2), 3));
-    put_back::<N>(rt, &mut sessions, session);
+    let mut client = Client::<N>::of(session);
+    equal(rt, bumps(rt, &engine, &mut client, 0), (Ticket(2), 3));
+    put_back::<N>(rt, &mut sessions, client.into_session());
     closes(rt, engine, sessions, &[3], &[0, 0, 0]);
 }
 
@@ -130,11 +128,11 @@ fn is_spent<N: Name, R: Wait + Abort>(rt: &R, opening: Opening<Placing>)
     requires { N.engine ≡ name_of placing opening }
 {
     let (engine, mut sessions) = started::<N>(opening);
-    let mut session = last_of::<N>(rt, &mut sessions);
-    equal(rt, bumps(rt, &engine, &mut session, 0), (Ticket(0), 1));
+    let mut client = Client::<N>::of(last_of::<N>(rt, &mut sessions));
+    equal(rt, bumps(rt, &engine, &mut client, 0), (Ticket(0), 1));
     let call = bump_of(rt, engine.library(), 0);
-    holds(rt, engine.call(rt, &mut session, &call).is_err());
-    put_back::<N>(rt, &mut sessions, session);
+    holds(rt, client.make(rt, &engine, &call).is_err());
+    put_back::<N>(rt, &mut sessions, client.into_session());
     closes(rt, engine, sessions, &[1], &[0]);
 }
 
@@ -159,11 +157,11 @@ fn bumps_the_hot<N: Name, R: Wait + Abort>(
     requires { session.table ≡ N.engine.table }
     ensures { result.table ≡ N.engine.table }
 {
-    let mut session = session;
+    let mut client = Client::<N>::of(session);
     for index in 0..HOT_BUMPS {
-        bumps(rt, engine, &mut session, u64::from(index % HOT));
+        bumps(rt, engine, &mut client, u64::from(index % HOT));
     }
-    session
+    client.into_session()
 }
 
 // Makes two clients' bumps of the hot records, each client in a thread.
@@ -319,8 +317,8 @@ fn waits_for_the_pass<N: Name, R: Wait + Abort>(
         }
         yield_now();
     }
-    let mut session = session;
-    let (_, output) = bumps(rt, engine, &mut session, 0);
+    let mut client = Client::<N>::of(session);
+    let (_, output) = bumps(rt, engine, &mut client, 0);
     holds(rt, is_let_go.load(Ordering::SeqCst));
     equal(rt, output, 2);
 }

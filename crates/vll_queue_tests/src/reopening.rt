@@ -14,7 +14,7 @@ use std::process::Abort;
 use std::sync::Wait;
 use std::test::*;
 use vll_core::{Config, Line};
-use vll_queue::{Engine, Name, NotReopened, Opening, Reopened, Session, Spent};
+use vll_queue::{Client, Engine, Name, NotReopened, Opening, Reopened, Session};
 use vll_sca::Placing;
 use vll_test_procedures::library;
 
@@ -164,24 +164,15 @@ fn reopen_hands_all_back_while_calls_are_left(rt: HostRuntime) -> Result<(), Fai
 // A call that a test makes: the procedure, and its arguments.
 type Asked<'a> = (&'a str, &'a [u64]);
 
-// Makes a call of the session's client, from entry to reply.
+// Makes a client's call, from entry to reply.
 fn makes<N: Name, R: Wait + Abort>(
     rt: &R,
     engine: &Engine<N, Placing>,
-    session: &mut Session,
+    client: &mut Client<N>,
     asked: Asked<'_>,
-)
-    requires { session.old.table ≡ N.engine.table }
-    ensures { session.new.table ≡ N.engine.table }
-{
+) {
     let (name, args) = asked;
-    let Ok(call) = engine.library().call(name, args) else {
-        fail(rt, "there is no such procedure");
-    };
-    match engine.call(rt, session, &call) {
-        Ok(_) => {}
-        Err(Spent) => fail(rt, "the engine is spent"),
-    }
+    holds(rt, client.call(rt, engine, name, args).is_ok());
 }
 
 // An epoch: the two clients make these calls in turn, and the engine is reopened.
@@ -201,14 +192,14 @@ fn epoch<N: Name, R: Wait + Abort>(
     ensures room { LIMIT ≤ vec_capacity result.journal }
 {
     let (engine, mut sessions) = started::<N>(opening);
-    let mut now = last_of::<N>(rt, &mut sessions);
-    let mut next = last_of::<N>(rt, &mut sessions);
+    let mut now = Client::<N>::of(last_of::<N>(rt, &mut sessions));
+    let mut next = Client::<N>::of(last_of::<N>(rt, &mut sessions));
     for asked in calls {
         makes(rt, &engine, &mut now, *asked);
         (now, next) = (next, now);
     }
-    put_back::<N>(rt, &mut sessions, now);
-    put_back::<N>(rt, &mut sessions, next);
+    put_back::<N>(rt, &mut sessions, now.into_session());
+    put_back::<N>(rt, &mut sessions, next.into_session());
     reopened(rt, alloc, engine, sessions, journal)
 }
 

@@ -14,7 +14,7 @@ use std::sync::Wait;
 use std::test::*;
 use std::thread::{Threads, join};
 use vll_core::Ticket;
-use vll_queue::{Engine, Name, News, Opening, Session, Spent};
+use vll_queue::{Client, Engine, Name, News, Opening, Session, Spent};
 use vll_sca::Placing;
 
 // A call was made from entry to reply: its ticket, its output, and news that has it.
@@ -26,40 +26,35 @@ struct Receipt<N: Name> {
     ghost has_it: { ticket < length news.calls },
 }
 
-// Makes a bump of record 0 for the session's client. Returns it with news of what the session has seen.
+// Makes a client's bump of record 0. Returns it with news of what the client has seen.
 fn makes_and_tells<N: Name, R: Wait + Abort>(
     rt: &R,
     engine: &Engine<N, Placing>,
-    session: &mut Session,
-) -> Receipt<N>
-    requires { session.old.table ≡ N.engine.table }
-    ensures { session.new.table ≡ N.engine.table }
-{
+    client: &mut Client<N>,
+) -> Receipt<N> {
     let call = bump_of(rt, engine.library(), 0);
-    match engine.call(rt, session, &call) {
+    match client.make(rt, engine, &call) {
         Ok((ticket, reply)) => Receipt {
             ticket,
             output: output_of(&reply).unwrap_or(0),
-            news: engine.tell(session),
+            news: client.tell(engine),
         },
         Err(Spent) => fail(rt, "the engine is spent"),
     }
 }
 
-// Makes the session hear of a call that was made, and makes a bump after it. Returns the bump's ticket and output.
+// Makes a client hear of a call that was made, and makes a bump after it. Returns the bump's ticket and output.
 fn hears_and_makes<N: Name, R: Wait + Abort>(
     rt: &R,
     engine: &Engine<N, Placing>,
-    session: &mut Session,
+    client: &mut Client<N>,
     receipt: Receipt<N>,
 ) -> (Ticket, u64)
-    requires { session.old.table ≡ N.engine.table }
-    ensures session { session.new.table ≡ N.engine.table }
     ensures behind { receipt.ticket < result.0 }
 {
-    engine.hear(session, receipt.news);
+    client.hear(engine, receipt.news);
     let call = bump_of(rt, engine.library(), 0);
-    match engine.call(rt, session, &call) {
+    match client.make(rt, engine, &call) {
         Ok((ticket, reply)) => (ticket, output_of(&reply).unwrap_or(0)),
         Err(Spent) => fail(rt, "the engine is spent"),
     }
@@ -75,13 +70,13 @@ fn tells<N: Name, R: Wait + Abort>(
     requires { session.table ≡ N.engine.table }
     ensures { result.table ≡ N.engine.table }
 {
-    let mut session = session;
-    let receipt = makes_and_tells(rt, engine, &mut session);
+    let mut client = Client::<N>::of(session);
+    let receipt = makes_and_tells(rt, engine, &mut client);
     equal(rt, (receipt.ticket, receipt.output), (Ticket(0), 1));
     if to.send(rt, receipt).is_err() {
         fail(rt, "nobody hears")
     }
-    session
+    client.into_session()
 }
 
 // Waits for the news, and makes the other client's bump once it has heard.
@@ -94,13 +89,13 @@ fn hears<N: Name, R: Wait + Abort>(
     requires { session.table ≡ N.engine.table }
     ensures { result.table ≡ N.engine.table }
 {
-    let mut session = session;
+    let mut client = Client::<N>::of(session);
     let Ok(receipt) = from.recv(rt) else {
         fail(rt, "there is no news")
     };
-    let made = hears_and_makes(rt, engine, &mut session, receipt);
+    let made = hears_and_makes(rt, engine, &mut client, receipt);
     equal(rt, made, (Ticket(1), 2));
-    session
+    client.into_session()
 }
 
 // Each client has a thread of its own.

@@ -20,7 +20,7 @@ use vll_sca::Placing;
 fn scans<N: Name, R: Wait>(rt: &R, engine: &Engine<N, Placing>) -> Option<Pass>
     ensures { IfSome result (IsFresh N.engine) }
 {
-    engine.hold(rt).next_scan_if_due()
+    engine.hold(rt).next_scan(true)
 }
 
 // `many` bumps of record 0 are blocked, under the tickets from `from` on.

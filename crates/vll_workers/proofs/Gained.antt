@@ -3,8 +3,8 @@ use Rattle.std.proofs.Common.{◌≡◌, ◌<◌, ◌≤◌, ℕ, zero, suc, ◌
 use Rattle.std.specs.Prelude.{filter}
 use Rattle.std.proofs.lemmas.Bool.{eq-eqb}
 use Rattle.std.proofs.lemmas.List.{append-nil, map-append}
-use Rattle.std.proofs.lemmas.List.Elements.{All-push, filter-append}
-use Rattle.std.proofs.lemmas.Option.{slice_get-get_or}
+use Rattle.std.proofs.lemmas.List.Elements.{filter-append}
+use Rattle.std.proofs.lemmas.Option.{same_Some, slice_get-get_or}
 use Rattle.vll_proc.specs.declared.call.Call.{Call}
 use Rattle.vll_proc.specs.Serial.{Made}
 use Rattle.vll_check.specs.Calls.{bare, bares, with_found}
@@ -18,9 +18,8 @@ use Rattle.vll_queue.specs.declared.begun.Begun.{Begun}
 use Rattle.vll_queue.specs.declared.begun.Begun.TheVariants.{Free, Blocked, Refused}
 use Rattle.vll_queue.specs.declared.begun.BegunOnto.{BegunOnto}
 use Rattle.vll_queue.specs.declared.begun.BegunOnto.TheVariants as onto
-use Rattle.vll_queue.specs.Begin.{Begins as BeginsWith}
-use Rattle.vll_queue.specs.Onto.{IsOnto}
-use Rattle.vll_queue.specs.Pass.{IsFresh}
+use Rattle.vll_queue.specs.Begin.{Begins as BeginsWith, FindsAndBegins}
+use Rattle.vll_queue.specs.Onto.{FindsAndBeginsOnto, IsOnto}
 use Rattle.vll_queue.specs.Sessions.{SawOthers, SawOwn}
 use Rattle.vll_queue.specs.Shown.{Named, library_of}
 use Rattle.vll_workers.specs.Private.Begin.{IsBegun, begun_token}
@@ -185,18 +184,6 @@ client_begun e t new answer before after begins = ap (λ (u : TokenShown). u.cli
     stays (Blocked ticket) = refl
     stays (Refused why) = refl
 
-fresh_onto : (e : Named) (old new : SessionView) (call : Call) (begun : Begun) (answer : BegunOnto) (before after : List PassShown) → BeginsWith e old new call begun → IsOnto begun answer before after → All (IsFresh e) before → All (IsFresh e) after
-fresh_onto e old new call (Free pass) answer before after begins onto fresh = subst (All (IsFresh e)) (sym onto.1) (All-push (IsFresh e) before pass fresh begins.1.fresh)
-fresh_onto e old new call (Blocked ticket) answer before after begins onto fresh = subst (All (IsFresh e)) (sym onto.1) fresh
-fresh_onto e old new call (Refused why) answer before after begins onto fresh = subst (All (IsFresh e)) (sym onto.1) fresh
-
--- the passes are fresh, that of a call that is free among them
-pub fresh_begun : (e : Named) (t new : TokenShown) (answer : BegunOnto) (before after : List PassShown) → t.next < length t.script → IsBegun e t new answer before after → All (IsFresh e) before → All (IsFresh e) after
-fresh_begun e t new answer before after left begins fresh =
-    let next = entry_at t.script t.next left in
-    let found = begins.call next.0 next.1 in
-    fresh_onto e t.session.session new.session.session (with_found (library_of e) next.0 found.value) begins.begun answer before after found.begins begins.onto fresh
-
 spent_onto : (e : Named) (old new : SessionView) (call : Call) (begun : Begun) (answer : BegunOnto) (before after : List PassShown) → BeginsWith e old new call begun → IsOnto begun answer before after → answer ≡ onto.Refused Spent → length new.seen ≡ e.config.limit
 spent_onto e old new call (Free pass) answer before after begins onto is = absurd (cc (onto.0, is))
 spent_onto e old new call (Blocked ticket) answer before after begins onto is = absurd (cc (onto.0, is))
@@ -223,3 +210,15 @@ pub refused_token : (t new : TokenShown) (begun : Begun) (answer : BegunOnto) (b
 refused_token t new (Free pass) answer before after why onto is token = absurd (cc (onto.0, is))
 refused_token t new (Blocked ticket) answer before after why onto is token = absurd (cc (onto.0, is))
 refused_token t new (Refused reason) answer before after why onto is token = token
+
+-- a token whose next call has begun, or was refused
+pub is_begun : (e : Named) (t new : TokenShown) (old : SessionShown) (call : Call) (answer : BegunOnto) (before after : List PassShown) → old ≡ t.session → slice_get t.script t.next ≡ Some call
+    → (a : FindsAndBeginsOnto e old.session new.session.session call answer before after) → new.session.table ≡ old.table → new ≡ begun_token t new.session a.begun → IsBegun e t new answer before after
+is_begun e t new old call answer before after same at a table token = record {
+  begun = a.begun;
+  token = token;
+  call = λ other is. subst (λ (k : Call). FindsAndBegins e t.session.session new.session.session k a.begun) (same_Some call other (sym at ∙ is))
+      (subst (λ (s : SessionShown). FindsAndBegins e s.session new.session.session call a.begun) same a.begins);
+  table = table ∙ ap (λ (s : SessionShown). s.table) same;
+  onto = a.onto;
+}

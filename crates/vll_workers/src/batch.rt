@@ -2,26 +2,25 @@
 ghost use Rattle.std.specs.Prelude.{◌≡◌, [], IfOk};
 
 use crate::pace::Pace;
-use crate::passes::Passes;
 use crate::stack::Stack;
 use crate::taken::Taken;
 use std::alloc::{AllocError, Global};
 use vll_core::Ticket;
-use vll_queue::Released;
+use vll_queue::{Name, Passes, Released};
 
 // What a worker has under way: the tokens that it has taken, passes of calls that may run, calls that were executed,
 // and the tickets of those that are finished and not yet reported to the gate.
-pub(crate) struct Batch {
+pub(crate) struct Batch<N: Name> {
     pub(crate) taken: Taken,
-    pub(crate) passes: Passes,
+    pub(crate) passes: Passes<N>,
     pub(crate) released: Stack<Released>,
     pub(crate) finished: Stack<Ticket>,
     pub(crate) pace: Pace,
 }
 
 // The room for a batch.
-pub(crate) struct BatchRoom {
-    batch: Batch,
+pub(crate) struct BatchRoom<N: Name> {
+    batch: Batch<N>,
     ghost untried: { batch.taken.untried ≡ [] },
     ghost tried: { batch.taken.tried ≡ [] },
     ghost passes: { batch.passes ≡ [] },
@@ -29,9 +28,13 @@ pub(crate) struct BatchRoom {
     ghost finished: { batch.finished ≡ [] },
 }
 
-impl BatchRoom {
+impl<N: Name> BatchRoom<N> {
     // Allocates room for what one of `workers` workers has under way, which takes at most `most` tokens before a hold.
-    pub(crate) fn new(alloc: Global, workers: u32, most: usize) -> Result<BatchRoom, AllocError> {
+    pub(crate) fn new(
+        alloc: Global,
+        workers: u32,
+        most: usize,
+    ) -> Result<BatchRoom<N>, AllocError> {
         let taken = Taken::new(alloc)?;
         let finished = Stack::new(alloc)?;
         let passes = Passes::new(alloc)?;
@@ -53,7 +56,7 @@ impl BatchRoom {
     }
 
     // Opens the batch: nothing is under way yet.
-    pub(crate) fn open(self) -> Batch
+    pub(crate) fn open(self) -> Batch<N>
         ensures untried { result.taken.untried ≡ [] }
         ensures tried { result.taken.tried ≡ [] }
         ensures passes { result.passes ≡ [] }
@@ -65,14 +68,14 @@ impl BatchRoom {
     }
 }
 
-impl Drop for BatchRoom {
+impl<N: Name> Drop for BatchRoom<N> {
     fn drop(self) {
         let BatchRoom { batch } = self;
         batch.end();
     }
 }
 
-impl Batch {
+impl<N: Name> Batch<N> {
     // Ends the batch: nothing is under way any more.
     pub(crate) fn end(self)
         requires passes { self.passes ≡ [] }

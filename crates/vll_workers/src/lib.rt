@@ -18,7 +18,6 @@ mod fault;
 mod gate;
 mod laws;
 mod pace;
-mod passes;
 mod pool;
 mod roster;
 mod running;

@@ -3,9 +3,10 @@ ghost use Rattle.std.specs.Prelude.{◌≡◌, ◌<◌, ◌≤◌, ◌∷◌, []
 
 use std::alloc::{AllocError, Global};
 use std::marker::Model;
+use vll_queue::MOST_PASSES;
 
-// The most calls that a worker begins under one hold.
-pub(crate) const MOST_BATCH: usize = 8;
+// The most calls that a worker begins under one hold: a list of passes has room for as many.
+pub(crate) const MOST_BATCH: usize = MOST_PASSES;
 
 // A stack of up to MOST_BATCH values. All memory is allocated when it is made. A contract sees the list of its values,
 // the last one first.

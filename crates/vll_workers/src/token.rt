@@ -5,11 +5,10 @@ ghost use Rattle.vll_workers.specs.Shown.{token};
 ghost use Rattle.vll_workers.specs.Private.Begin.{IsBegun};
 ghost use Rattle.vll_workers.specs.Tokens.{IsFit, IsThrough};
 
-use crate::passes::Passes;
 use crate::stack::MOST_BATCH;
 use std::marker::Model;
 use vll_proc::Call;
-use vll_queue::{BegunOnto, Hold, Name, Session};
+use vll_queue::{BegunOnto, Hold, Name, Passes, Session};
 use vll_sca::Place;
 
 // How often a call is put off before it begins regardless.
@@ -153,7 +152,7 @@ impl Token {
     pub(crate) fn begin<N: Name, H: Place + Send + Drop>(
         &mut self,
         hold: &mut Hold<'_, N, H>,
-        passes: &mut Passes,
+        passes: &mut Passes<N>,
     ) -> BegunOnto
         requires fit { IsFit N.engine self.old }
         requires left { self.old.next < length self.old.script }

@@ -1,7 +1,7 @@
 //! What the workers of a run share, and a worker's rounds, from the opening of its batch until it leaves.
 ghost use Rattle.std.specs.Prelude.{◌≡◌, ◌<◌, ◌≤◌, ◌+◌, ◌++◌, ◌∷◌, [], All, IfSome, length, suc};
 ghost use Rattle.crossbeam_queue.specs.Passes.{view};
-ghost use Rattle.vll_queue.specs.Pass.{IsFresh, IsReleased};
+ghost use Rattle.vll_queue.specs.Pass.{IsReleased};
 ghost use Rattle.vll_workers.specs.Private.Pool.{AreSame, HasInHand, all_parts};
 ghost use Rattle.vll_workers.specs.Private.Work.{IsAtWork};
 ghost use Rattle.vll_workers.specs.Tokens.{AreFit, IsFit, clients_of};
@@ -31,7 +31,7 @@ pub(crate) struct Work<'a, N: Name, H: Place + Send + Drop, T: Roster, W: Wait, 
 
 impl<'a, N: Name, H: Place + Send + Drop, T: Roster, W: Wait, G: Gate> Work<'a, N, H, T, W, G> {
     // Waits until the tokens are in the pool, and works until there is nothing to do.
-    pub(crate) fn come_and_run(self, worker: Worker<T>, room: BatchRoom) -> Worker<T>
+    pub(crate) fn come_and_run(self, worker: Worker<T>, room: BatchRoom<N>) -> Worker<T>
         requires fit { AreFit N.engine T.tokens }
         requires limit { T.limit ≡ N.engine.config.limit }
         requires hand { HasInHand self.pool.now worker.pass worker.kept }
@@ -49,7 +49,7 @@ impl<'a, N: Name, H: Place + Send + Drop, T: Roster, W: Wait, G: Gate> Work<'a, 
     }
 
     // Works until the worker, which has all parts, keeps all tokens.
-    pub(crate) fn run_to_the_end(self, worker: Worker<T>, room: BatchRoom) -> Worker<T>
+    pub(crate) fn run_to_the_end(self, worker: Worker<T>, room: BatchRoom<N>) -> Worker<T>
         requires fit { AreFit N.engine T.tokens }
         requires limit { T.limit ≡ N.engine.config.limit }
         requires hand { HasInHand self.pool.now worker.pass worker.kept }
@@ -72,7 +72,7 @@ impl<'a, N: Name, H: Place + Send + Drop, T: Roster, W: Wait, G: Gate> Work<'a, 
 
     // Opens a batch with nothing under way. If the gate may wait for calls, they begin one by one, and no token stays
     // in hand after a hold.
-    fn open(self, room: BatchRoom) -> Batch
+    fn open(self, room: BatchRoom<N>) -> Batch<N>
         ensures untried { result.taken.untried ≡ [] }
         ensures tried { result.taken.tried ≡ [] }
         ensures passes { result.passes ≡ [] }
@@ -89,7 +89,7 @@ impl<'a, N: Name, H: Place + Send + Drop, T: Roster, W: Wait, G: Gate> Work<'a, 
     }
 
     // Works until there is nothing to do: starts with the tokens that were kept in hand, and leaves nothing under way.
-    fn run(self, worker: &mut Worker<T>, batch: &mut Batch)
+    fn run(self, worker: &mut Worker<T>, batch: &mut Batch<N>)
         requires fit { AreFit N.engine T.tokens }
         requires limit { T.limit ≡ N.engine.config.limit }
         requires old { IsAtWork T.tokens self.pool.now worker.old batch.old.taken.tried }
@@ -121,7 +121,7 @@ impl<'a, N: Name, H: Place + Send + Drop, T: Roster, W: Wait, G: Gate> Work<'a, 
 
     // Finishes the calls that were executed and looks for calls that may run, under one hold of the engine's lock.
     // Reports whether there was a token. The tokens go back to the pool, or stay in hand for the next round.
-    fn round(self, worker: &mut Worker<T>, batch: &mut Batch) -> bool
+    fn round(self, worker: &mut Worker<T>, batch: &mut Batch<N>) -> bool
         requires fit { AreFit N.engine T.tokens }
         requires limit { T.limit ≡ N.engine.config.limit }
         requires old { IsAtWork T.tokens self.pool.now worker.old batch.old.taken.tried }
@@ -135,7 +135,6 @@ impl<'a, N: Name, H: Place + Send + Drop, T: Roster, W: Wait, G: Gate> Work<'a, 
         ensures few { length batch.new.taken.tried ≤ MOST_BATCH }
         ensures parts { (view worker.new.pass).parts ≡ (view worker.old.pass).parts }
         ensures untried { batch.new.taken.untried ≡ [] }
-        ensures passes { All (IsFresh N.engine) batch.new.passes }
         ensures released { batch.new.released ≡ [] }
         ensures finished { batch.new.finished ≡ [] }
     {

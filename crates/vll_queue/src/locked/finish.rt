@@ -13,21 +13,9 @@ use vll_proc::Reply;
 use vll_sca::Place;
 
 impl<N: Name, H: Place> Locked<N, H> {
-    // Finishes the call of a pass that has made all its steps: it is gone, and its line gets the reply.
-    pub(crate) fn finish(&mut self, words: &Words, released: Released) -> (Ticket, Reply)
-        requires words { words.now ≡ words_of N.engine }
-        requires released { IsReleased N.engine released }
-        ensures ticket { result.0 ≡ released.pass.ticket }
-        ensures reply { result.1 ≡ released.reply }
-        ensures queue { self.new ≡ finished self.old released.pass.ticket released.reply }
-    {
-        let reply = released.reply;
-        (self.finish_untold(words, released), reply)
-    }
-
-    // As `finish`, but the reply is only in the line.
+    // Finishes the call of a pass that has made all its steps: it is gone, and its line gets the reply. Returns its ticket.
     #[inline(always)]
-    pub(crate) fn finish_untold(&mut self, words: &Words, released: Released) -> Ticket
+    pub(crate) fn finish(&mut self, words: &Words, released: Released) -> Ticket
         requires words { words.now ≡ words_of N.engine }
         requires released { IsReleased N.engine released }
         ensures ticket { result ≡ released.pass.ticket }

@@ -58,7 +58,7 @@ pub(super) fn run_named<
     ensures started { IfOk result (λ _. 0 < starts) }
     ensures spent_started { IfErr result (λ e. e.fault ≡ RunFault.Spent → 0 < starts) }
 {
-    let room = match room_for::<T>(alloc, tokens.len(), workers) {
+    let room = match room_for::<N, T>(alloc, tokens.len(), workers) {
         Ok(room) => room,
         Err(AllocError) => return Err(RunError::new(RunFault::NoMemory, tokens)),
     };
@@ -101,8 +101,8 @@ fn work_through<
 >(
     rt: &R,
     workplace: Workplace<'a, X, T, W, G>,
-    ready: Ready<T>,
-    own_room: BatchRoom,
+    ready: Ready<N, T>,
+    own_room: BatchRoom<N>,
 ) -> Result<Worker<T>, Vec<Token>>
     requires roster { T.tokens ≡ ready.tokens.items }
     requires fit { AreFit N.engine T.tokens }

@@ -8,17 +8,18 @@ use crate::pool::Pool;
 use crate::roster::Roster;
 use crate::worker::{Shelf, Worker};
 use std::alloc::{AllocError, Global};
+use vll_queue::Name;
 
 // What a worker needs memory for: what it keeps, and what it has under way.
 #[derive(Drop)]
-pub(super) struct Desk<T: Roster> {
+pub(super) struct Desk<N: Name, T: Roster> {
     pub(super) shelf: Shelf<T>,
-    pub(super) room: BatchRoom,
+    pub(super) room: BatchRoom<N>,
 }
 
-impl<T: Roster> Desk<T> {
+impl<N: Name, T: Roster> Desk<N, T> {
     // Allocates the memory of a worker, for a run of `count` tokens by `workers` workers.
-    fn new(alloc: Global, count: usize, workers: u32) -> Result<Desk<T>, AllocError>
+    fn new(alloc: Global, count: usize, workers: u32) -> Result<Desk<N, T>, AllocError>
         requires { count ≡ length T.tokens }
     {
         let shelf = Shelf::new(alloc, count)?;
@@ -29,11 +30,11 @@ impl<T: Roster> Desk<T> {
 
 // What a run needs memory for: the pool, the calling thread's own worker, which has all tokens in hand, with room for
 // what it has under way, and what each other worker needs.
-pub(super) struct Room<T: Roster> {
+pub(super) struct Room<N: Name, T: Roster> {
     pub(super) pool: Pool<T>,
     pub(super) own: Worker<T>,
-    pub(super) own_room: BatchRoom,
-    pub(super) desks: Vec<Desk<T>>,
+    pub(super) own_room: BatchRoom<N>,
+    pub(super) desks: Vec<Desk<N, T>>,
 }
 
 // How many tokens a worker may take before a hold: its share, or none if that is less than two.
@@ -43,11 +44,11 @@ fn share_of(count: usize, workers: u32) -> usize {
 }
 
 // Allocates the room for a run of `count` tokens by `workers` workers.
-pub(super) fn room_for<T: Roster>(
+pub(super) fn room_for<N: Name, T: Roster>(
     alloc: Global,
     count: usize,
     workers: u32,
-) -> Result<Room<T>, AllocError>
+) -> Result<Room<N, T>, AllocError>
     requires some { 0 < count }
     requires count { count ≡ length T.tokens }
     ensures workers { IfOk result (λ r. length r.desks.items ≡ workers) }

@@ -20,8 +20,8 @@ use vll_sca::Place;
 // What is ready before the workers start: what each needs, the calling thread's own worker, the tokens, and how many
 // starts may be tried.
 #[derive(Drop)]
-pub(super) struct Ready<T: Roster> {
-    pub(super) desks: Vec<Desk<T>>,
+pub(super) struct Ready<N: Name, T: Roster> {
+    pub(super) desks: Vec<Desk<N, T>>,
     pub(super) own: Worker<T>,
     pub(super) tokens: Vec<Token>,
     pub(super) starts: u32,
@@ -56,7 +56,7 @@ pub(super) fn start<
     rt: &R,
     workplace: Workplace<'s, X, T, W, G>,
     closed: MutexGuard<'_, ()>,
-    ready: Ready<T>,
+    ready: Ready<N, T>,
     is_started: bool,
 ) -> Result<Worker<T>, Vec<Token>>
     requires roster { T.tokens ≡ ready.tokens.items }
@@ -92,25 +92,23 @@ pub(super) fn start<
             ensures part { (view result.pass).parts ≡ 1 }
         { work_at::<N, H, X, T, W, G>(workplace).come_and_run(next, room) },
     );
-    match thread {
-        Ok(thread) => {
-            let mut own = start(scope, rt, workplace, closed, ready, true)?;
-            own.gather(pool, thread.join(rt));
-            Ok(own)
+    let is_started = is_started || thread.is_ok();
+    let mut own = match start(scope, rt, workplace, closed, ready, is_started) {
+        Ok(own) => own,
+        Err(unstarted) => {
+            drop(thread);
+            return Err(unstarted);
         }
-        Err(refused) => {
-            let mut own = start(scope, rt, workplace, closed, ready, is_started)?;
-            own.gather(pool, refused());
-            Ok(own)
-        }
-    }
+    };
+    own.gather(pool, come_back(rt, ComesBack(pool), thread));
+    Ok(own)
 }
 
 // Puts the tokens into the pool if a worker was started, and otherwise returns them.
-fn hand_out<T: Roster>(
+fn hand_out<N: Name, T: Roster>(
     wait: &impl Wait,
     pool: &Pool<T>,
-    ready: Ready<T>,
+    ready: Ready<N, T>,
     is_started: bool,
 ) -> Result<Worker<T>, Vec<Token>>
     requires roster { T.tokens ≡ ready.tokens.items }
@@ -146,7 +144,8 @@ fn try_start<'s, E, P: Promise<V> + Drop, F: FnOnce() -> V + Send + 's, V: Send 
     requires keeps { (v : V) → F.post f v → P.kept_by promise v }
     ensures started { IfOk result (λ _. 0 < starts) }
     ensures promise { IfOk result (λ h. h.promise ≡ promise) }
-    ensures refused { IfErr result (λ e. e ≡ f) }
+    ensures runs { IfErr result (λ e. F.pre e) }
+    ensures keeps { IfErr result (λ e. (v : V) → F.post e v → P.kept_by promise v) }
 {
     if starts == 0 {
         return Err(f);
@@ -154,5 +153,22 @@ fn try_start<'s, E, P: Promise<V> + Drop, F: FnOnce() -> V + Send + 's, V: Send 
     match scope.spawn_with(promise, f) {
         Ok(thread) => Ok(thread),
         Err(refused) => Err(refused.value),
+    }
+}
+
+// What a thread returned, or what the closure returns if the thread could not be started.
+fn come_back<R: Threads, P: Promise<V> + Drop, F: FnOnce() -> V, V>(
+    rt: &R,
+    promise: P,
+    thread: Result<PromisedHandle<V, P>, F>,
+) -> V
+    requires promise { IfOk thread (λ h. h.promise ≡ promise) }
+    requires runs { IfErr thread (λ f. F.pre f) }
+    requires keeps { IfErr thread (λ f. (v : V) → F.post f v → P.kept_by promise v) }
+    ensures { P.kept_by promise result }
+{
+    match thread {
+        Ok(thread) => thread.join(rt),
+        Err(refused) => refused(),
     }
 }

@@ -1,7 +1,6 @@
 //! What a worker does under a hold: it looks for calls that may run, and begins others.
 ghost use Rattle.std.specs.Prelude.{◌≡◌, ◌≤◌, ◌+◌, ◌++◌, [], All, length};
 ghost use Rattle.crossbeam_queue.specs.Passes.{view};
-ghost use Rattle.vll_queue.specs.Pass.{IsFresh};
 ghost use Rattle.vll_workers.specs.Private.Settled.{IsSettled};
 ghost use Rattle.vll_workers.specs.Private.Work.{IsAtWork};
 ghost use Rattle.vll_workers.specs.Tokens.{AreFit, IsFit, IsOf};
@@ -9,14 +8,13 @@ ghost use Rattle.vll_workers.specs.Tokens.{AreFit, IsFit, IsOf};
 use super::Work;
 use crate::gate::Gate;
 use crate::pace::{HeldBy, Pace};
-use crate::passes::Passes;
 use crate::roster::Roster;
 use crate::stack::MOST_BATCH;
 use crate::taken::Taken;
 use crate::token::Token;
 use crate::worker::Worker;
 use std::sync::Wait;
-use vll_queue::{BeginRefusal, BegunOnto, Hold, Name};
+use vll_queue::{BeginRefusal, BegunOnto, Hold, Name, Passes};
 use vll_sca::Place;
 
 // What happened to a token's calls that were to begin.
@@ -38,7 +36,7 @@ impl<N: Name, H: Place + Send + Drop, T: Roster, W: Wait, G: Gate> Work<'_, N, H
         worker: &mut Worker<T>,
         hold: &mut Hold<'_, N, H>,
         taken: &mut Taken,
-        passes: &mut Passes,
+        passes: &mut Passes<N>,
         pace: &mut Pace,
     ) -> bool
         requires fit { AreFit N.engine T.tokens }
@@ -49,9 +47,8 @@ impl<N: Name, H: Place + Send + Drop, T: Roster, W: Wait, G: Gate> Work<'_, N, H
         ensures new { IsAtWork T.tokens self.entry.pool.now worker.new (taken.new.untried ++ taken.new.tried) }
         ensures few { length taken.new.untried + length taken.new.tried ≤ MOST_BATCH }
         ensures parts { (view worker.new.pass).parts ≡ (view worker.old.pass).parts }
-        ensures passes { All (IsFresh N.engine) passes.new }
     {
-        if passes.find_front(hold) {
+        if passes.next_front(hold) {
             pace.saw_front(true);
             return true;
         }
@@ -66,7 +63,7 @@ impl<N: Name, H: Place + Send + Drop, T: Roster, W: Wait, G: Gate> Work<'_, N, H
             self.put_back(worker, taken);
         }
         if passes.is_empty() {
-            pace.saw_scan(passes.find_by_scan(hold));
+            pace.saw_scan(passes.next_scan(hold));
         }
         had_token
     }
@@ -77,7 +74,7 @@ impl<N: Name, H: Place + Send + Drop, T: Roster, W: Wait, G: Gate> Work<'_, N, H
         worker: &mut Worker<T>,
         hold: &mut Hold<'_, N, H>,
         taken: &mut Taken,
-        passes: &mut Passes,
+        passes: &mut Passes<N>,
         pace: &mut Pace,
     )
         requires fit { AreFit N.engine T.tokens }
@@ -88,7 +85,6 @@ impl<N: Name, H: Place + Send + Drop, T: Roster, W: Wait, G: Gate> Work<'_, N, H
         ensures new { IsAtWork T.tokens self.entry.pool.now worker.new (taken.new.untried ++ taken.new.tried) }
         ensures few { length taken.new.untried + length taken.new.tried ≤ MOST_BATCH }
         ensures parts { (view worker.new.pass).parts ≡ (view worker.old.pass).parts }
-        ensures passes { All (IsFresh N.engine) passes.new }
     {
         let mut was_held = false;
         for _ in 0..taken.untried.len() {
@@ -106,18 +102,16 @@ impl<N: Name, H: Place + Send + Drop, T: Roster, W: Wait, G: Gate> Work<'_, N, H
         worker: &mut Worker<T>,
         hold: &mut Hold<'_, N, H>,
         taken: &mut Taken,
-        passes: &mut Passes,
+        passes: &mut Passes<N>,
         pace: &mut Pace,
     ) -> bool
         requires fit { AreFit N.engine T.tokens }
         requires limit { T.limit ≡ N.engine.config.limit }
         requires old { IsAtWork T.tokens self.pool.now worker.old (taken.old.untried ++ taken.old.tried) }
         requires few { length taken.old.untried + length taken.old.tried ≤ MOST_BATCH }
-        requires passes { All (IsFresh N.engine) passes.old }
         ensures new { IsAtWork T.tokens self.entry.pool.now worker.new (taken.new.untried ++ taken.new.tried) }
         ensures few { length taken.new.untried + length taken.new.tried ≤ MOST_BATCH }
         ensures parts { (view worker.new.pass).parts ≡ (view worker.old.pass).parts }
-        ensures passes { All (IsFresh N.engine) passes.new }
     {
         let Some(mut token) = taken.untried.pop() else {
             return true;
@@ -148,7 +142,7 @@ impl<N: Name, H: Place + Send + Drop, T: Roster, W: Wait, G: Gate> Work<'_, N, H
     }
 
     // Whether the token's next call is left for another batch.
-    fn is_left(self, token: &mut Token, passes: &Passes, pace: &mut Pace) -> bool
+    fn is_left(self, token: &mut Token, passes: &Passes<N>, pace: &mut Pace) -> bool
         requires { IsFit N.engine token.old }
         ensures { token.new ≡ token.old }
     {
@@ -176,16 +170,14 @@ impl<N: Name, H: Place + Send + Drop, T: Roster, W: Wait, G: Gate> Work<'_, N, H
         self,
         hold: &mut Hold<'_, N, H>,
         token: &mut Token,
-        passes: &mut Passes,
+        passes: &mut Passes<N>,
         is_hot: bool,
     ) -> Course
         requires fit { AreFit N.engine T.tokens }
         requires limit { T.limit ≡ N.engine.config.limit }
         requires own { IsOf T.tokens token.old }
-        requires passes { All (IsFresh N.engine) passes.old }
         ensures own { IsOf T.tokens token.new }
         ensures client { token.new.client ≡ token.old.client }
-        ensures passes { All (IsFresh N.engine) passes.new }
         ensures spent { result ≡ Course.Spent → IsSettled T.limit token.new }
     {
         let first = token.next();

@@ -1,19 +1,19 @@
 //! What a worker does with what it has begun: it executes calls, finishes them, and puts the tokens back.
-ghost use Rattle.std.specs.Prelude.{◌≡◌, ◌≤◌, ◌+◌, ◌++◌, [], All, length};
+ghost use Rattle.std.specs.Prelude.{◌≡◌, ◌≤◌, ◌+◌, ◌++◌, [], All, IfNone, IfSome, length};
 ghost use Rattle.crossbeam_queue.specs.Passes.{view};
-ghost use Rattle.vll_queue.specs.Pass.{IsFresh, IsReleased};
+ghost use Rattle.vll_queue.specs.Onto.{IsOfLast};
+ghost use Rattle.vll_queue.specs.Pass.{IsReleased};
 ghost use Rattle.vll_workers.specs.Private.Work.{IsAtWork};
 
 use super::Work;
 use crate::gate::Gate;
-use crate::passes::Passes;
 use crate::roster::Roster;
 use crate::stack::{MOST_BATCH, Stack};
 use crate::taken::Taken;
 use crate::worker::Worker;
 use std::sync::Wait;
 use vll_core::Ticket;
-use vll_queue::{Hold, Name, Released};
+use vll_queue::{Hold, Name, Passes, Released};
 use vll_sca::Place;
 
 impl<N: Name, H: Place + Send + Drop, T: Roster, W: Wait, G: Gate> Work<'_, N, H, T, W, G> {
@@ -47,17 +47,29 @@ impl<N: Name, H: Place + Send + Drop, T: Roster, W: Wait, G: Gate> Work<'_, N, H
     }
 
     // Executes the calls, and releases the claims of each right after it.
-    pub(super) fn execute_all(self, passes: &mut Passes, released: &mut Stack<Released>)
-        requires passes { All (IsFresh N.engine) passes.old }
+    pub(super) fn execute_all(self, passes: &mut Passes<N>, released: &mut Stack<Released>)
         requires few { length passes.old ≤ MOST_BATCH }
         requires released { released.old ≡ [] }
         ensures passes { passes.new ≡ [] }
         ensures released { All (IsReleased N.engine) released.new }
         ensures few { length released.new ≤ MOST_BATCH }
     {
-        while let Some(done) = passes.run_last(self.engine, self.gate) {
+        while let Some(done) = self.run_last(passes) {
             released.push(done);
         }
+    }
+
+    // Calls the gate's `before` for the last pass, executes its call, and releases its claims.
+    #[inline(always)]
+    fn run_last(self, passes: &mut Passes<N>) -> Option<Released>
+        ensures released { IfSome result (IsReleased N.engine) }
+        ensures same { IfSome result (λ r. IsOfLast passes.old passes.new r.pass) }
+        ensures none { IfNone result (passes.new ≡ []) }
+    {
+        if let Some(ticket) = passes.last() {
+            self.gate.before(ticket);
+        }
+        passes.run_last(self.engine)
     }
 
     // Finishes the calls that were executed.
@@ -73,7 +85,7 @@ impl<N: Name, H: Place + Send + Drop, T: Roster, W: Wait, G: Gate> Work<'_, N, H
         ensures { released.new ≡ [] }
     {
         while let Some(done) = released.pop() {
-            finished.push(hold.finish_untold(done));
+            finished.push(hold.finish(done));
         }
     }
 

@@ -1,5 +1,8 @@
 use Rattle.std.proofs.Common.{rules}
 use Rattle.vll_workers.proofs.running.start.+start.Goals as goal
 
-pub returns-in_ok-own-in-Err-clause-started : goal.returns-in_ok-own-in-Err-clause-started
-returns-in_ok-own-in-Err-clause-started g t c = search rules
+pub returns-clause-parts : goal.returns-clause-parts
+returns-clause-parts g t c = search rules
+
+pub returns-clause-started : goal.returns-clause-started
+returns-clause-started g t c = search rules

@@ -5,4 +5,4 @@ pub loop-preserved : goal.loop-preserved
 loop-preserved g c =
     let so_far = c.loop.invariant in
     let one = c.begin_next.ensures in
-    (one.new, one.parts ∙ so_far.1, one.passes, one.few)
+    (one.new, one.parts ∙ so_far.1, one.few)

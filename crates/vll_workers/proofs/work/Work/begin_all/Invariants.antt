@@ -1,6 +1,5 @@
--- The tokens that are left and those that were tried are in hand, and each call that began may run.
-use Rattle.std.proofs.Common.{◌≡◌, ◌≤◌, ◌+◌, ◌++◌, All, length}
-use Rattle.vll_queue.specs.Pass.{IsFresh}
+-- The tokens that are left and those that were tried are in hand.
+use Rattle.std.proofs.Common.{◌≡◌, ◌≤◌, ◌+◌, ◌++◌, length}
 use Rattle.vll_workers.specs.declared.stack.TheConstants.{MOST_BATCH}
 use Rattle.crossbeam_queue.specs.Passes.{view}
 use Rattle.vll_workers.specs.Private.Work.{IsAtWork}
@@ -9,4 +8,4 @@ use Rattle.vll_workers.proofs.work.Work.begin_all.Given as goal
 abbrev pub invariant-loop : goal.invariant-loop
 invariant-loop g l =
     IsAtWork g.T.Roster.tokens l.self.pool.now l.worker (l.taken.untried ++ l.taken.tried) × ((view l.worker.pass).parts ≡ (view l.initial.worker.pass).parts)
-    × All (IsFresh g.N.Name.engine) l.passes × (length l.taken.untried + length l.taken.tried ≤ MOST_BATCH)
+    × (length l.taken.untried + length l.taken.tried ≤ MOST_BATCH)

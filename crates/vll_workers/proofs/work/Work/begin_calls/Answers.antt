@@ -1,6 +1,6 @@
 use Rattle.std.proofs.Common.{◌∙◌, ap, inr, sym, rules}
 use Rattle.vll_queue.specs.declared.begun.BegunOnto.TheVariants.{Refused}
-use Rattle.vll_workers.proofs.Gained.{client_begun, fresh_begun, of_begun, spent_session}
+use Rattle.vll_workers.proofs.Gained.{client_begun, of_begun, spent_session}
 use Rattle.vll_workers.proofs.Owned.{own_fits}
 use Rattle.vll_workers.proofs.work.Work.begin_calls.Goals as goal
 
@@ -13,10 +13,6 @@ begin-requires-clause-fit g c κs within = own_fits g.N.Name.engine g.T.Roster.t
 pub returns-in-Refused-Spent-clause-own : goal.returns-in-Refused-Spent-clause-own
 returns-in-Refused-Spent-clause-own g c =
     of_begun g.N.Name.engine g.T.Roster.tokens c.loop.token c.begin.new.self c.begin.result c.loop.passes c.begin.new.passes c.loop.invariant.0 (c.is_through.ensures.left c.if-is_through.false) c.begin.ensures.begun
-
-pub returns-in-Refused-Spent-clause-passes : goal.returns-in-Refused-Spent-clause-passes
-returns-in-Refused-Spent-clause-passes g c =
-    fresh_begun g.N.Name.engine c.loop.token c.begin.new.self c.begin.result c.loop.passes c.begin.new.passes (c.is_through.ensures.left c.if-is_through.false) c.begin.ensures.begun c.loop.invariant.2
 
 pub returns-in-Refused-Spent-clause-client : goal.returns-in-Refused-Spent-clause-client
 returns-in-Refused-Spent-clause-client g c =
@@ -34,10 +30,6 @@ pub returns-in-Blocked-clause-client : goal.returns-in-Blocked-clause-client
 returns-in-Blocked-clause-client g c =
     client_begun g.N.Name.engine c.loop.token c.begin.new.self c.begin.result c.loop.passes c.begin.new.passes c.begin.ensures.begun ∙ c.loop.invariant.1
 
-pub returns-in-Blocked-clause-passes : goal.returns-in-Blocked-clause-passes
-returns-in-Blocked-clause-passes g c =
-    fresh_begun g.N.Name.engine c.loop.token c.begin.new.self c.begin.result c.loop.passes c.begin.new.passes (c.is_through.ensures.left c.if-is_through.false) c.begin.ensures.begun c.loop.invariant.2
-
 pub returns-in-Refused-Busy-clause-own : goal.returns-in-Refused-Busy-clause-own
 returns-in-Refused-Busy-clause-own g c =
     of_begun g.N.Name.engine g.T.Roster.tokens c.loop.token c.begin.new.self c.begin.result c.loop.passes c.begin.new.passes c.loop.invariant.0 (c.is_through.ensures.left c.if-is_through.false) c.begin.ensures.begun
@@ -46,15 +38,10 @@ pub returns-in-Refused-Busy-clause-client : goal.returns-in-Refused-Busy-clause-
 returns-in-Refused-Busy-clause-client g c =
     client_begun g.N.Name.engine c.loop.token c.begin.new.self c.begin.result c.loop.passes c.begin.new.passes c.begin.ensures.begun ∙ c.loop.invariant.1
 
-pub returns-in-Refused-Busy-clause-passes : goal.returns-in-Refused-Busy-clause-passes
-returns-in-Refused-Busy-clause-passes g c =
-    fresh_begun g.N.Name.engine c.loop.token c.begin.new.self c.begin.result c.loop.passes c.begin.new.passes (c.is_through.ensures.left c.if-is_through.false) c.begin.ensures.begun c.loop.invariant.2
-
 pub loop-preserved : goal.loop-preserved
 loop-preserved g c = (
   of_begun g.N.Name.engine g.T.Roster.tokens c.loop.token c.begin.new.self c.begin.result c.loop.passes c.begin.new.passes c.loop.invariant.0 (c.is_through.ensures.left c.if-is_through.false) c.begin.ensures.begun,
   client_begun g.N.Name.engine c.loop.token c.begin.new.self c.begin.result c.loop.passes c.begin.new.passes c.begin.ensures.begun ∙ c.loop.invariant.1,
-  fresh_begun g.N.Name.engine c.loop.token c.begin.new.self c.begin.result c.loop.passes c.begin.new.passes (c.is_through.ensures.left c.if-is_through.false) c.begin.ensures.begun c.loop.invariant.2,
 )
 
 pub begin-requires-clause-room : goal.begin-requires-clause-room

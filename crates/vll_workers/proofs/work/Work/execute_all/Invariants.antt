@@ -1,12 +1,12 @@
--- What is left may run, and what was executed has released its claims.
+-- What was executed has released its claims.
 use Rattle.std.proofs.Common.{◌≤◌, ◌+◌, All, length}
-use Rattle.vll_queue.specs.Pass.{IsFresh, IsReleased}
+use Rattle.vll_queue.specs.Pass.{IsReleased}
 use Rattle.vll_workers.specs.declared.stack.TheConstants.{MOST_BATCH}
 use Rattle.vll_workers.proofs.work.Work.execute_all.Given as goal
 
 abbrev pub invariant-loop-done : goal.invariant-loop-done
 invariant-loop-done g l =
-    All (IsFresh g.N.Name.engine) l.passes × All (IsReleased g.N.Name.engine) l.released × (length l.passes + length l.released ≤ MOST_BATCH)
+    All (IsReleased g.N.Name.engine) l.released × (length l.passes + length l.released ≤ MOST_BATCH)
 
 abbrev pub decreases-loop-done : goal.decreases-loop-done
 decreases-loop-done g l = length l.passes

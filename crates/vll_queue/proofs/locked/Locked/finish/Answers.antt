@@ -4,7 +4,7 @@ use Rattle.vll_counters.specs.Steps.{finished as ended}
 use Rattle.vll_queue.specs.Pass.{DoneShown, IsReleased}
 use Rattle.vll_queue.specs.Private.Kept.{IsKept}
 use Rattle.vll_queue.proofs.Keeps.{kept_finished, reply_is}
-use Rattle.vll_queue.proofs.locked.Locked.finish_untold.Goals as goal
+use Rattle.vll_queue.proofs.locked.Locked.finish.Goals as goal
 
 pub invariant_of-self : goal.invariant_of-self
 invariant_of-self g c =
