@@ -3,6 +3,8 @@ use crate::fault::Fault;
 use crate::setup;
 use crate::workload::{Workload, enter_all, run_all};
 use std::time::CpuClock;
+use vll_core::Core;
+use vll_sca::Placing;
 
 // How many calls are made. The cost of an event should be the same for all of these numbers.
 const COUNTS: [u32; 3] = [1_024, 8_192, 65_536];
@@ -29,11 +31,7 @@ fn measure(
     let mut fastest = u128::MAX;
     for _ in 0..REPEATS {
         let mut core = setup::core(rt.alloc(), workload.records(), calls)?;
-        let start = rt.thread_cpu_time()?;
-        enter_all(&mut core, calls)?;
-        run_all(&mut core, workload, calls)?;
-        let end = rt.thread_cpu_time()?;
-        fastest = fastest.min(end.saturating_sub(start).as_nanos());
+        fastest = fastest.min(time_of(rt, &mut core, workload, calls)?);
     }
     let events = workload.events(calls);
     let name = workload.name();
@@ -42,4 +40,18 @@ fn measure(
         fastest / u128::from(events.max(1))
     )?;
     Ok(())
+}
+
+// Returns the nanoseconds of processor time that all events of the calls take on a new machine.
+fn time_of(
+    rt: &impl CpuClock,
+    core: &mut Core<Placing>,
+    workload: Workload,
+    calls: u32,
+) -> Result<u128, Fault> {
+    let start = rt.thread_cpu_time()?;
+    enter_all(core, calls)?;
+    run_all(core, workload, calls)?;
+    let end = rt.thread_cpu_time()?;
+    Ok(end.saturating_sub(start).as_nanos())
 }

@@ -32,21 +32,37 @@ const OTHER: u32 = 65_535;
 /// would otherwise answer from the previous scan; this is included in the time.
 pub(crate) fn measure_scans(rt: &(impl CpuClock + Print + AllocGlobal)) -> Result<(), Fault> {
     for waiting in WAITING {
-        let mut queue = crowd(rt.alloc(), waiting)?;
-        let nanos = time_of_scan(rt, &mut queue, waiting.saturating_mul(2))?;
+        let nanos = time_in_crowd(rt, waiting)?;
         println!(rt; "{waiting} waiting calls behind {waiting} running ones: {nanos} ns")?;
     }
     for gone in GONE {
-        let mut queue = behind_front(rt.alloc(), gone, 4_096)?;
-        let nanos = time_of_scan(rt, &mut queue, 11)?;
+        let nanos = time_behind_front(rt, gone, 4_096)?;
         println!(rt; "10 waiting calls behind the front, {gone} gone between: {nanos} ns")?;
     }
     for bits in BITS {
-        let mut queue = behind_front(rt.alloc(), 0, bits)?;
-        let nanos = time_of_scan(rt, &mut queue, 11)?;
+        let nanos = time_behind_front(rt, 0, bits)?;
         println!(rt; "10 waiting calls behind the front, {bits} bits: {nanos} ns")?;
     }
     Ok(())
+}
+
+// The time of a scan while `waiting` calls run, each on a record of its own, and as many wait for the last of these
+// records.
+fn time_in_crowd(rt: &(impl CpuClock + AllocGlobal), waiting: u32) -> Result<u128, Fault> {
+    let mut queue = queue(rt.alloc(), 65_536)?;
+    crowd(&mut queue, waiting)?;
+    time_of_scan(rt, &mut queue, waiting.saturating_mul(2))
+}
+
+// The time of a scan while the front runs, `gone` calls after it are gone, and then ten wait for the front's record.
+fn time_behind_front(
+    rt: &(impl CpuClock + AllocGlobal),
+    gone: u32,
+    bits: u32,
+) -> Result<u128, Fault> {
+    let mut queue = queue(rt.alloc(), bits)?;
+    wait_behind_front(&mut queue, gone)?;
+    time_of_scan(rt, &mut queue, 11)
 }
 
 // Returns the nanoseconds of processor time of a scan that walks over `entries` entries and finds no call, and of the
@@ -73,31 +89,28 @@ fn time_of_scan(
     Ok(fastest / u128::from(scans.max(1)))
 }
 
-// Makes a queue in which `waiting` calls run, each on a record of its own, and as many wait for the last of these
-// records.
-fn crowd(alloc: Global, waiting: u32) -> Result<Queue<Placing>, Fault> {
-    let mut queue = queue(alloc, 65_536)?;
+// Enters the calls of a crowd.
+fn crowd(queue: &mut Queue<Placing>, waiting: u32) -> Result<(), Fault> {
     for record in 0..waiting {
-        enter(&mut queue, record, true)?;
+        enter(queue, record, true)?;
     }
     for _ in 0..waiting {
-        enter(&mut queue, waiting.saturating_sub(1), false)?;
+        enter(queue, waiting.saturating_sub(1), false)?;
     }
-    Ok(queue)
+    Ok(())
 }
 
-// Makes a queue whose front runs, after which `gone` calls are gone, and then ten wait for the front's record.
-fn behind_front(alloc: Global, gone: u32, bits: u32) -> Result<Queue<Placing>, Fault> {
-    let mut queue = queue(alloc, bits)?;
-    enter(&mut queue, 0, true)?;
+// Enters the front, the calls that are gone, and the ten that wait.
+fn wait_behind_front(queue: &mut Queue<Placing>, gone: u32) -> Result<(), Fault> {
+    enter(queue, 0, true)?;
     for _ in 0..gone {
-        let ticket = enter(&mut queue, 1, true)?;
-        finish(&mut queue, ticket)?;
+        let ticket = enter(queue, 1, true)?;
+        finish(queue, ticket)?;
     }
     for _ in 0..10 {
-        enter(&mut queue, 0, false)?;
+        enter(queue, 0, false)?;
     }
-    Ok(queue)
+    Ok(())
 }
 
 fn queue(alloc: Global, bits: u32) -> Result<Queue<Placing>, Fault> {

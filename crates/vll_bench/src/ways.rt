@@ -22,7 +22,7 @@ pub(crate) enum Way {
     Mutex,
     /// On plain records, each with a lock of its own.
     Locks,
-    /// In the engine, without workers: each thread uses `Engine::call`.
+    /// In the engine, without workers: each thread uses `Client::make`.
     Call,
     /// By the engine's workers.
     Engine,
