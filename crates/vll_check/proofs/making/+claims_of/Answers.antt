@@ -1,4 +1,5 @@
 use Rattle.std.proofs.Common.{arith, inl, length, ap, take, drop, ◌-◌, length-take, length-drop}
+use Rattle.std.proofs.lemmas.Grind.{common_steps}
 use Rattle.vll_record.proofs.ClaimsOf.{length-claims_of-le}
 use Rattle.vll_proc.specs.Made.{asked_by}
 use Rattle.vll_check.proofs.Fitting.{length-asked_by-le}
@@ -12,3 +13,6 @@ add-requires t c =
     let args = c.args.naming.args.now in
     let found = c.args.naming.found in
     inl (omega (arith, ap length c.claims_of-claims.ensures, length-claims_of-le (asked_by n args found others), length-asked_by-le n args found others, length-take (length keys - 1) (drop 1 keys), length-drop 1 keys))
+
+pub returns-in-Some : goal.returns-in-Some
+returns-in-Some t c = grind (arith, common_steps)

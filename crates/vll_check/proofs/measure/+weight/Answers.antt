@@ -43,3 +43,6 @@ statement_weight_left-returns-in_ok-taken-in-Repeat-clause-enough t c =
     let all = ap weight c.in-Repeat.is ∙ weight_repeat c.in-Repeat.turns c.in-Repeat.list in
     let enough = shares-enough c.in_ok-left.left c.in-Repeat.turns c.in-Some.share _ _ c.in-Some.ensures.1 c.in_ok-taken-in-Repeat.ensures.enough in
     grind (arith, common_steps)
+
+pub weight_left-loop-statement-preserved : goal.weight_left-loop-statement-preserved
+weight_left-loop-statement-preserved t c = grind (arith, common_steps)

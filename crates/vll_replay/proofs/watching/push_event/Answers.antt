@@ -1,4 +1,4 @@
-use Rattle.std.proofs.Common.{◌≡◌, ◌++◌, ◌∷◌, [], List, ap, subst}
+use Rattle.std.proofs.Common.{◌≡◌, ◌++◌, ◌∷◌, [], List, ap, subst, rules}
 use Rattle.std.proofs.lemmas.Result.{on_ok_weaker}
 use Rattle.vll_sca.specs.Placing.{placing}
 use Rattle.vll_core.specs.Machine.{state_after, step, told as answer_of}
@@ -17,3 +17,6 @@ returns-clause-observed g c =
     on_ok_weaker c.push_event_line.result
     (λ _. λ task past saw. after task past c.args.core.now.state (c.in_ok-before.ensures task past saw) c.step-told.ensures.answer (ap (λ x. x.state) c.step-told.ensures.state))
     c.push_event_line.ensures
+
+pub returns-clause-text : goal.returns-clause-text
+returns-clause-text g c = search rules

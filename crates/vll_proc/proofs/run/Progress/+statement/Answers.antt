@@ -1,5 +1,5 @@
 -- An `If` does what the list that it chooses does, and a `Repeat` what the turns of its list do.
-use Rattle.std.proofs.Common.{arith, map, sum_by, sym, ◌∙◌}
+use Rattle.std.proofs.Common.{rules, arith, map, sum_by, sym, ◌∙◌}
 use Rattle.std.proofs.lemmas.Grind.{common_steps}
 use Rattle.vll_record.specs.declared.claims.TheConstants.{MOST_CLAIMS}
 use Rattle.vll_proc.specs.declared.limits.TheConstants.{MOST_ARGS}
@@ -99,3 +99,9 @@ turns-loop-preserved t c =
     let size = product-left n i (sum_by replies list) c.loop-test.true in
     let more = c.in_ok-steps.ensures.outputs in
     (sym left ∙ c.loop.invariant.0, omega (arith, size, more, c.loop.invariant.1), λ n below. c.in_ok-steps.ensures.others n below ∙ c.loop.invariant.2 n below)
+
+pub step-returns-in-Abort-clause-effect : goal.step-returns-in-Abort-clause-effect
+step-returns-in-Abort-clause-effect t c = search rules
+
+pub step-returns-in_ok-value-in-Reply-clause-effect : goal.step-returns-in_ok-value-in-Reply-clause-effect
+step-returns-in_ok-value-in-Reply-clause-effect t c = search rules
