@@ -6,12 +6,12 @@ ghost use Rattle.vll_sca.specs.Placing.{placing};
 
 use crate::caller::{Caller, callers};
 use crate::fault::Fault;
-use crate::runs::count_of;
+use crate::runs::count_closed;
 use crate::timed::Timed;
 use std::alloc::Global;
 use std::sync::{Mutex, Wait};
 use std::thread::{Threads, map_indices};
-use std::time::{Clock, Instant};
+use std::time::{Clock, Duration, Instant};
 use vll_proc::Call;
 use vll_queue::{Engine, Name, Opening, Spent};
 use vll_sca::Placing;
@@ -30,24 +30,28 @@ pub(crate) fn time_calls<N: Name + Send + Sync, R: Threads + Wait + Clock + Sync
 {
     let (engine, clients) = opening.start_clients::<N>();
     let callers = Mutex::new(callers(alloc, clients, scripts)?);
+    let time = time_callers(rt, alloc, &engine, &callers, threads)?;
+    let count = count_closed(alloc, engine)?;
+    Ok(Timed { time, count })
+}
+
+// The time in which this many threads make the calls of all callers.
+fn time_callers<N: Name + Send + Sync, R: Threads + Wait + Clock + Sync>(
+    rt: &R,
+    alloc: Global,
+    engine: &Engine<N, Placing>,
+    callers: &Mutex<Vec<Caller<N>>>,
+    threads: usize,
+) -> Result<Duration, Fault>
+    requires { 0 < threads }
+{
     let start = Instant::now(rt)?;
-    let shares = map_indices(
-        rt,
-        alloc,
-        threads,
-        &|_| { make_share(rt, &engine, &callers) },
-    )?;
+    let shares = map_indices(rt, alloc, threads, &|_| { make_share(rt, engine, callers) })?;
     let time = start.elapsed(rt)?;
     for made in shares.iter() {
         (*made)?;
     }
-    match engine.close(Vec::new(alloc)) {
-        Ok(closed) => Ok(Timed {
-            time,
-            count: count_of(closed.journal.as_slice()),
-        }),
-        Err(_) => Err(Fault::Unfinished),
-    }
+    Ok(time)
 }
 
 // Makes the calls of one client after another, until none is left.

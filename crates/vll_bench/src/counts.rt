@@ -5,13 +5,13 @@ ghost use Rattle.vll_workers.specs.declared.running.TheConstants.{MOST_WORKERS};
 use crate::adding::Adding;
 use crate::fault::Fault;
 use crate::runs;
+use crate::setup::opened;
 use crate::timed::Count;
 use std::io::Read;
 use std::marker::Brand;
 use std::sync::Wait;
 use std::thread::Threads;
 use std::time::Clock;
-use vll_server::{Plain, opening_of, read_scenario};
 use vll_workers::{MOST_WORKERS, Tally};
 
 const WORKERS: [u32; 3] = [1, 2, 4];
@@ -38,8 +38,7 @@ fn count_run<R: Threads + Wait + Clock + AllocGlobal + Sync>(
 ) -> Result<(Count, Tally), Fault>
     requires { (1 ≤ workers) × (workers ≤ MOST_WORKERS) }
 {
-    let scenario = read_scenario(rt.alloc(), &mut Plain::new(bytes))?;
-    let (opening, scripts) = opening_of(rt.alloc(), scenario)?;
+    let (opening, scripts) = opened(rt.alloc(), bytes)?;
     let adding = Adding::new(rt);
     let timed = runs::time_of::<Brand, R, _>(rt, rt.alloc(), opening, scripts, workers, &adding)?;
     Ok((timed.count, adding.into_tally()))

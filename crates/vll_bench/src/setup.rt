@@ -1,10 +1,18 @@
-//! The machine and the engine on which bumps are timed.
+//! The machine and the engine on which bumps are timed, and those of a scenario that is given.
+ghost use Rattle.std.specs.Prelude.{◌≡◌, ◌≤◌, ◌<◌, ◌^◌, All, IfOk, length};
+ghost use Rattle.vll_check.specs.Calls.{Fits};
+ghost use Rattle.vll_queue.specs.Shown.{library_of, name_of};
+ghost use Rattle.vll_sca.specs.Placing.{placing};
+
 use crate::fault::Fault;
 use std::alloc::{AllocError, Global};
 use vll_core::Core;
+use vll_proc::Call;
 use vll_queue::Opening;
 use vll_sca::Placing;
-use vll_server::{Plain, Scenario, ScenarioFault, ScenarioParts, opening_of, read_scenario};
+use vll_server::{
+    MOST_CLIENTS, Plain, Scenario, ScenarioFault, ScenarioParts, opening_of, read_scenario,
+};
 
 // A scenario up to its list of records: its procedure adds 1 to the record that the argument names, and replies the
 // sum.
@@ -12,6 +20,27 @@ const BUMP: &str = r#"{"version":1,"cap":65536,
  "procs":[{"name":"bump","args":1,"keys":[["write","arg",0]],
    "body":[["set",0,["add",["key",0],1]],["reply",["key",0]]]}],
  "records":["#;
+
+/// Reads a scenario, and returns its parts: the library makes each call of each script.
+pub(crate) fn parts_of(alloc: Global, bytes: &[u8]) -> Result<ScenarioParts, ScenarioFault>
+    ensures { IfOk result (λ parts. All (λ script. All (Fits parts.library) script.items) parts.scripts.items) }
+{
+    Ok(read_scenario(alloc, &mut Plain::new(bytes))?.into_parts())
+}
+
+/// Reads a scenario and opens an engine over it, whose clients are those of its scripts.
+pub(crate) fn opened(
+    alloc: Global,
+    bytes: &[u8],
+) -> Result<(Opening<Placing>, Vec<Vec<Call>>), Fault>
+    ensures clients { IfOk result (λ made. made.0.clients ≡ length made.1.items) }
+    ensures few { IfOk result (λ made. length made.1.items ≤ MOST_CLIENTS) }
+    ensures short { IfOk result (λ made. All (λ script. length script.items < 2 ^ 32) made.1.items) }
+    ensures fits { IfOk result (λ made. All (λ script. All (Fits (library_of (name_of placing made.0))) script.items) made.1.items) }
+{
+    let scenario = read_scenario(alloc, &mut Plain::new(bytes))?;
+    Ok(opening_of(alloc, scenario)?)
+}
 
 /// Makes a machine over `records` records that hold 0, with one client whose script has `calls` calls, at least 1: the
 /// first bumps record 0, the next one record 1, and so on, and all that are left the last record.

@@ -1,16 +1,20 @@
 //! The ways of making the calls of a scenario, with the engine and without it.
+ghost use Rattle.std.specs.Prelude.{◌≤◌, ◌<◌};
+ghost use Rattle.vll_workers.specs.declared.running.TheConstants.{MOST_WORKERS};
+
 use crate::calls::time_calls;
 use crate::fault::Fault;
 use crate::locks::ByLocks;
 use crate::plain::{ByMutex, time_serial};
 use crate::runs;
+use crate::setup::{opened, parts_of};
 use crate::shares::time_shares;
 use crate::timed::Timed;
 use std::marker::Brand;
 use std::sync::Wait;
 use std::thread::Threads;
 use std::time::Clock;
-use vll_server::{Plain, ScenarioParts, opening_of, read_scenario};
+use vll_server::ScenarioParts;
 use vll_workers::{MOST_WORKERS, OpenGate};
 
 /// How the calls are made.
@@ -50,33 +54,73 @@ impl Way {
         bytes: &[u8],
         threads: u32,
     ) -> Result<Timed, Fault> {
-        let alloc = rt.alloc();
         let workers = threads.max(1).min(MOST_WORKERS);
-        let threads = workers as usize;
-        let scenario = read_scenario(alloc, &mut Plain::new(bytes))?;
-        if let Way::Engine = self {
-            let (opening, scripts) = opening_of(alloc, scenario)?;
-            return runs::time_of::<Brand, R, _>(rt, alloc, opening, scripts, workers, &OpenGate);
+        match self {
+            Way::Serial => time_serially(rt, bytes),
+            Way::Mutex => time_by_mutex(rt, bytes, workers as usize),
+            Way::Locks => time_by_locks(rt, bytes, workers as usize),
+            Way::Call => time_by_call(rt, bytes, workers as usize),
+            Way::Engine => time_by_workers(rt, bytes, workers),
         }
-        if let Way::Call = self {
-            let (opening, scripts) = opening_of(alloc, scenario)?;
-            return time_calls::<Brand, R>(rt, alloc, opening, scripts, threads);
-        }
-        let ScenarioParts {
-            mut records,
-            library,
-            scripts,
-            ..
-        } = scenario.into_parts();
-        let scripts = scripts.as_slice();
-        if let Way::Serial = self {
-            return time_serial(rt, &library, records.as_mut_slice(), scripts);
-        }
-        if let Way::Locks = self {
-            let maker = ByLocks::new(rt, alloc, &library, records.as_slice())?;
-            return time_shares(rt, alloc, &maker, scripts, threads);
-        }
-        let maker = ByMutex::new(rt, &library, records);
-        time_shares(rt, alloc, &maker, scripts, threads)
     }
+}
+
+fn time_serially(rt: &(impl Clock + AllocGlobal), bytes: &[u8]) -> Result<Timed, Fault> {
+    let mut parts = parts_of(rt.alloc(), bytes)?;
+    let scripts = parts.scripts.as_slice();
+    time_serial(rt, &parts.library, parts.records.as_mut_slice(), scripts)
+}
+
+fn time_by_mutex<R: Threads + Wait + Clock + AllocGlobal + Sync>(
+    rt: &R,
+    bytes: &[u8],
+    threads: usize,
+) -> Result<Timed, Fault>
+    requires { 0 < threads }
+{
+    let parts = parts_of(rt.alloc(), bytes)?;
+    let ScenarioParts {
+        records,
+        library,
+        scripts,
+        ..
+    } = parts;
+    let scripts = scripts.as_slice();
+    let maker = ByMutex::new(rt, &library, records);
+    time_shares(rt, rt.alloc(), &maker, scripts, threads)
+}
+
+fn time_by_locks<R: Threads + Wait + Clock + AllocGlobal + Sync>(
+    rt: &R,
+    bytes: &[u8],
+    threads: usize,
+) -> Result<Timed, Fault>
+    requires { 0 < threads }
+{
+    let parts = parts_of(rt.alloc(), bytes)?;
+    let scripts = parts.scripts.as_slice();
+    let maker = ByLocks::new(rt, rt.alloc(), &parts.library, parts.records.as_slice())?;
+    time_shares(rt, rt.alloc(), &maker, scripts, threads)
+}
+
+fn time_by_call<R: Threads + Wait + Clock + AllocGlobal + Sync>(
+    rt: &R,
+    bytes: &[u8],
+    threads: usize,
+) -> Result<Timed, Fault>
+    requires { 0 < threads }
+{
+    let (opening, scripts) = opened(rt.alloc(), bytes)?;
+    time_calls::<Brand, R>(rt, rt.alloc(), opening, scripts, threads)
+}
+
+fn time_by_workers<R: Threads + Wait + Clock + AllocGlobal + Sync>(
+    rt: &R,
+    bytes: &[u8],
+    workers: u32,
+) -> Result<Timed, Fault>
+    requires { (1 ≤ workers) × (workers ≤ MOST_WORKERS) }
+{
+    let (opening, scripts) = opened(rt.alloc(), bytes)?;
+    runs::time_of::<Brand, R, _>(rt, rt.alloc(), opening, scripts, workers, &OpenGate)
 }

@@ -3,7 +3,7 @@ use denote.Param.Send.{sendable}
 use Rattle.std.proofs.Crossing.{crosses}
 use Rattle.vll_queue.proofs.Crossing.{engine}
 use Rattle.vll_bench.proofs.caller.Caller.TheSendSync as caller
-use Rattle.vll_bench.proofs.calls.time_calls.Goals as goal
+use Rattle.vll_bench.proofs.calls.time_callers.Goals as goal
 
 pub map_indices-requires-sync-F : goal.map_indices-requires-sync-F
 map_indices-requires-sync-F g c κs within =
