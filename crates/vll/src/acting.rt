@@ -13,7 +13,7 @@ ghost use Rattle.vll_replay.specs.declared.fault.ReplayFault.TheVariants as repl
 ghost use Rattle.vll_server.specs.declared.fault.ServeFault.{ServeFault};
 ghost use Rattle.vll_server.specs.declared.fault.ServeFault.TheVariants as serve_fault;
 ghost use Rattle.vll_workers.specs.declared.fault.RunFault.TheVariants as run_fault;
-ghost use Rattle.vll_explain.specs.Told.{Explains};
+ghost use Rattle.vll_explain.specs.Explained.{Explains};
 ghost use Rattle.vll_scenario.specs.declared.writing.WriteFault.TheVariants as write_fault;
 ghost use Rattle.vll.specs.Private.Acting.{Does, Runs};
 ghost use Rattle.vll.specs.declared.fault.Fault.TheVariants as fault;
@@ -23,7 +23,7 @@ use crate::fault::Fault;
 use std::alloc::Global;
 use std::sync::Wait;
 use std::thread::Threads;
-use vll_draw::{Window, draw};
+use vll_draw::{EventRange, draw};
 use vll_explain::explain;
 use vll_server::{RunOptions, Sink, Source, read_scenario, replay, serve_as};
 use vll_workers::OpenGate;
@@ -137,7 +137,7 @@ fn draw_schedule<S: Source, W: Sink>(
     alloc: Global,
     reader: &mut S,
     writer: &mut W,
-    window: Window,
+    window: EventRange,
 ) -> Result<(), Fault>
     requires reader { S.failed reader.old ≡ false }
     requires writer { W.failed writer.old ≡ false }

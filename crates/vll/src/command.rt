@@ -8,7 +8,7 @@ use clap::error::ErrorKind;
 use clap::{Arg, ArgMatches, Command, Error, value_parser};
 use std::alloc::{AllocError, Global};
 use vll_core::MOST_WAITING;
-use vll_draw::{MOST_COLUMNS, Window};
+use vll_draw::{EventRange, MOST_COLUMNS};
 use vll_sca::MOST_BITS;
 use vll_server::{MOST_EVENTS, RunOptions, UpTo};
 use vll_workers::MOST_WORKERS;
@@ -25,7 +25,7 @@ pub(crate) enum Action {
     /// To explain why the scenario on standard input is refused, or to report what it has.
     Explain,
     /// To draw these events of the replay of the scenario on standard input.
-    Draw(Window),
+    Draw(EventRange),
 }
 
 // CHANGELOG.md lists what is new in it.
@@ -89,7 +89,7 @@ pub(crate) fn action_of(alloc: Global, words: &[String]) -> Result<Action, Fault
             Some(("run", options)) => Ok(Action::Run(options_of(options)?)),
             Some(("replay", _)) => Ok(Action::Replay),
             Some(("explain", _)) => Ok(Action::Explain),
-            Some(("draw", options)) => Ok(Action::Draw(window_of(options)?)),
+            Some(("draw", options)) => Ok(Action::Draw(range_of(options)?)),
             _ => Err(Fault::CommandLine),
         },
         Err(text) => match text.kind() {
@@ -177,13 +177,13 @@ fn options_of(matches: &ArgMatches<'_>) -> Result<RunOptions, Fault>
 }
 
 // The values of the options of `draw`.
-fn window_of(matches: &ArgMatches<'_>) -> Result<Window, Fault>
+fn range_of(matches: &ArgMatches<'_>) -> Result<EventRange, Fault>
     ensures from { IfOk result (λ w. Gives (one_text (found_of matches.now) (codes "from")) (Some w.from)) }
     ensures count { IfOk result (λ w. Gives (one_text (found_of matches.now) (codes "count")) (Some w.count)) }
 {
     let from = whole_of(matches, "from").ok_or(Fault::CommandLine)?;
     let count = number_of(matches, "count")?.ok_or(Fault::CommandLine)?;
-    Ok(Window { from, count })
+    Ok(EventRange { from, count })
 }
 
 // The number of an option that may be 0, if the option is given.

@@ -13,7 +13,7 @@ use std::sync::{Mutex, Wait};
 use std::thread::{Threads, map_indices};
 use std::time::{Clock, Duration, Instant};
 use vll_proc::Call;
-use vll_queue::{Engine, Name, Opening, Spent};
+use vll_queue::{Engine, EngineSpent, Name, Opening};
 use vll_sca::Placing;
 
 /// Times the calls made by `threads` threads in an engine of this name, with `Client::make`.
@@ -77,7 +77,7 @@ fn make_script<N: Name>(
 ) -> Result<(), Fault> {
     let Caller { mut client, script } = caller;
     for call in &script {
-        if let Err(Spent) = client.make(rt, engine, call) {
+        if let Err(EngineSpent) = client.make(rt, engine, call) {
             return Err(Fault::Refused);
         }
     }

@@ -12,7 +12,7 @@ use std::time::{CpuClock, Duration};
 use vll_check::{CallFault, Library};
 use vll_core::MOST_CALLS;
 use vll_proc::Call;
-use vll_queue::{Begun, Client, Engine, Name, Opening, Spent};
+use vll_queue::{Begun, Client, Engine, EngineSpent, Name, Opening};
 use vll_sca::Placing;
 
 // How many calls are made, one after the other.
@@ -99,7 +99,7 @@ fn whole<N: Name>(
 {
     match client.make(rt, engine, call) {
         Ok(_) => Ok(()),
-        Err(Spent) => Err(Fault::Refused),
+        Err(EngineSpent) => Err(Fault::Refused),
     }
 }
 

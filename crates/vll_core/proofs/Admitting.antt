@@ -19,14 +19,14 @@ use Rattle.vll_core.specs.declared.seen.Seen.{Seen}
 use Rattle.vll_core.specs.declared.seen.Seen.TheVariants.{Free, Blocked}
 use Rattle.vll_sca.specs.declared.status.Status.{Status}
 use Rattle.vll_sca.specs.declared.status.Status.TheVariants.{Running, Waiting}
-use Rattle.vll_core.specs.declared.work.Work.{Work}
+use Rattle.vll_core.specs.declared.execution.Execution.{Execution}
 use Rattle.vll_sca.specs.Status.{is_waiting, is_gone}
 use Rattle.vll_core.specs.State.{Opening, Entered, Turn, State}
 use Rattle.vll_core.specs.Machine.{Outcome, refuse_if, or_refuse, admit, step}
 use Rattle.vll_core.specs.Queue.{QueueEntry, admitted, entry, statuses}
 use Rattle.vll_core.specs.Shown.{Shown, library_of, opening_of}
 use Rattle.vll_core.specs.Private.View.{entered_of, entries_of, turn_of, shown}
-use Rattle.vll_core.specs.Private.Work.{IsAtWork}
+use Rattle.vll_core.specs.Private.Execution.{IsAtWork}
 use Rattle.vll_core.specs.Private.MachineKept.{IsMachine, made_of, AreAtWork, AreReplied}
 use Rattle.vll_core.proofs.Places.{all_at, at_push}
 use Rattle.vll_core.proofs.AtWork.{procedure_ready}
@@ -75,19 +75,19 @@ abbrev pub turn_entry : OpenTurn → QueueEntry
 turn_entry turn = entry turn.client turn.call turn.granted
 
 -- all claims of the open turn are requested, and the works of a machine have that of its call at their end, which has done nothing
-pub record HasWork {H : Type 0} (a : Inside H) (turn : OpenTurn) (works : Vec Work) (w : Work) : Type 0 where
+pub record HasWork {H : Type 0} (a : Inside H) (turn : OpenTurn) (works : Vec Execution) (w : Execution) : Type 0 where
   pub opened : a.turn ≡ Some turn
   pub asked : length turn.call.claims ≤ turn.requested
-  pub pushed : works.items ≡ a.work.items ++ w ∷ []
-  pub room : vec_capacity works ≡ vec_capacity a.work
+  pub pushed : works.items ≡ a.execution.items ++ w ∷ []
+  pub room : vec_capacity works ≡ vec_capacity a.execution
   pub loads : w.loads ≡ 0
   pub stores : w.stores ≡ 0
   pub releases : w.releases ≡ 0
   pub at_work : (records : List ℕ) → length records ≡ a.library.value.records → All (λ (d : Claim). d.id < length records) turn.call.claims → IsAtWork a.library.value.procs turn.call records w
 
 -- the fields of a machine once the call of its open turn has a ticket
-abbrev pub entered_turn : {H : Type 0} → Inside H → OpenTurn → Vec Work → Inside H
-entered_turn a turn works = record a { queue = admitted a.queue (turn_entry turn); work = works; turn = None }
+abbrev pub entered_turn : {H : Type 0} → Inside H → OpenTurn → Vec Execution → Inside H
+entered_turn a turn works = record a { queue = admitted a.queue (turn_entry turn); execution = works; turn = None }
 
 -- the call of an open turn is ready
 pub turn_ready : {H : Type 0} {places : H → ℕ → ℕ} (a : Inside H) (turn : OpenTurn) → IsMachine places a → a.turn ≡ Some turn → IsReady a.library.value turn.call
@@ -117,24 +117,24 @@ pub turn_room : {H : Type 0} {places : H → ℕ → ℕ} (a : Inside H) (turn :
 turn_room {H} {places} a turn core opened =
     let room = turn_has_room (opening_of places (shown a)) (shown a).state (turn_shown turn) core.reached (ap turn_of opened) in
     let left = room.0 in
-    omega (arith, left, length_shown a.queue.entries a.work.items core.works)
+    omega (arith, left, length_shown a.queue.entries a.execution.items core.works)
 
 -- and one more call may wait
 pub turn_idle : {H : Type 0} {places : H → ℕ → ℕ} (a : Inside H) (turn : OpenTurn) → IsMachine places a → a.turn ≡ Some turn → count_by is_waiting (statuses a.queue) < a.queue.cap
 turn_idle {H} {places} a turn core opened =
     let room = turn_has_room (opening_of places (shown a)) (shown a).state (turn_shown turn) core.reached (ap turn_of opened) in
     let few = room.1 in
-    omega (arith, few, waiting_shown a.queue.entries a.work.items core.works)
+    omega (arith, few, waiting_shown a.queue.entries a.execution.items core.works)
 
-pub taken_admit : {H : Type 0} {places : H → ℕ → ℕ} (a : Inside H) (turn : OpenTurn) (works : Vec Work) (w : Work) → IsMachine places a → HasWork a turn works w
+pub taken_admit : {H : Type 0} {places : H → ℕ → ℕ} (a : Inside H) (turn : OpenTurn) (works : Vec Execution) (w : Execution) → IsMachine places a → HasWork a turn works w
     → Takes places a (entered_turn a turn works) event.Admit (ticket_seen turn.granted (length a.queue.entries))
 taken_admit {H} {places} a turn works w core has =
     let s : State = (shown a).state in
-    let long : length s.entries ≡ length a.queue.entries = length_shown a.queue.entries a.work.items core.works in
+    let long : length s.entries ≡ length a.queue.entries = length_shown a.queue.entries a.execution.items core.works in
     let blank : entered_of (turn_entry turn) w ≡ entered_by (turn_shown turn) = rw (has.loads, has.stores, has.releases) refl in
     let entries : entries_of (a.queue.entries ++ turn_entry turn ∷ []) works.items ≡ s.entries ++ entered_by (turn_shown turn) ∷ [] =
-    ap (λ (ws : List Work). entries_of (a.queue.entries ++ turn_entry turn ∷ []) ws) has.pushed
-    ∙ (entry_pushed a.queue.entries a.work.items (turn_entry turn) w core.works ∙ ap (λ (e : Entered). s.entries ++ e ∷ []) blank) in
+    ap (λ (ws : List Execution). entries_of (a.queue.entries ++ turn_entry turn ∷ []) ws) has.pushed
+    ∙ (entry_pushed a.queue.entries a.execution.items (turn_entry turn) w core.works ∙ ap (λ (e : Entered). s.entries ++ e ∷ []) blank) in
     record {
       fixed = refl;
       is =
@@ -148,7 +148,7 @@ here_still : (free : Bool) → is_gone (if free then Running else Waiting) ≡ f
 here_still true = refl
 here_still false = refl
 
-pub core_admit : {H : Type 0} {places : H → ℕ → ℕ} (a : Inside H) (turn : OpenTurn) (works : Vec Work) (w : Work) → IsMachine places a → HasWork a turn works w → IsMachine places (entered_turn a turn works)
+pub core_admit : {H : Type 0} {places : H → ℕ → ℕ} (a : Inside H) (turn : OpenTurn) (works : Vec Execution) (w : Execution) → IsMachine places a → HasWork a turn works w → IsMachine places (entered_turn a turn works)
 core_admit {H} {places} a turn works w core has =
     let b : Inside H = entered_turn a turn works in
     let seen : Seen = ticket_seen turn.granted (length a.queue.entries) in
@@ -167,8 +167,8 @@ core_admit {H} {places} a turn works w core has =
       catalog = core.catalog;
       queue = queued_admitted a.queue last (turn_room a turn core has.opened) (turn_idle a turn core has.opened) refl (here_still turn.granted) core.queue;
       works =
-          ap (λ (ws : List Work). length ws) has.pushed
-          ∙ omega (arith, core.works, length-append a.work.items (w ∷ []), length-append a.queue.entries (last ∷ []));
+          ap (λ (ws : List Execution). length ws) has.pushed
+          ∙ omega (arith, core.works, length-append a.execution.items (w ∷ []), length-append a.queue.entries (last ∷ []));
       room = omega (arith, core.room, has.room);
       nexts = core.nexts;
       kepts = core.kepts;
@@ -177,10 +177,10 @@ core_admit {H} {places} a turn works w core has =
       scripts_fit = core.scripts_fit;
       at_work =
           subst (AreAtWork a.library.value a.opening.value.items b.queue.entries) (sym has.pushed)
-          (at_work_pushed a.library.value a.opening.value.items a.queue.entries a.work.items last w core.works (has.at_work now long within) core.at_work);
+          (at_work_pushed a.library.value a.opening.value.items a.queue.entries a.execution.items last w core.works (has.at_work now long within) core.at_work);
       replied =
           subst (AreReplied b.queue.entries) (sym has.pushed)
-          (replied_pushed a.queue.entries a.work.items last w core.works (here_still turn.granted) core.replied);
+          (replied_pushed a.queue.entries a.execution.items last w core.works (here_still turn.granted) core.replied);
     }
   where
     ready : (t : ℕ) (e : QueueEntry) → (slice_get a.queue.entries t ≡ Some e) ⊎ ((t ≡ length a.queue.entries) × (e ≡ turn_entry turn)) → IsReady a.library.value e.line.call

@@ -1,4 +1,4 @@
--- What a call's loads make of its work, and where its Write claims stand.
+-- What a call's loads make of its execution, and where its Write claims stand.
 use Rattle.std.proofs.Common.{◌≡◌, ℕ, suc, ◌+◌, ◌<◌, ◌≤◌, Bool, true, false, List, [], ◌∷◌, All, length, filter, drop, replicate, Option, Some, None, slice_get, slice_index, slice_set, refl, sym, ap, subst, ◌∙◌, arith, ⊎_elim, ◌==◌, ◌&&◌}
 use Rattle.std.specs.Option.{option_map_or}
 use Rattle.std.proofs.lemmas.Bool.{cases_eq, cond-true, cond-false, false≢true}
@@ -18,9 +18,9 @@ use Rattle.vll_proc.specs.WellFormed.{IsWellFormed}
 use Rattle.vll_check.specs.Calls.{IsReady, CallsProcedure}
 use Rattle.vll_check.specs.Catalog.{Catalog, IsCatalog}
 use Rattle.vll_check.proofs.Fitting.{ready_well}
-use Rattle.vll_core.specs.declared.work.Work.{Work}
+use Rattle.vll_core.specs.declared.execution.Execution.{Execution}
 use Rattle.vll_core.specs.State.{is_aborted}
-use Rattle.vll_core.specs.Private.Work.{HoldsFirst, IsLoading, IsAtWork}
+use Rattle.vll_core.specs.Private.Execution.{HoldsFirst, IsLoading, IsAtWork}
 use Rattle.vll_core.proofs.Tests.{eq_no}
 use Rattle.vll_core.proofs.Places.{all_at, drop_next, drop_none, entry_at}
 
@@ -32,7 +32,7 @@ procedure_ready c call p catalog ready at =
     (subst IsWellFormed same called.formed, subst (λ (q : Proc). IsCallOf c.records q call) same called.made)
 
 -- a call that has done nothing is loading
-pub loading_first : (claims : List Claim) (records : List ℕ) (w : Work) → w.loads ≡ 0 → w.frame ≡ replicate MOST_CLAIMS 0 → w.reply ≡ None → IsLoading claims records w
+pub loading_first : (claims : List Claim) (records : List ℕ) (w : Execution) → w.loads ≡ 0 → w.frame ≡ replicate MOST_CLAIMS 0 → w.reply ≡ None → IsLoading claims records w
 loading_first claims records w none blank silent = record {
   within = omega (arith, none);
   whole = rw blank refl;
@@ -41,11 +41,11 @@ loading_first claims records w none blank silent = record {
 }
 
 -- a call with a load left is loading
-pub loading_of : (procs : List Proc) (call : Call) (records : List ℕ) (w : Work) → IsAtWork procs call records w → w.loads < length call.claims → IsLoading call.claims records w
+pub loading_of : (procs : List Proc) (call : Call) (records : List ℕ) (w : Execution) → IsAtWork procs call records w → w.loads < length call.claims → IsLoading call.claims records w
 loading_of procs call records w at left = record { within = at.within; whole = at.whole; loaded = at.loaded left; pending = at.pending left }
 
 -- the next value goes to the place of its claim
-pub loading_next : (claims : List Claim) (records : List ℕ) (w next : Work) (value : ℕ) (c : Claim) → length claims ≤ MOST_CLAIMS → IsLoading claims records w → slice_get claims w.loads ≡ Some c → value ≡ slice_index records c.id
+pub loading_next : (claims : List Claim) (records : List ℕ) (w next : Execution) (value : ℕ) (c : Claim) → length claims ≤ MOST_CLAIMS → IsLoading claims records w → slice_get claims w.loads ≡ Some c → value ≡ slice_index records c.id
     → next.loads ≡ w.loads + 1 → next.frame ≡ slice_set w.frame w.loads value → next.reply ≡ w.reply → IsLoading claims records next
 loading_next claims records w next value c few loading here is more put silent =
     let low : w.loads < length claims = slice_get_within claims w.loads c here in
@@ -68,16 +68,16 @@ pub holds_all : (n : ℕ) (cells : List ℕ) (claims : List Claim) (records : Li
 holds_all n cells claims records all known first i c at =
     (all_at (λ (d : Claim). d.id < length records) claims i c known at, first i c (let low = slice_get_within claims i c at in omega (arith, low, all)) at)
 
--- the reply of a call's work is Aborted exactly where the call has aborted
-pub aborted_at_work : (procs : List Proc) (call : Call) (records : List ℕ) (w : Work) → IsAtWork procs call records w
+-- the reply of a call's execution is Aborted exactly where the call has aborted
+pub aborted_at_work : (procs : List Proc) (call : Call) (records : List ℕ) (w : Execution) → IsAtWork procs call records w
     → option_map_or is_aborted w.reply false ≡ ((w.loads == length call.claims) && is_aborted (apply procs call records).reply)
-aborted_at_work procs call records w work = by_loads (w.loads == length call.claims) refl
+aborted_at_work procs call records w execution = by_loads (w.loads == length call.claims) refl
   where
     by_loads : (all : Bool) → (w.loads == length call.claims) ≡ all → option_map_or is_aborted w.reply false ≡ (all && is_aborted (apply procs call records).reply)
-    by_loads true is = ap (λ reply. option_map_or is_aborted reply false) (work.ran (exact_unsigned_eq w.loads (length call.claims) is))
+    by_loads true is = ap (λ reply. option_map_or is_aborted reply false) (execution.ran (exact_unsigned_eq w.loads (length call.claims) is))
     by_loads false is =
         ap (λ reply. option_map_or is_aborted reply false)
-        (work.pending (let some = eq_no w.loads (length call.claims) is in let upto = work.within in omega (arith, some, upto)))
+        (execution.pending (let some = eq_no w.loads (length call.claims) is in let upto = execution.within in omega (arith, some, upto)))
 
 -- a claim that is Write is the first of the Write claims from it on
 record IsFirstWrite (cs : List Claim) (i : ℕ) : Type 0 where

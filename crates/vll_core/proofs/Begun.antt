@@ -47,7 +47,7 @@ none_alone Like other (Some n) like = absurd (other n like)
 -- a machine in which nothing is entered
 pub record IsFresh {H : Type 0} (config : Config) (hash : H) (c : Inside H) : Type 0 where
   pub queue : c.queue ≡ empty config hash
-  pub work : c.work.items ≡ []
+  pub execution : c.execution.items ≡ []
   pub turn : c.turn ≡ None
   pub nexts : c.next.items ≡ replicate (length c.scripts.items) 0
   pub kepts : c.kept.items ≡ replicate (length c.scripts.items) None
@@ -59,7 +59,7 @@ none_entered {H} config hash c fresh = ap (λ (q : Queued H). q.entries) fresh.q
 pub shown_begun : {H : Type 0} (config : Config) (hash : H) (c : Inside H) → IsFresh config hash c
     → shown c ≡ shown_of.begun c.library.value c.opening.value.items c.scripts.items config hash
 shown_begun {H} config hash c fresh =
-    let entries : entries_of c.queue.entries c.work.items ≡ [] = ap (λ es. entries_of es c.work.items) (none_entered config hash c fresh) in
+    let entries : entries_of c.queue.entries c.execution.items ≡ [] = ap (λ es. entries_of es c.execution.items) (none_entered config hash c fresh) in
     cc (
       entries,
       ap (λ (q : Queued H). q.cap) fresh.queue,
@@ -77,7 +77,7 @@ words_begun base scripts words are = record { long = are.long; turn = are.turn; 
 
 -- what the opening makes is a machine
 pub core_begun : {H : Type 0} {places : H → ℕ → ℕ} (config : Config) (hash : H) (c : Inside H) → IsFresh config hash c → AreFirstWords c.opening.value.items c.words.items → 1 ≤ length c.opening.value.items → length c.opening.value.items ≤ 65536
-    → c.library.value.records ≡ length c.opening.value.items → IsCatalog c.library.value → IsQueued c.queue → c.queue.limit ≤ vec_capacity c.work
+    → c.library.value.records ≡ length c.opening.value.items → IsCatalog c.library.value → IsQueued c.queue → c.queue.limit ≤ vec_capacity c.execution
     → All (λ (v : Vec Call). All (Fits c.library.value) v.items) c.scripts.items → IsMachine places c
 core_begun {H} {places} config hash c fresh words some few records catalog queue room fits = record {
   reached = subst (λ (s : Shown H). IsReached (opening_of places s) s.state) (sym (shown_begun config hash c fresh)) (begun _ proper);
@@ -87,7 +87,7 @@ core_begun {H} {places} config hash c fresh words some few records catalog queue
   records = records;
   catalog = catalog;
   queue = queue;
-  works = ap length fresh.work ∙ ap length (sym (none_entered config hash c fresh));
+  works = ap length fresh.execution ∙ ap length (sym (none_entered config hash c fresh));
   room = room;
   nexts = ap length fresh.nexts ∙ length-replicate (length c.scripts.items) 0;
   kepts = ap length fresh.kepts ∙ length-replicate (length c.scripts.items) None;

@@ -20,7 +20,7 @@ use Rattle.vll_core.specs.declared.refusal.Refusal.TheVariants.{NoTurn, OutOfSte
 use Rattle.vll_core.specs.declared.seen.Seen.{Seen}
 use Rattle.vll_core.specs.declared.seen.Seen.TheVariants.{Claimed}
 use Rattle.vll_core.specs.State.{Opening, State, Turn, open_claims, counter, value, delta_on}
-use Rattle.vll_core.specs.Machine.{step, told, request, or_refuse}
+use Rattle.vll_core.specs.Machine.{step, answer_of, request, or_refuse}
 use Rattle.vll_core.specs.Moves.{by_event, moved, IsReached}
 use Rattle.vll_core.specs.Shown.{AreWords, after, opening_of}
 use Rattle.vll_core.specs.Private.View.{shown, turn_of}
@@ -156,12 +156,12 @@ claimed_shown {H} {places} a turn c words granted found at is =
 -- what it answers
 pub claimed_told : {H : Type 0} {places : H → ℕ → ℕ} (a : Inside H) (turn : OpenTurn) (c : Claim) (old : ℕ) (granted : Bool)
     → Finds places a turn c → slice_get turn.call.claims turn.requested ≡ Some c → old ≡ counter (shown a).state c.id → granted ≡ not (conflict (open_claims (shown a).state) (c ∷ []))
-    → ◌≡◌ {A = Result Seen Refusal} (Ok (Claimed old granted)) (told (step (opening_of places (shown a)) (shown a).state event.Claim))
+    → ◌≡◌ {A = Result Seen Refusal} (Ok (Claimed old granted)) (answer_of (step (opening_of places (shown a)) (shown a).state event.Claim))
 claimed_told {H} {places} a turn c old granted found at was is =
     let s : State = (shown a).state in
     let t : Turn = record { client = turn.client; call = turn.call; requested = turn.requested; granted = turn.granted } in
     ap (λ (n : ℕ). Ok (Claimed n granted)) was ∙ ap (λ (g : Bool). Ok (Claimed (counter s c.id) g)) is
-    ∙ sym (ap told (claim_step (opening_of places (shown a)) s t c found.open_turn at))
+    ∙ sym (ap answer_of (claim_step (opening_of places (shown a)) s t c found.open_turn at))
 
 -- what the type of a machine keeps
 pub kept_claimed : {H : Type 0} {places : H → ℕ → ℕ} (a : Inside H) (turn : OpenTurn) (c : Claim) (words : Vec ℕ) (granted : Bool)

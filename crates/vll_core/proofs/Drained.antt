@@ -5,7 +5,7 @@ use Rattle.vll_core.specs.declared.event.Event.{Event}
 use Rattle.vll_core.specs.declared.refusal.Refusal.{Refusal}
 use Rattle.vll_core.specs.declared.seen.Seen.{Seen}
 use Rattle.vll_core.specs.State.{Opening, State}
-use Rattle.vll_core.specs.Machine.{Outcome, step, state_after, told, answers, run}
+use Rattle.vll_core.specs.Machine.{Outcome, step, state_after, answer_of, answers, run}
 use Rattle.vll_core.specs.Drain.{begins_or_scans, IsDrained}
 use Rattle.vll_core.specs.Private.Draining.{IsNext, left}
 use Rattle.vll_core.specs.Moves.{IsReached}
@@ -17,13 +17,13 @@ run_more : (o : Opening) (s : State) (events : List Event) (e : Event) → run o
 run_more o s [] e = refl
 run_more o s (d ∷ events) e = run_more o (state_after s (step o s d)) events e
 
-answers_more : (o : Opening) (s : State) (events : List Event) (e : Event) → answers o s (events ++ e ∷ []) ≡ answers o s events ++ told (step o (run o s events) e) ∷ []
+answers_more : (o : Opening) (s : State) (events : List Event) (e : Event) → answers o s (events ++ e ∷ []) ≡ answers o s events ++ answer_of (step o (run o s events) e) ∷ []
 answers_more o s [] e = refl
-answers_more o s (d ∷ events) e = ap (λ (xs : List (Result Seen Refusal)). told (step o s d) ∷ xs) (answers_more o (state_after s (step o s d)) events e)
+answers_more o s (d ∷ events) e = ap (λ (xs : List (Result Seen Refusal)). answer_of (step o s d) ∷ xs) (answers_more o (state_after s (step o s d)) events e)
 
-told_ok : (out : Outcome) → is_ok out ≡ true → is_ok (told out) ≡ true
-told_ok (Ok x) h = refl
-told_ok (Err why) h = absurd (cc h)
+answer_of_ok : (out : Outcome) → is_ok out ≡ true → is_ok (answer_of out) ≡ true
+answer_of_ok (Ok x) h = refl
+answer_of_ok (Err why) h = absurd (cc h)
 
 -- no event
 pub drained_none : (o : Opening) (s : State) → IsDrained o s s 0
@@ -33,7 +33,7 @@ drained_none o s = record { events = []; number = refl; others = All-nil _; take
 pub drained_more : (o : Opening) (s mid : State) (made : ℕ) (e : Event) → IsDrained o s mid made → IsNext o mid e → IsDrained o s (state_after mid (step o mid e)) (made + 1)
 drained_more o s mid made e so_far next =
     let here : run o s so_far.events ≡ mid = so_far.leads in
-    let ok : is_ok (told (step o (run o s so_far.events) e)) ≡ true = ap (λ (x : State). is_ok (told (step o x e))) here ∙ told_ok (step o mid e) next.taken in
+    let ok : is_ok (answer_of (step o (run o s so_far.events) e)) ≡ true = ap (λ (x : State). is_ok (answer_of (step o x e))) here ∙ answer_of_ok (step o mid e) next.taken in
     record {
       events = so_far.events ++ e ∷ [];
       number = omega (arith, length-append so_far.events (e ∷ []), so_far.number);

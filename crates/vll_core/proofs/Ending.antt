@@ -21,7 +21,7 @@ use Rattle.vll_core.specs.declared.event.Event.TheVariants as event
 use Rattle.vll_core.specs.declared.refusal.Refusal.{Refusal}
 use Rattle.vll_core.specs.declared.machine.OpenTurn.{OpenTurn}
 use Rattle.vll_core.specs.declared.machine.Machine.TheInside.{Inside}
-use Rattle.vll_core.specs.declared.work.Work.{Work}
+use Rattle.vll_core.specs.declared.execution.Execution.{Execution}
 use Rattle.vll_core.specs.State.{Opening, Entered, State, Turn}
 use Rattle.vll_core.specs.Machine.{Outcome, refuse_if, or_refuse, has_stored, running, if_running, front, admit}
 use Rattle.vll_core.specs.Drain.{IsAtEnd, most_of}
@@ -85,7 +85,7 @@ turn_goes o s turn is = by_test (nat_lt turn.requested (length turn.call.claims)
 
 -- ---- a call that runs
 
-module _ {H : Type 0} (places : H → ℕ → ℕ) (a : Inside H) (t : ℕ) (call : Call) (w : Work) (r : Runs a t call w) where
+module _ {H : Type 0} (places : H → ℕ → ℕ) (a : Inside H) (t : ℕ) (call : Call) (w : Execution) (r : Runs a t call w) where
   -- the entry that runs
   abbrev entry : Entered
   entry = entered_as r.client call r.status w
@@ -95,7 +95,7 @@ module _ {H : Type 0} (places : H → ℕ → ℕ) (a : Inside H) (t : ℕ) (cal
 
   pub load_next : (w.loads == length call.claims) ≡ false → IsNext (opening_of places (shown a)) now (event.Load t)
   load_next more =
-      let c = entry_at call.claims w.loads (below w.loads (length call.claims) r.work.within more) in
+      let c = entry_at call.claims w.loads (below w.loads (length call.claims) r.execution.within more) in
       record { other = refl; taken = goes_with (running now t) entry _ _ r.found (goes_with (slice_get call.claims w.loads) c.0 _ _ c.1 refl) }
 
   pub store_next : (w.loads == length call.claims) ≡ true → has_stored (shown a).base now t entry ≡ false → IsNext (opening_of places (shown a)) now (event.Store t)
@@ -160,15 +160,15 @@ lowest_is ss t some = by_test (nat_lt (position_or_len is_left ss) (length ss)) 
         }
 
 -- each entry that is shown has its status in the queue
-status_shown : {H : Type 0} (a : Inside H) (t : ℕ) → length a.work.items ≡ length a.queue.entries
+status_shown : {H : Type 0} (a : Inside H) (t : ℕ) → length a.execution.items ≡ length a.queue.entries
     → option_map (λ (e : Entered). e.status) (slice_get (shown a).state.entries t) ≡ slice_get (statuses a.queue) t
 status_shown a t works =
     sym (slice_get-map (λ (e : Entered). e.status) (shown a).state.entries t)
-    ∙ ap (λ (ss : List Status). slice_get ss t) (statuses_shown a.queue.entries a.work.items works)
+    ∙ ap (λ (ss : List Status). slice_get ss t) (statuses_shown a.queue.entries a.execution.items works)
 
 -- the front is the queue's
-front_of : {H : Type 0} (a : Inside H) → length a.work.items ≡ length a.queue.entries → front (shown a).state ≡ front_among (statuses a.queue)
-front_of a works = machine_front (shown a).state ∙ ap front_among (statuses_shown a.queue.entries a.work.items works)
+front_of : {H : Type 0} (a : Inside H) → length a.execution.items ≡ length a.queue.entries → front (shown a).state ≡ front_among (statuses a.queue)
+front_of a works = machine_front (shown a).state ∙ ap front_among (statuses_shown a.queue.entries a.execution.items works)
 
 -- where it does not run, it waits, and Front starts it
 pub front_next : {H : Type 0} (places : H → ℕ → ℕ) (a : Inside H) (t : ℕ) → IsMachine places a → is_some (shown a).state.turn ≡ false → position is_left (statuses a.queue) ≡ Some t
@@ -218,7 +218,7 @@ few_left {H} places a core =
     each : All (λ (e : Entered). steps_left e ≤ 3 * MOST_CLAIMS + 2) (shown a).state.entries
     each k d lt =
         let at = slice_get-get_or (shown a).state.entries k d lt in
-        let there = shown_at a.queue.entries a.work.items k _ at in
+        let there = shown_at a.queue.entries a.execution.items k _ at in
         let ready = all_at (λ (x : QueueEntry). IsReady a.library.value x.line.call) a.queue.entries k there.entry core.entries_ready there.at in
         few_steps (get_or (shown a).state.entries k d)
         (subst (λ (x : Entered). length x.call.claims ≤ MOST_CLAIMS) (sym there.is) (few_claims a.library.value there.entry.line.call core.catalog ready))

@@ -157,27 +157,27 @@ is_spent n limit true spent full = full refl
 is_spent n limit false spent full = absurd (cc spent)
 
 -- a count of the queue is that of the state that the machine shows
-pub count_told : {H : Type 0} (p : Status → Bool) (a : Inside H) (s : Shown H) (n : ℕ) → length a.work.items ≡ length a.queue.entries → shown a ≡ s
+pub count_told : {H : Type 0} (p : Status → Bool) (a : Inside H) (s : Shown H) (n : ℕ) → length a.execution.items ≡ length a.queue.entries → shown a ≡ s
     → n ≡ count_by p (statuses a.queue) → n ≡ count_by (λ (e : Entered). p e.status) s.state.entries
 count_told {H} p a s n works view is =
-    is ∙ (sym (counted_shown p a.queue.entries a.work.items works) ∙ ap (λ (x : Shown H). count_by (λ (e : Entered). p e.status) x.state.entries) view)
+    is ∙ (sym (counted_shown p a.queue.entries a.execution.items works) ∙ ap (λ (x : Shown H). count_by (λ (e : Entered). p e.status) x.state.entries) view)
 
 -- what a machine shows of the room in its queue
 pub full_shown : {H : Type 0} {places : H → ℕ → ℕ} (a : Inside H) (s : Shown H) → IsMachine places a → shown a ≡ s → length a.queue.entries ≡ a.queue.limit → s.limit ≤ length s.state.entries
 full_shown {H} a s core view full =
-    subst (λ (x : Shown H). x.limit ≤ length x.state.entries) view (omega (arith, length_shown a.queue.entries a.work.items core.works, full))
+    subst (λ (x : Shown H). x.limit ≤ length x.state.entries) view (omega (arith, length_shown a.queue.entries a.execution.items core.works, full))
 
 pub left_shown : {H : Type 0} {places : H → ℕ → ℕ} (a : Inside H) (s : Shown H) → IsMachine places a → shown a ≡ s → length a.queue.entries < a.queue.limit → length s.state.entries < s.limit
 left_shown {H} a s core view left =
-    subst (λ (x : Shown H). length x.state.entries < x.limit) view (omega (arith, length_shown a.queue.entries a.work.items core.works, left))
+    subst (λ (x : Shown H). length x.state.entries < x.limit) view (omega (arith, length_shown a.queue.entries a.execution.items core.works, left))
 
 pub many_shown : {H : Type 0} {places : H → ℕ → ℕ} (a : Inside H) (s : Shown H) → IsMachine places a → shown a ≡ s → count_by is_waiting (statuses a.queue) ≡ a.queue.cap → s.cap ≤ waiting s.state
 many_shown {H} a s core view many =
-    subst (λ (x : Shown H). x.cap ≤ waiting x.state) view (omega (arith, waiting_shown a.queue.entries a.work.items core.works, many))
+    subst (λ (x : Shown H). x.cap ≤ waiting x.state) view (omega (arith, waiting_shown a.queue.entries a.execution.items core.works, many))
 
 pub few_shown : {H : Type 0} {places : H → ℕ → ℕ} (a : Inside H) (s : Shown H) → IsMachine places a → shown a ≡ s → count_by is_waiting (statuses a.queue) < a.queue.cap → waiting s.state < s.cap
 few_shown {H} a s core view few =
-    subst (λ (x : Shown H). waiting x.state < x.cap) view (omega (arith, waiting_shown a.queue.entries a.work.items core.works, few))
+    subst (λ (x : Shown H). waiting x.state < x.cap) view (omega (arith, waiting_shown a.queue.entries a.execution.items core.works, few))
 
 -- the next call of a client's script, by the script and the place in it
 pub next_at : {H : Type 0} (a : Inside H) (client n : ℕ) (v : Vec Call) → slice_get a.scripts.items client ≡ Some v → slice_get a.next.items client ≡ Some n

@@ -14,7 +14,7 @@ use Rattle.vll_core.specs.declared.refusal.Refusal.TheVariants.{TurnOpen, NotRun
 use Rattle.vll_core.specs.declared.seen.Seen.TheVariants.{Replied}
 use Rattle.vll_sca.specs.declared.status.Status.{Status}
 use Rattle.vll_sca.specs.declared.status.Status.TheVariants.{Running, Waiting, Gone}
-use Rattle.vll_core.specs.declared.work.Work.{Work}
+use Rattle.vll_core.specs.declared.execution.Execution.{Execution}
 use Rattle.vll_sca.specs.Status.{is_running}
 use Rattle.vll_core.specs.State.{Entered, Opening, State, reply_at}
 use Rattle.vll_core.specs.Machine.{Outcome, step, refuse_if, or_refuse, running, has_stored, with_entry}
@@ -53,42 +53,42 @@ item_within xs n =
     (λ p. let past : nat_lt n (length xs) ≡ false = grind (arith, nat_tests, p.0) in ap (λ (o : Option _). is_some o) p.1 ∙ sym past)
     (slice_get_cases xs n).1
 
-releases_left : {H : Type 0} (a : Inside H) (t : ℕ) (call : Call) (r : RunsAt a t call) (w : Work) (o : Option Claim) (b : Bool) → w ≡ r.work → o ≡ slice_get call.claims w.releases → b ≡ is_some o
-    → nat_lt (entered_of r.entry r.work).releases (length (entered_of r.entry r.work).call.claims) ≡ b
+releases_left : {H : Type 0} (a : Inside H) (t : ℕ) (call : Call) (r : RunsAt a t call) (w : Execution) (o : Option Claim) (b : Bool) → w ≡ r.execution → o ≡ slice_get call.claims w.releases → b ≡ is_some o
+    → nat_lt (entered_of r.entry r.execution).releases (length (entered_of r.entry r.execution).call.claims) ≡ b
 releases_left a t call r w o b is next told =
-    ap (λ (x : Call). nat_lt r.work.releases (length x.claims)) r.own
-    ∙ (ap (λ (x : Work). nat_lt x.releases (length call.claims)) (sym is)
+    ap (λ (x : Call). nat_lt r.execution.releases (length x.claims)) r.own
+    ∙ (ap (λ (x : Execution). nat_lt x.releases (length call.claims)) (sym is)
     ∙ (sym (item_within call.claims w.releases) ∙ (ap (λ (x : Option Claim). is_some x) (sym next) ∙ sym told)))
 
 -- a call with stores left, or with claims left, does not end
-pub refused_stores : {H : Type 0} {places : H → ℕ → ℕ} (a : Inside H) (t : ℕ) (call : Call) (r : RunsAt a t call) (w : Work) → IsMachine places a → is_some (shown a).state.turn ≡ false → w ≡ r.work
+pub refused_stores : {H : Type 0} {places : H → ℕ → ℕ} (a : Inside H) (t : ℕ) (call : Call) (r : RunsAt a t call) (w : Execution) → IsMachine places a → is_some (shown a).state.turn ≡ false → w ≡ r.execution
     → stored_by_work call (apply a.library.value.procs call (now_at a t)) w ≡ false → Refuses places a (event.Finish t) OutOfStep
 refused_stores {H} {places} a t call r w core closed is left = record {
   is =
-      finish_by (opening_of places (shown a)) (shown a).state t (entered_of r.entry r.work) true closed r.is
-      (ap (λ (b : Bool). not b || nat_lt (entered_of r.entry r.work).releases (length (entered_of r.entry r.work).call.claims)) (stored_shown a t call r w core.works is ∙ left));
+      finish_by (opening_of places (shown a)) (shown a).state t (entered_of r.entry r.execution) true closed r.is
+      (ap (λ (b : Bool). not b || nat_lt (entered_of r.entry r.execution).releases (length (entered_of r.entry r.execution).call.claims)) (stored_shown a t call r w core.works is ∙ left));
 }
 
-pub refused_releases : {H : Type 0} {places : H → ℕ → ℕ} (a : Inside H) (t : ℕ) (call : Call) (r : RunsAt a t call) (w : Work) (o : Option Claim) (b : Bool) → is_some (shown a).state.turn ≡ false → w ≡ r.work
+pub refused_releases : {H : Type 0} {places : H → ℕ → ℕ} (a : Inside H) (t : ℕ) (call : Call) (r : RunsAt a t call) (w : Execution) (o : Option Claim) (b : Bool) → is_some (shown a).state.turn ≡ false → w ≡ r.execution
     → o ≡ slice_get call.claims w.releases → b ≡ is_some o → b ≡ true → Refuses places a (event.Finish t) OutOfStep
 refused_releases {H} {places} a t call r w o b closed is next told left = record {
   is =
-      finish_by (opening_of places (shown a)) (shown a).state t (entered_of r.entry r.work) true closed r.is
+      finish_by (opening_of places (shown a)) (shown a).state t (entered_of r.entry r.execution) true closed r.is
       (or_right _ _ (releases_left a t call r w o b is next told ∙ left));
 }
 
 -- a running call that has nothing left to do
-pub record Ends {H : Type 0} (a : Inside H) (t : ℕ) (call : Call) (w : Work) : Type 0 where
+pub record Ends {H : Type 0} (a : Inside H) (t : ℕ) (call : Call) (w : Execution) : Type 0 where
   pub runs : RunsAt a t call
-  pub work : w ≡ runs.work
+  pub execution : w ≡ runs.execution
   pub closed : is_some (shown a).state.turn ≡ false
   pub stored : stored_by_work call (apply a.library.value.procs call (now_at a t)) w ≡ true
-  pub released : nat_lt (entered_of runs.entry runs.work).releases (length (entered_of runs.entry runs.work).call.claims) ≡ false
+  pub released : nat_lt (entered_of runs.entry runs.execution).releases (length (entered_of runs.entry runs.execution).call.claims) ≡ false
 
-pub ends_of : {H : Type 0} (a : Inside H) (t : ℕ) (call : Call) (r : RunsAt a t call) (w : Work) (o : Option Claim) (b : Bool) → is_some (shown a).state.turn ≡ false → w ≡ r.work
+pub ends_of : {H : Type 0} (a : Inside H) (t : ℕ) (call : Call) (r : RunsAt a t call) (w : Execution) (o : Option Claim) (b : Bool) → is_some (shown a).state.turn ≡ false → w ≡ r.execution
     → stored_by_work call (apply a.library.value.procs call (now_at a t)) w ≡ true → o ≡ slice_get call.claims w.releases → b ≡ is_some o → b ≡ false → Ends a t call w
 ends_of a t call r w o b closed is stored next told none =
-    record { runs = r; work = is; closed = closed; stored = stored; released = releases_left a t call r w o b is next told ∙ none }
+    record { runs = r; execution = is; closed = closed; stored = stored; released = releases_left a t call r w o b is next told ∙ none }
 
 -- its status
 pub status_runs : {H : Type 0} (a : Inside H) (t : ℕ) (call : Call) → RunsAt a t call → slice_get (statuses a.queue) t ≡ Some Running
@@ -101,12 +101,12 @@ status_runs a t call r =
     only Waiting runs = absurd (cc runs)
     only Gone runs = absurd (cc runs)
 
--- its work has the reply, and that is what the machine answers
-pub reply_there : {H : Type 0} (a : Inside H) (t : ℕ) (call : Call) (w : Work) → Ends a t call w → w.reply ≡ Some (apply a.library.value.procs call (now_at a t)).reply
-reply_there a t call w e = replies a t call e.runs w e.work e.stored
+-- its execution has the reply, and that is what the machine answers
+pub reply_there : {H : Type 0} (a : Inside H) (t : ℕ) (call : Call) (w : Execution) → Ends a t call w → w.reply ≡ Some (apply a.library.value.procs call (now_at a t)).reply
+reply_there a t call w e = replies a t call e.runs w e.execution e.stored
 
 reply_shown : {H : Type 0} {places : H → ℕ → ℕ} (a : Inside H) (t : ℕ) (call : Call) (r : RunsAt a t call) → IsMachine places a
-    → reply_at (shown a).base (shown a).state t (entered_of r.entry r.work) ≡ (apply a.library.value.procs call (now_at a t)).reply
+    → reply_at (shown a).base (shown a).state t (entered_of r.entry r.execution) ≡ (apply a.library.value.procs call (now_at a t)).reply
 reply_shown a t call r core =
     ap (λ (records : List ℕ). (apply a.library.value.procs r.entry.line.call records).reply) (now_shown a t core.works)
     ∙ ap (λ (x : Call). (apply a.library.value.procs x (now_at a t)).reply) r.own
@@ -118,25 +118,25 @@ with_queue a q = record a { queue = q }
 abbrev pub without : {H : Type 0} → Inside H → ℕ → Reply → Inside H
 without a t reply = with_queue a (finished a.queue t reply)
 
-pub taken_finish : {H : Type 0} {places : H → ℕ → ℕ} (a : Inside H) (t : ℕ) (call : Call) (w : Work) (reply : Reply) → IsMachine places a → Ends a t call w → w.reply ≡ Some reply
+pub taken_finish : {H : Type 0} {places : H → ℕ → ℕ} (a : Inside H) (t : ℕ) (call : Call) (w : Execution) (reply : Reply) → IsMachine places a → Ends a t call w → w.reply ≡ Some reply
     → Takes places a (without a t reply) (event.Finish t) (Replied reply)
 taken_finish {H} {places} a t call w reply core e is =
     let r : RunsAt a t call = e.runs in
     let s : State = (shown a).state in
-    let answer : reply_at (shown a).base s t (entered_of r.entry r.work) ≡ reply = reply_shown a t call r core ∙ same_Some _ reply (sym (reply_there a t call w e) ∙ is) in
-    let test : cannot_end (opening_of places (shown a)) s t (entered_of r.entry r.work) ≡ false =
-    ap (λ (b : Bool). not b || nat_lt (entered_of r.entry r.work).releases (length (entered_of r.entry r.work).call.claims)) (stored_shown a t call r w core.works e.work ∙ e.stored)
+    let answer : reply_at (shown a).base s t (entered_of r.entry r.execution) ≡ reply = reply_shown a t call r core ∙ same_Some _ reply (sym (reply_there a t call w e) ∙ is) in
+    let test : cannot_end (opening_of places (shown a)) s t (entered_of r.entry r.execution) ≡ false =
+    ap (λ (b : Bool). not b || nat_lt (entered_of r.entry r.execution).releases (length (entered_of r.entry r.execution).call.claims)) (stored_shown a t call r w core.works e.execution ∙ e.stored)
     ∙ e.released in
     record {
       fixed = refl;
       is =
-          finish_by (opening_of places (shown a)) s t (entered_of r.entry r.work) false e.closed r.is test
-          ∙ (ap (λ (x : Reply). let out : Outcome = Ok (Replied x, with_entry s t (record (entered_of r.entry r.work) { status = Gone })) in out) answer
+          finish_by (opening_of places (shown a)) s t (entered_of r.entry r.execution) false e.closed r.is test
+          ∙ (ap (λ (x : Reply). let out : Outcome = Ok (Replied x, with_entry s t (record (entered_of r.entry r.execution) { status = Gone })) in out) answer
           ∙ ap (λ (es : List Entered). let out : Outcome = Ok (Replied reply, record s { entries = es }) in out)
-          (sym (entry_changed a.queue.entries a.work.items t r.entry r.work (λ (d : QueueEntry). record { line = record d.line { reply = Some reply }; status = Gone }) r.at r.has)));
+          (sym (entry_changed a.queue.entries a.execution.items t r.entry r.execution (λ (d : QueueEntry). record { line = record d.line { reply = Some reply }; status = Gone }) r.at r.has)));
     }
 
-pub core_finish : {H : Type 0} {places : H → ℕ → ℕ} (a : Inside H) (t : ℕ) (call : Call) (w : Work) (reply : Reply) → IsMachine places a → Ends a t call w → w.reply ≡ Some reply → IsMachine places (without a t reply)
+pub core_finish : {H : Type 0} {places : H → ℕ → ℕ} (a : Inside H) (t : ℕ) (call : Call) (w : Execution) (reply : Reply) → IsMachine places a → Ends a t call w → w.reply ≡ Some reply → IsMachine places (without a t reply)
 core_finish {H} {places} a t call w reply core e is =
     let b : Inside H = without a t reply in
     let r : RunsAt a t call = e.runs in
@@ -158,8 +158,8 @@ core_finish {H} {places} a t call w reply core e is =
       entries_ready = ready_same a.library.value a.queue.entries _ (sym made) core.entries_ready;
       turn_ready = core.turn_ready;
       scripts_fit = core.scripts_fit;
-      at_work = at_work_same a.library.value a.opening.value.items a.queue.entries _ a.work.items (sym made) core.at_work;
+      at_work = at_work_same a.library.value a.opening.value.items a.queue.entries _ a.execution.items (sym made) core.at_work;
       replied =
-          replied_changed a.queue.entries a.work.items t change
-          (λ d v at has gone. sym is ∙ ap (λ (x : Work). x.reply) (e.work ∙ same_Some r.work v (sym r.has ∙ has))) core.replied;
+          replied_changed a.queue.entries a.execution.items t change
+          (λ d v at has gone. sym is ∙ ap (λ (x : Execution). x.reply) (e.execution ∙ same_Some r.execution v (sym r.has ∙ has))) core.replied;
     }

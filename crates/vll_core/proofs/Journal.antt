@@ -9,7 +9,7 @@ use Rattle.vll_proc.specs.Serial.{Made, apply, before}
 use Rattle.vll_core.specs.declared.line.Line.{Line}
 use Rattle.vll_core.specs.declared.machine.Machine.TheInside.{Inside}
 use Rattle.vll_sca.specs.declared.status.Status.{Status}
-use Rattle.vll_core.specs.declared.work.Work.{Work}
+use Rattle.vll_core.specs.declared.execution.Execution.{Execution}
 use Rattle.vll_sca.specs.Status.{is_gone}
 use Rattle.vll_core.specs.State.{Base, Entered, reply_at}
 use Rattle.vll_core.specs.Queue.{QueueEntry, lines, statuses, has_reply}
@@ -25,8 +25,8 @@ use Rattle.vll_core.proofs.MachineState.{statuses_shown, entry_shown, made_shown
 -- the status of a ticket's call
 pub status_shown : {H : Type 0} {places : H → ℕ → ℕ} (c : Inside H) (s : Shown H) (t : ℕ) → IsMachine places c → shown c ≡ s → slice_get (statuses c.queue) t ≡ option_map (λ (e : Entered). e.status) (slice_get s.state.entries t)
 status_shown {H} c s t core is =
-    ap (λ (ss : List Status). slice_get ss t) (sym (statuses_shown c.queue.entries c.work.items core.works))
-    ∙ slice_get-map (λ (e : Entered). e.status) (entries_of c.queue.entries c.work.items) t
+    ap (λ (ss : List Status). slice_get ss t) (sym (statuses_shown c.queue.entries c.execution.items core.works))
+    ∙ slice_get-map (λ (e : Entered). e.status) (entries_of c.queue.entries c.execution.items) t
     ∙ ap (λ (x : Shown H). option_map (λ (e : Entered). e.status) (slice_get x.state.entries t)) is
 
 -- all loads of a call that is gone are made
@@ -55,7 +55,7 @@ no_reply None none = refl
 no_reply (Some a) none = absurd (cc none)
 
 -- the reply on a line is that of the plain machine
-reply_shown : {H : Type 0} {places : H → ℕ → ℕ} (c : Inside H) (t : ℕ) (e : QueueEntry) (w : Work) → IsMachine places c → slice_get c.queue.entries t ≡ Some e → slice_get c.work.items t ≡ Some w
+reply_shown : {H : Type 0} {places : H → ℕ → ℕ} (c : Inside H) (t : ℕ) (e : QueueEntry) (w : Execution) → IsMachine places c → slice_get c.queue.entries t ≡ Some e → slice_get c.execution.items t ≡ Some w
     → e.line.reply ≡ reply_of (shown c).base (shown c).state t (entered_of e w)
 reply_shown {H} {places} c t e w core at has = by_status (is_gone e.status) refl
   where
@@ -64,15 +64,15 @@ reply_shown {H} {places} c t e w core at has = by_status (is_gone e.status) refl
 
     by_status : (gone : Bool) → is_gone e.status ≡ gone → e.line.reply ≡ (if gone then Some (reply_at (shown c).base (shown c).state t (entered_of e w)) else None)
     by_status true gone =
-        let kept = (kept_reached (opening_of places (shown c)) (shown c).state core.reached).entries t (entered_of e w) (entry_shown c.queue.entries c.work.items t e w at has) in
+        let kept = (kept_reached (opening_of places (shown c)) (shown c).state core.reached).entries t (entered_of e w) (entry_shown c.queue.entries c.execution.items t e w at has) in
         let loads = gone_loads (shown c).base _ (entered_of e w) kept gone in
         core.replied t e w at has gone ∙ (core.at_work t e w at has).ran loads
-        ∙ ap (λ (made : List Made). Some (apply c.library.value.procs e.line.call (before c.library.value.procs made c.opening.value.items t)).reply) (sym (made_shown c.queue.entries c.work.items core.works))
+        ∙ ap (λ (made : List Made). Some (apply c.library.value.procs e.line.call (before c.library.value.procs made c.opening.value.items t)).reply) (sym (made_shown c.queue.entries c.execution.items core.works))
     by_status false left = no_reply e.line.reply (has_reply_at c.queue.entries t e core.queue.answered at ∙ left)
 
 -- lines, each determined by its ticket and entry
-lines_are : (f : ℕ × Entered → Line) (n : ℕ) (es : List QueueEntry) (ws : List Work) → length ws ≡ length es
-    → ((t : ℕ) (e : QueueEntry) (w : Work) → slice_get es t ≡ Some e → slice_get ws t ≡ Some w → e.line ≡ f (n + t, entered_of e w))
+lines_are : (f : ℕ × Entered → Line) (n : ℕ) (es : List QueueEntry) (ws : List Execution) → length ws ≡ length es
+    → ((t : ℕ) (e : QueueEntry) (w : Execution) → slice_get es t ≡ Some e → slice_get ws t ≡ Some w → e.line ≡ f (n + t, entered_of e w))
     → map (λ (e : QueueEntry). e.line) es ≡ map f (enumerate_from n (entries_of es ws))
 lines_are f n [] ws same are = refl
 lines_are f n (e ∷ es) [] same are = absurd (omega (arith, same))
@@ -91,6 +91,6 @@ with_reply l r = record l { reply = r }
 -- the journal
 pub lines_shown : {H : Type 0} {places : H → ℕ → ℕ} (c : Inside H) (s : Shown H) → IsMachine places c → shown c ≡ s → lines c.queue ≡ journal_of s.base s.state
 lines_shown {H} c s core is =
-    lines_are (line_of (shown c).base (shown c).state) 0 c.queue.entries c.work.items core.works
+    lines_are (line_of (shown c).base (shown c).state) 0 c.queue.entries c.execution.items core.works
     (λ t e w at has. ap (with_reply e.line) (reply_shown c t e w core at has) ∙ ap (λ m. line_of (shown c).base (shown c).state (m, entered_of e w)) (sym (zero-add t)))
     ∙ ap (λ (x : Shown H). journal_of x.base x.state) is

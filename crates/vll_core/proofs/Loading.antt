@@ -10,7 +10,7 @@ use Rattle.vll_core.specs.declared.event.Event.TheVariants as event
 use Rattle.vll_core.specs.declared.machine.Machine.TheInside.{Inside}
 use Rattle.vll_core.specs.declared.refusal.Refusal.TheVariants.{NotRunning, OutOfStep}
 use Rattle.vll_core.specs.declared.seen.Seen.TheVariants.{Loaded}
-use Rattle.vll_core.specs.declared.work.Work.{Work}
+use Rattle.vll_core.specs.declared.execution.Execution.{Execution}
 use Rattle.vll_sca.specs.Status.{is_gone, is_running}
 use Rattle.vll_sca.specs.declared.status.Status.{Status}
 use Rattle.vll_sca.specs.declared.status.Status.TheVariants.{Running, Waiting, Gone}
@@ -19,7 +19,7 @@ use Rattle.vll_core.specs.Machine.{Outcome, step, or_refuse, running, with_entry
 use Rattle.vll_core.specs.Queue.{QueueEntry}
 use Rattle.vll_core.specs.Shown.{opening_of}
 use Rattle.vll_core.specs.Private.View.{entered_of, shown}
-use Rattle.vll_core.specs.Private.Work.{IsAtWork}
+use Rattle.vll_core.specs.Private.Execution.{IsAtWork}
 use Rattle.vll_core.specs.Private.MachineKept.{IsMachine}
 use Rattle.vll_core.proofs.Places.{all_at}
 use Rattle.vll_core.proofs.Reached.{load_reached}
@@ -45,41 +45,41 @@ load_refused o s t e runs none =
 
 -- ---- the machine that is kept
 
--- the claim that a running call loads next, by its work
-pub record LoadsNext {H : Type 0} (a : Inside H) (t : ℕ) (call : Call) (w : Work) (c : Claim) : Type 0 where
+-- the claim that a running call loads next, by its execution
+pub record LoadsNext {H : Type 0} (a : Inside H) (t : ℕ) (call : Call) (w : Execution) (c : Claim) : Type 0 where
   pub runs : RunsAt a t call
-  pub work : w ≡ runs.work
+  pub execution : w ≡ runs.execution
   pub next : slice_get call.claims w.loads ≡ Some c
 
--- the same work, read again
-pub next_again : {H : Type 0} (a : Inside H) (t : ℕ) (call : Call) (w v : Work) (c : Claim) (l : LoadsNext a t call w c) → v ≡ l.runs.work → LoadsNext a t call v c
+-- the same execution, read again
+pub next_again : {H : Type 0} (a : Inside H) (t : ℕ) (call : Call) (w v : Execution) (c : Claim) (l : LoadsNext a t call w c) → v ≡ l.runs.execution → LoadsNext a t call v c
 next_again a t call w v c l is = record {
   runs = l.runs;
-  work = is;
-  next = ap (λ (x : Work). slice_get call.claims x.loads) (is ∙ sym l.work) ∙ l.next;
+  execution = is;
+  next = ap (λ (x : Execution). slice_get call.claims x.loads) (is ∙ sym l.execution) ∙ l.next;
 }
 
-pub load_left : {H : Type 0} (a : Inside H) (t : ℕ) (call : Call) (w : Work) (c : Claim) → LoadsNext a t call w c → w.loads < length call.claims
+pub load_left : {H : Type 0} (a : Inside H) (t : ℕ) (call : Call) (w : Execution) (c : Claim) → LoadsNext a t call w c → w.loads < length call.claims
 load_left a t call w c l = slice_get_within call.claims w.loads c l.next
 
-entry_next : {H : Type 0} (a : Inside H) (t : ℕ) (call : Call) (r : RunsAt a t call) (w : Work) (o : Option Claim) → w ≡ r.work → slice_get call.claims w.loads ≡ o
-    → slice_get (entered_of r.entry r.work).call.claims (entered_of r.entry r.work).loads ≡ o
+entry_next : {H : Type 0} (a : Inside H) (t : ℕ) (call : Call) (r : RunsAt a t call) (w : Execution) (o : Option Claim) → w ≡ r.execution → slice_get call.claims w.loads ≡ o
+    → slice_get (entered_of r.entry r.execution).call.claims (entered_of r.entry r.execution).loads ≡ o
 entry_next a t call r w o is at =
-    ap (λ (x : Call). slice_get x.claims r.work.loads) r.own ∙ ap (λ (x : Work). slice_get call.claims x.loads) (sym is) ∙ at
+    ap (λ (x : Call). slice_get x.claims r.execution.loads) r.own ∙ ap (λ (x : Execution). slice_get call.claims x.loads) (sym is) ∙ at
 
-pub refused_load : {H : Type 0} {places : H → ℕ → ℕ} (a : Inside H) (t : ℕ) (call : Call) (r : RunsAt a t call) (w : Work) → w ≡ r.work → slice_get call.claims w.loads ≡ None → Refuses places a (event.Load t) OutOfStep
+pub refused_load : {H : Type 0} {places : H → ℕ → ℕ} (a : Inside H) (t : ℕ) (call : Call) (r : RunsAt a t call) (w : Execution) → w ≡ r.execution → slice_get call.claims w.loads ≡ None → Refuses places a (event.Load t) OutOfStep
 refused_load {H} {places} a t call r w is none = record {
-  is = load_refused (opening_of places (shown a)) (shown a).state t (entered_of r.entry r.work) r.is (entry_next a t call r w None is none);
+  is = load_refused (opening_of places (shown a)) (shown a).state t (entered_of r.entry r.execution) r.is (entry_next a t call r w None is none);
 }
 
 -- the claim's record is there
-pub value_there : {H : Type 0} {places : H → ℕ → ℕ} (a : Inside H) (t : ℕ) (call : Call) (w : Work) (c : Claim) (place : ℕ) → IsMachine places a → LoadsNext a t call w c → place ≡ value_word_of c.id → place < length a.words.items
+pub value_there : {H : Type 0} {places : H → ℕ → ℕ} (a : Inside H) (t : ℕ) (call : Call) (w : Execution) (c : Claim) (place : ℕ) → IsMachine places a → LoadsNext a t call w c → place ≡ value_word_of c.id → place < length a.words.items
 value_there a t call w c place kept l is =
     let within : c.id < a.library.value.records = all_at (λ (d : Claim). d.id < a.library.value.records) call.claims w.loads c l.runs.calls.within l.next in
     omega (arith, kept.words.long, kept.records, within, is)
 
 -- the word that is read is the record's value
-pub read_value : {H : Type 0} {places : H → ℕ → ℕ} (a : Inside H) (t : ℕ) (call : Call) (w : Work) (c : Claim) (place v : ℕ) → IsMachine places a → LoadsNext a t call w c → place ≡ value_word_of c.id → v ≡ slice_index_or a.words.items place v
+pub read_value : {H : Type 0} {places : H → ℕ → ℕ} (a : Inside H) (t : ℕ) (call : Call) (w : Execution) (c : Claim) (place v : ℕ) → IsMachine places a → LoadsNext a t call w c → place ≡ value_word_of c.id → v ≡ slice_index_or a.words.items place v
     → v ≡ value (shown a).base (shown a).state c.id
 read_value a t call w c place v kept l is read =
     let within : c.id < a.library.value.records = all_at (λ (d : Claim). d.id < a.library.value.records) call.claims w.loads c l.runs.calls.within l.next in
@@ -88,41 +88,41 @@ read_value a t call w c place v kept l is read =
     ∙ kept.words.values c.id (omega (arith, kept.records, within))
 
 -- and that is the record before the ticket
-pub sees_serial : {H : Type 0} {places : H → ℕ → ℕ} (a : Inside H) (t : ℕ) (call : Call) (w : Work) (c : Claim) → IsMachine places a → LoadsNext a t call w c
+pub sees_serial : {H : Type 0} {places : H → ℕ → ℕ} (a : Inside H) (t : ℕ) (call : Call) (w : Execution) (c : Claim) → IsMachine places a → LoadsNext a t call w c
     → value (shown a).base (shown a).state c.id ≡ slice_index (now_at a t) c.id
 sees_serial {H} {places} a t call w c kept l =
     let r : RunsAt a t call = l.runs in
-    let left = entry_next a t call r w (Some c) l.work l.next in
-    load_reached (opening_of places (shown a)) (shown a).state _ t _ (entered_of r.entry r.work) c kept.reached (entry_shown a.queue.entries a.work.items t r.entry r.work r.at r.has) left
-    (load_taken (opening_of places (shown a)) (shown a).state t (entered_of r.entry r.work) c r.is left)
+    let left = entry_next a t call r w (Some c) l.execution l.next in
+    load_reached (opening_of places (shown a)) (shown a).state _ t _ (entered_of r.entry r.execution) c kept.reached (entry_shown a.queue.entries a.execution.items t r.entry r.execution r.at r.has) left
+    (load_taken (opening_of places (shown a)) (shown a).state t (entered_of r.entry r.execution) c r.is left)
     ∙ ap (λ (records : List ℕ). slice_index records c.id) (now_shown a t kept.works)
 
--- the machine with another work of a ticket
-abbrev pub with_work : {H : Type 0} → Inside H → ℕ → Work → Inside H
-with_work a t new = record a { work = with_item a.work t new }
+-- the machine with another execution at a ticket
+abbrev pub with_work : {H : Type 0} → Inside H → ℕ → Execution → Inside H
+with_work a t new = record a { execution = with_item a.execution t new }
 
--- a work after one more load
-pub record HasLoaded (w new : Work) : Type 0 where
+-- the execution after one more load
+pub record HasLoaded (w new : Execution) : Type 0 where
   pub loads : new.loads ≡ w.loads + 1
   pub stores : new.stores ≡ w.stores
   pub releases : new.releases ≡ w.releases
 
-loaded_entry : (e : QueueEntry) (w new : Work) → HasLoaded w new → ◌≡◌ {A = Entered} (record (entered_of e w) { loads = w.loads + 1 }) (entered_of e new)
+loaded_entry : (e : QueueEntry) (w new : Execution) → HasLoaded w new → ◌≡◌ {A = Entered} (record (entered_of e w) { loads = w.loads + 1 }) (entered_of e new)
 loaded_entry e w new h = rw (h.loads, h.stores, h.releases) refl
 
-pub taken_load : {H : Type 0} {places : H → ℕ → ℕ} (a : Inside H) (t : ℕ) (call : Call) (w : Work) (c : Claim) (new : Work) → LoadsNext a t call w c → HasLoaded w new
+pub taken_load : {H : Type 0} {places : H → ℕ → ℕ} (a : Inside H) (t : ℕ) (call : Call) (w : Execution) (c : Claim) (new : Execution) → LoadsNext a t call w c → HasLoaded w new
     → Takes places a (with_work a t new) (event.Load t) (Loaded (value (shown a).base (shown a).state c.id))
 taken_load {H} {places} a t call w c new l h =
     let r : RunsAt a t call = l.runs in
     let s : State = (shown a).state in
-    let entry : ◌≡◌ {A = Entered} (record (entered_of r.entry r.work) { loads = r.work.loads + 1 }) (entered_of r.entry new) =
-    ap (λ (x : Work). let d : Entered = record (entered_of r.entry x) { loads = x.loads + 1 } in d) (sym l.work) ∙ loaded_entry r.entry w new h in
+    let entry : ◌≡◌ {A = Entered} (record (entered_of r.entry r.execution) { loads = r.execution.loads + 1 }) (entered_of r.entry new) =
+    ap (λ (x : Execution). let d : Entered = record (entered_of r.entry x) { loads = x.loads + 1 } in d) (sym l.execution) ∙ loaded_entry r.entry w new h in
     record {
       fixed = refl;
       is =
-          load_taken (opening_of places (shown a)) s t (entered_of r.entry r.work) c r.is (entry_next a t call r w (Some c) l.work l.next)
+          load_taken (opening_of places (shown a)) s t (entered_of r.entry r.execution) c r.is (entry_next a t call r w (Some c) l.execution l.next)
           ∙ ap (λ (es : List Entered). let out : Outcome = Ok (Loaded (value (shown a).base s c.id), record s { entries = es }) in out)
-          (ap (λ (e : Entered). slice_set s.entries t e) entry ∙ sym (work_put a.queue.entries a.work.items t r.entry new r.at));
+          (ap (λ (e : Entered). slice_set s.entries t e) entry ∙ sym (work_put a.queue.entries a.execution.items t r.entry new r.at));
     }
 
 -- a call that runs is not gone
@@ -131,7 +131,7 @@ running_not_gone Running runs gone = cc gone
 running_not_gone Waiting runs gone = cc gone
 running_not_gone Gone runs gone = cc runs
 
-pub core_load : {H : Type 0} {places : H → ℕ → ℕ} (a : Inside H) (t : ℕ) (call : Call) (w : Work) (c : Claim) (new : Work) → IsMachine places a → LoadsNext a t call w c → HasLoaded w new
+pub core_load : {H : Type 0} {places : H → ℕ → ℕ} (a : Inside H) (t : ℕ) (call : Call) (w : Execution) (c : Claim) (new : Execution) → IsMachine places a → LoadsNext a t call w c → HasLoaded w new
     → IsAtWork a.library.value.procs call (now_at a t) new → IsMachine places (with_work a t new)
 core_load {H} {places} a t call w c new core l h at_work =
     let b : Inside H = with_work a t new in
@@ -146,7 +146,7 @@ core_load {H} {places} a t call w c new core l h at_work =
       records = core.records;
       catalog = core.catalog;
       queue = core.queue;
-      works = length-set a.work.items t new ∙ core.works;
+      works = length-set a.execution.items t new ∙ core.works;
       room = core.room;
       nexts = core.nexts;
       kepts = core.kepts;
@@ -154,9 +154,9 @@ core_load {H} {places} a t call w c new core l h at_work =
       turn_ready = core.turn_ready;
       scripts_fit = core.scripts_fit;
       at_work =
-          at_work_put a.library.value a.opening.value.items a.queue.entries a.work.items t new
+          at_work_put a.library.value a.opening.value.items a.queue.entries a.execution.items t new
           (λ e at. subst (λ (x : Call). IsAtWork a.library.value.procs x (now_at a t) new) (sym r.own ∙ ap (λ (x : QueueEntry). x.line.call) (here e at)) at_work) core.at_work;
       replied =
-          replied_put a.queue.entries a.work.items t new
+          replied_put a.queue.entries a.execution.items t new
           (λ e at gone. absurd (running_not_gone e.status (ap (λ (x : QueueEntry). is_running x.status) (sym (here e at)) ∙ r.runs) gone)) core.replied;
     }

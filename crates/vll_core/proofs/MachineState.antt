@@ -12,104 +12,104 @@ use Rattle.vll_check.specs.Catalog.{Catalog}
 use Rattle.vll_core.specs.declared.line.Line.{Line}
 use Rattle.vll_sca.specs.declared.status.Status.{Status}
 use Rattle.vll_sca.specs.declared.status.Status.TheVariants.{Running, Waiting, Gone}
-use Rattle.vll_core.specs.declared.work.Work.{Work}
+use Rattle.vll_core.specs.declared.execution.Execution.{Execution}
 use Rattle.vll_sca.specs.Status.{is_waiting, is_gone}
 use Rattle.vll_core.specs.State.{Entered, made}
 use Rattle.vll_core.specs.Queue.{QueueEntry, Queued, IsQueued, has_reply, lines, statuses, changed_at, started, finished, admitted}
 use Rattle.vll_core.specs.Private.View.{entered_of, entries_of}
-use Rattle.vll_core.specs.Private.Work.{IsAtWork}
+use Rattle.vll_core.specs.Private.Execution.{IsAtWork}
 use Rattle.vll_core.specs.Private.MachineKept.{made_of, AreAtWork, AreReplied}
 use Rattle.vll_core.proofs.Places.{all_at, entry_at, at_set, at_push}
 use Rattle.vll_core.proofs.Entries.{starts, fewer_wait, one_more_waits}
 use Rattle.vll_core.proofs.QueueLaws.{changed_there, map_changed, map_unchanged, lines_started, statuses_started, statuses_finished, lines_admitted, statuses_admitted}
 
--- a ticket's entry is that of the queue with its work
-pub entry_shown : (es : List QueueEntry) (ws : List Work) (t : ℕ) (e : QueueEntry) (w : Work)
+-- a ticket's entry is that of the queue with its execution
+pub entry_shown : (es : List QueueEntry) (ws : List Execution) (t : ℕ) (e : QueueEntry) (w : Execution)
     → slice_get es t ≡ Some e → slice_get ws t ≡ Some w → slice_get (entries_of es ws) t ≡ Some (entered_of e w)
 entry_shown [] ws t e w at has = absurd (cc at)
 entry_shown (d ∷ es) [] t e w at has = absurd (cc has)
 entry_shown (d ∷ es) (v ∷ ws) zero e w at has = rw (same_Some d e at, same_Some v w has) refl
 entry_shown (d ∷ es) (v ∷ ws) (suc t) e w at has = entry_shown es ws t e w at has
 
--- a shown entry is made of the queue's and a work
-pub record IsShownAt (es : List QueueEntry) (ws : List Work) (t : ℕ) (shown : Entered) : Type 0 where
+-- a shown entry is made of the queue's and a call's execution
+pub record IsShownAt (es : List QueueEntry) (ws : List Execution) (t : ℕ) (shown : Entered) : Type 0 where
   pub entry : QueueEntry
-  pub work : Work
+  pub execution : Execution
   pub at : slice_get es t ≡ Some entry
-  pub has : slice_get ws t ≡ Some work
-  pub is : shown ≡ entered_of entry work
+  pub has : slice_get ws t ≡ Some execution
+  pub is : shown ≡ entered_of entry execution
 
-pub shown_at : (es : List QueueEntry) (ws : List Work) (t : ℕ) (shown : Entered) → slice_get (entries_of es ws) t ≡ Some shown → IsShownAt es ws t shown
+pub shown_at : (es : List QueueEntry) (ws : List Execution) (t : ℕ) (shown : Entered) → slice_get (entries_of es ws) t ≡ Some shown → IsShownAt es ws t shown
 shown_at [] ws t shown at = absurd (cc at)
 shown_at (d ∷ es) [] t shown at = absurd (cc at)
-shown_at (d ∷ es) (v ∷ ws) zero shown at = record { entry = d; work = v; at = refl; has = refl; is = sym (same_Some (entered_of d v) shown at) }
+shown_at (d ∷ es) (v ∷ ws) zero shown at = record { entry = d; execution = v; at = refl; has = refl; is = sym (same_Some (entered_of d v) shown at) }
 shown_at (d ∷ es) (v ∷ ws) (suc t) shown at =
     let later = shown_at es ws t shown at in
-    record { entry = later.entry; work = later.work; at = later.at; has = later.has; is = later.is }
+    record { entry = later.entry; execution = later.execution; at = later.at; has = later.has; is = later.is }
 
 -- where the queue has no entry, none is shown
-pub none_shown : (es : List QueueEntry) (ws : List Work) (t : ℕ) → slice_get es t ≡ None → slice_get (entries_of es ws) t ≡ None
+pub none_shown : (es : List QueueEntry) (ws : List Execution) (t : ℕ) → slice_get es t ≡ None → slice_get (entries_of es ws) t ≡ None
 none_shown [] ws t none = refl
 none_shown (d ∷ es) [] t none = refl
 none_shown (d ∷ es) (v ∷ ws) zero none = absurd (cc none)
 none_shown (d ∷ es) (v ∷ ws) (suc t) none = none_shown es ws t none
 
-pub length_shown : (es : List QueueEntry) (ws : List Work) → length ws ≡ length es → length (entries_of es ws) ≡ length es
+pub length_shown : (es : List QueueEntry) (ws : List Execution) → length ws ≡ length es → length (entries_of es ws) ≡ length es
 length_shown [] ws same = refl
 length_shown (e ∷ es) [] same = absurd (omega (arith, same))
 length_shown (e ∷ es) (w ∷ ws) same = omega (arith, length_shown es ws (omega (arith, same)))
 
 -- what depends on the entry of the queue alone is the same for the entry that is shown
-pub map_shown : {B : Type 0} (f : QueueEntry → B) (g : Entered → B) (es : List QueueEntry) (ws : List Work)
-    → ((e : QueueEntry) (w : Work) → g (entered_of e w) ≡ f e) → length ws ≡ length es → map g (entries_of es ws) ≡ map f es
+pub map_shown : {B : Type 0} (f : QueueEntry → B) (g : Entered → B) (es : List QueueEntry) (ws : List Execution)
+    → ((e : QueueEntry) (w : Execution) → g (entered_of e w) ≡ f e) → length ws ≡ length es → map g (entries_of es ws) ≡ map f es
 map_shown f g [] ws alike same = refl
 map_shown f g (e ∷ es) [] alike same = absurd (omega (arith, same))
 map_shown f g (e ∷ es) (w ∷ ws) alike same = rw (alike e w, map_shown f g es ws alike (omega (arith, same))) refl
 
 -- the calls in order of entry
-pub made_shown : (es : List QueueEntry) (ws : List Work) → length ws ≡ length es → map made (entries_of es ws) ≡ made_of es
+pub made_shown : (es : List QueueEntry) (ws : List Execution) → length ws ≡ length es → map made (entries_of es ws) ≡ made_of es
 made_shown es ws same = map_shown (λ (e : QueueEntry). (e.line.client, e.line.call)) made es ws (λ e w. refl) same
 
-pub statuses_shown : (es : List QueueEntry) (ws : List Work) → length ws ≡ length es
+pub statuses_shown : (es : List QueueEntry) (ws : List Execution) → length ws ≡ length es
     → map (λ (e : Entered). e.status) (entries_of es ws) ≡ map (λ (e : QueueEntry). e.status) es
 statuses_shown es ws same = map_shown (λ (e : QueueEntry). e.status) (λ (e : Entered). e.status) es ws (λ e w. refl) same
 
 -- as many calls pass a test of their status as entries of the queue
-pub counted_shown : (p : Status → Bool) (es : List QueueEntry) (ws : List Work) → length ws ≡ length es
+pub counted_shown : (p : Status → Bool) (es : List QueueEntry) (ws : List Execution) → length ws ≡ length es
     → count_by (λ (e : Entered). p e.status) (entries_of es ws) ≡ count_by p (map (λ (e : QueueEntry). e.status) es)
 counted_shown p es ws same =
     sym (fold-map (λ (m : ℕ) (s : Status). m + cond (p s) 1 0) (λ (e : Entered). e.status) 0 (entries_of es ws))
     ∙ ap (λ (ss : List Status). count_by p ss) (statuses_shown es ws same)
 
 -- as many calls wait as entries of the queue
-pub waiting_shown : (es : List QueueEntry) (ws : List Work) → length ws ≡ length es
+pub waiting_shown : (es : List QueueEntry) (ws : List Execution) → length ws ≡ length es
     → count_by (λ (e : Entered). is_waiting e.status) (entries_of es ws) ≡ count_by is_waiting (map (λ (e : QueueEntry). e.status) es)
 waiting_shown es ws same = counted_shown is_waiting es ws same
 
 -- an entry of the queue is put
-pub entry_put : (es : List QueueEntry) (ws : List Work) (t : ℕ) (e : QueueEntry) (w : Work)
+pub entry_put : (es : List QueueEntry) (ws : List Execution) (t : ℕ) (e : QueueEntry) (w : Execution)
     → slice_get ws t ≡ Some w → entries_of (slice_set es t e) ws ≡ slice_set (entries_of es ws) t (entered_of e w)
 entry_put [] ws t e w has = refl
 entry_put (d ∷ es) [] t e w has = absurd (cc has)
-entry_put (d ∷ es) (v ∷ ws) zero e w has = ap (λ (x : Work). entered_of e x ∷ entries_of es ws) (same_Some v w has)
+entry_put (d ∷ es) (v ∷ ws) zero e w has = ap (λ (x : Execution). entered_of e x ∷ entries_of es ws) (same_Some v w has)
 entry_put (d ∷ es) (v ∷ ws) (suc t) e w has = ap (λ (xs : List Entered). entered_of d v ∷ xs) (entry_put es ws t e w has)
 
 -- an entry of the queue is changed
-pub entry_changed : (es : List QueueEntry) (ws : List Work) (t : ℕ) (e : QueueEntry) (w : Work) (change : QueueEntry → QueueEntry)
+pub entry_changed : (es : List QueueEntry) (ws : List Execution) (t : ℕ) (e : QueueEntry) (w : Execution) (change : QueueEntry → QueueEntry)
     → slice_get es t ≡ Some e → slice_get ws t ≡ Some w → entries_of (changed_at es t change) ws ≡ slice_set (entries_of es ws) t (entered_of (change e) w)
 entry_changed es ws t e w change at has =
     ap (λ (ds : List QueueEntry). entries_of ds ws) (changed_there es t e change at) ∙ entry_put es ws t (change e) w has
 
--- a work is put
-pub work_put : (es : List QueueEntry) (ws : List Work) (t : ℕ) (e : QueueEntry) (w : Work)
+-- the execution of a call is put
+pub work_put : (es : List QueueEntry) (ws : List Execution) (t : ℕ) (e : QueueEntry) (w : Execution)
     → slice_get es t ≡ Some e → entries_of es (slice_set ws t w) ≡ slice_set (entries_of es ws) t (entered_of e w)
 work_put [] ws t e w at = absurd (cc at)
 work_put (d ∷ es) [] t e w at = refl
 work_put (d ∷ es) (v ∷ ws) zero e w at = ap (λ (x : QueueEntry). entered_of x w ∷ entries_of es ws) (same_Some d e at)
 work_put (d ∷ es) (v ∷ ws) (suc t) e w at = ap (λ (xs : List Entered). entered_of d v ∷ xs) (work_put es ws t e w at)
 
--- an entry and its work are put at the end
-pub entry_pushed : (es : List QueueEntry) (ws : List Work) (e : QueueEntry) (w : Work)
+-- an entry and its execution are put at the end
+pub entry_pushed : (es : List QueueEntry) (ws : List Execution) (e : QueueEntry) (w : Execution)
     → length ws ≡ length es → entries_of (es ++ e ∷ []) (ws ++ w ∷ []) ≡ entries_of es ws ++ entered_of e w ∷ []
 entry_pushed [] [] e w same = refl
 entry_pushed [] (v ∷ ws) e w same = absurd (omega (arith, same))
@@ -161,14 +161,14 @@ ready_same c es ds same all = all_from (λ (e : QueueEntry). IsReady c e.line.ca
         subst (IsReady c) (ap (λ (m : Made). m.1) like.2) (all_at (λ (e : QueueEntry). IsReady c e.line.call) es t like.0 all like.1)
 
 -- works of a list of calls are also those of a list of the same calls
-pub at_work_same : (c : Catalog) (records : List ℕ) (es ds : List QueueEntry) (ws : List Work) → made_of es ≡ made_of ds → AreAtWork c records es ws → AreAtWork c records ds ws
+pub at_work_same : (c : Catalog) (records : List ℕ) (es ds : List QueueEntry) (ws : List Execution) → made_of es ≡ made_of ds → AreAtWork c records es ws → AreAtWork c records ds ws
 at_work_same c records es ds ws same all t d w at has =
     let like = like_item (λ (e : QueueEntry). (e.line.client, e.line.call)) es ds t d same at in
     subst (λ (call : Call). IsAtWork c.procs call (before c.procs (made_of ds) records t) w) (ap (λ (m : Made). m.1) like.2)
     (subst (λ (calls : List Made). IsAtWork c.procs like.0.line.call (before c.procs calls records t) w) same (all t like.0 w like.1 has))
 
--- a work is put that is its call's
-pub at_work_put : (c : Catalog) (records : List ℕ) (es : List QueueEntry) (ws : List Work) (t : ℕ) (new : Work)
+-- the execution of a call is put, and is that call's
+pub at_work_put : (c : Catalog) (records : List ℕ) (es : List QueueEntry) (ws : List Execution) (t : ℕ) (new : Execution)
     → ((e : QueueEntry) → slice_get es t ≡ Some e → IsAtWork c.procs e.line.call (before c.procs (made_of es) records t) new)
     → AreAtWork c records es ws → AreAtWork c records es (slice_set ws t new)
 at_work_put c records es ws t new own all v e w at has = step (at_set ws t new v w has)
@@ -177,8 +177,8 @@ at_work_put c records es ws t new own all v e w at has = step (at_set ws t new v
     step (inl is) = rw (is.0, is.1) (own e (ap (λ (n : ℕ). slice_get es n) (sym is.0) ∙ at))
     step (inr here) = all v e w at here
 
--- an entry and its work are put at the end
-pub at_work_pushed : (c : Catalog) (records : List ℕ) (es : List QueueEntry) (ws : List Work) (last : QueueEntry) (new : Work)
+-- an entry and its execution are put at the end
+pub at_work_pushed : (c : Catalog) (records : List ℕ) (es : List QueueEntry) (ws : List Execution) (last : QueueEntry) (new : Execution)
     → length ws ≡ length es → IsAtWork c.procs last.line.call (before c.procs (made_of es) records (length es)) new
     → AreAtWork c records es ws → AreAtWork c records (es ++ last ∷ []) (ws ++ new ∷ [])
 at_work_pushed c records es ws last new same own all t e w at has = step (at_push es last t e at) (at_push ws new t w has)
@@ -200,9 +200,9 @@ at_work_pushed c records es ws last new same own all t e w at has = step (at_pus
         rw (end_of.1, new_of.1, end_of.0)
         (subst (λ (now : List ℕ). IsAtWork c.procs last.line.call now new) (sym (calls (length es) (omega arith))) own)
 
--- a changed entry has the reply of its work, if it is gone
-pub replied_changed : (es : List QueueEntry) (ws : List Work) (t : ℕ) (change : QueueEntry → QueueEntry)
-    → ((e : QueueEntry) (w : Work) → slice_get es t ≡ Some e → slice_get ws t ≡ Some w → is_gone (change e).status ≡ true → (change e).line.reply ≡ w.reply)
+-- a changed entry has the reply of its execution, if it is gone
+pub replied_changed : (es : List QueueEntry) (ws : List Execution) (t : ℕ) (change : QueueEntry → QueueEntry)
+    → ((e : QueueEntry) (w : Execution) → slice_get es t ≡ Some e → slice_get ws t ≡ Some w → is_gone (change e).status ≡ true → (change e).line.reply ≡ w.reply)
     → AreReplied es ws → AreReplied (changed_at es t change) ws
 replied_changed es ws t change own all v d w at has gone = step (at_changed es t change v d at)
   where
@@ -212,8 +212,8 @@ replied_changed es ws t change own all v d w at has gone = step (at_changed es t
         ∙ own is.1.0 w is.1.1 (ap (λ (n : ℕ). slice_get ws n) (sym is.0) ∙ has) (ap (λ (x : QueueEntry). is_gone x.status) (sym is.1.2) ∙ gone)
     step (inr here) = all v d w here has gone
 
--- a work is put of a call that is not gone, or with the reply of its line
-pub replied_put : (es : List QueueEntry) (ws : List Work) (t : ℕ) (new : Work)
+-- the execution is put of a call that is not gone, or with the reply of its line
+pub replied_put : (es : List QueueEntry) (ws : List Execution) (t : ℕ) (new : Execution)
     → ((e : QueueEntry) → slice_get es t ≡ Some e → is_gone e.status ≡ true → e.line.reply ≡ new.reply) → AreReplied es ws → AreReplied es (slice_set ws t new)
 replied_put es ws t new own all v e w at has gone = step (at_set ws t new v w has)
   where
@@ -221,8 +221,8 @@ replied_put es ws t new own all v e w at has gone = step (at_set ws t new v w ha
     step (inl is) = rw is.1 (own e (ap (λ (n : ℕ). slice_get es n) (sym is.0) ∙ at) gone)
     step (inr here) = all v e w at here gone
 
--- an entry that is not gone and its work are put at the end
-pub replied_pushed : (es : List QueueEntry) (ws : List Work) (last : QueueEntry) (new : Work)
+-- an entry that is not gone and its execution are put at the end
+pub replied_pushed : (es : List QueueEntry) (ws : List Execution) (last : QueueEntry) (new : Execution)
     → length ws ≡ length es → is_gone last.status ≡ false → AreReplied es ws → AreReplied (es ++ last ∷ []) (ws ++ new ∷ [])
 replied_pushed es ws last new same left all t e w at has gone = step (at_push es last t e at) (at_push ws new t w has)
   where

@@ -6,7 +6,7 @@ use Rattle.vll_core.specs.declared.machine.Machine.TheInside.{Inside}
 use Rattle.vll_core.specs.declared.machine.OpenTurn.{OpenTurn}
 use Rattle.vll_core.specs.declared.refusal.Refusal.{Refusal}
 use Rattle.vll_core.specs.declared.seen.Seen.{Seen}
-use Rattle.vll_core.specs.Machine.{Outcome, step, told}
+use Rattle.vll_core.specs.Machine.{Outcome, step, answer_of}
 use Rattle.vll_core.specs.Moves.{IsReached, by_event, moved, requested_by, released_by, stored_by}
 use Rattle.vll_core.specs.Shown.{Shown, AreWords, library_of, opening_of, after}
 use Rattle.vll_core.specs.Private.View.{turn_of, shown}
@@ -36,9 +36,9 @@ pub record Takes {H : Type 0} (places : H → ℕ → ℕ) (a b : Inside H) (eve
   pub is : step (opening_of places (shown a)) (shown a).state event ≡ Ok (seen, (shown b).state)
 
 pub refused_told : {H : Type 0} {places : H → ℕ → ℕ} (a : Inside H) (s : Shown H) (event : Event) (why : Refusal) → shown a ≡ s → Refuses places a event why
-    → ◌≡◌ {A = Result Seen Refusal} (Err why) (told (step (opening_of places s) s.state event))
+    → ◌≡◌ {A = Result Seen Refusal} (Err why) (answer_of (step (opening_of places s) s.state event))
 refused_told {H} {places} a s event why view refuses =
-    ap (λ (out : Outcome). told out) (sym refuses.is) ∙ ap (λ (x : Shown H). told (step (opening_of places x) x.state event)) view
+    ap (λ (out : Outcome). answer_of out) (sym refuses.is) ∙ ap (λ (x : Shown H). answer_of (step (opening_of places x) x.state event)) view
 
 pub refused_stays : {H : Type 0} {places : H → ℕ → ℕ} (a : Inside H) (s : Shown H) (event : Event) (why : Refusal) → shown a ≡ s → Refuses places a event why
     → s ≡ after s (step (opening_of places s) s.state event)
@@ -46,9 +46,9 @@ refused_stays {H} {places} a s event why view refuses =
     ap (λ (out : Outcome). after s out) (sym refuses.is ∙ ap (λ (x : Shown H). step (opening_of places x) x.state event) view)
 
 pub taken_told : {H : Type 0} {places : H → ℕ → ℕ} (a b : Inside H) (s : Shown H) (event : Event) (seen : Seen) → shown a ≡ s → Takes places a b event seen
-    → ◌≡◌ {A = Result Seen Refusal} (Ok seen) (told (step (opening_of places s) s.state event))
+    → ◌≡◌ {A = Result Seen Refusal} (Ok seen) (answer_of (step (opening_of places s) s.state event))
 taken_told {H} {places} a b s event seen view takes =
-    ap (λ (out : Outcome). told out) (sym takes.is) ∙ ap (λ (x : Shown H). told (step (opening_of places x) x.state event)) view
+    ap (λ (out : Outcome). answer_of out) (sym takes.is) ∙ ap (λ (x : Shown H). answer_of (step (opening_of places x) x.state event)) view
 
 pub taken_shown : {H : Type 0} {places : H → ℕ → ℕ} (a b : Inside H) (s : Shown H) (event : Event) (seen : Seen) → shown a ≡ s → Takes places a b event seen
     → shown b ≡ after s (step (opening_of places s) s.state event)

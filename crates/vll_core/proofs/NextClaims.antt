@@ -1,9 +1,9 @@
--- The claim that an event of a running call is of, by the work of the call.
+-- The claim that an event of a running call is of, by the execution of the call.
 use Rattle.std.proofs.Common.{◌≡◌, ℕ, sym, ap, ◌∙◌, slice_get, slice_index_or, Option, Some, None, option_map}
 use Rattle.vll_record.specs.declared.claim.Claim.{Claim}
 use Rattle.vll_proc.specs.declared.call.Call.{Call}
 use Rattle.vll_core.specs.declared.machine.Machine.TheInside.{Inside}
-use Rattle.vll_core.specs.declared.work.Work.{Work}
+use Rattle.vll_core.specs.declared.execution.Execution.{Execution}
 use Rattle.vll_core.specs.Machine.{running}
 use Rattle.vll_core.specs.State.{Entered, writes}
 use Rattle.vll_core.specs.Moves.{entry_store, entry_release}
@@ -18,11 +18,11 @@ pub none_next : (next : Option Entered → Option Claim) (x : Option Entered) �
 none_next next None nothing none = sym nothing
 none_next next (Some e) nothing none = absurd (cc none)
 
--- the claim of a work is that of its call's entry
-module _ {H : Type 0} {places : H → ℕ → ℕ} (a : Inside H) (s : Shown H) (t u : ℕ) (call : Call) (w : Work) (core : IsMachine places a) (view : shown a ≡ s)
-    (calls : Some call ≡ option_map (λ (e : Entered). e.call) (running s.state t)) (same : u ≡ t) (read : w ≡ slice_index_or a.work.items u w) where
+-- the claim by an execution is that of its call's entry
+module _ {H : Type 0} {places : H → ℕ → ℕ} (a : Inside H) (s : Shown H) (t u : ℕ) (call : Call) (w : Execution) (core : IsMachine places a) (view : shown a ≡ s)
+    (calls : Some call ≡ option_map (λ (e : Entered). e.call) (running s.state t)) (same : u ≡ t) (read : w ≡ slice_index_or a.execution.items u w) where
   runs : Runs a t call w
-  runs = runs_of a s t call w core view calls (read ∙ ap (λ (n : ℕ). slice_index_or a.work.items n w) same)
+  runs = runs_of a s t call w core view calls (read ∙ ap (λ (n : ℕ). slice_index_or a.execution.items n w) same)
 
   next : (of : Option Entered → Option Claim) (claim : Option Claim) → claim ≡ of (running (shown a).state t) → claim ≡ of (running s.state t)
   next of claim is = is ∙ ap (λ (x : Shown H). of (running x.state t)) view

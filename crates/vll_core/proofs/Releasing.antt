@@ -13,7 +13,7 @@ use Rattle.vll_core.specs.declared.event.Event.TheVariants as event
 use Rattle.vll_core.specs.declared.machine.Machine.TheInside.{Inside}
 use Rattle.vll_core.specs.declared.refusal.Refusal.TheVariants.{NotRunning, OutOfStep}
 use Rattle.vll_core.specs.declared.seen.Seen.TheVariants.{Released}
-use Rattle.vll_core.specs.declared.work.Work.{Work}
+use Rattle.vll_core.specs.declared.execution.Execution.{Execution}
 use Rattle.vll_core.specs.State.{Opening, Entered, State, counter}
 use Rattle.vll_core.specs.Machine.{Outcome, refuse_if, or_refuse, running, with_entry, has_stored, step}
 use Rattle.vll_core.specs.Moves.{by_event}
@@ -53,11 +53,11 @@ stored_is o s t e all =
 -- ---- the machine that is kept
 
 -- the entry that is shown of a call that runs
-abbrev pub entry_of : {H : Type 0} (a : Inside H) (t : ℕ) (call : Call) (w : Work) → Runs a t call w → Entered
+abbrev pub entry_of : {H : Type 0} (a : Inside H) (t : ℕ) (call : Call) (w : Execution) → Runs a t call w → Entered
 entry_of a t call w r = entered_as r.client call r.status w
 
 -- it is refused before all its stores are made
-pub refused_stores : {H : Type 0} {places : H → ℕ → ℕ} (a : Inside H) (t : ℕ) (call : Call) (w : Work) (r : Runs a t call w) → has_stored (shown a).base (shown a).state t (entry_of a t call w r) ≡ false
+pub refused_stores : {H : Type 0} {places : H → ℕ → ℕ} (a : Inside H) (t : ℕ) (call : Call) (w : Execution) (r : Runs a t call w) → has_stored (shown a).base (shown a).state t (entry_of a t call w r) ≡ false
     → Refuses places a (event.Release t) OutOfStep
 refused_stores {H} {places} a t call w r left = record {
   is =
@@ -66,7 +66,7 @@ refused_stores {H} {places} a t call w r left = record {
 }
 
 -- and where all releases are made
-pub refused_releases : {H : Type 0} {places : H → ℕ → ℕ} (a : Inside H) (t : ℕ) (call : Call) (w : Work) (r : Runs a t call w) → has_stored (shown a).base (shown a).state t (entry_of a t call w r) ≡ true
+pub refused_releases : {H : Type 0} {places : H → ℕ → ℕ} (a : Inside H) (t : ℕ) (call : Call) (w : Execution) (r : Runs a t call w) → has_stored (shown a).base (shown a).state t (entry_of a t call w r) ≡ true
     → slice_get call.claims w.releases ≡ None → Refuses places a (event.Release t) OutOfStep
 refused_releases {H} {places} a t call w r all none = record {
   is =
@@ -76,21 +76,21 @@ refused_releases {H} {places} a t call w r all none = record {
 }
 
 -- the machine after a release
-abbrev pub released : {H : Type 0} → Inside H → Vec ℕ → Vec Work → Inside H
-released a words works = record a { words = words; work = works }
+abbrev pub released : {H : Type 0} → Inside H → Vec ℕ → Vec Execution → Inside H
+released a words works = record a { words = words; execution = works }
 
-abbrev pub one_more : Work → Work
+abbrev pub one_more : Execution → Execution
 one_more w = record w { releases = w.releases + 1 }
 
-shown_released : {H : Type 0} (a : Inside H) (t : ℕ) (call : Call) (w : Work) (words : Vec ℕ) (works : Vec Work) (r : Runs a t call w) → works.items ≡ slice_set a.work.items t (one_more w)
+shown_released : {H : Type 0} (a : Inside H) (t : ℕ) (call : Call) (w : Execution) (words : Vec ℕ) (works : Vec Execution) (r : Runs a t call w) → works.items ≡ slice_set a.execution.items t (one_more w)
     → (shown (released a words works)).state ≡ after_release (shown a).state t (entry_of a t call w r)
 shown_released a t call w words works r put =
     ap (λ (es : List Entered). record (shown a).state { entries = es })
-    (ap (entries_of a.queue.entries) put ∙ work_put a.queue.entries a.work.items t _ (one_more w) r.queued)
+    (ap (entries_of a.queue.entries) put ∙ work_put a.queue.entries a.execution.items t _ (one_more w) r.queued)
 
-pub taken_release : {H : Type 0} {places : H → ℕ → ℕ} (a : Inside H) (t : ℕ) (call : Call) (w : Work) (c : Claim) (words : Vec ℕ) (works : Vec Work) (r : Runs a t call w)
+pub taken_release : {H : Type 0} {places : H → ℕ → ℕ} (a : Inside H) (t : ℕ) (call : Call) (w : Execution) (c : Claim) (words : Vec ℕ) (works : Vec Execution) (r : Runs a t call w)
     → has_stored (shown a).base (shown a).state t (entry_of a t call w r) ≡ true → slice_get call.claims w.releases ≡ Some c
-    → works.items ≡ slice_set a.work.items t (one_more w)
+    → works.items ≡ slice_set a.execution.items t (one_more w)
     → Takes places a (released a words works) (event.Release t) (Released (counter (shown a).state c.id))
 taken_release {H} {places} a t call w c words works r all at put =
     let s : State = (shown a).state in
@@ -105,7 +105,7 @@ taken_release {H} {places} a t call w c words works r all at put =
     }
 
 -- the counter loses the delta of the claim
-pub counter_less : {H : Type 0} (a : Inside H) (t : ℕ) (call : Call) (w : Work) (c : Claim) (r : Runs a t call w)
+pub counter_less : {H : Type 0} (a : Inside H) (t : ℕ) (call : Call) (w : Execution) (c : Claim) (r : Runs a t call w)
     → slice_get call.claims w.releases ≡ Some c
     → counter (shown a).state c.id ≡ counter (after_release (shown a).state t (entry_of a t call w r)) c.id + delta_of c.mode
 counter_less a t call w c r at =
@@ -113,14 +113,14 @@ counter_less a t call w c r at =
     ∙ ap (λ (n : ℕ). counter (after_release (shown a).state t (entry_of a t call w r)) c.id + n) (delta_here c)
 
 -- what a release finds
-pub record Finds {H : Type 0} (a : Inside H) (call : Call) (w : Work) (c : Claim) : Type 0 where
+pub record Finds {H : Type 0} (a : Inside H) (call : Call) (w : Execution) (c : Claim) : Type 0 where
   pub record_there : c.id < length a.opening.value.items
   pub word_there : pair_word_of_record c.id < length a.words.items
   pub is_counter : slice_index a.words.items (pair_word_of_record c.id) ≡ counter (shown a).state c.id
   pub enough : delta_of c.mode ≤ counter (shown a).state c.id
   pub few : w.releases < MOST_CLAIMS
 
-pub finds : {H : Type 0} {places : H → ℕ → ℕ} (a : Inside H) (t : ℕ) (call : Call) (w : Work) (c : Claim) → IsMachine places a → Runs a t call w → slice_get call.claims w.releases ≡ Some c → Finds a call w c
+pub finds : {H : Type 0} {places : H → ℕ → ℕ} (a : Inside H) (t : ℕ) (call : Call) (w : Execution) (c : Claim) → IsMachine places a → Runs a t call w → slice_get call.claims w.releases ≡ Some c → Finds a call w c
 finds a t call w c kept r at =
     let within : c.id < a.library.value.records = all_at (λ (d : Claim). d.id < a.library.value.records) call.claims w.releases c r.well.within at in
     let there : c.id < length a.opening.value.items = omega (arith, within, kept.records) in
@@ -135,19 +135,19 @@ finds a t call w c kept r at =
     }
 
 -- the word that is read is the counter
-pub read_counter : {H : Type 0} (a : Inside H) (call : Call) (w : Work) (c : Claim) (place word : ℕ) → Finds a call w c → place ≡ pair_word_of_record c.id → word ≡ slice_index_or a.words.items place word
+pub read_counter : {H : Type 0} (a : Inside H) (call : Call) (w : Execution) (c : Claim) (place word : ℕ) → Finds a call w c → place ≡ pair_word_of_record c.id → word ≡ slice_index_or a.words.items place word
     → word ≡ counter (shown a).state c.id
 read_counter a call w c place word f at read = word_read a.words.items (pair_word_of_record c.id) place _ word f.word_there f.is_counter at read
 
--- the work that is read again is that of the ticket
-pub read_again : {H : Type 0} (a : Inside H) (t : ℕ) (call : Call) (w : Work) (place : ℕ) (v : Work) → Runs a t call w → place ≡ t → v ≡ slice_index_or a.work.items place v → v ≡ w
-read_again a t call w place v r at read = same_work a t call w v r (read ∙ ap (λ (j : ℕ). slice_index_or a.work.items j v) at)
+-- the execution that is read again is that of the ticket
+pub read_again : {H : Type 0} (a : Inside H) (t : ℕ) (call : Call) (w : Execution) (place : ℕ) (v : Execution) → Runs a t call w → place ≡ t → v ≡ slice_index_or a.execution.items place v → v ≡ w
+read_again a t call w place v r at read = same_work a t call w v r (read ∙ ap (λ (j : ℕ). slice_index_or a.execution.items j v) at)
 
--- the work that is put back has one more release
-pub put_again : {H : Type 0} (a : Inside H) (t : ℕ) (call : Call) (w : Work) (place : ℕ) (v new : Work) → Runs a t call w → place ≡ t → v ≡ slice_index_or a.work.items place v → new ≡ one_more v
-    → slice_set a.work.items place new ≡ slice_set a.work.items t (one_more w)
+-- the execution that is put back has one more release
+pub put_again : {H : Type 0} (a : Inside H) (t : ℕ) (call : Call) (w : Execution) (place : ℕ) (v new : Execution) → Runs a t call w → place ≡ t → v ≡ slice_index_or a.execution.items place v → new ≡ one_more v
+    → slice_set a.execution.items place new ≡ slice_set a.execution.items t (one_more w)
 put_again a t call w place v new r at read more =
-    ap (λ (n : ℕ). slice_set a.work.items n new) at ∙ ap (slice_set a.work.items t) (more ∙ ap one_more (read_again a t call w place v r at read))
+    ap (λ (n : ℕ). slice_set a.execution.items n new) at ∙ ap (slice_set a.execution.items t) (more ∙ ap one_more (read_again a t call w place v r at read))
 
 -- the word that is written is the counter without the claim's delta
 pub word_less : {H : Type 0} (a : Inside H) (c : Claim) (place word delta : ℕ) → place ≡ pair_word_of_record c.id → word ≡ counter (shown a).state c.id → delta ≡ delta_of c.mode
@@ -156,7 +156,7 @@ word_less a c place word delta at is less =
     ap (λ (i : ℕ). slice_set a.words.items i (word - delta)) at ∙ ap (slice_set a.words.items (pair_word_of_record c.id)) (omega (arith, is, less))
 
 -- the words after a release
-words_less : {H : Type 0} {places : H → ℕ → ℕ} (a : Inside H) (t : ℕ) (call : Call) (w : Work) (c : Claim) (words : Vec ℕ) (works : Vec Work) (r : Runs a t call w)
+words_less : {H : Type 0} {places : H → ℕ → ℕ} (a : Inside H) (t : ℕ) (call : Call) (w : Execution) (c : Claim) (words : Vec ℕ) (works : Vec Execution) (r : Runs a t call w)
     → IsMachine places a → Takes places a (released a words works) (event.Release t) (Released (counter (shown a).state c.id)) → slice_get call.claims w.releases ≡ Some c
     → (shown (released a words works)).state ≡ after_release (shown a).state t (entry_of a t call w r)
     → words.items ≡ slice_set a.words.items (pair_word_of_record c.id) (counter (shown a).state c.id - delta_of c.mode)
@@ -174,10 +174,10 @@ words_less {H} {places} a t call w c words works r kept takes at shows written =
     kept.words)
 
 -- what the type of a machine keeps
-pub core_release : {H : Type 0} {places : H → ℕ → ℕ} (a : Inside H) (t : ℕ) (call : Call) (w : Work) (c : Claim) (words : Vec ℕ) (works : Vec Work) (r : Runs a t call w)
+pub core_release : {H : Type 0} {places : H → ℕ → ℕ} (a : Inside H) (t : ℕ) (call : Call) (w : Execution) (c : Claim) (words : Vec ℕ) (works : Vec Execution) (r : Runs a t call w)
     → IsMachine places a → has_stored (shown a).base (shown a).state t (entry_of a t call w r) ≡ true → slice_get call.claims w.releases ≡ Some c
     → words.items ≡ slice_set a.words.items (pair_word_of_record c.id) (counter (shown a).state c.id - delta_of c.mode)
-    → works.items ≡ slice_set a.work.items t (one_more w) → vec_capacity works ≡ vec_capacity a.work
+    → works.items ≡ slice_set a.execution.items t (one_more w) → vec_capacity works ≡ vec_capacity a.execution
     → IsMachine places (released a words works)
 core_release {H} {places} a t call w c words works r kept all at written put room =
     let takes = taken_release {places = places} a t call w c words works r all at put in
@@ -189,7 +189,7 @@ core_release {H} {places} a t call w c words works r kept all at written put roo
       records = kept.records;
       catalog = kept.catalog;
       queue = kept.queue;
-      works = ap length put ∙ length-set a.work.items t (one_more w) ∙ kept.works;
+      works = ap length put ∙ length-set a.execution.items t (one_more w) ∙ kept.works;
       room = omega (arith, kept.room, room);
       nexts = kept.nexts;
       kepts = kept.kepts;
@@ -198,7 +198,7 @@ core_release {H} {places} a t call w c words works r kept all at written put roo
       scripts_fit = kept.scripts_fit;
       at_work =
           subst (AreAtWork a.library.value a.opening.value.items a.queue.entries) (sym put)
-          (at_work_put a.library.value a.opening.value.items a.queue.entries a.work.items t (one_more w)
+          (at_work_put a.library.value a.opening.value.items a.queue.entries a.execution.items t (one_more w)
           (λ e here. let was = kept.at_work t e w here r.worked in record {
             within = was.within;
             whole = was.whole;
@@ -209,5 +209,5 @@ core_release {H} {places} a t call w c words works r kept all at written put roo
           }) kept.at_work);
       replied =
           subst (AreReplied a.queue.entries) (sym put)
-          (replied_put a.queue.entries a.work.items t (one_more w) (λ e here gone. kept.replied t e w here r.worked gone) kept.replied);
+          (replied_put a.queue.entries a.execution.items t (one_more w) (λ e here gone. kept.replied t e w here r.worked gone) kept.replied);
     }

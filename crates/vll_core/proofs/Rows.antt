@@ -14,7 +14,7 @@ use Rattle.vll_core.specs.declared.refusal.Refusal.TheVariants.{TurnOpen, NoTurn
 use Rattle.vll_sca.specs.declared.status.Status.{Status}
 use Rattle.vll_sca.specs.declared.status.Status.TheVariants.{Running, Waiting, Gone}
 use Rattle.vll_core.specs.State.{State, Opening, Entered, counter, value}
-use Rattle.vll_core.specs.Machine.{answers, opened, run, state_after, told}
+use Rattle.vll_core.specs.Machine.{answers, opened, run, state_after, answer_of}
 use Rattle.vll_core.specs.Moves.{Move, by_event, hand, move}
 use Rattle.vll_core.proofs.Procedures.{opening, bump_call, read_call, transfer_call, seven_call, via_call}
 
@@ -156,7 +156,7 @@ cap_of_one_is_busy-statuses = refl
 -- what a list of moves is answered
 abbrev moves_answered : Opening → State → List Move → List (Result Seen Refusal)
 moves_answered o s [] = []
-moves_answered o s (m ∷ ms) = let out = move o s m in told out ∷ moves_answered o (state_after s out) ms
+moves_answered o s (m ∷ ms) = let out = move o s m in answer_of out ∷ moves_answered o (state_after s out) ms
 
 -- a client with an empty script hands in its calls
 abbrev no_scripted_call : State

@@ -1,4 +1,4 @@
--- The call of a ticket that runs: its entry of the queue, its work, and what the plain machine finds of it.
+-- The call of a ticket that runs: its entry of the queue, its execution, and what the plain machine finds of it.
 use Rattle.std.proofs.Common.{◌≡◌, ℕ, ◌<◌, true, refl, sym, ap, ◌∙◌, subst, List, length, slice_get, slice_index_or, Option, Some}
 use Rattle.std.specs.Option.{option_map}
 use Rattle.std.proofs.lemmas.Option.{same_Some, slice_get_read, slice_get_within}
@@ -7,54 +7,54 @@ use Rattle.vll_proc.specs.declared.call.Reply.{Reply}
 use Rattle.vll_check.specs.Calls.{CallsProcedure}
 use Rattle.vll_core.specs.declared.machine.Machine.TheInside.{Inside}
 use Rattle.vll_sca.specs.declared.status.Status.{Status}
-use Rattle.vll_core.specs.declared.work.Work.{Work}
+use Rattle.vll_core.specs.declared.execution.Execution.{Execution}
 use Rattle.vll_sca.specs.Status.{is_running}
 use Rattle.vll_core.specs.Queue.{QueueEntry}
 use Rattle.vll_core.specs.State.{Entered, records_before}
 use Rattle.vll_core.specs.Machine.{running, if_running}
 use Rattle.vll_core.specs.Shown.{Shown}
 use Rattle.vll_core.specs.Private.View.{shown}
-use Rattle.vll_core.specs.Private.Work.{IsAtWork}
+use Rattle.vll_core.specs.Private.Execution.{IsAtWork}
 use Rattle.vll_core.specs.Private.MachineKept.{IsMachine}
 use Rattle.vll_core.proofs.RunningCalls.{RunsAt, runs_told, read_work, work_there, now_shown}
 use Rattle.vll_core.proofs.MachineState.{entry_shown}
 
--- an entry with its call's work
-abbrev pub entered_as : ℕ → Call → Status → Work → Entered
+-- an entry with its call's execution
+abbrev pub entered_as : ℕ → Call → Status → Execution → Entered
 entered_as client call status w = record { client = client; call = call; status = status; loads = w.loads; stores = w.stores; releases = w.releases }
 
--- the call of a ticket runs, and this is its work
-pub record Runs {H : Type 0} (a : Inside H) (t : ℕ) (call : Call) (w : Work) : Type 0 where
+-- the call of a ticket runs, and this is its execution
+pub record Runs {H : Type 0} (a : Inside H) (t : ℕ) (call : Call) (w : Execution) : Type 0 where
   pub client : ℕ
   pub reply : Option Reply
   pub status : Status
   pub queued : slice_get a.queue.entries t ≡ Some (record { line = record { client = client; call = call; reply = reply }; status = status })
-  pub worked : slice_get a.work.items t ≡ Some w
+  pub worked : slice_get a.execution.items t ≡ Some w
   pub runs : is_running status ≡ true
   pub at : slice_get (shown a).state.entries t ≡ Some (entered_as client call status w)
   pub found : running (shown a).state t ≡ Some (entered_as client call status w)
-  pub work : IsAtWork a.library.value.procs call (records_before (shown a).base (shown a).state t) w
+  pub execution : IsAtWork a.library.value.procs call (records_before (shown a).base (shown a).state t) w
   pub well : CallsProcedure a.library.value call
 
 -- an entry that runs is found
 pub runs_found : (x : Option Entered) (e : Entered) → x ≡ Some e → is_running e.status ≡ true → if_running x ≡ Some e
 runs_found x e is runs = ap if_running is ∙ rw runs refl
 
--- a call that runs has a work
+-- a call that runs has its execution
 pub work_within : {H : Type 0} {places : H → ℕ → ℕ} (a : Inside H) (s : Shown H) (t : ℕ) (call : Call) → IsMachine places a → shown a ≡ s → Some call ≡ option_map (λ (e : Entered). e.call) (running s.state t)
-    → t < length a.work.items
+    → t < length a.execution.items
 work_within a s t call core view is = work_there a t t call (runs_told a s t call core view is) refl
 
--- what is known of a call that runs, by the work that is read
-pub runs_of : {H : Type 0} {places : H → ℕ → ℕ} (a : Inside H) (s : Shown H) (t : ℕ) (call : Call) (w : Work) → IsMachine places a → shown a ≡ s → Some call ≡ option_map (λ (e : Entered). e.call) (running s.state t)
-    → w ≡ slice_index_or a.work.items t w → Runs a t call w
+-- what is known of a call that runs, by the execution that is read
+pub runs_of : {H : Type 0} {places : H → ℕ → ℕ} (a : Inside H) (s : Shown H) (t : ℕ) (call : Call) (w : Execution) → IsMachine places a → shown a ≡ s → Some call ≡ option_map (λ (e : Entered). e.call) (running s.state t)
+    → w ≡ slice_index_or a.execution.items t w → Runs a t call w
 runs_of a s t call w core view is read =
     let f : RunsAt a t call = runs_told a s t call core view is in
-    let same : f.work ≡ w = sym (read_work a t t call f w refl read) in
-    let worked : slice_get a.work.items t ≡ Some w = f.has ∙ ap (λ (x : Work). Some x) same in
+    let same : f.execution ≡ w = sym (read_work a t t call f w refl read) in
+    let worked : slice_get a.execution.items t ≡ Some w = f.has ∙ ap (λ (x : Execution). Some x) same in
     let queued : slice_get a.queue.entries t ≡ Some (record { line = record { client = f.entry.line.client; call = call; reply = f.entry.line.reply }; status = f.entry.status }) =
     f.at ∙ ap (λ (c : Call). let x : QueueEntry = record { line = record { client = f.entry.line.client; call = c; reply = f.entry.line.reply }; status = f.entry.status } in Some x) f.own in
-    let at = entry_shown a.queue.entries a.work.items t _ w queued worked in
+    let at = entry_shown a.queue.entries a.execution.items t _ w queued worked in
     record {
       client = f.entry.line.client;
       reply = f.entry.line.reply;
@@ -64,13 +64,13 @@ runs_of a s t call w core view is read =
       runs = f.runs;
       at = at;
       found = runs_found _ _ at f.runs;
-      work =
-          subst (λ (x : Work). IsAtWork a.library.value.procs call (records_before (shown a).base (shown a).state t) x) same
-          (subst (λ (now : List ℕ). IsAtWork a.library.value.procs call now f.work) (sym (now_shown a t core.works)) f.at_work);
+      execution =
+          subst (λ (x : Execution). IsAtWork a.library.value.procs call (records_before (shown a).base (shown a).state t) x) same
+          (subst (λ (now : List ℕ). IsAtWork a.library.value.procs call now f.execution) (sym (now_shown a t core.works)) f.at_work);
       well = f.calls;
     }
 
--- a call that runs has one work
-pub same_work : {H : Type 0} (a : Inside H) (t : ℕ) (call : Call) (w next : Work) → Runs a t call w → next ≡ slice_index_or a.work.items t next → next ≡ w
+-- a call that runs has one execution only
+pub same_work : {H : Type 0} (a : Inside H) (t : ℕ) (call : Call) (w next : Execution) → Runs a t call w → next ≡ slice_index_or a.execution.items t next → next ≡ w
 same_work a t call w next r read =
-    same_Some next w (sym (slice_get_read a.work.items (length a.work.items) t next refl (slice_get_within a.work.items t w r.worked) read) ∙ r.worked)
+    same_Some next w (sym (slice_get_read a.execution.items (length a.execution.items) t next refl (slice_get_within a.execution.items t w r.worked) read) ∙ r.worked)

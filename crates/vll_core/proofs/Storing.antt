@@ -15,13 +15,13 @@ use Rattle.vll_core.specs.declared.event.Event.TheVariants as event
 use Rattle.vll_core.specs.declared.machine.Machine.TheInside.{Inside}
 use Rattle.vll_core.specs.declared.refusal.Refusal.TheVariants.{NotRunning, OutOfStep}
 use Rattle.vll_core.specs.declared.seen.Seen.TheVariants.{Stored}
-use Rattle.vll_core.specs.declared.work.Work.{Work}
+use Rattle.vll_core.specs.declared.execution.Execution.{Execution}
 use Rattle.vll_core.specs.State.{Opening, Entered, State, made, writes, records_before, value, entered, is_aborted, has_aborted}
 use Rattle.vll_core.specs.Machine.{Outcome, step, refuse_if, or_refuse, running, with_entry, has_stored}
 use Rattle.vll_core.specs.Moves.{by_event, is_on, entry_store}
 use Rattle.vll_core.specs.Shown.{AreWords, opening_of}
 use Rattle.vll_core.specs.Private.View.{shown}
-use Rattle.vll_core.specs.Private.Work.{IsAtWork}
+use Rattle.vll_core.specs.Private.Execution.{IsAtWork}
 use Rattle.vll_core.specs.Private.MachineKept.{IsMachine}
 use Rattle.vll_core.proofs.AtWork.{aborted_at_work, few_writes}
 use Rattle.vll_core.proofs.WordChanges.{words_set_value, value_word_within}
@@ -70,21 +70,21 @@ past_end xs n none = at_least n (length xs) (λ low. let found = entry_at xs n l
 -- ---- the machine that is kept
 
 -- the entry of a call that runs keeps what reached entries keep
-entry_kept : {H : Type 0} {places : H → ℕ → ℕ} (a : Inside H) (t : ℕ) (call : Call) (w : Work) → IsMachine places a → (r : Runs a t call w)
+entry_kept : {H : Type 0} {places : H → ℕ → ℕ} (a : Inside H) (t : ℕ) (call : Call) (w : Execution) → IsMachine places a → (r : Runs a t call w)
     → IsEntryKept (shown a).base (records_before (shown a).base (shown a).state t) (entered_as r.client call r.status w)
 entry_kept {H} {places} a t call w core r = (kept_reached (opening_of places (shown a)) (shown a).state core.reached).entries t (entered_as r.client call r.status w) r.at
 
--- a call's work says whether it has aborted
-aborted_is : {H : Type 0} (a : Inside H) (t : ℕ) (call : Call) (w : Work) (r : Runs a t call w)
+-- a call's execution says whether it has aborted
+aborted_is : {H : Type 0} (a : Inside H) (t : ℕ) (call : Call) (w : Execution) (r : Runs a t call w)
     → option_map_or is_aborted w.reply false ≡ has_aborted (shown a).base (shown a).state t (entered_as r.client call r.status w)
-aborted_is a t call w r = aborted_at_work a.library.value.procs call (records_before (shown a).base (shown a).state t) w r.work
+aborted_is a t call w r = aborted_at_work a.library.value.procs call (records_before (shown a).base (shown a).state t) w r.execution
 
 -- a store is refused before the last load, and where the call aborted or all is stored
-refused_store : {H : Type 0} {places : H → ℕ → ℕ} (a : Inside H) (t : ℕ) (call : Call) (w : Work) → (r : Runs a t call w)
+refused_store : {H : Type 0} {places : H → ℕ → ℕ} (a : Inside H) (t : ℕ) (call : Call) (w : Execution) → (r : Runs a t call w)
     → ((w.loads == length call.claims) ≡ true → (has_aborted (shown a).base (shown a).state t (entered_as r.client call r.status w) || (w.stores == length (writes call))) ≡ true)
     → Refuses places a (event.Store t) OutOfStep
 refused_store {H} {places} a t call w r done =
-    let within = r.work.within in
+    let within = r.execution.within in
     let e : Entered = entered_as r.client call r.status w in
     let refused : cannot_store (opening_of places (shown a)) (shown a).state t e ≡ true =
     refused_by (nat_lt w.loads (length call.claims)) (w.loads == length call.claims) (has_aborted (shown a).base (shown a).state t e) (w.stores == length (writes call))
@@ -92,23 +92,23 @@ refused_store {H} {places} a t call w r done =
     record { is = store_step (opening_of places (shown a)) (shown a).state t e true r.found refused }
 
 -- before the last load
-pub refused_unloaded : {H : Type 0} {places : H → ℕ → ℕ} (a : Inside H) (t : ℕ) (call : Call) (w : Work) → Runs a t call w → (w.loads == length call.claims) ≡ false → Refuses places a (event.Store t) OutOfStep
+pub refused_unloaded : {H : Type 0} {places : H → ℕ → ℕ} (a : Inside H) (t : ℕ) (call : Call) (w : Execution) → Runs a t call w → (w.loads == length call.claims) ≡ false → Refuses places a (event.Store t) OutOfStep
 refused_unloaded a t call w r some = refused_store a t call w r (λ all. absurd (cc (sym some ∙ all)))
 
 -- of a call that aborted
-pub refused_aborted : {H : Type 0} {places : H → ℕ → ℕ} (a : Inside H) (t : ℕ) (call : Call) (w : Work) → Runs a t call w → option_map_or is_aborted w.reply false ≡ true → Refuses places a (event.Store t) OutOfStep
+pub refused_aborted : {H : Type 0} {places : H → ℕ → ℕ} (a : Inside H) (t : ℕ) (call : Call) (w : Execution) → Runs a t call w → option_map_or is_aborted w.reply false ≡ true → Refuses places a (event.Store t) OutOfStep
 refused_aborted a t call w r aborted = refused_store a t call w r (λ all. rw (sym (aborted_is a t call w r) ∙ aborted) refl)
 
 -- where all is stored
-pub refused_stored : {H : Type 0} {places : H → ℕ → ℕ} (a : Inside H) (t : ℕ) (call : Call) (w : Work) → IsMachine places a → Runs a t call w → slice_get (writes call) w.stores ≡ None → Refuses places a (event.Store t) OutOfStep
+pub refused_stored : {H : Type 0} {places : H → ℕ → ℕ} (a : Inside H) (t : ℕ) (call : Call) (w : Execution) → IsMachine places a → Runs a t call w → slice_get (writes call) w.stores ≡ None → Refuses places a (event.Store t) OutOfStep
 refused_stored a t call w core r none =
     let upto = (entry_kept a t call w core r).stores in
     let past = past_end (writes call) w.stores none in
     let all_stored : (w.stores == length (writes call)) ≡ true = grind (arith, nat_tests, upto, past) in
     refused_store a t call w r (λ all. or_second _ (w.stores == length (writes call)) all_stored)
 
--- a call that runs has a record left to store, and these are its word and value; the work after it counts the store
-pub record Stores {H : Type 0} (a : Inside H) (t place word v : ℕ) (call : Call) (w next : Work) (c : Claim) : Type 0 where
+-- a call that runs has a record left to store, and these are its word and value; the execution after it counts the store
+pub record Stores {H : Type 0} (a : Inside H) (t place word v : ℕ) (call : Call) (w next : Execution) (c : Claim) : Type 0 where
   pub runs : Runs a t call w
   pub loaded : w.loads ≡ length call.claims
   pub goes_on : option_map_or is_aborted w.reply false ≡ false
@@ -119,19 +119,19 @@ pub record Stores {H : Type 0} (a : Inside H) (t place word v : ℕ) (call : Cal
   pub more : next ≡ record w { stores = w.stores + 1 }
 
 -- the fields of a machine once a record is stored
-abbrev pub stored_core : {H : Type 0} → Inside H → ℕ → ℕ → ℕ → Work → Inside H
-stored_core a place word v next = record a { words = with_item a.words word v; work = with_item a.work place next }
+abbrev pub stored_core : {H : Type 0} → Inside H → ℕ → ℕ → ℕ → Execution → Inside H
+stored_core a place word v next = record a { words = with_item a.words word v; execution = with_item a.execution place next }
 
 -- the entries that are shown after it
-entries_stored : {H : Type 0} (a : Inside H) (t place word v : ℕ) (call : Call) (w next : Work) (c : Claim) → (f : Stores a t place word v call w next c)
+entries_stored : {H : Type 0} (a : Inside H) (t place word v : ℕ) (call : Call) (w next : Execution) (c : Claim) → (f : Stores a t place word v call w next c)
     → (shown (stored_core a place word v next)).state ≡ with_entry (shown a).state t (entered_as f.runs.client call f.runs.status (record w { stores = w.stores + 1 }))
 entries_stored a t place word v call w next c f =
     ap (λ (n : ℕ). (shown (stored_core a n word v next)).state) f.there
-    ∙ (ap (λ (x : Work). (shown (stored_core a t word v x)).state) f.more
-    ∙ ap (λ (es : List Entered). record (shown a).state { entries = es }) (work_put a.queue.entries a.work.items t _ (record w { stores = w.stores + 1 }) f.runs.queued))
+    ∙ (ap (λ (x : Execution). (shown (stored_core a t word v x)).state) f.more
+    ∙ ap (λ (es : List Entered). record (shown a).state { entries = es }) (work_put a.queue.entries a.execution.items t _ (record w { stores = w.stores + 1 }) f.runs.queued))
 
 -- else it is taken
-pub taken_store : {H : Type 0} {places : H → ℕ → ℕ} (a : Inside H) (t place word v : ℕ) (call : Call) (w next : Work) (c : Claim) → Stores a t place word v call w next c
+pub taken_store : {H : Type 0} {places : H → ℕ → ℕ} (a : Inside H) (t place word v : ℕ) (call : Call) (w next : Execution) (c : Claim) → Stores a t place word v call w next c
     → Takes places a (stored_core a place word v next) (event.Store t) Stored
 taken_store {H} {places} a t place word v call w next c f =
     let r = f.runs in
@@ -148,7 +148,7 @@ taken_store {H} {places} a t place word v call w next c f =
     }
 
 -- the value that is stored is that after the ticket
-value_stored : {H : Type 0} {places : H → ℕ → ℕ} (a : Inside H) (t place word v : ℕ) (call : Call) (w next : Work) (c : Claim) → IsMachine places a → Stores a t place word v call w next c
+value_stored : {H : Type 0} {places : H → ℕ → ℕ} (a : Inside H) (t place word v : ℕ) (call : Call) (w next : Execution) (c : Claim) → IsMachine places a → Stores a t place word v call w next c
     → value (shown a).base (shown (stored_core a place word v next)).state c.id ≡ v
 value_stored {H} {places} a t place word v call w next c core f =
     let s : State = (shown a).state in
@@ -162,19 +162,19 @@ value_stored {H} {places} a t place word v call w next c core f =
     ∙ sym f.value))))
 
 -- its record is one of the machine's
-claim_there : {H : Type 0} {places : H → ℕ → ℕ} (a : Inside H) (t : ℕ) (call : Call) (w : Work) (c : Claim) → IsMachine places a → Runs a t call w → slice_get (writes call) w.stores ≡ Some c → c.id < length a.opening.value.items
+claim_there : {H : Type 0} {places : H → ℕ → ℕ} (a : Inside H) (t : ℕ) (call : Call) (w : Execution) (c : Claim) → IsMachine places a → Runs a t call w → slice_get (writes call) w.stores ≡ Some c → c.id < length a.opening.value.items
 claim_there a t call w c core r left =
     let claim = at_filter call.claims w.stores c left in
     let within : c.id < a.library.value.records = all_at (λ (d : Claim). d.id < a.library.value.records) call.claims claim.0 c r.well.within claim.1 in
     omega (arith, within, core.records)
 
 -- so its word is one of the machine's words
-pub word_within : {H : Type 0} {places : H → ℕ → ℕ} (a : Inside H) (t : ℕ) (call : Call) (w : Work) (c : Claim) → IsMachine places a → Runs a t call w → slice_get (writes call) w.stores ≡ Some c → value_word_of c.id < length a.words.items
+pub word_within : {H : Type 0} {places : H → ℕ → ℕ} (a : Inside H) (t : ℕ) (call : Call) (w : Execution) (c : Claim) → IsMachine places a → Runs a t call w → slice_get (writes call) w.stores ≡ Some c → value_word_of c.id < length a.words.items
 word_within a t call w c core r left =
     value_word_within (shown a).base (shown a).state a.words.items c.id core.words (claim_there a t call w c core r left)
 
 -- the words after it
-words_stored : {H : Type 0} {places : H → ℕ → ℕ} (a : Inside H) (t place word v : ℕ) (call : Call) (w next : Work) (c : Claim) → IsMachine places a → Stores a t place word v call w next c
+words_stored : {H : Type 0} {places : H → ℕ → ℕ} (a : Inside H) (t place word v : ℕ) (call : Call) (w next : Execution) (c : Claim) → IsMachine places a → Stores a t place word v call w next c
     → AreWords (shown a).base (shown (stored_core a place word v next)).state (slice_set a.words.items word v)
 words_stored {H} {places} a t place word v call w next c core f =
     let o : Opening = opening_of places (shown a) in
@@ -188,8 +188,8 @@ words_stored {H} {places} a t place word v call w next c core f =
     (λ k other. others_stay o s after (by_event (event.Store t)) Stored k core.reached takes.is (stored_by_it k other))
     (λ k. counters_stay o s after (by_event (event.Store t)) Stored k takes.is refl refl) core.words)
 
--- another count of stores leaves a call's work done
-still_at_work : (procs : List Proc) (call : Call) (records : List ℕ) (w next : Work) (n : ℕ) → next ≡ record w { stores = n } → IsAtWork procs call records w → IsAtWork procs call records next
+-- another count of stores leaves a call's execution right
+still_at_work : (procs : List Proc) (call : Call) (records : List ℕ) (w next : Execution) (n : ℕ) → next ≡ record w { stores = n } → IsAtWork procs call records w → IsAtWork procs call records next
 still_at_work procs call records w next n is at = subst (IsAtWork procs call records) (sym is) (record {
   within = at.within;
   whole = at.whole;
@@ -200,12 +200,12 @@ still_at_work procs call records w next n is at = subst (IsAtWork procs call rec
 })
 
 -- a call has few stores
-pub few_stores : {H : Type 0} (a : Inside H) (t : ℕ) (call : Call) (w : Work) (c : Claim) → Runs a t call w → slice_get (writes call) w.stores ≡ Some c → w.stores < 255
+pub few_stores : {H : Type 0} (a : Inside H) (t : ℕ) (call : Call) (w : Execution) (c : Claim) → Runs a t call w → slice_get (writes call) w.stores ≡ Some c → w.stores < 255
 few_stores a t call w c r left =
     omega (arith, slice_get_within (writes call) w.stores c left, few_writes call.claims, claims_few a.library.value.records r.well.procedure call r.well.formed r.well.made)
 
 -- what the type of a machine keeps
-pub core_store : {H : Type 0} {places : H → ℕ → ℕ} (a : Inside H) (t place word v : ℕ) (call : Call) (w next : Work) (c : Claim) → IsMachine places a → Stores a t place word v call w next c → IsMachine places (stored_core a place word v next)
+pub core_store : {H : Type 0} {places : H → ℕ → ℕ} (a : Inside H) (t place word v : ℕ) (call : Call) (w next : Execution) (c : Claim) → IsMachine places a → Stores a t place word v call w next c → IsMachine places (stored_core a place word v next)
 core_store {H} {places} a t place word v call w next c core f =
     let b : Inside H = stored_core a place word v next in
     let takes = taken_store {places = places} a t place word v call w next c f in
@@ -217,16 +217,16 @@ core_store {H} {places} a t place word v call w next c core f =
       records = core.records;
       catalog = core.catalog;
       queue = core.queue;
-      works = length-set a.work.items place next ∙ core.works;
+      works = length-set a.execution.items place next ∙ core.works;
       room = core.room;
       nexts = core.nexts;
       kepts = core.kepts;
       entries_ready = core.entries_ready;
       turn_ready = core.turn_ready;
       scripts_fit = core.scripts_fit;
-      at_work = at_work_put a.library.value a.opening.value.items a.queue.entries a.work.items place next
+      at_work = at_work_put a.library.value a.opening.value.items a.queue.entries a.execution.items place next
           (λ e at. still_at_work a.library.value.procs e.line.call _ w next (w.stores + 1) f.more
-          (core.at_work place e w at (ap (λ (n : ℕ). slice_get a.work.items n) f.there ∙ f.runs.worked))) core.at_work;
-      replied = replied_put a.queue.entries a.work.items place next
-          (λ e at gone. core.replied place e w at (ap (λ (n : ℕ). slice_get a.work.items n) f.there ∙ f.runs.worked) gone ∙ ap (λ (x : Work). x.reply) (sym f.more)) core.replied;
+          (core.at_work place e w at (ap (λ (n : ℕ). slice_get a.execution.items n) f.there ∙ f.runs.worked))) core.at_work;
+      replied = replied_put a.queue.entries a.execution.items place next
+          (λ e at gone. core.replied place e w at (ap (λ (n : ℕ). slice_get a.execution.items n) f.there ∙ f.runs.worked) gone ∙ ap (λ (x : Execution). x.reply) (sym f.more)) core.replied;
     }

@@ -7,7 +7,7 @@ use Rattle.vll_core.specs.declared.event.Event.TheVariants as event
 use Rattle.vll_core.specs.declared.machine.Machine.TheInside.{Inside}
 use Rattle.vll_core.specs.declared.refusal.Refusal.TheVariants.{TurnOpen, Idle}
 use Rattle.vll_core.specs.declared.seen.Seen.TheVariants.{Run}
-use Rattle.vll_core.specs.declared.work.Work.{Work}
+use Rattle.vll_core.specs.declared.execution.Execution.{Execution}
 use Rattle.vll_sca.specs.declared.entry.Entry.{Entry}
 use Rattle.vll_sca.specs.declared.status.Status.{Status}
 use Rattle.vll_sca.specs.declared.status.Status.TheVariants.{Running, Waiting, Gone}
@@ -28,12 +28,12 @@ use Rattle.vll_core.proofs.MachineSteps.{Refuses, Takes, taken_reached, taken_wo
 
 -- ---- an event that finds a waiting ticket, or none
 
--- a ticket that waits: its entry of the queue, and its work
+-- a ticket that waits: its entry of the queue, and its execution
 pub record Waits {H : Type 0} (a : Inside H) (t : ℕ) : Type 0 where
   pub entry : QueueEntry
-  pub work : Work
+  pub execution : Execution
   pub at : slice_get a.queue.entries t ≡ Some entry
-  pub has : slice_get a.work.items t ≡ Some work
+  pub has : slice_get a.execution.items t ≡ Some execution
   pub waits : entry.status ≡ Waiting
 
 -- the ticket, if there is one, waits and begins to run by the event, which requests, releases and stores nothing
@@ -63,9 +63,9 @@ taken_wake {H} {places} a e found t wakes some =
           wakes.is
           ∙ (ap (λ (x : Option ℕ). or_refuse x Idle (λ (t : ℕ). Ok (Run t, with_status s t Running))) some
           ∙ (ap (λ (o : Option Entered). let out : Outcome = Ok (Run t, elim o [ None ↦ s | Some e ↦ with_entry s t (record e { status = Running }) ]) in out)
-          (entry_shown a.queue.entries a.work.items t w.entry w.work w.at w.has)
+          (entry_shown a.queue.entries a.execution.items t w.entry w.execution w.at w.has)
           ∙ ap (λ (es : List Entered). let out : Outcome = Ok (Run t, record s { entries = es }) in out)
-          (sym (entry_changed a.queue.entries a.work.items t w.entry w.work (λ e. record e { status = Running }) w.at w.has))));
+          (sym (entry_changed a.queue.entries a.execution.items t w.entry w.execution (λ e. record e { status = Running }) w.at w.has))));
     }
 
 pub core_wake : {H : Type 0} {places : H → ℕ → ℕ} (a : Inside H) (e : Event) (found : Option ℕ) (t : ℕ) → IsMachine places a → Wakes places a e found → found ≡ Some t
@@ -93,8 +93,8 @@ core_wake {H} {places} a e found t core wakes some =
       entries_ready = ready_same a.library.value a.queue.entries b.queue.entries (sym calls) core.entries_ready;
       turn_ready = core.turn_ready;
       scripts_fit = core.scripts_fit;
-      at_work = at_work_same a.library.value a.opening.value.items a.queue.entries b.queue.entries a.work.items (sym calls) core.at_work;
-      replied = replied_changed a.queue.entries a.work.items t (λ e. record e { status = Running }) (λ e w at has gone. absurd (cc gone)) core.replied;
+      at_work = at_work_same a.library.value a.opening.value.items a.queue.entries b.queue.entries a.execution.items (sym calls) core.at_work;
+      replied = replied_changed a.queue.entries a.execution.items t (λ e. record e { status = Running }) (λ e w at has gone. absurd (cc gone)) core.replied;
     }
 
 -- the queue after it, where a ticket is found
@@ -120,10 +120,10 @@ only_waiting Gone waits = absurd (cc waits)
 -- a ticket of which a waiting entry is shown waits
 waits_at : {H : Type 0} (a : Inside H) (t : ℕ) (e : Entered) → slice_get (shown a).state.entries t ≡ Some e → is_waiting e.status ≡ true → Waits a t
 waits_at a t e at waits =
-    let there = shown_at a.queue.entries a.work.items t e at in
+    let there = shown_at a.queue.entries a.execution.items t e at in
     record {
       entry = there.entry;
-      work = there.work;
+      execution = there.execution;
       at = there.at;
       has = there.has;
       waits = ap (λ (x : Entered). x.status) (sym there.is) ∙ only_waiting e.status waits;
@@ -145,7 +145,7 @@ by_ticket s found same closed is =
 -- the plain machine's front is that of the queue
 front_of : {H : Type 0} {places : H → ℕ → ℕ} (a : Inside H) → IsMachine places a → front (shown a).state ≡ front_among (statuses a.queue)
 front_of a core =
-    machine_front (shown a).state ∙ ap front_among (statuses_shown a.queue.entries a.work.items core.works)
+    machine_front (shown a).state ∙ ap front_among (statuses_shown a.queue.entries a.execution.items core.works)
 
 pub wakes_front : {H : Type 0} {places : H → ℕ → ℕ} (a : Inside H) → IsMachine places a → is_some (turn_of a.turn) ≡ false → Wakes places a event.Front (front_among (statuses a.queue))
 wakes_front a core closed = record {
@@ -162,7 +162,7 @@ wakes_front a core closed = record {
 scan_of : {H : Type 0} {places : H → ℕ → ℕ} (a : Inside H) → IsMachine places a
     → scan (places a.queue.hash) a.queue.bits (map scanned_entry (shown a).state.entries) ≡ found_by places a.queue
 scan_of {H} {places} a core =
-    ap (λ (es : List Entry). scan (places a.queue.hash) a.queue.bits es) (map_shown analysed scanned_entry a.queue.entries a.work.items (λ e w. refl) core.works)
+    ap (λ (es : List Entry). scan (places a.queue.hash) a.queue.bits es) (map_shown analysed scanned_entry a.queue.entries a.execution.items (λ e w. refl) core.works)
 
 pub wakes_scan : {H : Type 0} {places : H → ℕ → ℕ} (a : Inside H) → IsMachine places a → is_some (turn_of a.turn) ≡ false → Wakes places a event.Scan (found_by places a.queue)
 wakes_scan {H} {places} a core closed = record {

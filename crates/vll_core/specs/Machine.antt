@@ -176,9 +176,9 @@ state_after s (Ok seen) = seen.1
 state_after s (Err why) = s
 
 -- the answer or the refusal of an outcome
-abbrev pub told : Outcome → Result Seen Refusal
-told (Ok seen) = Ok seen.0
-told (Err why) = Err why
+abbrev pub answer_of : Outcome → Result Seen Refusal
+answer_of (Ok seen) = Ok seen.0
+answer_of (Err why) = Err why
 
 -- that a turn was opened, or why not
 abbrev pub entered : Outcome → Result (Unit {0}) Refusal
@@ -188,7 +188,7 @@ entered (Err why) = Err why
 -- the answers to a list of events
 abbrev pub answers : Opening → State → List Event → List (Result Seen Refusal)
 answers o s [] = []
-answers o s (e ∷ es) = let out = step o s e in told out ∷ answers o (state_after s out) es
+answers o s (e ∷ es) = let out = step o s e in answer_of out ∷ answers o (state_after s out) es
 
 -- the state after a list of events
 abbrev pub run : Opening → State → List Event → State

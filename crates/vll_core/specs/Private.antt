@@ -2,7 +2,7 @@
 pub mod Paired
 pub mod Window
 pub mod QueueKept
-pub mod Work
+pub mod Execution
 pub mod View
 pub mod FirstWords
 pub mod MachineKept

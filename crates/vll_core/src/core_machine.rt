@@ -3,7 +3,7 @@ ghost use Rattle.std.specs.Prelude.{◌≡◌, ◌≤◌, ◌<◌, ℕ, All, len
 ghost use Rattle.vll_check.specs.Calls.{Fits, IsReady};
 ghost use Rattle.vll_core.specs.Faults.{Refuses, open_fault};
 ghost use Rattle.vll_core.specs.Journal.{journal_of};
-ghost use Rattle.vll_core.specs.Machine.{entered, running_count, step, told, waiting};
+ghost use Rattle.vll_core.specs.Machine.{entered, running_count, step, answer_of, waiting};
 ghost use Rattle.vll_core.specs.Moves.{IsReached, hand, move};
 ghost use Rattle.vll_core.specs.Next.{claim_of, line_of_turn};
 ghost use Rattle.vll_core.specs.Shown.{AreWords, after, begun, library_of, opening_of};
@@ -76,7 +76,7 @@ impl<H: Place> Core<H> {
     /// Takes one step, or refuses it with the first `Refusal` that applies, as the plain machine does. A refused event
     /// changes nothing. Allocates nothing.
     pub fn step(&mut self, event: Event) -> Result<Seen, Refusal>
-        ensures answer { result ≡ told (step (opening_of H.place_of self.old) self.old.state event) }
+        ensures answer { result ≡ answer_of (step (opening_of H.place_of self.old) self.old.state event) }
         ensures state { self.new ≡ after self.old (step (opening_of H.place_of self.old) self.old.state event) }
     {
         self.machine.step(&self.library, event)

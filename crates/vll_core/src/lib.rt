@@ -15,6 +15,7 @@
 mod config;
 mod core_machine;
 mod event;
+mod execution;
 mod laws;
 mod line;
 mod machine;
@@ -24,7 +25,6 @@ mod refusal;
 mod room;
 mod seen;
 mod ticket;
-mod work;
 
 pub use config::{Config, MOST_CALLS, MOST_RECORDS, MOST_WAITING, OpenFault};
 pub use core_machine::Core;

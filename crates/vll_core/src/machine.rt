@@ -4,7 +4,7 @@ ghost use Rattle.vll_check.specs.Calls.{Fits};
 ghost use Rattle.vll_check.specs.Catalog.{IsCatalog};
 ghost use Rattle.vll_core.specs.Faults.{Refuses, open_fault};
 ghost use Rattle.vll_core.specs.Journal.{journal_of};
-ghost use Rattle.vll_core.specs.Machine.{running_count, step, told, waiting};
+ghost use Rattle.vll_core.specs.Machine.{running_count, step, answer_of, waiting};
 ghost use Rattle.vll_core.specs.Moves.{IsReached};
 ghost use Rattle.vll_core.specs.Private.FirstWords.{AreFirstWords};
 ghost use Rattle.vll_core.specs.Shown.{AreWords, after, begun, library_of, opening_of};
@@ -12,6 +12,7 @@ ghost use Rattle.vll_core.specs.State.{Entered};
 
 use crate::config::{Config, MOST_CALLS, MOST_RECORDS, OpenFault};
 use crate::event::Event;
+use crate::execution::Execution;
 use crate::line::Line;
 use crate::opening::open_fault;
 use crate::queue::Queue;
@@ -19,7 +20,6 @@ use crate::refusal::Refusal;
 use crate::room::list_with_room;
 use crate::seen::Seen;
 use crate::ticket::Ticket;
-use crate::work::Work;
 use std::alloc::{AllocError, Global};
 use std::marker::Model;
 use std::snapshot::Snapshot;
@@ -57,7 +57,7 @@ pub struct Machine<H: Place> {
     words: Vec<u64>,
     queue: Queue<H>,
     // What each entered call has done, by ticket.
-    work: Vec<Work>,
+    execution: Vec<Execution>,
     turn: Option<OpenTurn>,
     scripts: Vec<Vec<Call>>,
     // The index of each script's next call.
@@ -123,7 +123,7 @@ impl<H: Place + Drop> Machine<H> {
     {
         let queue = Queue::with_room(alloc, config, hash)?;
         let words = words_of(alloc, records)?;
-        let work = list_with_room(alloc, config.limit as usize, Work::blank())?;
+        let execution = list_with_room(alloc, config.limit as usize, Execution::blank())?;
         let next = vec![in alloc; 0; scripts.len()].map_err(|_| AllocError)?;
         let kept = vec![in alloc; None; scripts.len()].map_err(|_| AllocError)?;
         Ok(Machine {
@@ -131,7 +131,7 @@ impl<H: Place + Drop> Machine<H> {
             opening: Snapshot::of(records),
             words,
             queue,
-            work,
+            execution,
             turn: None,
             scripts,
             next,
@@ -155,7 +155,7 @@ impl<H: Place> Machine<H> {
     /// changes nothing. `library` is the one of the opening. Allocates nothing.
     pub fn step(&mut self, library: &Library, event: Event) -> Result<Seen, Refusal>
         requires same { library.now ≡ library_of self.old }
-        ensures answer { result ≡ told (step (opening_of H.place_of self.old) self.old.state event) }
+        ensures answer { result ≡ answer_of (step (opening_of H.place_of self.old) self.old.state event) }
         ensures state { self.new ≡ after self.old (step (opening_of H.place_of self.old) self.old.state event) }
     {
         match event {

@@ -6,7 +6,7 @@ ghost use Rattle.vll_counters.specs.Shown.{passed, record_of};
 ghost use Rattle.vll_counters.specs.Steps.{loaded, stored, released, records_before_pass, reply_of_pass};
 ghost use Rattle.vll_counters.specs.Told.{IsValueNow, IsCountedNow, has_stored_pass};
 
-use crate::steps::{Loads, Releases, Stores, Told};
+use crate::steps::{Known, Loads, Releases, Stores};
 use crate::views::View;
 use crate::words::Words;
 use atomic_table::Seat;
@@ -41,10 +41,10 @@ impl Words {
         ensures pass { pass.new ≡ passed pass.old (loaded result pass.old.pass) }
         ensures value { IsValueNow self.now.base pass.old.pass id result }
     {
-        self.load_told::<Brand>(pass, id)
+        self.load_knowing::<Brand>(pass, id)
     }
 
-    fn load_told<T: Told>(&self, pass: &mut PassSeat, id: RecordId) -> u64
+    fn load_knowing<T: Known>(&self, pass: &mut PassSeat, id: RecordId) -> u64
         requires told { (T.base ≡ self.now.base) × (T.number ≡ id) }
         requires same { pass.old.table ≡ self.now.table }
         requires next { record_of (slice_get pass.old.pass.call.claims pass.old.pass.loads) ≡ Some id }
@@ -85,10 +85,10 @@ impl Words {
         ensures pass { pass.new ≡ passed pass.old (released pass.old.pass) }
         ensures counter { IsCountedNow self.now.base pass.old.pass claim.id result }
     {
-        self.release_told::<Brand>(pass, claim)
+        self.release_knowing::<Brand>(pass, claim)
     }
 
-    fn release_told<T: Told>(&self, pass: &mut PassSeat, claim: Claim) -> u64
+    fn release_knowing<T: Known>(&self, pass: &mut PassSeat, claim: Claim) -> u64
         requires told { (T.base ≡ self.now.base) × (T.number ≡ claim.id) }
         requires same { pass.old.table ≡ self.now.table }
         requires next { slice_get pass.old.pass.call.claims pass.old.pass.releases ≡ Some claim }

@@ -6,7 +6,7 @@ ghost use Rattle.vll_counters.specs.Steps.{requested, new_pass, finished};
 ghost use Rattle.vll_counters.specs.Told.{IsCounterNow, MayRun, KnowsPass, has_stored_pass};
 
 use crate::pass_seat::PassSeat;
-use crate::steps::{Comes, Ends, GivesPass, Requests, Told};
+use crate::steps::{Comes, Ends, GivesPass, Known, Requests};
 use crate::views::View;
 use crate::words::Words;
 use atomic_table::Seat;
@@ -43,10 +43,10 @@ impl Words {
         ensures queue { queue.new ≡ after queue.old (requested claim result (queue_view queue.old)) }
         ensures counter { IsCounterNow self.now.base (queue_view queue.old) claim.id result }
     {
-        self.request_told::<Brand>(queue, claim)
+        self.request_knowing::<Brand>(queue, claim)
     }
 
-    fn request_told<T: Told>(&self, queue: &mut QueueSeat, claim: Claim) -> u64
+    fn request_knowing<T: Known>(&self, queue: &mut QueueSeat, claim: Claim) -> u64
         requires told { (T.base ≡ self.now.base) × (T.claim ≡ claim) }
         requires same { queue.old.table ≡ self.now.table }
         requires next { next_claim queue.old.turn ≡ Some claim }
@@ -67,10 +67,10 @@ impl Words {
         ensures queue { queue.new ≡ after queue.old (with_pass_given queue.old ticket) }
         ensures pass { (l : Line) → slice_get queue.new.lines ticket ≡ Some l → result ≡ record { table = self.now.table; pass = new_pass ticket l.call queue.new.lines } }
     {
-        self.give_pass_told::<Brand>(queue, ticket)
+        self.give_pass_knowing::<Brand>(queue, ticket)
     }
 
-    fn give_pass_told<T: Told>(&self, queue: &mut QueueSeat, ticket: Ticket) -> PassSeat
+    fn give_pass_knowing<T: Known>(&self, queue: &mut QueueSeat, ticket: Ticket) -> PassSeat
         requires told { T.number ≡ ticket }
         requires same { queue.old.table ≡ self.now.table }
         requires may_run { MayRun queue.old.lines queue.old.statuses queue.old.turn ticket }
@@ -96,10 +96,10 @@ impl Words {
         ensures queue { queue.new ≡ after queue.old (finished self.now.base pass.pass (queue_view queue.old)) }
         ensures pass { KnowsPass (queue_view queue.old) pass.pass }
     {
-        self.join_pass_told::<Brand>(queue, pass);
+        self.join_pass_knowing::<Brand>(queue, pass);
     }
 
-    fn join_pass_told<T: Told>(&self, queue: &mut QueueSeat, pass: PassSeat)
+    fn join_pass_knowing<T: Known>(&self, queue: &mut QueueSeat, pass: PassSeat)
         requires told { T.base ≡ self.now.base }
         requires same { (queue.old.table ≡ self.now.table) × (pass.table ≡ self.now.table) }
         requires closed { queue.old.turn ≡ None }

@@ -7,7 +7,7 @@ ghost use Rattle.vll_counters.specs.Steps.{new_session, turn_of};
 ghost use Rattle.vll_counters.specs.Told.{HasFound, KnowsSession, MayLeave, IsGivenOut};
 
 use crate::queue_seat::QueueSeat;
-use crate::steps::{Comes, Finds, GivesSession, MakesSession, Opens, Told};
+use crate::steps::{Comes, Finds, GivesSession, Known, MakesSession, Opens};
 use crate::views::View;
 use crate::words::Words;
 use atomic_table::Seat;
@@ -62,10 +62,10 @@ impl Words {
         ensures table { session.new.table ≡ session.old.table }
         ensures found { HasFound self.now.base session.old.session session.new.session id result }
     {
-        self.find_told::<Brand>(session, id)
+        self.find_knowing::<Brand>(session, id)
     }
 
-    fn find_told<T: Told>(&self, session: &mut SessionSeat, id: RecordId) -> u64
+    fn find_knowing<T: Known>(&self, session: &mut SessionSeat, id: RecordId) -> u64
         requires told { (T.base ≡ self.now.base) × (T.number ≡ id) }
         requires same { session.old.table ≡ self.now.table }
         requires there { id < length self.now.base.records }
@@ -88,10 +88,10 @@ impl Words {
         ensures queue { queue.new ≡ record queue.old { session = Some session.session; turn = turn_of (option_map (λ c. c.now) call.entry) (Some session.session) } }
         ensures session { KnowsSession self.now.base (queue_view queue.old) session.session }
     {
-        self.join_session_told::<Brand>(queue, session, call);
+        self.join_session_knowing::<Brand>(queue, session, call);
     }
 
-    fn join_session_told<T: Told>(
+    fn join_session_knowing<T: Known>(
         &self,
         queue: &mut QueueSeat,
         session: SessionSeat,
@@ -123,10 +123,10 @@ impl Words {
         ensures queue { queue.new ≡ after queue.old (without_session queue.old) }
         ensures session { IfSome queue.old.session (λ g. result ≡ left_session queue.old given g) }
     {
-        self.give_session_told::<Brand>(queue, given)
+        self.give_session_knowing::<Brand>(queue, given)
     }
 
-    fn give_session_told<T: Told>(
+    fn give_session_knowing<T: Known>(
         &self,
         queue: &mut QueueSeat,
         given: Option<Ticket>,

@@ -4,7 +4,7 @@ use atomic_table::{Join, Play, Split};
 use std::marker::{Brand, PhantomData};
 
 /// What a step knows besides the view of its seat. Each function picks it.
-pub trait Told {
+pub trait Known {
     ghost use Rattle.std.specs.Prelude.{ℕ, Option};
     ghost use Rattle.vll_record.specs.declared.claim.Claim.{Claim};
     ghost use Rattle.vll_proc.specs.declared.call.Call.{Call};
@@ -21,7 +21,7 @@ pub trait Told {
     ghost given: { Option ℕ };
 }
 
-impl Told for Brand {
+impl Known for Brand {
     ghost use Rattle.std.specs.Prelude.{[], None};
     ghost use Rattle.vll_counters.specs.Shown.{no_claim};
 
@@ -61,7 +61,7 @@ impl Join<View> for Comes {
 /// Opens a turn for the call of the joined session, if it brings one.
 pub struct Opens<T>(PhantomData<T>);
 
-impl<T: Told> Play<(), View> for Opens<T> {
+impl<T: Known> Play<(), View> for Opens<T> {
     ghost use Rattle.vll_counters.specs.Told.{OpenTells};
 
     ghost then = { OpenTells T.base T.call };
@@ -70,7 +70,7 @@ impl<T: Told> Play<(), View> for Opens<T> {
 /// Requests the open turn's next claim.
 pub struct Requests<T>(PhantomData<T>);
 
-impl<T: Told> Play<(), View> for Requests<T> {
+impl<T: Known> Play<(), View> for Requests<T> {
     ghost use Rattle.vll_counters.specs.Told.{RequestTells};
 
     ghost then = { RequestTells T.base T.claim };
@@ -79,7 +79,7 @@ impl<T: Told> Play<(), View> for Requests<T> {
 /// Starts a call: that of the open turn, which enters, or a waiting one.
 pub struct GivesPass<T>(PhantomData<T>);
 
-impl<T: Told> Split<View> for GivesPass<T> {
+impl<T: Known> Split<View> for GivesPass<T> {
     ghost use Rattle.vll_counters.specs.Steps.{pass_kept, pass_made};
 
     ghost left = { pass_kept T.number };
@@ -90,7 +90,7 @@ impl<T: Told> Split<View> for GivesPass<T> {
 /// Lets the session leave the queue; if its turn is open, its call enters.
 pub struct GivesSession<T>(PhantomData<T>);
 
-impl<T: Told> Split<View> for GivesSession<T> {
+impl<T: Known> Split<View> for GivesSession<T> {
     ghost use Rattle.vll_counters.specs.Steps.{session_kept, session_given};
 
     ghost left = { session_kept };
@@ -101,7 +101,7 @@ impl<T: Told> Split<View> for GivesSession<T> {
 /// Loads a record for a call that a session has not entered yet.
 pub struct Finds<T>(PhantomData<T>);
 
-impl<T: Told> Play<(), View> for Finds<T> {
+impl<T: Known> Play<(), View> for Finds<T> {
     ghost use Rattle.vll_counters.specs.Told.{FindTells};
 
     ghost then = { FindTells T.base T.number };
@@ -142,7 +142,7 @@ impl Play<(), View> for Hears {
 /// Loads the record of a running call's next claim.
 pub struct Loads<T>(PhantomData<T>);
 
-impl<T: Told> Play<(), View> for Loads<T> {
+impl<T: Known> Play<(), View> for Loads<T> {
     ghost use Rattle.vll_counters.specs.Told.{LoadTells};
 
     ghost then = { LoadTells T.base T.number };
@@ -160,7 +160,7 @@ impl Play<(), View> for Stores {
 /// Releases a running call's next claim.
 pub struct Releases<T>(PhantomData<T>);
 
-impl<T: Told> Play<(), View> for Releases<T> {
+impl<T: Known> Play<(), View> for Releases<T> {
     ghost use Rattle.vll_counters.specs.Told.{ReleaseTells};
 
     ghost then = { ReleaseTells T.base T.number };
@@ -169,7 +169,7 @@ impl<T: Told> Play<(), View> for Releases<T> {
 /// Ends the call of the joined pass: it is gone.
 pub struct Ends<T>(PhantomData<T>);
 
-impl<T: Told> Play<(), View> for Ends<T> {
+impl<T: Known> Play<(), View> for Ends<T> {
     ghost use Rattle.vll_counters.specs.Told.{EndTells};
 
     ghost then = { EndTells T.base };

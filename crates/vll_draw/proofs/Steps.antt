@@ -9,7 +9,7 @@ use Rattle.vll_core.specs.declared.refusal.Refusal.TheVariants.{NotRunning}
 use Rattle.vll_record.specs.Counter.{delta_of}
 use Rattle.vll_sca.specs.Status.{is_running}
 use Rattle.vll_core.specs.State.{Opening, Entered, State, counter}
-use Rattle.vll_core.specs.Machine.{Outcome, if_running, or_refuse, state_after, step, told}
+use Rattle.vll_core.specs.Machine.{Outcome, if_running, or_refuse, state_after, step, answer_of}
 use Rattle.vll_core.specs.Moves.{IsReached, by_event, moved, entry_release, entry_store, is_on, delta_if, requested_by, released_by, stored_by, turn_request}
 use Rattle.vll_core.specs.Next.{claim_of}
 use Rattle.vll_core.proofs.Counters.{counters_change}
@@ -20,7 +20,7 @@ use Rattle.vll_picture.specs.declared.column.Column.{Column}
 use Rattle.vll_picture.specs.declared.column.RecordWords.{RecordWords}
 use Rattle.vll_draw.specs.Taped.{HasTaped, Stands, drawn}
 use Rattle.vll_draw.specs.declared.tape.Tape.{Tape}
-use Rattle.vll_draw.specs.declared.window.Window.{Window}
+use Rattle.vll_draw.specs.declared.event_range.EventRange.{EventRange}
 
 -- a claim that is not on a record adds nothing to its counter
 off_adds_nothing : (r : ℕ) (c : Option Claim) → is_on r c ≡ false → delta_if r c ≡ 0
@@ -76,7 +76,7 @@ stores_nothing o s (event.Finish t) out r is off = refl
 
 -- so it leaves the record's words
 leaves : (o : Opening) (s : State) (e : Event) (r : ℕ) (w : RecordWords) (out : Outcome) → step o s e ≡ out → IsReached o s
-    → is_on r (elim (told out) [ Err why ↦ None | Ok seen ↦ claim_of s e ]) ≡ false → AreWordsOf o.base s r w → AreWordsOf o.base (state_after s out) r w
+    → is_on r (elim (answer_of out) [ Err why ↦ None | Ok seen ↦ claim_of s e ]) ≡ false → AreWordsOf o.base s r w → AreWordsOf o.base (state_after s out) r w
 leaves o s e r w (Err why) is reached off are = are
 leaves o s e r w (Ok (seen, next)) is reached off are =
     let asked = asks_nothing o s e r off in
@@ -149,7 +149,7 @@ by_standing o s (e ∷ es) words cs are standing =
     let stands = standing (step_of o s e) (steps o (state_after s (step o s e)) es) refl in
     steps_are o s (e ∷ es) cs (words_at words) stands.0 are (λ r within. record { value = stands.1.values r within; pair = stands.1.pairs r within })
 
-pub drawn_steps : (o : Opening) (w : Window) (s : State) (es : List Event) (t : Tape) → HasTaped o w (steps o s es) t
+pub drawn_steps : (o : Opening) (w : EventRange) (s : State) (es : List Event) (t : Tape) → HasTaped o w (steps o s es) t
     → AreSteps o.base (words_at t.standing.words.items) (drawn w (steps o s es)) t.columns.items
 drawn_steps o w s es t has =
     let of = within_window o w.count (drop w.from (steps o s es)) (left o s w.from es) in

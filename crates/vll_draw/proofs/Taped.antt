@@ -4,14 +4,14 @@ use Rattle.vll_core.specs.State.{Opening}
 use Rattle.vll_replay.specs.Steps.{Step}
 use Rattle.vll_picture.specs.Columns.{AreColumns, IsColumn, window}
 use Rattle.vll_picture.specs.declared.column.Column.{Column}
-use Rattle.vll_picture.specs.declared.scene.Standing.{Standing}
+use Rattle.vll_picture.specs.declared.drawing.Standing.{Standing}
 use Rattle.vll_draw.specs.Taped.{HasTaped, Stands, StandsBefore, drawn}
 use Rattle.vll_draw.specs.declared.tape.Tape.{Tape}
-use Rattle.vll_draw.specs.declared.window.Window.{Window}
+use Rattle.vll_draw.specs.declared.event_range.EventRange.{EventRange}
 use Rattle.vll_draw.proofs.Windows.{columns-append, columns-length, window-ahead, window-full, window-within}
 
 -- a tape that differs in nothing that is drawn has kept the same
-pub same : (o : Opening) (w : Window) (past now : List Step) (t u : Tape) → HasTaped o w past t → drawn w now ≡ drawn w past → u.ahead ≡ w.from - length now → u.most ≡ t.most
+pub same : (o : Opening) (w : EventRange) (past now : List Step) (t u : Tape) → HasTaped o w past t → drawn w now ≡ drawn w past → u.ahead ≡ w.from - length now → u.most ≡ t.most
     → u.columns.items ≡ t.columns.items → u.standing ≡ t.standing → HasTaped o w now u
 same o w past now t u has still ahead most columns standing = record {
   ahead = ahead;
@@ -21,7 +21,7 @@ same o w past now t u has still ahead most columns standing = record {
 }
 
 -- a step before those that are drawn
-pub step_ahead : (o : Opening) (w : Window) (past : List Step) (s : Step) (t u : Tape) → HasTaped o w past t → 0 < t.ahead → u.ahead ≡ t.ahead - 1 → u.most ≡ t.most
+pub step_ahead : (o : Opening) (w : EventRange) (past : List Step) (s : Step) (t u : Tape) → HasTaped o w past t → 0 < t.ahead → u.ahead ≡ t.ahead - 1 → u.most ≡ t.most
     → u.columns.items ≡ t.columns.items → u.standing ≡ t.standing → HasTaped o w (past ++ s ∷ []) u
 step_ahead o w past s t u has some ahead most columns standing =
     let before : length past < w.from = omega (arith, has.ahead, some) in
@@ -29,7 +29,7 @@ step_ahead o w past s t u has some ahead most columns standing =
     same o w past (past ++ s ∷ []) t u has (window-ahead w.from w.count past s before) fewer most columns standing
 
 -- a step after those that are drawn
-pub step_behind : (o : Opening) (w : Window) (past : List Step) (s : Step) (t u : Tape) → HasTaped o w past t → t.ahead ≤ 0 → t.most ≤ length t.columns.items → u.ahead ≡ t.ahead → u.most ≡ t.most
+pub step_behind : (o : Opening) (w : EventRange) (past : List Step) (s : Step) (t u : Tape) → HasTaped o w past t → t.ahead ≤ 0 → t.most ≤ length t.columns.items → u.ahead ≡ t.ahead → u.most ≡ t.most
     → u.columns.items ≡ t.columns.items → u.standing ≡ t.standing → HasTaped o w (past ++ s ∷ []) u
 step_behind o w past s t u has none many ahead most columns standing =
     let begun : w.from ≤ length past = omega (arith, has.ahead, none) in
@@ -43,7 +43,7 @@ first_of P [] s x more old new is = let here : s ≡ x = cc is in subst P here (
 first_of P (y ∷ ys) s x more old new is = let here : y ≡ x = cc is in subst P here (old y ys refl)
 
 -- a step that is drawn
-pub step_drawn : (o : Opening) (w : Window) (past : List Step) (s : Step) (c : Column) (t u : Tape) → HasTaped o w past t → StandsBefore o w past s.before t → IsColumn o.base s c
+pub step_drawn : (o : Opening) (w : EventRange) (past : List Step) (s : Step) (c : Column) (t u : Tape) → HasTaped o w past t → StandsBefore o w past s.before t → IsColumn o.base s c
     → t.ahead ≤ 0 → length t.columns.items < t.most → u.ahead ≡ t.ahead → u.most ≡ t.most → u.columns.items ≡ t.columns.items ++ c ∷ [] → u.standing ≡ t.standing
     → HasTaped o w (past ++ s ∷ []) u
 step_drawn o w past s c t u has before is none few ahead most columns standing =

@@ -13,13 +13,13 @@ ghost use Rattle.vll_picture.specs.Columns.{AreSteps, words_at};
 ghost use Rattle.vll_draw.specs.Taped.{HasTaped, drawn};
 ghost use Rattle.vll_draw.specs.declared.fault.DrawFault.TheVariants as fault;
 
+use crate::event_range::EventRange;
 use crate::fault::DrawFault;
 use crate::page::with_list;
 use crate::tape::Tape;
-use crate::window::Window;
 use std::alloc::{AllocError, Global};
 use vll_core::Core;
-use vll_picture::{Counts, Scene, push_bands, push_head, push_heading};
+use vll_picture::{Counts, Drawing, push_bands, push_head, push_heading};
 use vll_replay::text_of_replay;
 use vll_sca::Placing;
 use vll_scenario::{Scenario, Sink, Source, read_scenario, write_text};
@@ -34,7 +34,7 @@ pub fn draw<S: Source, W: Sink>(
     alloc: Global,
     reader: &mut S,
     writer: &mut W,
-    window: Window,
+    window: EventRange,
 ) -> Result<(), DrawFault>
     requires reader { S.failed reader.old ≡ false }
     requires writer { W.failed writer.old ≡ false }
@@ -55,7 +55,7 @@ pub fn draw<S: Source, W: Sink>(
 }
 
 // The page of a scenario's replay.
-fn page_of(alloc: Global, scenario: Scenario, window: Window) -> Result<String, AllocError>
+fn page_of(alloc: Global, scenario: Scenario, window: EventRange) -> Result<String, AllocError>
     ensures { IfOk result (λ page. Lists (string_bytes page) (text_of_setup scenario)) }
 {
     let first = window.from as usize;
@@ -73,7 +73,7 @@ struct Taped {
 }
 
 // The text of a scenario's replay, the machine in its state at the end, and what was kept of the events that are drawn.
-fn watched(alloc: Global, scenario: Scenario, window: Window) -> Result<Taped, AllocError>
+fn watched(alloc: Global, scenario: Scenario, window: EventRange) -> Result<Taped, AllocError>
     ensures text { IfOk result (λ made. string_bytes made.text ≡ text_of_setup scenario) }
     ensures tape { IfOk result (λ made. HasTaped (opening_for scenario) window
         (steps (opening_for scenario) (opened scenario.scripts) scenario.schedule) made.tape) }
@@ -110,7 +110,7 @@ fn drawings_of(
         standing,
         ..
     } = tape;
-    let scene = Scene {
+    let drawing = Drawing {
         alloc,
         first,
         columns: columns.as_slice(),
@@ -119,7 +119,7 @@ fn drawings_of(
     };
     let mut page = String::new(alloc);
     push_head(&mut page, counts)?;
-    push_bands(&mut page, &scene, standing)?;
+    push_bands(&mut page, &drawing, standing)?;
     push_heading(&mut page)?;
     Ok(page)
 }

@@ -1,10 +1,10 @@
 //! A replay as an HTML page: what each event did is drawn over time, with the lines of the replay's text listed below.
 //! It is the whole of the program's `vll draw`. The crate proves that the list has exactly the lines of the replay of
 //! the scenario that was read, and that the column kept for each drawn event holds what the machine's specification
-//! says of its step; nothing is proved about the markup of the drawings. Start at `draw` and `Window`.
+//! says of its step; nothing is proved about the markup of the drawings. Start at `draw` and `EventRange`.
 //!
 //! ```rattle
-//! let window = Window { from, count };
+//! let window = EventRange { from, count };
 //! let mut reader = Plain::new(rt.reader());
 //! let mut writer = Plain::new(io::writer(rt));
 //! draw(rt.alloc(), &mut reader, &mut writer, window)?;
@@ -12,11 +12,11 @@
 #![tactic(auto)]
 
 mod drawing;
+mod event_range;
 mod fault;
 mod page;
 mod tape;
-mod window;
 
 pub use drawing::draw;
+pub use event_range::{EventRange, MOST_COLUMNS};
 pub use fault::DrawFault;
-pub use window::{MOST_COLUMNS, Window};

@@ -7,9 +7,9 @@ ghost use Rattle.vll_core.specs.Next.{claim_of};
 ghost use Rattle.vll_replay.specs.Steps.{Step};
 ghost use Rattle.vll_picture.specs.Columns.{AreWordsOf, IsColumn, ticket_in, ticket_seen};
 ghost use Rattle.vll_draw.specs.Taped.{HasTaped, Stands, StandsBefore};
-ghost use Rattle.vll_draw.specs.declared.window.Window.{Window};
+ghost use Rattle.vll_draw.specs.declared.event_range.EventRange.{EventRange};
 
-use crate::window::Window;
+use crate::event_range::EventRange;
 use std::alloc::{AllocError, Global};
 use vll_core::{Core, Event, Refusal, Seen, Ticket};
 use vll_picture::{Column, Phase, RecordWords, Standing};
@@ -36,7 +36,7 @@ pub(crate) struct Tape {
 }
 
 impl Tape {
-    pub(crate) fn new(alloc: Global, window: Window) -> Tape
+    pub(crate) fn new(alloc: Global, window: EventRange) -> Tape
         ensures { (o : Opening) → HasTaped o window [] result }
     {
         Tape {
@@ -55,7 +55,7 @@ impl Tape {
 
     // Keeps the state before an event, if the event is the first that is drawn.
     fn stand(&mut self, core: &Core<Placing>) -> Result<(), AllocError>
-        ensures stands { OnOk result ((w : Window) (past : List Step) → let o = opening_of placing core.now in
+        ensures stands { OnOk result ((w : EventRange) (past : List Step) → let o = opening_of placing core.now in
             HasTaped o w past self.old → HasTaped o w past self.new × StandsBefore o w past core.now.state self.new) }
         ensures claim { OnOk result (self.new.claim ≡ self.old.claim) }
     {
@@ -72,9 +72,9 @@ impl Tape {
 
 impl Observer for Tape {
     ghost use Rattle.vll_draw.specs.Taped.{HasTaped, Tapes};
-    ghost use Rattle.vll_draw.specs.declared.window.Window.{Window};
+    ghost use Rattle.vll_draw.specs.declared.event_range.EventRange.{EventRange};
 
-    ghost Task = { Window };
+    ghost Task = { EventRange };
 
     ghost saw = { λ w o past tape. HasTaped o w past tape };
 
@@ -90,7 +90,7 @@ impl Observer for Tape {
         &mut self,
         core: &Core<Placing>,
         event: &Event,
-        told: &Result<Seen, Refusal>,
+        answer: &Result<Seen, Refusal>,
     ) -> Result<(), AllocError> {
         self.events = self.events.saturating_add(1);
         if self.ahead > 0 {
@@ -100,7 +100,7 @@ impl Observer for Tape {
         if self.columns.len() >= self.most as usize {
             return Ok(());
         }
-        let column = column_of(core, event, told, self.claim);
+        let column = column_of(core, event, answer, self.claim);
         // The check needs every type that a column holds to be named here.
         let _named: Option<Reply> = None;
         self.columns.push(column)?;
@@ -112,27 +112,27 @@ impl Observer for Tape {
 fn column_of(
     core: &Core<Placing>,
     event: &Event,
-    told: &Result<Seen, Refusal>,
+    answer: &Result<Seen, Refusal>,
     claim: Option<Claim>,
 ) -> Column
-    ensures { (s : Step) → event.now ≡ s.event → told.now ≡ s.answer → core.now.state ≡ s.after
+    ensures { (s : Step) → event.now ≡ s.event → answer.now ≡ s.answer → core.now.state ≡ s.after
         → claim ≡ claim_of s.before s.event → IsColumn core.now.base s result }
 {
-    match told {
-        Ok(seen) => column_with(core, event, told, ticket_of(core, event, seen), claim),
-        Err(_) => column_with(core, event, told, None, None),
+    match answer {
+        Ok(seen) => column_with(core, event, answer, ticket_of(core, event, seen), claim),
+        Err(_) => column_with(core, event, answer, None, None),
     }
 }
 
 fn column_with(
     core: &Core<Placing>,
     event: &Event,
-    told: &Result<Seen, Refusal>,
+    answer: &Result<Seen, Refusal>,
     ticket: Option<usize>,
     claim: Option<Claim>,
 ) -> Column
     ensures event { result.event ≡ event.now }
-    ensures answer { result.answer ≡ told.now }
+    ensures answer { result.answer ≡ answer.now }
     ensures ticket { result.ticket ≡ ticket }
     ensures claim { result.claim ≡ claim }
     ensures words { IfSome claim (λ k. k.id < length core.now.base.records → AreWordsOf core.now.base core.now.state k.id result.words) }
@@ -140,7 +140,7 @@ fn column_with(
     let words = words_of(core, &claim);
     Column {
         event: *event,
-        answer: *told,
+        answer: *answer,
         ticket,
         claim,
         words,

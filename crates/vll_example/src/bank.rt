@@ -23,7 +23,7 @@ pub(crate) fn open<R: Wait + Print>(rt: &R, alloc: Global) -> Result<(), EngineF
     };
     let library = library(alloc, 2)?;
     let opening = Opening::new(alloc, accounts, library, config, Placing::Spread, 2)?;
-    opening.serve(Bank { rt })
+    opening.host(Bank { rt })
 }
 
 // What is done with the engine.
@@ -40,7 +40,7 @@ impl<'a, R: Wait + Print> Service for Bank<'a, R> {
 
     ghost allows = { λ _ e. e.base.procs ≡ procedures };
 
-    fn serve<N: Name + Send + Sync>(
+    fn host<N: Name + Send + Sync>(
         self,
         engine: Engine<N, Placing>,
         mut clients: Clients<N>,

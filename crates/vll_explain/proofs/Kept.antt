@@ -15,7 +15,7 @@ use Rattle.vll_scenario.specs.declared.reading.bytes.ReadFault.{ReadFault}
 use Rattle.vll_scenario.specs.declared.reading.bytes.ReadFault.TheVariants as bytes
 use Rattle.vll_scenario.proofs.Answering.{reads_tell, setup_reads_nothing, shape_reads_nothing}
 use Rattle.vll_explain.specs.Private.{IsToldOf}
-use Rattle.vll_explain.specs.Told.{AreMany, Explains, IsBegun, IsTold, fault_in}
+use Rattle.vll_explain.specs.Explained.{AreMany, Explains, IsBegun, IsTold, fault_in}
 
 -- ---- bytes that were read to their end
 

@@ -5,7 +5,7 @@ use Rattle.vll_scenario.specs.declared.fault.ScenarioFault.{ScenarioFault}
 use Rattle.vll_scenario.specs.declared.piece.Step.{Step}
 use Rattle.vll_scenario.specs.Line.{fault_words}
 use Rattle.vll_scenario.specs.Ways.{LeadsToFault}
-use Rattle.vll_explain.specs.Told.{IsBegun, IsLocated, IsShown, line_of, way_words}
+use Rattle.vll_explain.specs.Explained.{IsBegun, IsLocated, IsShown, line_of, way_words}
 
 spelled : (a w rest : List ℕ) → a ++ (w ++ (10 ∷ 97 ∷ 116 ∷ 58 ∷ 32 ∷ rest)) ≡ (a ++ w ++ codes "\n") ++ codes "at: " ++ rest
 spelled a w rest = simp append_assoc

@@ -3,7 +3,7 @@ use Rattle.std.specs.Prelude.{List, ℕ}
 use Rattle.serde_json.specs.Data.{Data}
 use Rattle.vll_scenario.specs.declared.fault.ScenarioFault.{ScenarioFault}
 use Rattle.vll_scenario.specs.declared.fault.ScenarioFault.TheVariants as fault
-use Rattle.vll_explain.specs.Told.{IsBegun, IsLocated}
+use Rattle.vll_explain.specs.Explained.{IsBegun, IsLocated}
 
 -- the text about a fault: the piece at fault, if it lies in the tree
 abbrev pub IsToldOf : Data → ScenarioFault → List ℕ → Type 0

@@ -8,7 +8,7 @@ ghost use Rattle.vll_scenario.specs.Streams.{AppendsBeginning};
 ghost use Rattle.vll_scenario.specs.declared.fault.ScenarioFault.{ScenarioFault};
 ghost use Rattle.vll_scenario.specs.declared.fault.ScenarioFault.TheVariants.{Read};
 ghost use Rattle.serde_json.specs.View.{view};
-ghost use Rattle.vll_explain.specs.Told.{Explains, IsBegun, IsLocated, IsTold, fault_in};
+ghost use Rattle.vll_explain.specs.Explained.{Explains, IsBegun, IsLocated, IsTold, fault_in};
 ghost use Rattle.vll_explain.specs.Private.{IsToldOf};
 
 use crate::reason::{reason_of, unread_explanation};

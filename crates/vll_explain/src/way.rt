@@ -1,6 +1,6 @@
 //! The way to a piece, in words.
 ghost use Rattle.std.specs.Prelude.{◌≡◌, ◌++◌, IfOk, OnOk, string_bytes};
-ghost use Rattle.vll_explain.specs.Told.{IsShown, way_words};
+ghost use Rattle.vll_explain.specs.Explained.{IsShown, way_words};
 ghost use Rattle.vll_scenario.specs.Ways.{words_of};
 
 use crate::asked::items_of;

@@ -1,10 +1,10 @@
 //! A band: some columns side by side, with the lanes that have a part in them.
 use crate::column::Column;
+use crate::drawing::{Drawing, Standing};
 use crate::markup::{
     Area, BAND, STEP, WIDTH, close_mark, left_of, open_mark, push_area, push_upright, push_words,
 };
 use crate::records::push_record;
-use crate::scene::{Scene, Standing};
 use crate::tickets::push_ticket;
 use crate::{lanes, style};
 use std::alloc::{AllocError, Global};
@@ -28,24 +28,24 @@ impl Band<'_> {
 /// Appends a band, drawn from the state before it and its events.
 pub(crate) fn push_band(
     page: &mut String,
-    scene: &Scene<'_>,
+    drawing: &Drawing<'_>,
     standing: &Standing,
     band: Band<'_>,
 ) -> Result<(), AllocError> {
-    let alloc = scene.alloc;
+    let alloc = drawing.alloc;
     let mut body = String::new(alloc);
-    let mut top = push_events(&mut body, scene, band)?;
-    top = push_told(&mut body, scene, band, top, Told::Refused)?;
-    top = push_told(&mut body, scene, band, top, Told::Found)?;
+    let mut top = push_events(&mut body, drawing, band)?;
+    top = push_told(&mut body, drawing, band, top, Told::Refused)?;
+    top = push_told(&mut body, drawing, band, top, Told::Found)?;
     let tickets = lanes::tickets(alloc, standing, band.columns)?;
     for ticket in &tickets.shown {
-        top = push_ticket(&mut body, scene, standing, band, *ticket, top)?;
+        top = push_ticket(&mut body, drawing, standing, band, *ticket, top)?;
     }
     let records = lanes::records(alloc, standing, band.columns)?;
     for record in &records.shown {
-        top = push_record(&mut body, scene, standing, band, *record, top)?;
+        top = push_record(&mut body, drawing, standing, band, *record, top)?;
     }
-    push_caption(page, scene, band, tickets.left_out, records.left_out)?;
+    push_caption(page, drawing, band, tickets.left_out, records.left_out)?;
     write!(
         page,
         "<svg xmlns=\"http://www.w3.org/2000/svg\" width=\"{WIDTH}\" height=\"{top}\""
@@ -62,13 +62,13 @@ pub(crate) fn push_band(
 // Appends which events the band shows, and how many calls and records have no lane in it.
 fn push_caption(
     page: &mut String,
-    scene: &Scene<'_>,
+    drawing: &Drawing<'_>,
     band: Band<'_>,
     tickets: usize,
     records: usize,
 ) -> Result<(), AllocError> {
-    let first = scene.number(band.start);
-    let last = scene.number(band.start.saturating_add(band.len()).saturating_sub(1));
+    let first = drawing.number(band.start);
+    let last = drawing.number(band.start.saturating_add(band.len()).saturating_sub(1));
     write!(page, "<figure>\n<figcaption>Events {first} to {last}.")?;
     if tickets > 0 {
         write!(
@@ -103,8 +103,12 @@ fn push_ground(page: &mut String, band: Band<'_>, height: usize) -> Result<(), A
 }
 
 // Appends the number and the words of each event, and returns their height.
-fn push_events(body: &mut String, scene: &Scene<'_>, band: Band<'_>) -> Result<usize, AllocError> {
-    let alloc = scene.alloc;
+fn push_events(
+    body: &mut String,
+    drawing: &Drawing<'_>,
+    band: Band<'_>,
+) -> Result<usize, AllocError> {
+    let alloc = drawing.alloc;
     let mut longest: usize = 0;
     for column in band.columns {
         longest = words_of(alloc, column.event)?.len().max(longest);
@@ -118,8 +122,8 @@ fn push_events(body: &mut String, scene: &Scene<'_>, band: Band<'_>) -> Result<u
             height,
         };
         let at = band.start.saturating_add(index);
-        open_mark(body, scene.number(at), column)?;
-        push_event_number(body, cell.left, index, scene.number(at))?;
+        open_mark(body, drawing.number(at), column)?;
+        push_event_number(body, cell.left, index, drawing.number(at))?;
         push_cell_words(body, "word", cell, words_of(alloc, column.event)?.as_str())?;
         close_mark(body)?;
     }
@@ -205,25 +209,29 @@ impl Told {
 // Appends the lane of the events for which this is shown, if there are any, and returns where the next lane begins.
 fn push_told(
     body: &mut String,
-    scene: &Scene<'_>,
+    drawing: &Drawing<'_>,
     band: Band<'_>,
     top: usize,
     told: Told,
 ) -> Result<usize, AllocError> {
-    let Some(letters) = longest_told(scene.alloc, band, told)? else {
+    let Some(letters) = longest_told(drawing.alloc, band, told)? else {
         return Ok(top);
     };
     let height = upright_height(letters);
     push_words(body, "name", 4, top.saturating_add(14), told.name())?;
     for (index, column) in band.columns.iter().enumerate() {
-        if let Some(words) = told.words(scene.alloc, column)? {
+        if let Some(words) = told.words(drawing.alloc, column)? {
             let cell = Area {
                 left: left_of(index),
                 top,
                 width: STEP,
                 height,
             };
-            open_mark(body, scene.number(band.start.saturating_add(index)), column)?;
+            open_mark(
+                body,
+                drawing.number(band.start.saturating_add(index)),
+                column,
+            )?;
             push_cell_words(body, told.name(), cell, words.as_str())?;
             close_mark(body)?;
         }

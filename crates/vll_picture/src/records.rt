@@ -4,10 +4,10 @@ ghost use Rattle.vll_picture.specs.Columns.{next_words};
 
 use crate::band::Band;
 use crate::column::{Column, RecordWords};
+use crate::drawing::{Drawing, Standing, id_of};
 use crate::markup::{
     Area, LABELS, STEP, close_mark, left_of, open_mark, push_area, push_escaped, push_words,
 };
-use crate::scene::{Scene, Standing, id_of};
 use std::alloc::{AllocError, Global};
 use vll_record::RecordId;
 
@@ -68,7 +68,7 @@ impl Row {
 /// Appends the lane of a record, and returns where the next lane begins.
 pub(crate) fn push_record(
     body: &mut String,
-    scene: &Scene<'_>,
+    drawing: &Drawing<'_>,
     standing: &Standing,
     band: Band<'_>,
     record: usize,
@@ -89,7 +89,7 @@ pub(crate) fn push_record(
             top: next,
         };
         let before = standing.record(id_of(record));
-        push_row(body, scene, band, before, lane)?;
+        push_row(body, drawing, band, before, lane)?;
         next = next.saturating_add(ROW);
     }
     Ok(top.saturating_add(LANE))
@@ -122,7 +122,7 @@ impl Stretch {
 // Appends a row, starting with what holds before the band.
 fn push_row(
     body: &mut String,
-    scene: &Scene<'_>,
+    drawing: &Drawing<'_>,
     band: Band<'_>,
     before: RecordWords,
     lane: Lane,
@@ -140,7 +140,7 @@ fn push_row(
                 number: lane.row.number(shown),
                 is_new,
             };
-            push_stretch(body, scene, band, lane, stretch)?;
+            push_stretch(body, drawing, band, lane, stretch)?;
             since = index;
             is_new = true;
         }
@@ -152,7 +152,7 @@ fn push_row(
         number: lane.row.number(shown),
         is_new,
     };
-    push_stretch(body, scene, band, lane, stretch)
+    push_stretch(body, drawing, band, lane, stretch)
 }
 
 // Returns the words of a record after a column, `before` which it has these.
@@ -168,7 +168,7 @@ fn words_after(before: RecordWords, column: &Column, id: RecordId) -> RecordWord
 // Appends the columns in which a number stays the same.
 fn push_stretch(
     body: &mut String,
-    scene: &Scene<'_>,
+    drawing: &Drawing<'_>,
     band: Band<'_>,
     lane: Lane,
     stretch: Stretch,
@@ -186,13 +186,13 @@ fn push_stretch(
     push_area(body, lane.row.class(), area)?;
     match band.columns.get(stretch.since) {
         Some(column) if stretch.is_new => {
-            let number = scene.number(band.start.saturating_add(stretch.since));
+            let number = drawing.number(band.start.saturating_add(stretch.since));
             open_mark(body, number, column)?;
-            push_number(scene.alloc, body, lane, stretch)?;
+            push_number(drawing.alloc, body, lane, stretch)?;
             push_cell(body, lane, stretch)?;
             close_mark(body)
         }
-        _ => push_number(scene.alloc, body, lane, stretch),
+        _ => push_number(drawing.alloc, body, lane, stretch),
     }
 }
 

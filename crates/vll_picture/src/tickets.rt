@@ -1,10 +1,10 @@
 //! The lane of a call: its turn, when it waits and when it runs, and each of its steps.
 use crate::band::Band;
 use crate::column::Column;
+use crate::drawing::{Drawing, Phase, Standing, phase_after};
 use crate::markup::{
     Area, STEP, close_mark, left_of, open_mark, push_area, push_escaped, push_words,
 };
-use crate::scene::{Phase, Scene, Standing, phase_after};
 use std::alloc::{AllocError, Global};
 use vll_core::{Event, Seen};
 use vll_proc::Reply;
@@ -18,17 +18,17 @@ const BAR: usize = 20;
 /// Appends the lane of a call, and returns where the next lane begins.
 pub(crate) fn push_ticket(
     body: &mut String,
-    scene: &Scene<'_>,
+    drawing: &Drawing<'_>,
     standing: &Standing,
     band: Band<'_>,
     ticket: usize,
     top: usize,
 ) -> Result<usize, AllocError> {
-    push_name(body, scene, ticket, top)?;
+    push_name(body, drawing, ticket, top)?;
     push_bars(body, standing, band, ticket, top)?;
     for (index, column) in band.columns.iter().enumerate() {
         if column.ticket == Some(ticket) {
-            push_step(body, scene, band, index, column, top)?;
+            push_step(body, drawing, band, index, column, top)?;
         }
     }
     Ok(top.saturating_add(LANE))
@@ -37,7 +37,7 @@ pub(crate) fn push_ticket(
 // Appends the ticket, the client and the procedure.
 fn push_name(
     body: &mut String,
-    scene: &Scene<'_>,
+    drawing: &Drawing<'_>,
     ticket: usize,
     top: usize,
 ) -> Result<(), AllocError> {
@@ -46,7 +46,7 @@ fn push_name(
         body,
         "<text class=\"name\" x=\"4\" y=\"{base}\">ticket {ticket}</text>"
     )?;
-    let Some(line) = scene.journal.get(ticket) else {
+    let Some(line) = drawing.journal.get(ticket) else {
         return Ok(());
     };
     let client = line.client;
@@ -55,7 +55,7 @@ fn push_name(
         body,
         "<text class=\"soft\" x=\"4\" y=\"{base}\">client {client} "
     )?;
-    if let Some(procedure) = scene.library.proc(line.call.number) {
+    if let Some(procedure) = drawing.library.proc(line.call.number) {
         push_escaped(body, procedure.name.as_str(), 12)?;
     }
     body.push_str("</text>\n")
@@ -114,7 +114,7 @@ fn push_bar(
 // Appends the mark of a step.
 fn push_step(
     body: &mut String,
-    scene: &Scene<'_>,
+    drawing: &Drawing<'_>,
     band: Band<'_>,
     index: usize,
     column: &Column,
@@ -128,7 +128,7 @@ fn push_step(
         width: STEP,
         height: LANE,
     };
-    open_mark(body, scene.number(at), column)?;
+    open_mark(body, drawing.number(at), column)?;
     push_claim_shape(body, column, left, top)?;
     push_sign(
         body,
@@ -137,7 +137,7 @@ fn push_step(
         top.saturating_add(16),
     )?;
     if let Ok(Seen::Replied(reply)) = &column.answer {
-        push_reply(scene.alloc, body, index, reply, top)?;
+        push_reply(drawing.alloc, body, index, reply, top)?;
     }
     push_area(body, "cell", cell)?;
     close_mark(body)

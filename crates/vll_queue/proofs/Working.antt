@@ -21,7 +21,7 @@ use Rattle.vll_check.specs.Calls.{IsReady}
 use Rattle.vll_check.specs.Catalog.{Catalog, IsCatalog}
 use Rattle.vll_check.proofs.Fitting.{ready_well}
 use Rattle.vll_core.specs.State.{Base, is_aborted, writes}
-use Rattle.vll_core.specs.Private.Work.{HoldsFirst}
+use Rattle.vll_core.specs.Private.Execution.{HoldsFirst}
 use Rattle.vll_core.proofs.SerialRun.{length_before}
 use Rattle.vll_core.proofs.AtWork.{loading_next, holds_all, procedure_ready}
 use Rattle.vll_core.proofs.SerialRun.{length_before}

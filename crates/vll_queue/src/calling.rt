@@ -22,7 +22,7 @@ use vll_sca::Place;
 
 /// As many calls as the limit have entered, and the engine takes no more.
 #[derive(Clone, Copy, PartialEq, Eq, Debug)]
-pub struct Spent;
+pub struct EngineSpent;
 
 impl<N: Name, H: Place + Send + Drop> Engine<N, H> {
     // Makes a call of the session's client, from its entry to its reply, as `Client::make` says. A call that may run at
@@ -32,7 +32,7 @@ impl<N: Name, H: Place + Send + Drop> Engine<N, H> {
         wait: &impl Wait,
         session: &mut Session,
         call: &Call,
-    ) -> Result<(Ticket, Reply), Spent>
+    ) -> Result<(Ticket, Reply), EngineSpent>
         requires session { session.old.table ≡ N.engine.table }
         requires fits { Fits (library_of N.engine) call.now }
         ensures called { IfOk result (λ r. IsCalled N.engine session.old.session session.new.session call.now r.0 r.1) }
@@ -44,7 +44,7 @@ impl<N: Name, H: Place + Send + Drop> Engine<N, H> {
             match self.try_call(wait, session, call, &mut rest) {
                 Ok(Some(made)) => return Ok(made),
                 Ok(None) => {}
-                Err(Spent) => return Err(Spent),
+                Err(EngineSpent) => return Err(EngineSpent),
             }
         }
         unreachable!()
@@ -57,7 +57,7 @@ impl<N: Name, H: Place + Send + Drop> Engine<N, H> {
         session: &mut Session,
         call: &Call,
         rest: &mut Rest,
-    ) -> Result<Option<(Ticket, Reply)>, Spent>
+    ) -> Result<Option<(Ticket, Reply)>, EngineSpent>
         requires session { session.old.table ≡ N.engine.table }
         requires fits { Fits (library_of N.engine) call.now }
         ensures answer { IsAttempted N.engine session.old.session session.new.session call.now result }
@@ -74,7 +74,7 @@ impl<N: Name, H: Place + Send + Drop> Engine<N, H> {
             }
             Begun::Refused(why) => {
                 if why == BeginRefusal::Spent {
-                    return Err(Spent);
+                    return Err(EngineSpent);
                 }
                 self.help(wait, hold, rest);
                 Ok(None)

@@ -9,7 +9,7 @@ ghost use Rattle.vll_queue.specs.Sessions.{SawOthers};
 ghost use Rattle.vll_queue.specs.Shown.{library_of};
 
 use crate::begun::{BeginRefusal, Begun};
-use crate::calling::Spent;
+use crate::calling::EngineSpent;
 use crate::engine::Engine;
 use crate::fault::EngineFault;
 use crate::name::Name;
@@ -93,7 +93,7 @@ impl<N: Name> Client<N> {
         wait: &impl Wait,
         engine: &Engine<N, H>,
         call: &Call,
-    ) -> Result<(Ticket, Reply), Spent>
+    ) -> Result<(Ticket, Reply), EngineSpent>
         requires fits { Fits (library_of N.engine) call.now }
         ensures called { IfOk result (λ r. IsCalled N.engine self.old.session self.new.session call.now r.0 r.1) }
         ensures spent { IfErr result (λ _. IsTurnedAway N.engine self.old.session self.new.session) }

@@ -1,6 +1,6 @@
 //! Why a program with an embedded engine stops: one type into which `?` converts each fault.
 use crate::begun::BeginRefusal;
-use crate::calling::Spent;
+use crate::calling::EngineSpent;
 use crate::closed::{NotClosed, NotReopened};
 use crate::name::Name;
 use std::alloc::{AllocError, AllocFailed};
@@ -125,14 +125,14 @@ impl From<BeginRefusal> for EngineFault {
     }
 }
 
-impl From<Spent> for EngineFault {
+impl From<EngineSpent> for EngineFault {
     ghost use Rattle.std.specs.Prelude.{◌≡◌};
     ghost use Rattle.vll_queue.specs.declared.begun.BeginRefusal.TheVariants as refusal;
     ghost use Rattle.vll_queue.specs.declared.fault.EngineFault.TheVariants.{Refused};
 
     ghost from_gives = { λ _ e. e ≡ Refused refusal.Spent };
 
-    fn from(_: Spent) -> EngineFault {
+    fn from(_: EngineSpent) -> EngineFault {
         EngineFault::Refused(BeginRefusal::Spent)
     }
 }

@@ -6,7 +6,7 @@
 //!
 //! ```rattle
 //! let opening = Opening::new(alloc, accounts, library, config, Placing::Spread, 2)?;
-//! opening.serve(Bank { rt }) // a `Service`, whose `serve` gets `engine` and `clients` and does:
+//! opening.host(Bank { rt }) // a `Service`, whose `host` gets `engine` and `clients` and does:
 //! let (ticket, reply) = client.call(rt, &engine, "transfer", &[0, 1, 30])?;
 //! let closed = engine.close(clients.into_sessions())?;
 //! ```
@@ -38,7 +38,7 @@ mod service;
 mod session;
 
 pub use begun::{BeginRefusal, Begun, BegunOnto};
-pub use calling::Spent;
+pub use calling::EngineSpent;
 pub use client::Client;
 pub use clients::Clients;
 pub use closed::{Closed, NotClosed, NotReopened, Reopened};

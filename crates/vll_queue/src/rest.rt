@@ -2,11 +2,11 @@
 use std::hint::spin_loop;
 use std::thread::yield_now;
 
-// The first pause, in turns of a spin loop.
+// The first pause, in spins of a loop.
 const FIRST_PAUSE: u32 = 32;
 
-// After this many turns of a pause the thread yields to others.
-const TURNS_A_YIELD: u32 = 64;
+// After this many spins of a pause the thread yields to others.
+const SPINS_A_YIELD: u32 = 64;
 
 // The longest pause, some ten microseconds.
 const LONGEST_PAUSE: u32 = 1_024;
@@ -32,8 +32,8 @@ impl Rest {
     // Waits.
     pub(crate) fn pause(&mut self) {
         self.pause = LONGEST_PAUSE.min(self.pause.saturating_mul(2).saturating_add(FIRST_PAUSE));
-        for turn in 0..self.pause {
-            if turn % TURNS_A_YIELD == TURNS_A_YIELD - 1 {
+        for spin in 0..self.pause {
+            if spin % SPINS_A_YIELD == SPINS_A_YIELD - 1 {
                 yield_now();
             } else {
                 spin_loop();

@@ -11,7 +11,7 @@ use crate::opening::Opening;
 use std::marker::Brand;
 use vll_sca::Placing;
 
-/// What a program does with an engine, from its start to its end. `Opening::serve` finds the name, so that the program
+/// What a program does with an engine, from its start to its end. `Opening::host` finds the name, so that the program
 /// has nothing to prove about it.
 pub trait Service {
     type Answer;
@@ -23,7 +23,7 @@ pub trait Service {
     ghost answers: { Self → Named → Self.Answer → Type 0 } = { λ _ _ _. Unit {0} };
 
     /// Runs the service on the engine and its clients, in order, which have seen nothing.
-    fn serve<N: Name + Send + Sync>(
+    fn host<N: Name + Send + Sync>(
         self,
         engine: Engine<N, Placing>,
         clients: Clients<N>,
@@ -35,20 +35,20 @@ pub trait Service {
 
 impl Opening<Placing> {
     /// Starts the engine, runs a service on it, and returns the service's answer.
-    pub fn serve<S: Service>(self, service: S) -> S::Answer
+    pub fn host<S: Service>(self, service: S) -> S::Answer
         requires allowed { S.allows service (name_of placing self) }
         ensures answered { S.answers service (name_of placing self) result }
     {
-        serve_by::<Brand, S>(self, service)
+        host_by::<Brand, S>(self, service)
     }
 }
 
 // Runs the service on the engine of this name.
-fn serve_by<N: Name + Send + Sync, S: Service>(opening: Opening<Placing>, service: S) -> S::Answer
+fn host_by<N: Name + Send + Sync, S: Service>(opening: Opening<Placing>, service: S) -> S::Answer
     requires named { N.engine ≡ name_of placing opening }
     requires allowed { S.allows service N.engine }
     ensures answered { S.answers service N.engine result }
 {
     let (engine, clients) = opening.start_clients::<N>();
-    service.serve::<N>(engine, clients)
+    service.host::<N>(engine, clients)
 }

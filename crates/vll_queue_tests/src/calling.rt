@@ -16,7 +16,7 @@ use std::sync::atomic::{AtomicBool, Ordering};
 use std::test::*;
 use std::thread::{Threads, join, yield_now};
 use vll_core::{Line, Ticket};
-use vll_queue::{BeginRefusal, Begun, Client, Engine, Name, Opening, Session, Spent};
+use vll_queue::{BeginRefusal, Begun, Client, Engine, EngineSpent, Name, Opening, Session};
 use vll_sca::Placing;
 
 // Makes a client's bump of a record. Returns its ticket and its output.
@@ -29,7 +29,7 @@ fn bumps<N: Name, R: Wait + Abort>(
     let call = bump_of(rt, engine.library(), record);
     match client.make(rt, engine, &call) {
         Ok((ticket, reply)) => (ticket, output_of(&reply).unwrap_or(0)),
-        Err(Spent) => fail(rt, "the engine is spent"),
+        Err(EngineSpent) => fail(rt, "the engine is spent"),
     }
 }
 

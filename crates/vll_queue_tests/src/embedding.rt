@@ -57,7 +57,7 @@ struct OneCallsByName<'a, R> {
 impl<'a, R: Wait + Abort> Service for OneCallsByName<'a, R> {
     type Answer = Result<(), EngineFault>;
 
-    fn serve<N: Name + Send + Sync>(
+    fn host<N: Name + Send + Sync>(
         self,
         engine: Engine<N, Placing>,
         mut clients: Clients<N>,
@@ -76,7 +76,7 @@ impl<'a, R: Wait + Abort> Service for OneCallsByName<'a, R> {
 #[test]
 fn call_by_name_is_made_or_says_why_not(rt: HostRuntime) -> Result<(), Fail> {
     let opening = opening(rt.alloc(), 1, 2, 2, 1)?;
-    opening.serve(OneCallsByName { rt: &rt })?;
+    opening.host(OneCallsByName { rt: &rt })?;
     Ok(())
 }
 

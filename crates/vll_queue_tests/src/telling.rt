@@ -14,7 +14,7 @@ use std::sync::Wait;
 use std::test::*;
 use std::thread::{Threads, join};
 use vll_core::Ticket;
-use vll_queue::{Client, Engine, Name, News, Opening, Session, Spent};
+use vll_queue::{Client, Engine, EngineSpent, Name, News, Opening, Session};
 use vll_sca::Placing;
 
 // A call was made from entry to reply: its ticket, its output, and news that has it.
@@ -39,7 +39,7 @@ fn makes_and_tells<N: Name, R: Wait + Abort>(
             output: output_of(&reply).unwrap_or(0),
             news: client.tell(engine),
         },
-        Err(Spent) => fail(rt, "the engine is spent"),
+        Err(EngineSpent) => fail(rt, "the engine is spent"),
     }
 }
 
@@ -56,7 +56,7 @@ fn hears_and_makes<N: Name, R: Wait + Abort>(
     let call = bump_of(rt, engine.library(), 0);
     match client.make(rt, engine, &call) {
         Ok((ticket, reply)) => (ticket, output_of(&reply).unwrap_or(0)),
-        Err(Spent) => fail(rt, "the engine is spent"),
+        Err(EngineSpent) => fail(rt, "the engine is spent"),
     }
 }
 

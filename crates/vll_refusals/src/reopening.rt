@@ -37,7 +37,7 @@ pub(crate) fn reopen<R: Print + AllocGlobal + Wait>(rt: &R) -> Result<Answer, Un
         placing,
         CLIENTS as u32,
     )?;
-    opening.serve(Reopening {
+    opening.host(Reopening {
         rt,
         alloc: rt.alloc(),
     })
@@ -58,7 +58,7 @@ impl<'a, R: Print + Wait> Service for Reopening<'a, R> {
 
     ghost allows = { λ _ e. e.config.limit ≡ CALLS };
 
-    fn serve<N: Name + Send + Sync>(
+    fn host<N: Name + Send + Sync>(
         self,
         engine: Engine<N, Placing>,
         mut clients: Clients<N>,
@@ -154,7 +154,7 @@ fn of_refused<N: Name>(refused: &NotReopened<N, Placing>) -> Answer {
 // The answer for a reopened engine: the next one has the record, and has taken no call yet.
 fn of_next(next: Reopened<Placing>) -> Answer {
     let is_all = counts_up(next.journal.as_slice(), CALLS as usize);
-    Answer::Ample.only_if(is_all && next.opening.serve(Closing))
+    Answer::Ample.only_if(is_all && next.opening.host(Closing))
 }
 
 // Whether an engine has the record, and has taken no call.
@@ -164,7 +164,7 @@ struct Closing;
 impl Service for Closing {
     type Answer = bool;
 
-    fn serve<N: Name + Send + Sync>(self, engine: Engine<N, Placing>, clients: Clients<N>) -> bool {
+    fn host<N: Name + Send + Sync>(self, engine: Engine<N, Placing>, clients: Clients<N>) -> bool {
         match engine.close(clients.into_sessions()) {
             Ok(closed) => closed.journal.is_empty() && holds(&closed, u64::from(CALLS)),
             Err(_) => false,

@@ -4,7 +4,7 @@ use Rattle.vll_core.specs.declared.event.Event.{Event}
 use Rattle.vll_core.specs.declared.seen.Seen.{Seen}
 use Rattle.vll_core.specs.declared.refusal.Refusal.{Refusal}
 use Rattle.vll_core.specs.State.{Opening, State}
-use Rattle.vll_core.specs.Machine.{state_after, step, told}
+use Rattle.vll_core.specs.Machine.{state_after, step, answer_of}
 
 -- an event, with the state before it, its answer, and the state after it
 pub record Step : Type 0 where
@@ -15,7 +15,7 @@ pub record Step : Type 0 where
 
 -- the step for an event
 abbrev pub step_of : Opening → State → Event → Step
-step_of o s e = record { before = s; event = e; answer = told (step o s e); after = state_after s (step o s e) }
+step_of o s e = record { before = s; event = e; answer = answer_of (step o s e); after = state_after s (step o s e) }
 
 -- the steps for a list of events
 abbrev pub steps : Opening → State → List Event → List Step

@@ -56,10 +56,10 @@ pub fn refusal_words(why: Refusal) -> &'static str
 }
 
 /// Appends the answer to an event, or why the event was refused. After `AllocError` a prefix may have been appended.
-pub fn push_answer(text: &mut String, told: &Result<Seen, Refusal>) -> Result<(), AllocError>
-    ensures { OnOk result (string_bytes text.new ≡ string_bytes text.old ++ event_text told.now) }
+pub fn push_answer(text: &mut String, answer: &Result<Seen, Refusal>) -> Result<(), AllocError>
+    ensures { OnOk result (string_bytes text.new ≡ string_bytes text.old ++ event_text answer.now) }
 {
-    match told {
+    match answer {
         Ok(seen) => push_seen(text, seen),
         Err(why) => {
             text.push_str("refused ")?;
@@ -73,11 +73,11 @@ pub fn push_answer(text: &mut String, told: &Result<Seen, Refusal>) -> Result<()
 pub fn push_event_line(
     text: &mut String,
     index: usize,
-    told: &Result<Seen, Refusal>,
+    answer: &Result<Seen, Refusal>,
 ) -> Result<(), AllocError>
-    ensures { OnOk result (string_bytes text.new ≡ string_bytes text.old ++ event_line (index, told.now)) }
+    ensures { OnOk result (string_bytes text.new ≡ string_bytes text.old ++ event_line (index, answer.now)) }
 {
     write!(text, "{index} ")?;
-    push_answer(text, told)?;
+    push_answer(text, answer)?;
     text.push_str("\n")
 }

@@ -2,7 +2,7 @@
 ghost use Rattle.std.specs.Prelude.{◌≡◌, ◌++◌, ◌∷◌, [], List, OnOk};
 ghost use Rattle.vll_sca.specs.Placing.{placing};
 ghost use Rattle.vll_core.specs.declared.event.Event.{Event};
-ghost use Rattle.vll_core.specs.Machine.{state_after, step, told as answer_of};
+ghost use Rattle.vll_core.specs.Machine.{state_after, step, answer_of};
 ghost use Rattle.vll_core.specs.Shown.{opening_of};
 ghost use Rattle.vll_core.specs.State.{Opening, State};
 ghost use Rattle.vll_replay.specs.Steps.{Step, step_of};
@@ -33,10 +33,10 @@ pub trait Observer {
         &mut self,
         core: &Core<Placing>,
         event: &Event,
-        told: &Result<Seen, Refusal>,
+        answer: &Result<Seen, Refusal>,
     ) -> Result<(), AllocError>
         ensures { OnOk result ((task : Task) (past : List Step) (s : State) → let o = opening_of placing core.now in
-            looks task o past s event.now self.old → told.now ≡ answer_of (step o s event.now)
+            looks task o past s event.now self.old → answer.now ≡ answer_of (step o s event.now)
             → core.now.state ≡ state_after s (step o s event.now) → saw task o (past ++ step_of o s event.now ∷ []) self.new) };
 }
 
@@ -59,7 +59,7 @@ impl Observer for Unwatched {
         &mut self,
         _core: &Core<Placing>,
         _event: &Event,
-        _told: &Result<Seen, Refusal>,
+        _answer: &Result<Seen, Refusal>,
     ) -> Result<(), AllocError> {
         Ok(())
     }

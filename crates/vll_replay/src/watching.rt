@@ -2,7 +2,7 @@
 ghost use Rattle.std.specs.Prelude.{◌≡◌, ◌++◌, ◌∷◌, [], List, OnOk, string_bytes};
 ghost use Rattle.std.specs.List.{enumerate_from, flat_map};
 ghost use Rattle.vll_sca.specs.Placing.{placing};
-ghost use Rattle.vll_core.specs.Machine.{answers, run, step, told as answer_of};
+ghost use Rattle.vll_core.specs.Machine.{answers, run, step, answer_of};
 ghost use Rattle.vll_core.specs.Shown.{after, opening_of};
 ghost use Rattle.vll_replay.specs.ReplayText.{event_line};
 ghost use Rattle.vll_replay.specs.Steps.{Step, step_of, steps};
@@ -47,7 +47,7 @@ fn push_event<O: Observer>(
         → O.saw task (opening_of placing core.old) (past ++ step_of (opening_of placing core.old) core.old.state event.now ∷ []) observer.new) }
 {
     observer.before(core, event)?;
-    let told = core.step(*event);
-    observer.after(core, event, &told)?;
-    push_event_line(text, index, &told)
+    let answer = core.step(*event);
+    observer.after(core, event, &answer)?;
+    push_event_line(text, index, &answer)
 }

@@ -56,7 +56,7 @@ pub(crate) fn serve<R: Threads + Wait + Sync>(
         opening = next.opening;
         journal = next.journal;
     }
-    let after = opening.serve(Total)?;
+    let after = opening.host(Total)?;
     Ok(Served {
         tally,
         before,

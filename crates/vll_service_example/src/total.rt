@@ -19,7 +19,7 @@ impl Service for Total {
 
     ghost answers = { λ _ e answer. IfOk answer (λ total. total ≡ sum e.base.records) };
 
-    fn serve<N: Name + Send + Sync>(
+    fn host<N: Name + Send + Sync>(
         self,
         engine: Engine<N, Placing>,
         clients: Clients<N>,

@@ -4,20 +4,20 @@ use crate::tally::Tally;
 use std::hint::spin_loop;
 use std::thread::yield_now;
 
-// The longest pause of few workers, in turns of a spin loop.
+// The longest pause of few workers, in spins of a loop.
 const LONGEST_OF_FEW: u32 = 1_024;
 
 // The longest pause of many workers, most of which have to let the others run.
 const LONGEST_OF_MANY: u32 = 16_384;
 
-// The turns of the longest pause for each worker, within these bounds.
-const TURNS_A_WORKER: u32 = 256;
+// The spins of the longest pause for each worker, within these bounds.
+const SPINS_A_WORKER: u32 = 256;
 
-// The first pause, in turns.
+// The first pause, in spins.
 const FIRST_PAUSE: u32 = 32;
 
-// A pause lets another thread run once in this many turns.
-const TURNS_A_YIELD: u32 = 64;
+// A pause lets another thread run once in this many spins.
+const SPINS_A_YIELD: u32 = 64;
 
 // The most calls that are to be ready before a hold: the capacity of a batch.
 const MOST_CALLS: u32 = MOST_BATCH as u32;
@@ -67,7 +67,7 @@ pub(crate) struct Pace {
 impl Pace {
     // The pace of one of `workers` workers, which takes at most `most` tokens before a hold.
     pub(crate) fn new(workers: u32, most: usize) -> Pace {
-        let longest = workers.saturating_mul(TURNS_A_WORKER);
+        let longest = workers.saturating_mul(SPINS_A_WORKER);
         Pace {
             most,
             now: MOST_CALLS,
@@ -196,8 +196,8 @@ impl Pace {
             self.idle = self.idle.saturating_add(1);
         }
         self.pause = longest.min(self.pause.saturating_mul(2).saturating_add(FIRST_PAUSE));
-        for turn in 0..self.pause {
-            if turn % TURNS_A_YIELD == TURNS_A_YIELD - 1 {
+        for spin in 0..self.pause {
+            if spin % SPINS_A_YIELD == SPINS_A_YIELD - 1 {
                 yield_now();
             } else {
                 spin_loop();

@@ -15,8 +15,8 @@ use vll_queue::{Engine, Name};
 use vll_sca::Place;
 
 mod ending;
+mod memory;
 mod named;
-mod room;
 mod start;
 mod workplace;
 

@@ -1,4 +1,4 @@
-//! Tokens: each is a client's turn in a run, with its session and its script.
+//! Tokens: each is a client's part in a run, with its session and its script.
 ghost use Rattle.std.specs.Prelude.{◌≡◌, ◌<◌, ◌≤◌, ◌==◌, ◌^◌, ◌+◌, Some, true, false, length, slice_get};
 ghost use Rattle.std.specs.Option.{option_map};
 ghost use Rattle.vll_workers.specs.Shown.{token};
@@ -14,7 +14,7 @@ use vll_sca::Place;
 // How often a call is put off before it begins regardless.
 const MOST_PUT_OFF: u32 = 64;
 
-/// A client's turn in a run: its session, its script, and how many calls of the script have entered. The thread that
+/// A client's part in a run: its session, its script, and how many calls of the script have entered. The thread that
 /// holds it enters the client's calls, so they enter one after the other.
 #[derive(Drop)]
 pub struct Token {

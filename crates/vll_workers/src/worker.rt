@@ -12,7 +12,7 @@ use std::alloc::{AllocError, Global};
 use std::marker::{Model, PhantomData};
 use std::sync::Wait;
 
-// Room for the tokens that a worker keeps to its end.
+// RunMemory for the tokens that a worker keeps to its end.
 #[derive(Drop)]
 pub(crate) struct Shelf<T: Roster> {
     tokens: Vec<Token>,

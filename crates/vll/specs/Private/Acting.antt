@@ -1,7 +1,7 @@
 -- The meaning of the actions of the command line.
 use Rattle.std.specs.Prelude.{◌≡◌, ℕ, List, [], Option, None, Result, Ok}
 use Rattle.vll_draw.specs.Page.{Draws}
-use Rattle.vll_explain.specs.Told.{Explains}
+use Rattle.vll_explain.specs.Explained.{Explains}
 use Rattle.vll_scenario.specs.Setup.{Setup}
 use Rattle.vll_server.specs.Options.{with_options}
 use Rattle.vll_scenario.specs.Reading.{IsRead}

@@ -4,16 +4,16 @@ use Rattle.std.specs.Global.{Vec}
 use Rattle.vll_proc.specs.declared.call.Call.{Call}
 use Rattle.vll_core.specs.declared.machine.OpenTurn.{OpenTurn}
 use Rattle.vll_core.specs.declared.machine.Machine.TheInside.{Inside}
-use Rattle.vll_core.specs.declared.work.Work.{Work}
+use Rattle.vll_core.specs.declared.execution.Execution.{Execution}
 use Rattle.vll_core.specs.Queue.{QueueEntry}
 use Rattle.vll_core.specs.State.{Entered, Turn}
 use Rattle.vll_core.specs.Shown.{Shown}
 
 -- an entry of the queue with its call's steps
-abbrev pub entered_of : QueueEntry → Work → Entered
+abbrev pub entered_of : QueueEntry → Execution → Entered
 entered_of e w = record { client = e.line.client; call = e.line.call; status = e.status; loads = w.loads; stores = w.stores; releases = w.releases }
 
-abbrev pub entries_of : List QueueEntry → List Work → List Entered
+abbrev pub entries_of : List QueueEntry → List Execution → List Entered
 entries_of [] ws = []
 entries_of (e ∷ es) [] = []
 entries_of (e ∷ es) (w ∷ ws) = entered_of e w ∷ entries_of es ws
@@ -35,5 +35,5 @@ shown c = record {
   limit = c.queue.limit;
   bits = c.queue.bits;
   hash = c.queue.hash;
-  state = record { entries = entries_of c.queue.entries c.work.items; turn = turn_of c.turn; scripts = left_of c.scripts.items c.next.items; kept = c.kept.items };
+  state = record { entries = entries_of c.queue.entries c.execution.items; turn = turn_of c.turn; scripts = left_of c.scripts.items c.next.items; kept = c.kept.items };
 }

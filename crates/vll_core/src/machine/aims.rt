@@ -56,8 +56,8 @@ impl<H: Place> Machine<H> {
         ensures { result ≡ entry_load (running self.now.state ticket) }
     {
         let call = self.running_call(ticket)?;
-        let work = &self.work[ticket.0 as usize];
-        work.next_load(&call)
+        let execution = &self.execution[ticket.0 as usize];
+        execution.next_load(&call)
     }
 
     // The Write claim whose record a running call stores next.
@@ -65,8 +65,8 @@ impl<H: Place> Machine<H> {
         ensures { result ≡ entry_store (running self.now.state ticket) }
     {
         let call = self.running_call(ticket)?;
-        let work = &self.work[ticket.0 as usize];
-        let next = work.next_store(&call)?;
+        let execution = &self.execution[ticket.0 as usize];
+        let next = execution.next_store(&call)?;
         Some(next.0)
     }
 
@@ -75,7 +75,7 @@ impl<H: Place> Machine<H> {
         ensures { result ≡ entry_release (running self.now.state ticket) }
     {
         let call = self.running_call(ticket)?;
-        let work = &self.work[ticket.0 as usize];
-        work.next_release(&call)
+        let execution = &self.execution[ticket.0 as usize];
+        execution.next_release(&call)
     }
 }

@@ -39,12 +39,12 @@ impl<H: Place> Machine<H> {
         requires runs { Some call.now ≡ option_map (λ (e : Entered). e.call) (running self.now.state ticket) }
         ensures { IsNext (opening_of H.place_of self.now) self.now.state result }
     {
-        let work = &self.work[ticket.0 as usize];
-        if !work.has_loaded(call) {
+        let execution = &self.execution[ticket.0 as usize];
+        if !execution.has_loaded(call) {
             Event::Load(ticket)
-        } else if !work.has_stored(call) {
+        } else if !execution.has_stored(call) {
             Event::Store(ticket)
-        } else if work.next_release(call).is_some() {
+        } else if execution.next_release(call).is_some() {
             Event::Release(ticket)
         } else {
             Event::Finish(ticket)

@@ -1,7 +1,7 @@
 //! Loading the source of a script's next call, and opening a turn for that call or for one that is passed in.
 ghost use Rattle.std.specs.Prelude.{◌≡◌, ◌<◌, ◌≤◌, ◌↔◌, Err, Ok, IfSome, length};
 ghost use Rattle.vll_check.specs.Calls.{Fits, IsReady};
-ghost use Rattle.vll_core.specs.Machine.{entered, is_turn_of, next_call, ready, step, told, waiting};
+ghost use Rattle.vll_core.specs.Machine.{entered, is_turn_of, next_call, ready, step, answer_of, waiting};
 ghost use Rattle.vll_core.specs.Moves.{hand, move};
 ghost use Rattle.vll_core.specs.Shown.{after, library_of, opening_of};
 ghost use Rattle.vll_core.specs.declared.event.Event.TheVariants as event;
@@ -43,7 +43,7 @@ impl<H: Place> Machine<H> {
     // Loads the source of the next call of a client's script, and keeps its value for the call.
     pub(crate) fn find(&mut self, library: &Library, client: u32) -> Result<Seen, Refusal>
         requires same { library.now ≡ library_of self.old }
-        ensures answer { result ≡ told (step (opening_of H.place_of self.old) self.old.state (event.Find client)) }
+        ensures answer { result ≡ answer_of (step (opening_of H.place_of self.old) self.old.state (event.Find client)) }
         ensures state { self.new ≡ after self.old (step (opening_of H.place_of self.old) self.old.state (event.Find client)) }
     {
         if self.is_turn_of(client) {
@@ -63,7 +63,7 @@ impl<H: Place> Machine<H> {
     // Opens a turn for the next call of a client's script.
     pub(crate) fn enter_next(&mut self, library: &Library, client: u32) -> Result<Seen, Refusal>
         requires same { library.now ≡ library_of self.old }
-        ensures answer { result ≡ told (step (opening_of H.place_of self.old) self.old.state (event.Enter client)) }
+        ensures answer { result ≡ answer_of (step (opening_of H.place_of self.old) self.old.state (event.Enter client)) }
         ensures state { self.new ≡ after self.old (step (opening_of H.place_of self.old) self.old.state (event.Enter client)) }
     {
         if self.turn.is_some() {

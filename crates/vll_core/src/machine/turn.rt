@@ -1,13 +1,13 @@
 //! An open turn: its call requests its claims, and is admitted.
 ghost use Rattle.std.specs.Prelude.{◌≡◌};
-ghost use Rattle.vll_core.specs.Machine.{step, told};
+ghost use Rattle.vll_core.specs.Machine.{step, answer_of};
 ghost use Rattle.vll_core.specs.Shown.{after, library_of, opening_of};
 ghost use Rattle.vll_core.specs.declared.event.Event.TheVariants as event;
 
+use crate::execution::Execution;
 use crate::machine::{Machine, OpenTurn};
 use crate::refusal::Refusal;
 use crate::seen::Seen;
-use crate::work::Work;
 use vll_check::Library;
 use vll_record::{delta, granted, pair_word};
 use vll_sca::Place;
@@ -15,7 +15,7 @@ use vll_sca::Place;
 impl<H: Place> Machine<H> {
     // Requests the next claim of the open turn's call.
     pub(crate) fn claim(&mut self) -> Result<Seen, Refusal>
-        ensures answer { result ≡ told (step (opening_of H.place_of self.old) self.old.state event.Claim) }
+        ensures answer { result ≡ answer_of (step (opening_of H.place_of self.old) self.old.state event.Claim) }
         ensures state { self.new ≡ after self.old (step (opening_of H.place_of self.old) self.old.state event.Claim) }
     {
         let Some(turn) = self.turn else {
@@ -39,7 +39,7 @@ impl<H: Place> Machine<H> {
     // Gives the call of the open turn the next ticket.
     pub(crate) fn admit(&mut self, library: &Library) -> Result<Seen, Refusal>
         requires same { library.now ≡ library_of self.old }
-        ensures answer { result ≡ told (step (opening_of H.place_of self.old) self.old.state event.Admit) }
+        ensures answer { result ≡ answer_of (step (opening_of H.place_of self.old) self.old.state event.Admit) }
         ensures state { self.new ≡ after self.old (step (opening_of H.place_of self.old) self.old.state event.Admit) }
     {
         let Some(turn) = self.turn else {
@@ -49,7 +49,8 @@ impl<H: Place> Machine<H> {
             return Err(Refusal::OutOfStep);
         }
         let procedure = library.proc(turn.call.number).unwrap();
-        self.work.push_reserved(Work::new(&turn.call, procedure));
+        self.execution
+            .push_reserved(Execution::new(&turn.call, procedure));
         let ticket = self.queue.admit(turn.client, &turn.call, turn.granted);
         self.turn = None;
         if turn.granted {

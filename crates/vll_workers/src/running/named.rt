@@ -8,7 +8,7 @@ ghost use Rattle.vll_workers.specs.declared.fault.RunFault.TheVariants as RunFau
 
 use super::MOST_WORKERS;
 use super::ending::outcome_of;
-use super::room::{Room, room_for};
+use super::memory::{RunMemory, memory_for};
 use super::start::{Ready, start};
 use super::workplace::{Workplace, work_at};
 use crate::batch::BatchRoom;
@@ -58,11 +58,11 @@ pub(super) fn run_named<
     ensures started { IfOk result (λ _. 0 < starts) }
     ensures spent_started { IfErr result (λ e. e.fault ≡ RunFault.Spent → 0 < starts) }
 {
-    let room = match room_for::<N, T>(alloc, tokens.len(), workers) {
+    let room = match memory_for::<N, T>(alloc, tokens.len(), workers) {
         Ok(room) => room,
         Err(AllocError) => return Err(RunError::new(RunFault::NoMemory, tokens)),
     };
-    let Room {
+    let RunMemory {
         pool,
         own,
         own_room,

@@ -4,7 +4,7 @@ ghost use Rattle.crossbeam_queue.specs.Passes.{view};
 ghost use Rattle.vll_workers.specs.Private.Pool.{HasInHand, new_hand};
 ghost use Rattle.vll_workers.specs.Tokens.{AreFit};
 
-use super::room::Desk;
+use super::memory::Desk;
 use super::workplace::{Workplace, work_at};
 use crate::gate::Gate;
 use crate::pool::Pool;

@@ -31,7 +31,7 @@ pub returns-in-Ok : goal.returns-in-Ok
 returns-in-Ok c = λ s event answer after claim. record {
   event = c.column_with.ensures.event ∙ event;
   answer = c.column_with.ensures.answer ∙ answer;
-  ticket = c.column_with.ensures.ticket ∙ c.ticket_of.ensures ∙ ticket_seen_of s c.args.core.now.state c.args.event.now c.args.told.now _ after event answer c.in-Ok.is;
+  ticket = c.column_with.ensures.ticket ∙ c.ticket_of.ensures ∙ ticket_seen_of s c.args.core.now.state c.args.event.now c.args.answer.now _ after event answer c.in-Ok.is;
   claim = c.column_with.ensures.claim ∙ claim ∙ ap (claim_by s) (sym c.in-Ok.is ∙ answer);
   words = words_after _ s c.args.core.now.state _ _ _ after c.column_with.ensures.claim c.column_with.ensures.words;
 }

@@ -1,6 +1,6 @@
 use Rattle.std.proofs.Common.{ap, subst, Err, IfOk, string_bytes}
 use Rattle.vll_scenario.proofs.Results.{ok_before}
-use Rattle.vll_explain.specs.Told.{IsBegun}
+use Rattle.vll_explain.specs.Explained.{IsBegun}
 use Rattle.vll_explain.proofs.Kept.{held_explains, unread_explains}
 use Rattle.vll_explain.proofs.explaining.explained.Goals as goal
 

@@ -3,7 +3,7 @@ use Rattle.serde_json.specs.View.{view}
 use Rattle.vll_scenario.specs.Reading.{IsScenarioOf}
 use Rattle.vll_scenario.proofs.Results.{ok_before}
 use Rattle.vll_explain.specs.Private.{IsToldOf}
-use Rattle.vll_explain.specs.Told.{IsBegun, IsTold}
+use Rattle.vll_explain.specs.Explained.{IsBegun, IsTold}
 use Rattle.vll_explain.proofs.Kept.{reads_not, tree_explains, tree_tells, treeless_explains}
 use Rattle.vll_explain.proofs.explaining.explained_of.Goals as goal
 

@@ -2,7 +2,7 @@ use Rattle.std.proofs.Common.{◌≡◌, ℕ, ◌+◌, List, [], ◌∷◌, ◌+
 use Rattle.std.proofs.lemmas.List.{length-set}
 use Rattle.std.proofs.lemmas.Option.{slice_get_within}
 use Rattle.vll_record.specs.declared.claim.Claim.{Claim}
-use Rattle.vll_core.specs.Private.Work.{HoldsFirst}
+use Rattle.vll_core.specs.Private.Execution.{HoldsFirst}
 use Rattle.vll_counters.specs.Shown.{PassShown}
 use Rattle.vll_counters.specs.Steps.{records_before_pass}
 use Rattle.vll_queue.proofs.Working.{next_at, held_next, held_all, loaded_more}

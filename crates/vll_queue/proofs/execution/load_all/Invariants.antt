@@ -1,6 +1,6 @@
 use Rattle.std.proofs.Common.{◌≡◌, ◌++◌, length}
 use Rattle.vll_record.specs.declared.claims.TheConstants.{MOST_CLAIMS}
-use Rattle.vll_core.specs.Private.Work.{HoldsFirst}
+use Rattle.vll_core.specs.Private.Execution.{HoldsFirst}
 use Rattle.vll_counters.specs.Shown.{passed}
 use Rattle.vll_counters.specs.Steps.{records_before_pass}
 use Rattle.vll_queue.proofs.execution.load_all.Given as goal

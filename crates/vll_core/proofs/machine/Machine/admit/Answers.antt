@@ -42,7 +42,7 @@ has_work g c =
 
 pub invariant_of-self : goal.invariant_of-self
 invariant_of-self g c =
-    subst (λ (q : Queued _). IsMachine g.H.Place.place_of (record c.self.inside { queue = q; work = c.push_reserved.new.self; turn = None })) (sym c.admit-ticket.ensures.entered)
+    subst (λ (q : Queued _). IsMachine g.H.Place.place_of (record c.self.inside { queue = q; execution = c.push_reserved.new.self; turn = None })) (sym c.admit-ticket.ensures.entered)
     (core_admit _ _ _ _ c.self.invariant (has_work g c))
 
 pub returns-clause-answer : goal.returns-clause-answer
@@ -55,5 +55,5 @@ returns-clause-answer g c =
 
 pub returns-clause-state : goal.returns-clause-state
 returns-clause-state g c =
-    ap (λ (q : Queued _). shown (record c.self.inside { queue = q; work = c.push_reserved.new.self; turn = None })) c.admit-ticket.ensures.entered
+    ap (λ (q : Queued _). shown (record c.self.inside { queue = q; execution = c.push_reserved.new.self; turn = None })) c.admit-ticket.ensures.entered
     ∙ taken_shown c.self.inside _ _ _ _ c.self.view_is (taken_admit _ _ _ _ c.self.invariant (has_work g c))

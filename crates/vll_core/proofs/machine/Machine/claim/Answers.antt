@@ -2,7 +2,7 @@ use Rattle.vll_core.proofs.machine.Machine.claim.Given.{Over}
 use Rattle.std.proofs.Common.{◌≡◌, ◌&&◌, Bool, Some, ℕ, ◌+◌, slice_get, slice_set, ap, sym, ◌∙◌, arith}
 use Rattle.vll_record.specs.Word.{pair_word_of_record}
 use Rattle.vll_core.specs.declared.event.Event.TheVariants as event
-use Rattle.vll_core.specs.Machine.{step, told}
+use Rattle.vll_core.specs.Machine.{step, answer_of}
 use Rattle.vll_core.specs.Shown.{Shown, after, opening_of}
 use Rattle.vll_core.proofs.Claiming.{Finds, finds, read_counter, sum_fits, granted_right, kept_claimed, claimed_shown, claimed_told}
 use Rattle.vll_core.proofs.machine.Machine.claim.Goals.{In-Some-get, then-turn, else-turn}
@@ -57,7 +57,7 @@ returns-clause-answer g c =
     let old = read_counter c.self.inside c.in-Some.turn c.in-Some-get.claim _ _ f c.pair_word-word.ensures c.index-old.ensures in
     let granted = c.granted-granted.ensures ∙ granted_right c.self.inside c.in-Some.turn c.in-Some-get.claim _ f old in
     claimed_told c.self.inside c.in-Some.turn c.in-Some-get.claim _ _ f (at_claim g h) old granted
-    ∙ ap (λ (x : Shown _). told (step (opening_of g.H.Place.place_of x) x.state event.Claim)) c.self.view_is
+    ∙ ap (λ (x : Shown _). answer_of (step (opening_of g.H.Place.place_of x) x.state event.Claim)) c.self.view_is
 
 pub returns-clause-state : goal.returns-clause-state
 returns-clause-state g c =

@@ -21,7 +21,7 @@ runs g c = runs_told _ _ _ _ c.self.invariant c.self.view_is c.in-Some.ensures
 refused : (g : Over) (c : Joined-then-not-has_stored g) → RunsAt c.self.inside c.args.ticket c.in-Some.call → Refuses g.H.Place.place_of c.self.inside (event.Finish c.args.ticket) OutOfStep
 refused g c r =
     let closed = closed_turn _ _ c.is_some.ensures c.if-is_some.false in
-    let read = read_work c.self.inside _ _ _ r _ c.ticket.view_is c.index-work.ensures in
+    let read = read_work c.self.inside _ _ _ r _ c.ticket.view_is c.index-execution.ensures in
     elim c.then-not-has_stored.branch [
       | then-not-has_stored-via-then-not-has_stored w ↦
           refused_stores c.self.inside _ _ r _ c.self.invariant closed read (sym (c.has_stored.ensures.at_work _ _ (read_at_work c.self.inside _ _ r _ read)) ∙ w.if-not-has_stored.true)
@@ -30,19 +30,19 @@ refused g c r =
     ]
 
 -- a call that has no more to do ends
-ends : (g : Over) (c : After-as_ref g) → RunsAt c.self.inside c.args.ticket c.in-Some.call → Ends c.self.inside c.args.ticket c.in-Some.call c.index-work.result.now
+ends : (g : Over) (c : After-as_ref g) → RunsAt c.self.inside c.args.ticket c.in-Some.call → Ends c.self.inside c.args.ticket c.in-Some.call c.index-execution.result.now
 ends g c r =
-    let read = read_work c.self.inside _ _ _ r _ c.ticket.view_is c.index-work.ensures in
+    let read = read_work c.self.inside _ _ _ r _ c.ticket.view_is c.index-execution.ensures in
     ends_of c.self.inside _ _ r _ _ _ (closed_turn _ _ c.is_some.ensures c.if-is_some.false) read
     (sym (c.has_stored.ensures.at_work _ _ (read_at_work c.self.inside _ _ r _ read)) ∙ c.if-not-has_stored.false)
     c.next_release.ensures c.is_some-else-not-has_stored.ensures c.if-is_some-2.false
 
--- the reply that is lent is that of the work
-lent : (g : Over) (c : After-unwrap-reply g) → c.index-work.result.now.reply ≡ Some c.unwrap-reply.result.now
+-- the reply that is lent is that of the execution
+lent : (g : Over) (c : After-unwrap-reply g) → c.index-execution.result.now.reply ≡ Some c.unwrap-reply.result.now
 lent g c = sym c.as_ref.ensures.value ∙ ap (λ (o : Option (Bor Reply)). option_copied o) c.unwrap-reply.ensures
 
-pub index-work-requires : goal.index-work-requires
-index-work-requires g c = omega (arith, work_there c.self.inside _ _ _ (runs g (goal.at.index-work-requires g c).In-Some) c.ticket.view_is, c.self.inside.work.ok.0)
+pub index-execution-requires : goal.index-execution-requires
+index-execution-requires g c = omega (arith, work_there c.self.inside _ _ _ (runs g (goal.at.index-execution-requires g c).In-Some) c.ticket.view_is, c.self.inside.execution.ok.0)
 
 pub returns-then-not-has_stored-clause-answer : goal.returns-then-not-has_stored-clause-answer
 returns-then-not-has_stored-clause-answer g c =

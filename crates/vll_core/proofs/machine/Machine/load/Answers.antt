@@ -21,7 +21,7 @@ runs g c = runs_told _ _ _ _ c.self.invariant c.self.view_is c.in-Some.ensures
 next : (g : Over) (c : In-Some-next_load g) → RunsAt c.self.inside c.args.ticket c.in-Some.call → LoadsNext c.self.inside c.args.ticket c.in-Some.call c.index.result.now c.in-Some-next_load.claim
 next g c r = record {
   runs = r;
-  work = read_work c.self.inside _ _ _ r _ c.ticket.view_is c.index.ensures;
+  execution = read_work c.self.inside _ _ _ r _ c.ticket.view_is c.index.ensures;
   next = sym c.in-Some-next_load.ensures;
 }
 
@@ -44,7 +44,7 @@ loaded : (g : Over) (c : After-load g) → HasLoaded c.index_mut.result.now c.lo
 loaded g c = record { loads = c.load.ensures.loads; stores = c.load.ensures.stores; releases = c.load.ensures.releases }
 
 pub index-requires : goal.index-requires
-index-requires g c = omega (arith, work_there c.self.inside _ _ _ (runs g (goal.at.index-requires g c).In-Some) c.ticket.view_is, c.self.inside.work.ok.0)
+index-requires g c = omega (arith, work_there c.self.inside _ _ _ (runs g (goal.at.index-requires g c).In-Some) c.ticket.view_is, c.self.inside.execution.ok.0)
 
 pub returns-in_default-next_load-clause-answer : goal.returns-in_default-next_load-clause-answer
 returns-in_default-next_load-clause-answer g c =
@@ -65,7 +65,7 @@ unwrap-procedure-requires g c =
     procedure_lent c.self.inside _ _ _ (runs g at.In-Some) (lent g at.After-proc)
 
 pub index_mut-requires : goal.index_mut-requires
-index_mut-requires g c = omega (arith, work_there c.self.inside _ _ _ (runs g (goal.at.index_mut-requires g c).In-Some) c.ticket.view_is, c.self.inside.work.ok.0)
+index_mut-requires g c = omega (arith, work_there c.self.inside _ _ _ (runs g (goal.at.index_mut-requires g c).In-Some) c.ticket.view_is, c.self.inside.execution.ok.0)
 
 pub load-requires-clause-formed : goal.load-requires-clause-formed
 load-requires-clause-formed g c =
@@ -92,7 +92,7 @@ invariant_of-self g c =
     subst (λ (t : ℕ). IsMachine g.H.Place.place_of (with_work c.self.inside t c.load.new.self)) (sym c.ticket.view_is)
     (core_load c.self.inside _ _ _ _ _ c.self.invariant p (loaded g at.After-load)
     (c.load.ensures.at_work _ _ _ is.0 (made_now c.self.inside _ _ r _ is.1.1) r.within p.next
-    (value g at.After-load l ∙ sees_serial c.self.inside _ _ _ _ c.self.invariant l) (read_at_work c.self.inside _ _ p.runs _ p.work)))
+    (value g at.After-load l ∙ sees_serial c.self.inside _ _ _ _ c.self.invariant l) (read_at_work c.self.inside _ _ p.runs _ p.execution)))
 
 pub returns-clause-answer : goal.returns-clause-answer
 returns-clause-answer g c =

@@ -4,15 +4,15 @@ use Rattle.vll_core.proofs.NextClaims.{store_next, none_next}
 use Rattle.vll_core.proofs.RunningWorks.{work_within}
 use Rattle.vll_core.proofs.machine.Machine.next_store.Goals as goal
 
-pub index-work-requires : goal.index-work-requires
-index-work-requires g c = omega (arith, work_within c.self.inside _ _ _ c.self.invariant c.self.view_is c.in_ok-call.ensures, c.self.inside.work.ok.0, c.ticket.view_is)
+pub index-execution-requires : goal.index-execution-requires
+index-execution-requires g c = omega (arith, work_within c.self.inside _ _ _ c.self.invariant c.self.view_is c.in_ok-call.ensures, c.self.inside.execution.ok.0, c.ticket.view_is)
 
 pub returns-in_err-call : goal.returns-in_err-call
 returns-in_err-call g c = c.from_residual.ensures ∙ none_next entry_store _ refl c.in_err-call.ensures
 
 pub returns-in_err-next : goal.returns-in_err-next
 returns-in_err-next g c =
-    c.from_residual-in_err-next.ensures ∙ store_next c.self.inside c.args.self.now c.args.ticket _ c.in_ok-call.call c.index-work.result.now c.self.invariant c.self.view_is c.in_ok-call.ensures c.ticket.view_is c.index-work.ensures _ c.in_err-next.ensures.claim
+    c.from_residual-in_err-next.ensures ∙ store_next c.self.inside c.args.self.now c.args.ticket _ c.in_ok-call.call c.index-execution.result.now c.self.invariant c.self.view_is c.in_ok-call.ensures c.ticket.view_is c.index-execution.ensures _ c.in_err-next.ensures.claim
 
 pub returns : goal.returns
-returns g c = store_next c.self.inside c.args.self.now c.args.ticket _ c.in_ok-call.call c.index-work.result.now c.self.invariant c.self.view_is c.in_ok-call.ensures c.ticket.view_is c.index-work.ensures _ c.in_ok-next.ensures.claim
+returns g c = store_next c.self.inside c.args.self.now c.args.ticket _ c.in_ok-call.call c.index-execution.result.now c.self.invariant c.self.view_is c.in_ok-call.ensures c.ticket.view_is c.index-execution.ensures _ c.in_ok-next.ensures.claim

@@ -21,7 +21,7 @@ made g c = record {
   opening = c.of-2.result;
   words = c.in_ok-words.words;
   queue = c.in_ok-queue.queue;
-  work = c.in_ok-work.work;
+  execution = c.in_ok-execution.execution;
   turn = None;
   scripts = c.args.scripts;
   next = c.in_ok-next.next;
@@ -38,12 +38,12 @@ fresh : (g : Over) (c : goal.After-of-2 g) → IsFresh c.args.config c.args.hash
 fresh g c =
     let full = filled 0 c.len.result c.vec.result c.vec.ensures.items_if_clones_equal (λ y e. e) in
     let none = filled None c.len-2.result c.vec-2.result c.vec-2.ensures.items_if_clones_equal (none_alone _ (λ n e. e)) in
-    record { queue = queue_is g c; work = search rules; turn = refl; nexts = search rules; kepts = search rules }
+    record { queue = queue_is g c; execution = search rules; turn = refl; nexts = search rules; kepts = search rules }
 
 pub invariant_of-result : goal.invariant_of-result
 invariant_of-result g c =
     let words : AreFirstWords c.args.records.now.items c.in_ok-words.words.items = search rules in
-    let room : c.args.config.limit ≤ vec_capacity c.in_ok-work.work = search rules in
+    let room : c.args.config.limit ≤ vec_capacity c.in_ok-execution.execution = search rules in
     let ok = openable (length c.args.records.now.items) c.args.config (ap (λ (n : ℕ). open_fault n c.args.config) (sym c.requires.records) ∙ c.requires.allowed) in
     let same : c.args.library.now ≡ c.of.result.value = sym c.of.ensures in
     let long : length c.of-2.result.value.items ≡ length c.args.records.now.items = ap length (records_are g c) in

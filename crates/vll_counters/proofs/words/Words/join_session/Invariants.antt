@@ -3,5 +3,5 @@ use Rattle.std.specs.Option.{option_map}
 use Rattle.vll_counters.specs.Shown.{no_claim}
 use Rattle.vll_counters.proofs.words.Words.join_session.Given as goal
 
-abbrev pub ghosts-join_session_told : goal.ghosts-join_session_told
-ghosts-join_session_told a = record { base = a.self.now.base; call = option_map (λ b. b.now) a.call; claim = no_claim; number = 0; given = None }
+abbrev pub ghosts-join_session_knowing : goal.ghosts-join_session_knowing
+ghosts-join_session_knowing a = record { base = a.self.now.base; call = option_map (λ b. b.now) a.call; claim = no_claim; number = 0; given = None }

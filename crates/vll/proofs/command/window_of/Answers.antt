@@ -1,5 +1,0 @@
-use Rattle.std.proofs.Common.{rules}
-use Rattle.vll.proofs.command.window_of.Goals as goal
-
-pub returns-clause-from : goal.returns-clause-from
-returns-clause-from c = search rules

@@ -1,8 +1,0 @@
-use Rattle.std.proofs.Common.{rules}
-use Rattle.vll_core.proofs.work.Work.has_stored.Goals as goal
-
-pub returns-else-has_aborted-clause-at_work : goal.returns-else-has_aborted-clause-at_work
-returns-else-has_aborted-clause-at_work c = search rules
-
-pub returns-else-has_aborted-clause-answer : goal.returns-else-has_aborted-clause-answer
-returns-else-has_aborted-clause-answer c = search rules

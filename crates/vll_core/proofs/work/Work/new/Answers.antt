@@ -1,6 +1,0 @@
-use Rattle.vll_core.proofs.AtWork.{loading_first}
-use Rattle.vll_core.proofs.work.Work.new.Goals as goal
-
-pub returns-clause-at_work : goal.returns-clause-at_work
-returns-clause-at_work c = λ procs records is made known.
-    c.run_if_loaded.ensures.at_work procs records is made known (loading_first c.args.call.now.claims records _ c.blank-work.ensures.loads c.blank-work.ensures.frame c.blank-work.ensures.reply)

@@ -1,0 +1,12 @@
+use Rattle.std.proofs.Common.{ap, sym, ◌∙◌, arith}
+use Rattle.vll_counters.specs.Shown.{WordsShown, QueueShown, queue_view}
+use Rattle.vll_counters.proofs.Seats.{queue_me, leaves_at}
+use Rattle.vll_counters.proofs.words.Words.give_session_knowing.Goals as goal
+
+pub split_seat-requires : goal.split_seat-requires
+split_seat-requires g c =
+    let table = ap (λ (s : QueueShown). s.table) c.queue.view_is ∙ c.requires.same ∙ sym (ap (λ (w : WordsShown). w.table) c.self.view_is) in
+    let base = ap (λ (w : WordsShown). w.base) c.self.view_is in
+    let words = c.self.invariant.words in
+    let me = queue_me _ _ _ c.queue.invariant.1 c.queue.view_is in
+    (table, omega (arith, words), leaves_at _ _ _ _ (queue_view c.args.queue.now) c.args.given _ base c.queue.invariant.0 c.requires.told (ap (λ x. x.0) me) c.requires.there c.requires.may_leave c.requires.gone)

@@ -1,0 +1,13 @@
+use Rattle.std.proofs.Common.{ap, sym, ◌∙◌}
+use Rattle.vll_counters.specs.Shown.{WordsShown, PassShown}
+use Rattle.vll_counters.proofs.Seats.{pass_me, value_there, loads_at}
+use Rattle.vll_counters.proofs.words.Words.load_knowing.Goals as goal
+
+pub load-requires : goal.load-requires
+load-requires g c =
+    let table = ap (λ (s : PassShown). s.table) c.pass.view_is ∙ c.requires.same ∙ sym (ap (λ (w : WordsShown). w.table) c.self.view_is) in
+    let base = ap (λ (w : WordsShown). w.base) c.self.view_is in (
+      table,
+      value_there _ _ _ _ _ base c.self.invariant.words c.requires.there c.value_word.ensures,
+      loads_at _ _ _ _ _ _ c.args.pass.now.pass c.args.id _ _ base c.requires.told.0 c.requires.told.1 (pass_me _ _ _ c.pass.invariant c.pass.view_is) c.value_word.ensures c.requires.next c.requires.there,
+    )

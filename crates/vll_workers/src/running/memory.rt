@@ -1,0 +1,71 @@
+//! The memory of a run, which is allocated before its first thread is started.
+ghost use Rattle.std.specs.Prelude.{◌≡◌, ◌<◌, [], IfOk, length};
+ghost use Rattle.crossbeam_queue.specs.Passes.{view};
+ghost use Rattle.vll_workers.specs.Private.Pool.{HasInHand, all_parts};
+
+use crate::batch::BatchRoom;
+use crate::pool::Pool;
+use crate::roster::Roster;
+use crate::worker::{Shelf, Worker};
+use std::alloc::{AllocError, Global};
+use vll_queue::Name;
+
+// What a worker needs memory for: what it keeps, and what it has under way.
+#[derive(Drop)]
+pub(super) struct Desk<N: Name, T: Roster> {
+    pub(super) shelf: Shelf<T>,
+    pub(super) room: BatchRoom<N>,
+}
+
+impl<N: Name, T: Roster> Desk<N, T> {
+    // Allocates the memory of a worker, for a run of `count` tokens by `workers` workers.
+    fn new(alloc: Global, count: usize, workers: u32) -> Result<Desk<N, T>, AllocError>
+        requires { count ≡ length T.tokens }
+    {
+        let shelf = Shelf::new(alloc, count)?;
+        let room = BatchRoom::new(alloc, workers, share_of(count, workers))?;
+        Ok(Desk { shelf, room })
+    }
+}
+
+// What a run needs memory for: the pool, the calling thread's own worker, which has all tokens in hand, with room for
+// what it has under way, and what each other worker needs.
+pub(super) struct RunMemory<N: Name, T: Roster> {
+    pub(super) pool: Pool<T>,
+    pub(super) own: Worker<T>,
+    pub(super) own_room: BatchRoom<N>,
+    pub(super) desks: Vec<Desk<N, T>>,
+}
+
+// How many tokens a worker may take before a hold: its share, or none if that is less than two.
+fn share_of(count: usize, workers: u32) -> usize {
+    let share = count / workers.max(1) as usize;
+    if share < 2 { 0 } else { share }
+}
+
+// Allocates the room for a run of `count` tokens by `workers` workers.
+pub(super) fn memory_for<N: Name, T: Roster>(
+    alloc: Global,
+    count: usize,
+    workers: u32,
+) -> Result<RunMemory<N, T>, AllocError>
+    requires some { 0 < count }
+    requires count { count ≡ length T.tokens }
+    ensures workers { IfOk result (λ r. length r.desks.items ≡ workers) }
+    ensures kept { IfOk result (λ r. r.own.kept ≡ []) }
+    ensures hand { IfOk result (λ r. HasInHand r.pool r.own.pass T.tokens) }
+    ensures parts { IfOk result (λ r. (view r.own.pass).parts ≡ all_parts) }
+{
+    let mut desks = Vec::with_capacity(alloc, workers as usize)?;
+    for _ in 0..workers {
+        desks.push_reserved(Desk::new(alloc, count, workers)?);
+    }
+    let (pool, pass) = Pool::new(alloc, count)?;
+    let Desk { shelf, room } = Desk::new(alloc, count, workers)?;
+    Ok(RunMemory {
+        pool,
+        own: Worker::new(shelf, pass),
+        own_room: room,
+        desks,
+    })
+}
