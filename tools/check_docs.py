@@ -4,8 +4,8 @@
     python3 tools/check_docs.py
 
 - DEFINITIONS: a name in the first column of a table is declared in the file of its row, or, if the table has no such
-  column, in the crate of its section. What stands under "What the headline needs" is just what the clause reaches. Any
-  other name is declared somewhere.
+  column, in the crate of its section. What stands under "What the headline needs" is just what the clause reaches, and
+  what is in the folders specs/Headline. Any other name is declared somewhere.
 - PROMISES, ALGORITHM: a function stands in the crate that is named behind it, and the clauses of a row at one of its
   functions. HEADLINE: what it quotes stands so in a source.
 - README.md: its scenario is scenarios/transfer.json, and its figures are those of docs/speed.csv, as the drawings are.
@@ -128,6 +128,12 @@ class Checks:
                 for name, row in sorted(names.items()):
                     self.look(page, row, name in reached, f'{name} is not reached from {" and ".join(roots)}')
                 known |= reached | set(names)
+        # All that is listed, and nothing else, stands in the folders of the headline.
+        apart = {name for _, file, name in self.specs.texts if file.startswith('Headline.')}
+        named = {name: number for names in listed.values() for name, number in names.items()}
+        for name in sorted(apart | set(named)):
+            is_so = name in apart and name in named
+            self.look(page, named.get(name, 1), is_so, f'{name} is not both listed and in a folder specs/Headline')
 
     def promises(self, page):
         rows = [(number, cells) for number, _, _, cells in page.rows() if 'Function' in cells]

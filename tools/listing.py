@@ -69,10 +69,10 @@ def definitions(crates):
     specs = Specs(Sources(TOP))
     for crate in crates:
         listed = TOP / 'crates' / crate / 'specs/Lib.antt'
-        files = re.findall(r'^pub mod (?!Private)(\w+)', listed.read_text(), re.M) if listed.exists() else []
+        files = modules_of(listed)
         about, rows, bare = [], [], []
         for file in files:
-            path = f'`specs/{file}.antt`'
+            path = f'`specs/{file.replace(".", "/")}.antt`'
             about.append(f'- {path}: {specs.heads[crate, file]}')
             comments = {key[2]: text for key, text in specs.comments.items() if key[:2] == (crate, file)}
             for text, names in groupby(comments, comments.get):
@@ -83,6 +83,17 @@ def definitions(crates):
         if files:
             end = ['', f'Without a comment: {"; ".join(bare)}.'] if bare else []
             yield crate, [*about, '', *table(['Definition', 'Says', 'File'], rows), *end]
+
+
+def modules_of(index):
+    """The files that a list of modules names in reading order, but for Private, with those of Headline in its place."""
+    found = []
+    for name in re.findall(r'^pub mod (\w+)', index.read_text(), re.M) if index.exists() else []:
+        if name == 'Headline':
+            found += [f'{name}.{file}' for file in modules_of(index.with_name(f'{name}.antt'))]
+        elif name != 'Private':
+            found.append(name)
+    return found
 
 
 def main(words):

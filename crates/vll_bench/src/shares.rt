@@ -12,7 +12,7 @@ use vll_proc::Call;
 
 /// A way of making the calls of a library.
 pub(crate) trait Maker {
-    ghost use Rattle.vll_check.specs.Catalog.{Catalog};
+    ghost use Rattle.vll_check.specs.Headline.Catalog.{Catalog};
 
     ghost library: { Self → Catalog };
 

@@ -5,22 +5,25 @@ use Rattle.std.proofs.lemmas.Bool.{eqb-true, false≢true, ltb-true}
 use Rattle.std.proofs.lemmas.Option.{slice_get_within, slice_get-get_or, get_or_from_slice_get, none-some, same_Some}
 use Rattle.std.proofs.lemmas.List.Elements.{All-from_recursion}
 use Rattle.vll_proc.specs.declared.limits.TheConstants.{MOST_ARGS}
-use Rattle.vll_record.specs.Claim.{claims_of, with_claim, stronger}
+use Rattle.vll_record.specs.Headline.Claim.{claims_of, with_claim, stronger}
 use Rattle.vll_record.specs.declared.claim.Claim.{Claim}
 use Rattle.vll_record.specs.declared.claim.Mode.{Mode}
 use Rattle.vll_proc.specs.declared.call.Call.{Call}
-use Rattle.vll_record.specs.Canon.{laid}
+use Rattle.vll_record.specs.Headline.Canon.{laid}
 use Rattle.vll_proc.specs.declared.syntax.KeyAt.{KeyAt}
 use Rattle.vll_proc.specs.declared.syntax.KeyAt.TheVariants as at
 use Rattle.vll_proc.specs.declared.syntax.KeyDecl.{KeyDecl}
 use Rattle.vll_proc.specs.declared.syntax.Proc.{Proc}
-use Rattle.vll_proc.specs.Made.{asking, asked_by, asked, call_of, is_led, IsCallOf}
-use Rattle.vll_proc.specs.Meaning.{or_else, record_named, source_at, source_of}
+use Rattle.vll_proc.specs.Headline.Made.{asking, asked_by, asked, call_of}
+use Rattle.vll_proc.specs.Made.{is_led, IsCallOf}
+use Rattle.vll_proc.specs.Headline.Meaning.{or_else, record_named, source_at, source_of}
 use Rattle.vll_proc.specs.WellFormed as formed
 use Rattle.vll_check.specs.declared.fault.CallFault.{CallFault}
 use Rattle.vll_check.specs.declared.fault.CallFault.TheVariants.{ArgCount, RecordRange}
-use Rattle.vll_check.specs.Calls.{AreFound, bare, bares, call_to, call_numbered, place_is_there, key_at, named_by, source, source_by, Fits, IsReady, CallsProcedure, found_by, with_found}
-use Rattle.vll_check.specs.Catalog.{Catalog, IsCatalog}
+use Rattle.vll_check.specs.Headline.Calls.{AreFound, key_at, named_by, source, source_by, found_by, with_found}
+use Rattle.vll_check.specs.Calls.{bare, bares, call_to, call_numbered, place_is_there, Fits, IsReady, CallsProcedure}
+use Rattle.vll_check.specs.Headline.Catalog.{Catalog}
+use Rattle.vll_check.specs.Catalog.{IsCatalog}
 use Rattle.vll_check.specs.Faults.{check_fault}
 use Rattle.vll_check.specs.Private.Making.{IsPlaced, IsMadeFor}
 use Rattle.vll_check.specs.Names.{number_named, has_name_twice}

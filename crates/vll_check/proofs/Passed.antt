@@ -9,7 +9,7 @@ use Rattle.vll_proc.specs.declared.syntax.KeyAt.{KeyAt}
 use Rattle.vll_proc.specs.declared.syntax.KeyAt.TheVariants as at
 use Rattle.vll_proc.specs.declared.syntax.KeyDecl.{KeyDecl}
 use Rattle.vll_proc.specs.declared.syntax.Proc.{Proc}
-use Rattle.vll_proc.specs.Meaning.{led_to, record_named}
+use Rattle.vll_proc.specs.Headline.Meaning.{led_to, record_named}
 use Rattle.vll_proc.specs.WellFormed as formed
 use Rattle.vll_check.specs.declared.fault.CheckFault.{CheckFault}
 use Rattle.vll_check.specs.Calls.{place_is_there}

@@ -1,19 +1,20 @@
--- The call that is made from a name and arguments, or the lowest fault that applies.
-use Rattle.std.specs.Prelude.{◌≡◌, ℕ, ◌<◌, Bool, true, ◌==◌, nat_lt, List, [], ◌∷◌, map, length, Option, Some, None, slice_get, slice_index, is_some, take, Result, Ok, Err, All, if◌then◌else◌}
+-- The call that is made from a name and arguments, or the lowest fault that applies; which calls may enter.
+use Rattle.std.specs.Prelude.{◌≡◌, ℕ, ◌<◌, Bool, true, ◌==◌, nat_lt, List, [], map, length, Option, Some, None, slice_get, slice_index, Result, Ok, Err, All, if◌then◌else◌}
 use Rattle.std.specs.List.{list_all}
 use Rattle.vll_record.specs.declared.claim.Claim.{Claim}
 use Rattle.vll_proc.specs.declared.call.Call.{Call}
 use Rattle.vll_proc.specs.declared.syntax.KeyAt.TheVariants as at
 use Rattle.vll_proc.specs.declared.syntax.KeyDecl.{KeyDecl}
 use Rattle.vll_proc.specs.declared.syntax.Proc.{Proc}
-use Rattle.vll_proc.specs.Made.{call_of, IsCallOf}
-use Rattle.vll_proc.specs.Meaning.{record_named, source_of}
+use Rattle.vll_proc.specs.Headline.Made.{call_of}
+use Rattle.vll_proc.specs.Made.{IsCallOf}
 use Rattle.vll_proc.specs.WellFormed.{IsWellFormed}
 use Rattle.vll_check.specs.declared.fault.CallFault.{CallFault}
 use Rattle.vll_check.specs.declared.fault.CallFault.TheVariants.{UnknownProc, ArgCount, RecordRange}
-use Rattle.vll_check.specs.Catalog.{Catalog}
+use Rattle.vll_check.specs.Headline.Catalog.{Catalog}
 use Rattle.vll_check.specs.Faults.{check_fault}
 use Rattle.vll_check.specs.Names.{number_named}
+use Rattle.vll_check.specs.Headline.Calls.{with_found}
 
 -- an argument that names a key's record is below the number of records
 abbrev pub place_is_there : ℕ → List ℕ → KeyDecl → Bool
@@ -38,34 +39,6 @@ call_made c name args = call_numbered c.records c.procs (number_named name c.pro
 abbrev pub Fits : Catalog → Call → Type 0
 Fits c call = (name : List ℕ) × (args : List ℕ) × (call_made c name args ≡ Ok call)
 
--- the key position at an index, if there is an index
-abbrev pub key_at : List KeyDecl → Option ℕ → Option KeyDecl
-key_at keys None = None
-key_at keys (Some i) = slice_get keys i
-
--- the record that a key position names by a call's arguments
-abbrev pub named_by : ℕ → Call → Option KeyDecl → Option ℕ
-named_by records call None = None
-named_by records call (Some k) = record_named records (take call.arg_count call.args) None k.at
-
--- the record by whose value a call of the procedure finds another one
-abbrev pub source_by : ℕ → Option Proc → Call → Option ℕ
-source_by records None call = None
-source_by records (Some p) call = named_by records call (key_at p.keys (source_of p.keys))
-
--- as `source_by`, for a call that the library makes
-abbrev pub source : Catalog → Call → Option ℕ
-source c call = source_by c.records (slice_get c.procs call.number) call
-
--- a call of the procedure with a value found, if it has an indirect key
-abbrev pub found_by : ℕ → Option Proc → Call → ℕ → Call
-found_by records None call v = call
-found_by records (Some p) call v = if is_some (source_of p.keys) then call_of records call.number p (take call.arg_count call.args) (Some v) else call
-
--- as `found_by`, for a call that the library makes: then it claims the record that the value leads to
-abbrev pub with_found : Catalog → Call → ℕ → Call
-with_found c call v = found_by c.records (slice_get c.procs call.number) call v
-
 -- a call without what it finds: its procedure and its arguments, with no value found, no claims and no cells
 abbrev pub bare : Call → Call
 bare call = record call { found = None; claims = []; cells = [] }
@@ -73,13 +46,6 @@ bare call = record call { found = None; claims = []; cells = [] }
 -- as `bare`, for each call of a list
 abbrev pub bares : List Call → List Call
 bares calls = map bare calls
-
--- calls as they enter: these calls, each with a value found if it has an indirect key
-abbrev pub AreFound : Catalog → List Call → List Call → Type 0
-AreFound c [] [] = Unit {0}
-AreFound c [] (x ∷ xs) = ⊥
-AreFound c (call ∷ calls) [] = ⊥
-AreFound c (call ∷ calls) (x ∷ xs) = ((v : ℕ) × (x ≡ with_found c call v)) × AreFound c calls xs
 
 -- the call may enter: it is one that the library makes, with a value found if it has an indirect key
 abbrev pub IsReady : Catalog → Call → Type 0

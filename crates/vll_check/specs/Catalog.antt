@@ -1,14 +1,9 @@
--- What a library holds: its procedures, and the number of records for which they were checked.
-use Rattle.std.specs.Prelude.{◌≡◌, ℕ, ◌<◌, ◌^◌, false, List, length, None, All}
+-- The invariant of a library.
+use Rattle.std.specs.Prelude.{◌≡◌, ◌<◌, ◌^◌, false, length, None, All}
 use Rattle.vll_proc.specs.declared.syntax.Proc.{Proc}
 use Rattle.vll_check.specs.Faults.{check_fault}
 use Rattle.vll_check.specs.Names.{has_name_twice}
-
--- what contracts see of a `Library`: its procedures, in the order in which they were given to it,
--- and the number of records for which each of them passed
-pub record Catalog : Type 0 where
-  pub records : ℕ
-  pub procs : List Proc
+use Rattle.vll_check.specs.Headline.Catalog.{Catalog}
 
 -- there are fewer than 2^32 procedures, each passes the tests, and no two have the same name
 pub record IsCatalog (c : Catalog) : Type 0 where

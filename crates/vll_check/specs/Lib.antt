@@ -1,3 +1,4 @@
+pub mod Headline
 pub mod Faults
 pub mod Pieces
 pub mod Entry

@@ -2,8 +2,9 @@
 ghost use Rattle.std.specs.Prelude.{◌≡◌, ◌↔◌, ◌<◌, ℕ, List, Some, None, Ok, IsTrue, IfSome};
 ghost use Rattle.std.specs.List.{list_all};
 ghost use Rattle.vll_proc.specs.declared.call.Call.{Call};
-ghost use Rattle.vll_proc.specs.Meaning.{source_of};
-ghost use Rattle.vll_check.specs.Calls.{call_to, found_by, place_is_there, source_by};
+ghost use Rattle.vll_proc.specs.Headline.Meaning.{source_of};
+ghost use Rattle.vll_check.specs.Headline.Calls.{found_by, source_by};
+ghost use Rattle.vll_check.specs.Calls.{call_to, place_is_there};
 ghost use Rattle.vll_check.specs.Faults.{check_fault};
 ghost use Rattle.vll_check.specs.Private.Making.{IsMadeFor};
 

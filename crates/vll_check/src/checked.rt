@@ -1,7 +1,7 @@
 //! A checked procedure, with the number of records it was checked for and what a library notes about it.
 ghost use Rattle.std.specs.Prelude.{◌≡◌, None};
 ghost use Rattle.vll_check.specs.Faults.{check_fault};
-ghost use Rattle.vll_proc.specs.Meaning.{source_of};
+ghost use Rattle.vll_proc.specs.Headline.Meaning.{source_of};
 
 use std::marker::Model;
 use vll_proc::Proc;

@@ -4,8 +4,10 @@ ghost use Rattle.vll_record.specs.declared.claim.Claim.{Claim};
 ghost use Rattle.vll_proc.specs.declared.call.Call.{Call};
 ghost use Rattle.vll_proc.specs.declared.syntax.Proc.{Proc};
 ghost use Rattle.vll_proc.specs.WellFormed.{IsWellFormed, has_records};
-ghost use Rattle.vll_check.specs.Calls.{bare, bares, source, with_found, AreFound, CallsProcedure, Fits, IsReady};
-ghost use Rattle.vll_check.specs.Catalog.{Catalog, IsCatalog};
+ghost use Rattle.vll_check.specs.Headline.Calls.{source, with_found, AreFound};
+ghost use Rattle.vll_check.specs.Calls.{bare, bares, CallsProcedure, Fits, IsReady};
+ghost use Rattle.vll_check.specs.Headline.Catalog.{Catalog};
+ghost use Rattle.vll_check.specs.Catalog.{IsCatalog};
 ghost use Rattle.vll_check.specs.Faults.{check_fault};
 
 /// A procedure that passed the tests for a number of records is well-formed, and its fixed records exist.

@@ -1,6 +1,7 @@
 //! The library of a server's checked procedures, which finds them by name or number and makes their calls.
 ghost use Rattle.std.specs.Prelude.{◌≡◌, ◌<◌, ◌^◌, All, length, map, slice_get, IfOk, is_err, option_map, IfNone, IfSome, IsTrue, Some, ◌↔◌};
-ghost use Rattle.vll_check.specs.Calls.{call_made, source, with_found, Fits, IsReady};
+ghost use Rattle.vll_check.specs.Headline.Calls.{source, with_found};
+ghost use Rattle.vll_check.specs.Calls.{call_made, Fits, IsReady};
 ghost use Rattle.vll_check.specs.Catalog.{IsCatalog};
 ghost use Rattle.vll_check.specs.Names.{has_name_twice, number_named};
 ghost use Rattle.vll_check.specs.Entry.{procedure_of};
@@ -25,7 +26,7 @@ impl Model for Library {
     ghost use Rattle.vll_proc.specs.contracts.syntax.Expr as expr;
     ghost use Rattle.vll_proc.specs.contracts.syntax.Stmt as stmt;
     ghost use Rattle.std.specs.Coded.{codes};
-    ghost use Rattle.vll_check.specs.Catalog.{Catalog};
+    ghost use Rattle.vll_check.specs.Headline.Catalog.{Catalog};
 
     ghost Value = { Catalog };
 

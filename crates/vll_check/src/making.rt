@@ -1,9 +1,9 @@
 //! Calls of a procedure, made from their arguments.
 ghost use Rattle.std.specs.Prelude.{◌≡◌, ◌≤◌, ◌<◌, ◌^◌, length, map, true, All, IfSome, Some};
-ghost use Rattle.vll_record.specs.Canon.{laid};
-ghost use Rattle.vll_record.specs.Claim.{claims_of};
-ghost use Rattle.vll_proc.specs.Made.{asked_by, call_of, place_for, place_of};
-ghost use Rattle.vll_proc.specs.Meaning.{record_named};
+ghost use Rattle.vll_record.specs.Headline.Canon.{laid};
+ghost use Rattle.vll_record.specs.Headline.Claim.{claims_of};
+ghost use Rattle.vll_proc.specs.Headline.Made.{asked_by, call_of, place_for, place_of};
+ghost use Rattle.vll_proc.specs.Headline.Meaning.{record_named};
 ghost use Rattle.vll_proc.specs.WellFormed.{argument_is_declared};
 ghost use Rattle.vll_check.specs.Private.Making.{cell_of, IsPlaced};
 

@@ -1,5 +1,5 @@
 //! The claims and cells of calls.
-ghost use Rattle.vll_record.specs.Claim.{with_claim};
+ghost use Rattle.vll_record.specs.Headline.Claim.{with_claim};
 
 use vll_record::{Claim, Claims, MOST_CLAIMS, Mode, RecordId};
 

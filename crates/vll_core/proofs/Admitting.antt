@@ -6,10 +6,10 @@ use Rattle.std.proofs.lemmas.Bool.Decides.{nat_tests}
 use Rattle.vll_record.specs.declared.claim.Claim.{Claim}
 use Rattle.vll_proc.specs.declared.syntax.Proc.{Proc}
 use Rattle.vll_proc.specs.Made.{IsCallOf}
-use Rattle.vll_proc.specs.Serial.{before}
+use Rattle.vll_proc.specs.Headline.Serial.{before}
 use Rattle.vll_proc.specs.WellFormed.{IsWellFormed}
 use Rattle.vll_check.specs.Calls.{IsReady, CallsProcedure}
-use Rattle.vll_check.specs.Catalog.{Catalog}
+use Rattle.vll_check.specs.Headline.Catalog.{Catalog}
 use Rattle.vll_check.proofs.Fitting.{ready_well}
 use Rattle.vll_core.specs.declared.event.Event.TheVariants as event
 use Rattle.vll_core.specs.declared.machine.Machine.TheInside.{Inside}
@@ -20,7 +20,8 @@ use Rattle.vll_core.specs.declared.seen.Seen.TheVariants.{Free, Blocked}
 use Rattle.vll_sca.specs.declared.status.Status.{Status}
 use Rattle.vll_sca.specs.declared.status.Status.TheVariants.{Running, Waiting}
 use Rattle.vll_core.specs.declared.execution.Execution.{Execution}
-use Rattle.vll_sca.specs.Status.{is_waiting, is_gone}
+use Rattle.vll_sca.specs.Headline.Status.{is_waiting}
+use Rattle.vll_sca.specs.Status.{is_gone}
 use Rattle.vll_core.specs.State.{Opening, Entered, Turn, State}
 use Rattle.vll_core.specs.Machine.{Outcome, refuse_if, or_refuse, admit, step}
 use Rattle.vll_core.specs.Queue.{QueueEntry, admitted, entry, statuses}

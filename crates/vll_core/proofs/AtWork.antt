@@ -8,15 +8,16 @@ use Rattle.std.proofs.lemmas.Option.{slice_get_within, same_Some}
 use Rattle.std.proofs.lemmas.List.Sums.{length-filter, count_by-le-length}
 use Rattle.vll_record.specs.declared.claim.Claim.{Claim}
 use Rattle.vll_record.specs.declared.claims.TheConstants.{MOST_CLAIMS}
-use Rattle.vll_record.specs.Claim.{is_write}
+use Rattle.vll_record.specs.Headline.Claim.{is_write}
 use Rattle.vll_proc.specs.declared.call.Call.{Call}
 use Rattle.vll_proc.specs.declared.syntax.Proc.{Proc}
 use Rattle.vll_proc.specs.Cells.{Holds}
 use Rattle.vll_proc.specs.Made.{IsCallOf}
-use Rattle.vll_proc.specs.Serial.{apply}
+use Rattle.vll_proc.specs.Headline.Serial.{apply}
 use Rattle.vll_proc.specs.WellFormed.{IsWellFormed}
 use Rattle.vll_check.specs.Calls.{IsReady, CallsProcedure}
-use Rattle.vll_check.specs.Catalog.{Catalog, IsCatalog}
+use Rattle.vll_check.specs.Headline.Catalog.{Catalog}
+use Rattle.vll_check.specs.Catalog.{IsCatalog}
 use Rattle.vll_check.proofs.Fitting.{ready_well}
 use Rattle.vll_core.specs.declared.execution.Execution.{Execution}
 use Rattle.vll_core.specs.State.{is_aborted}

@@ -9,7 +9,7 @@ use Rattle.vll_check.specs.Calls.{Fits, IsReady}
 use Rattle.vll_check.specs.Catalog.{IsCatalog}
 use Rattle.vll_core.specs.declared.config.Config.{Config}
 use Rattle.vll_core.specs.declared.machine.Machine.TheInside.{Inside}
-use Rattle.vll_core.specs.State.{Base}
+use Rattle.vll_core.specs.Headline.State.{Base}
 use Rattle.vll_core.specs.Machine.{opened}
 use Rattle.vll_core.specs.Moves.{AreProper, IsReached, begun}
 use Rattle.vll_core.specs.declared.machine.OpenTurn.{OpenTurn}

@@ -2,15 +2,17 @@
 use Rattle.std.proofs.Common.{◌≡◌, ℕ, Bool, true, false, ◌&&◌, not, refl, sym, ◌||◌, nat_lt, nat_le, ◌+◌, [], ◌∷◌, length, ap, ◌∙◌, subst, slice_get, Some, ◌++◌, map, Option, None, if◌then◌else◌, Ok, is_some}
 use Rattle.std.proofs.lemmas.Option.{same_Some, same_Some}
 use Rattle.vll_core.specs.Machine.{step, with_entry, has_stored, running, next_call, used, is_turn_of, keeping, ready, front, scanned, waiting, Outcome, refuse_if, or_refuse, if_running, with_status, admit}
-use Rattle.vll_core.specs.State.{Entered, State, Turn, catalog_of, is_clear, value, Opening, open_claims}
+use Rattle.vll_core.specs.Headline.State.{catalog_of}
+use Rattle.vll_core.specs.State.{Entered, State, Turn, is_clear, value, Opening, open_claims}
 use Rattle.vll_record.specs.declared.claim.Claim.{Claim}
 use Rattle.vll_record.specs.Claim.{conflict}
 use Rattle.std.proofs.lemmas.Bool.{or_parts}
 use Rattle.vll_core.specs.Moves.{Move, by_event, wake, hand, if_waiting, move}
 use Rattle.vll_proc.specs.declared.call.Call.{Call}
-use Rattle.vll_check.specs.Calls.{source}
+use Rattle.vll_check.specs.Headline.Calls.{source}
 use Rattle.vll_sca.specs.declared.status.Status.{Status}
-use Rattle.vll_sca.specs.Status.{is_waiting, is_gone, is_running}
+use Rattle.vll_sca.specs.Headline.Status.{is_waiting}
+use Rattle.vll_sca.specs.Status.{is_gone, is_running}
 use Rattle.vll_sca.specs.declared.status.Status.TheVariants.{Running, Gone, Waiting}
 use Rattle.vll_core.specs.declared.refusal.Refusal.{Refusal}
 use Rattle.vll_core.specs.declared.seen.Seen.TheVariants.{Loaded, Free, Blocked}

@@ -6,8 +6,9 @@ use Rattle.std.proofs.lemmas.Option.{slice_get_within}
 use Rattle.vll_record.specs.declared.claim.Claim.{Claim}
 use Rattle.vll_record.specs.declared.claims.TheConstants.{MOST_CLAIMS}
 use Rattle.vll_record.specs.Claim.{conflict}
-use Rattle.vll_record.specs.Counter.{claims_on, delta_of, is_granted}
-use Rattle.vll_record.specs.Word.{pair_word_of_record}
+use Rattle.vll_record.specs.Headline.Counter.{claims_on}
+use Rattle.vll_record.specs.Counter.{delta_of, is_granted}
+use Rattle.vll_record.specs.Headline.Word.{pair_word_of_record}
 use Rattle.vll_record.proofs.Counted.{pair_word_of-below, is_granted-no_conflict}
 use Rattle.vll_proc.proofs.Called.{claims_few}
 use Rattle.vll_check.specs.Calls.{IsReady, CallsProcedure}

@@ -2,8 +2,9 @@
 use Rattle.std.proofs.Common.{◌≡◌, ℕ, suc, ◌&&◌, not, refl, sym, arith, ◌≤◌, ◌+◌, List, [], ◌∷◌, length, ap, ◌∙◌, slice_get, Some, ◌++◌, take, Option, None, take_all, append-nil}
 use Rattle.std.specs.List.{flat_map}
 use Rattle.vll_core.specs.State.{Entered, State, Turn, open_of, requested_of, counter, delta_on, Opening, open_claims}
-use Rattle.vll_record.specs.Claim.{IsRising, is_write, conflict}
-use Rattle.vll_record.specs.Counter.{claims_on}
+use Rattle.vll_record.specs.Headline.Claim.{is_write}
+use Rattle.vll_record.specs.Claim.{IsRising, conflict}
+use Rattle.vll_record.specs.Headline.Counter.{claims_on}
 use Rattle.vll_core.specs.Moves.{Move, requested_by, released_by, turn_request, entry_release, delta_if}
 use Rattle.std.proofs.lemmas.List.Concat.{flat_map-cons}
 use Rattle.std.proofs.lemmas.Grind.{flat_map-append}

@@ -7,8 +7,9 @@ use Rattle.vll_core.specs.State.{Entered, State, Turn, open_of, requested_of, co
 use Rattle.vll_record.specs.declared.claim.Claim.{Claim}
 use Rattle.std.proofs.lemmas.List.Elements.{filter-append}
 use Rattle.std.proofs.lemmas.List.{take-append-drop, set_split}
-use Rattle.vll_record.specs.Claim.{is_write}
-use Rattle.vll_record.specs.Counter.{claims_on, delta_of, pair_word_of}
+use Rattle.vll_record.specs.Headline.Claim.{is_write}
+use Rattle.vll_record.specs.Headline.Counter.{claims_on, pair_word_of}
+use Rattle.vll_record.specs.Counter.{delta_of}
 use Rattle.vll_record.specs.declared.claim.Mode.TheVariants.{Read, Write}
 use Rattle.vll_record.specs.declared.claim.Mode.{Mode}
 use Rattle.std.proofs.lemmas.List.Concat.{flat_map-cons}

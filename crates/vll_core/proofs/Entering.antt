@@ -5,16 +5,19 @@ use Rattle.std.specs.Vec.{with_item}
 use Rattle.std.specs.Global.{Vec}
 use Rattle.std.proofs.lemmas.Option.{same_Some, slice_get_within}
 use Rattle.vll_proc.specs.declared.call.Call.{Call}
-use Rattle.vll_check.specs.Calls.{Fits, IsReady, source, with_found}
-use Rattle.vll_check.specs.Catalog.{Catalog, IsCatalog}
+use Rattle.vll_check.specs.Headline.Calls.{source, with_found}
+use Rattle.vll_check.specs.Calls.{Fits, IsReady}
+use Rattle.vll_check.specs.Headline.Catalog.{Catalog}
+use Rattle.vll_check.specs.Catalog.{IsCatalog}
 use Rattle.vll_core.specs.declared.event.Event.TheVariants as event
 use Rattle.vll_core.specs.declared.machine.Machine.TheInside.{Inside}
 use Rattle.vll_core.specs.declared.refusal.Refusal.{Refusal}
 use Rattle.vll_core.specs.declared.refusal.Refusal.TheVariants.{TurnOpen, NoCall, Spent, Busy, OutOfStep}
 use Rattle.vll_core.specs.declared.seen.Seen.TheVariants.{Opened}
 use Rattle.vll_sca.specs.declared.status.Status.{Status}
-use Rattle.vll_sca.specs.Status.{is_waiting}
-use Rattle.vll_core.specs.State.{Base, catalog_of, Entered, Opening, State}
+use Rattle.vll_sca.specs.Headline.Status.{is_waiting}
+use Rattle.vll_core.specs.Headline.State.{Base, catalog_of}
+use Rattle.vll_core.specs.State.{Entered, Opening, State}
 use Rattle.vll_core.specs.Machine.{Outcome, refuse_if, or_refuse, waiting, first_call, next_call, rest_of, used, kept_for, keeping, ready, enter, step}
 use Rattle.vll_core.specs.Moves.{hand, move, moved}
 use Rattle.vll_core.specs.Queue.{statuses}

@@ -3,12 +3,13 @@ use Rattle.std.proofs.Common.{◌≡◌, ℕ, ◌<◌, Bool, false, refl, sym, a
 use Rattle.std.specs.Vec.{with_item}
 use Rattle.vll_record.specs.Word.{value_word_of}
 use Rattle.vll_proc.specs.declared.call.Call.{Call}
-use Rattle.vll_check.specs.Calls.{source}
+use Rattle.vll_check.specs.Headline.Calls.{source}
 use Rattle.vll_core.specs.declared.event.Event.TheVariants as event
 use Rattle.vll_core.specs.declared.machine.Machine.TheInside.{Inside}
 use Rattle.vll_core.specs.declared.refusal.Refusal.TheVariants.{TurnOpen, NoCall, OutOfStep}
 use Rattle.vll_core.specs.declared.seen.Seen.TheVariants.{Found}
-use Rattle.vll_core.specs.State.{catalog_of, Opening, State, value}
+use Rattle.vll_core.specs.Headline.State.{catalog_of}
+use Rattle.vll_core.specs.State.{Opening, State, value}
 use Rattle.vll_core.specs.Machine.{Outcome, find, is_turn_of, next_call, or_refuse, refuse_if, step}
 use Rattle.vll_core.specs.Shown.{library_of, opening_of}
 use Rattle.vll_core.specs.Private.View.{shown}

@@ -5,10 +5,12 @@ use Rattle.std.proofs.lemmas.List.Elements.{All-weaker}
 use Rattle.vll_proc.specs.declared.call.Call.{Call}
 use Rattle.vll_proc.specs.Made.{IsCallOf}
 use Rattle.vll_proc.proofs.Kept.{slice_index-applied}
-use Rattle.vll_check.specs.Calls.{Fits, source, with_found}
-use Rattle.vll_check.specs.Catalog.{Catalog, IsCatalog}
+use Rattle.vll_check.specs.Headline.Calls.{source, with_found}
+use Rattle.vll_check.specs.Calls.{Fits}
+use Rattle.vll_check.specs.Headline.Catalog.{Catalog}
+use Rattle.vll_check.specs.Catalog.{IsCatalog}
 use Rattle.vll_check.proofs.Fitting.{ready_well, ready_without}
-use Rattle.vll_core.specs.State.{Base, catalog_of}
+use Rattle.vll_core.specs.Headline.State.{Base, catalog_of}
 use Rattle.vll_core.specs.Moves.{IsProper, EntersProper}
 use Rattle.vll_core.specs.Laws.{ReadyCallIsProper, FittingScriptsAreProper}
 use Rattle.vll_core.proofs.Proper.{proper_call}

@@ -5,13 +5,14 @@ use Rattle.std.specs.Option.{option_map}
 use Rattle.std.proofs.lemmas.Bool.{eqb-true}
 use Rattle.std.proofs.lemmas.Option.{same_Some, slice_get-map}
 use Rattle.vll_proc.specs.declared.call.Reply.{Reply}
-use Rattle.vll_proc.specs.Serial.{Made, apply, before}
+use Rattle.vll_proc.specs.Headline.Serial.{Made, apply, before}
 use Rattle.vll_core.specs.declared.line.Line.{Line}
 use Rattle.vll_core.specs.declared.machine.Machine.TheInside.{Inside}
 use Rattle.vll_sca.specs.declared.status.Status.{Status}
 use Rattle.vll_core.specs.declared.execution.Execution.{Execution}
 use Rattle.vll_sca.specs.Status.{is_gone}
-use Rattle.vll_core.specs.State.{Base, Entered, reply_at}
+use Rattle.vll_core.specs.Headline.State.{Base}
+use Rattle.vll_core.specs.State.{Entered, reply_at}
 use Rattle.vll_core.specs.Queue.{QueueEntry, lines, statuses, has_reply}
 use Rattle.vll_core.specs.Journal.{reply_of, line_of, journal_of}
 use Rattle.vll_core.specs.Shown.{Shown, opening_of}

@@ -6,14 +6,15 @@ use Rattle.std.proofs.lemmas.List.{map-append, length-map, take-append-le}
 use Rattle.std.proofs.lemmas.List.Folds.{fold-map}
 use Rattle.vll_proc.specs.declared.call.Call.{Call}
 use Rattle.vll_proc.specs.declared.call.Reply.{Reply}
-use Rattle.vll_proc.specs.Serial.{Made, before, end}
+use Rattle.vll_proc.specs.Headline.Serial.{Made, before, end}
 use Rattle.vll_check.specs.Calls.{IsReady}
-use Rattle.vll_check.specs.Catalog.{Catalog}
+use Rattle.vll_check.specs.Headline.Catalog.{Catalog}
 use Rattle.vll_core.specs.declared.line.Line.{Line}
 use Rattle.vll_sca.specs.declared.status.Status.{Status}
 use Rattle.vll_sca.specs.declared.status.Status.TheVariants.{Running, Waiting, Gone}
 use Rattle.vll_core.specs.declared.execution.Execution.{Execution}
-use Rattle.vll_sca.specs.Status.{is_waiting, is_gone}
+use Rattle.vll_sca.specs.Headline.Status.{is_waiting}
+use Rattle.vll_sca.specs.Status.{is_gone}
 use Rattle.vll_core.specs.State.{Entered, made}
 use Rattle.vll_core.specs.Queue.{QueueEntry, Queued, IsQueued, has_reply, lines, statuses, changed_at, started, finished, admitted}
 use Rattle.vll_core.specs.Private.View.{entered_of, entries_of}

@@ -8,8 +8,9 @@ use Rattle.std.proofs.lemmas.List.Folds.{list_any-append}
 use Rattle.std.proofs.lemmas.List.{take-append-drop}
 use Rattle.std.proofs.lemmas.Map.Views.{exact_unsigned_eq}
 use Rattle.vll_record.proofs.Rising.{RisesFrom, RisesFrom-zero}
-use Rattle.vll_record.specs.Claim.{IsRising, is_write, conflict, conflicts, mode_on, stronger_of}
-use Rattle.vll_record.specs.Counter.{claims_on}
+use Rattle.vll_record.specs.Headline.Claim.{is_write}
+use Rattle.vll_record.specs.Claim.{IsRising, conflict, conflicts, mode_on, stronger_of}
+use Rattle.vll_record.specs.Headline.Counter.{claims_on}
 use Rattle.vll_record.specs.declared.claim.Mode.TheVariants.{Read, Write}
 use Rattle.vll_record.specs.declared.claim.Mode.{Mode}
 use Rattle.std.proofs.lemmas.Bool.{and_from, or_parts, or_left, or_right}

@@ -7,7 +7,8 @@ use Rattle.std.specs.List.{list_any}
 use Rattle.vll_record.specs.declared.claim.Claim.{Claim}
 use Rattle.vll_record.specs.Claim.{conflict, conflicts}
 use Rattle.vll_sca.specs.Scan.{scan}
-use Rattle.vll_sca.specs.Status.{is_waiting, is_gone}
+use Rattle.vll_sca.specs.Headline.Status.{is_waiting}
+use Rattle.vll_sca.specs.Status.{is_gone}
 use Rattle.vll_sca.proofs.Scanning.{scanned_within, scanned_waits, scanned_is_clear}
 use Rattle.vll_core.specs.Machine.{scanned}
 use Rattle.vll_core.specs.State.{Opening, Entered, State, open_of, is_clear}

@@ -8,7 +8,7 @@ use Rattle.vll_proc.specs.declared.syntax.KeyAt.TheVariants as at
 use Rattle.vll_proc.specs.declared.syntax.Proc.{Proc}
 use Rattle.vll_proc.specs.declared.syntax.Expr.{Num, Arg, Key, Add, Sub}
 use Rattle.vll_proc.specs.declared.syntax.Stmt.{Set, Reply}
-use Rattle.vll_proc.specs.Made.{call_of}
+use Rattle.vll_proc.specs.Headline.Made.{call_of}
 use Rattle.vll_sca.specs.Placing.{placing}
 use Rattle.vll_sca.specs.declared.place.Placing.TheVariants.{Modulo}
 use Rattle.vll_core.specs.State.{Opening}

@@ -5,10 +5,10 @@ use Rattle.vll_record.specs.Claim.{mode_on}
 use Rattle.vll_proc.specs.declared.call.Call.{Call}
 use Rattle.vll_proc.specs.declared.syntax.Proc.{Proc}
 use Rattle.vll_proc.specs.Made.{IsCallOf}
-use Rattle.vll_proc.specs.Serial.{applied, applied_at}
+use Rattle.vll_proc.specs.Headline.Serial.{applied, applied_at}
 use Rattle.vll_proc.specs.WellFormed.{IsWellFormed}
 use Rattle.vll_proc.proofs.Called.{claims_rise}
-use Rattle.vll_core.specs.State.{Base}
+use Rattle.vll_core.specs.Headline.State.{Base}
 use Rattle.vll_core.specs.Moves.{IsProper}
 
 -- a call changes no record that it does not claim for writing

@@ -10,7 +10,8 @@ use Rattle.vll_proc.specs.declared.call.Reply.{Reply}
 use Rattle.vll_core.specs.declared.line.Line.{Line}
 use Rattle.vll_sca.specs.declared.status.Status.{Status}
 use Rattle.vll_sca.specs.declared.status.Status.TheVariants.{Running, Waiting, Gone}
-use Rattle.vll_sca.specs.Status.{is_waiting, is_running, is_gone}
+use Rattle.vll_sca.specs.Headline.Status.{is_waiting}
+use Rattle.vll_sca.specs.Status.{is_running, is_gone}
 use Rattle.vll_core.specs.Queue.{QueueEntry, Queued, has_reply, admitted, started, finished}
 use Rattle.vll_core.specs.declared.queue.window.Window.{Window}
 use Rattle.vll_core.specs.Private.Paired.{paired}

@@ -7,7 +7,8 @@ use Rattle.std.proofs.lemmas.Option.{slice_get-map}
 use Rattle.vll_proc.specs.declared.call.Reply.{Reply}
 use Rattle.vll_sca.specs.declared.status.Status.{Status}
 use Rattle.vll_sca.specs.declared.status.Status.TheVariants.{Running, Gone}
-use Rattle.vll_sca.specs.Status.{is_waiting, is_gone}
+use Rattle.vll_sca.specs.Headline.Status.{is_waiting}
+use Rattle.vll_sca.specs.Status.{is_gone}
 use Rattle.vll_core.specs.State.{Entered, State}
 use Rattle.vll_core.specs.Machine.{front}
 use Rattle.vll_core.specs.Queue.{QueueEntry, Queued, lines, statuses, is_left, waiting_ticket, changed_at, front_among, admitted, started, finished}

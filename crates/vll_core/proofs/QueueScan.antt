@@ -7,7 +7,7 @@ use Rattle.std.proofs.lemmas.Option.{slice_get-map, slice_get-get_or}
 use Rattle.vll_sca.specs.declared.entry.Entry.{Entry}
 use Rattle.vll_sca.specs.declared.status.Status.{Status}
 use Rattle.vll_sca.specs.declared.status.Status.TheVariants.{Running, Waiting, Gone}
-use Rattle.vll_sca.specs.Status.{is_waiting}
+use Rattle.vll_sca.specs.Headline.Status.{is_waiting}
 use Rattle.vll_sca.specs.Scan.{scan, scan_numbered}
 use Rattle.vll_sca.proofs.Scanning.{scanned_within, scanned_waits}
 use Rattle.vll_sca.proofs.Leaving.{gone_entries_do_not_matter}

@@ -3,10 +3,11 @@ use Rattle.std.proofs.Common.{◌≡◌, ℕ, false, refl, sym, arith, ◌≤◌
 use Rattle.std.proofs.lemmas.Option.{same_Some, same_Some}
 use Rattle.vll_core.specs.Machine.{step, Outcome, opened, run, state_after}
 use Rattle.vll_core.specs.State.{Entered, State, records_before, value, is_clear, Opening}
-use Rattle.vll_proc.specs.Serial.{before}
+use Rattle.vll_proc.specs.Headline.Serial.{before}
 use Rattle.vll_record.specs.declared.claim.Claim.{Claim}
 use Rattle.vll_core.specs.Moves.{AreProper, Move, by_event, IsLawful, IsReached, begun, moved}
-use Rattle.vll_sca.specs.Status.{is_waiting, is_running}
+use Rattle.vll_sca.specs.Headline.Status.{is_waiting}
+use Rattle.vll_sca.specs.Status.{is_running}
 use Rattle.vll_core.specs.declared.seen.Seen.TheVariants.{Loaded}
 use Rattle.vll_core.specs.declared.seen.Seen.{Seen}
 use Rattle.vll_core.specs.declared.event.Event.{Event}

@@ -6,7 +6,7 @@ use Rattle.std.proofs.lemmas.Option.{slice_get_within}
 use Rattle.vll_record.specs.declared.claim.Claim.{Claim}
 use Rattle.vll_record.specs.declared.claims.TheConstants.{MOST_CLAIMS}
 use Rattle.vll_record.specs.Counter.{delta_of}
-use Rattle.vll_record.specs.Word.{pair_word_of_record}
+use Rattle.vll_record.specs.Headline.Word.{pair_word_of_record}
 use Rattle.vll_proc.specs.declared.call.Call.{Call}
 use Rattle.vll_proc.proofs.Called.{claims_few}
 use Rattle.vll_core.specs.declared.event.Event.TheVariants as event

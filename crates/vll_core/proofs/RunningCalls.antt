@@ -7,11 +7,11 @@ use Rattle.vll_record.specs.declared.claim.Claim.{Claim}
 use Rattle.vll_proc.specs.declared.call.Call.{Call}
 use Rattle.vll_proc.specs.declared.syntax.Proc.{Proc}
 use Rattle.vll_proc.specs.Made.{IsCallOf}
-use Rattle.vll_proc.specs.Serial.{Made, After, apply, applied_at, before, end}
+use Rattle.vll_proc.specs.Headline.Serial.{Made, After, apply, applied_at, before, end}
 use Rattle.vll_proc.specs.WellFormed.{IsWellFormed}
 use Rattle.vll_proc.proofs.Kept.{length-applied}
 use Rattle.vll_check.specs.Calls.{IsReady, CallsProcedure}
-use Rattle.vll_check.specs.Catalog.{Catalog}
+use Rattle.vll_check.specs.Headline.Catalog.{Catalog}
 use Rattle.vll_check.proofs.Fitting.{ready_well}
 use Rattle.vll_core.specs.declared.line.Line.{Line}
 use Rattle.vll_core.specs.declared.machine.Machine.TheInside.{Inside}

@@ -3,13 +3,14 @@ use Rattle.std.proofs.Common.{◌≡◌, ℕ, zero, suc, true, false, ◌==◌, 
 use Rattle.std.proofs.lemmas.Option.{same_Some, same_Some}
 use Rattle.std.specs.List.{list_any}
 use Rattle.vll_core.specs.Machine.{with_entry}
-use Rattle.vll_core.specs.State.{Entered, Base, State, Turn, made, writes, records_before, is_aborted}
-use Rattle.vll_proc.specs.Serial.{before, Made, apply, applied_at, after, end}
+use Rattle.vll_core.specs.Headline.State.{Base}
+use Rattle.vll_core.specs.State.{Entered, State, Turn, made, writes, records_before, is_aborted}
+use Rattle.vll_proc.specs.Headline.Serial.{before, Made, apply, applied_at, after, end}
 use Rattle.vll_record.specs.declared.claim.Claim.{Claim}
 use Rattle.std.proofs.lemmas.List.{take-append-le}
 use Rattle.vll_core.specs.Moves.{IsProper}
 use Rattle.vll_core.specs.Laws.{LaterCallsLeaveSerialStates, LaterCallsLeaveSerialAnswers}
-use Rattle.vll_proc.specs.Meaning.{Scene, body}
+use Rattle.vll_proc.specs.Headline.Meaning.{Scene, body}
 use Rattle.vll_proc.specs.declared.call.Call.{Call}
 use Rattle.vll_proc.specs.declared.call.Reason.{Reason}
 use Rattle.vll_proc.specs.declared.syntax.Proc.{Proc}

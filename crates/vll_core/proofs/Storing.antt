@@ -8,7 +8,7 @@ use Rattle.std.proofs.lemmas.Option.{slice_get_within}
 use Rattle.vll_record.specs.declared.claim.Claim.{Claim}
 use Rattle.vll_record.specs.Word.{value_word_of}
 use Rattle.vll_proc.specs.declared.call.Call.{Call}
-use Rattle.vll_proc.specs.Serial.{apply}
+use Rattle.vll_proc.specs.Headline.Serial.{apply}
 use Rattle.vll_proc.specs.declared.syntax.Proc.{Proc}
 use Rattle.vll_proc.proofs.Called.{claims_few}
 use Rattle.vll_core.specs.declared.event.Event.TheVariants as event

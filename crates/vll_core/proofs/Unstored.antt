@@ -3,8 +3,9 @@ use Rattle.std.proofs.Common.{◌≡◌, ℕ, zero, suc, Bool, true, false, ◌=
 use Rattle.std.proofs.lemmas.Option.{same_Some, same_Some}
 use Rattle.std.specs.List.{position_or_len, list_any, enumerate_from}
 use Rattle.vll_core.specs.Machine.{with_entry}
-use Rattle.vll_core.specs.State.{Entered, Base, State, made, writes, records_before, is_aborted, entered, will_store, unstored, value}
-use Rattle.vll_proc.specs.Serial.{before, Made, apply}
+use Rattle.vll_core.specs.Headline.State.{Base}
+use Rattle.vll_core.specs.State.{Entered, State, made, writes, records_before, is_aborted, entered, will_store, unstored, value}
+use Rattle.vll_proc.specs.Headline.Serial.{before, Made, apply}
 use Rattle.vll_record.specs.declared.claim.Claim.{Claim}
 use Rattle.vll_sca.specs.declared.status.Status.{Status}
 use Rattle.vll_core.proofs.Tests.{at_least}

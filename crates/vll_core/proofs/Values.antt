@@ -3,14 +3,16 @@ use Rattle.std.proofs.Common.{◌≡◌, ℕ, suc, Bool, true, false, ◌==◌, 
 use Rattle.std.proofs.lemmas.Option.{slice_get_within, same_Some, same_Some}
 use Rattle.std.specs.List.{list_any}
 use Rattle.vll_core.specs.Machine.{with_entry, has_stored}
-use Rattle.vll_core.specs.State.{Entered, Base, State, Turn, made, writes, records_before, is_aborted, entered, will_store, unstored, value, has_aborted, Opening}
-use Rattle.vll_proc.specs.Serial.{apply}
+use Rattle.vll_core.specs.Headline.State.{Base}
+use Rattle.vll_core.specs.State.{Entered, State, Turn, made, writes, records_before, is_aborted, entered, will_store, unstored, value, has_aborted, Opening}
+use Rattle.vll_proc.specs.Headline.Serial.{apply}
 use Rattle.vll_record.specs.declared.claim.Claim.{Claim}
 use Rattle.std.proofs.lemmas.Map.Views.{exact_unsigned_eq}
 use Rattle.vll_record.proofs.Rising.{RisesFrom-zero}
 use Rattle.std.proofs.lemmas.Bool.{and_from, and_left, and_right, false_from_ne_true}
 use Rattle.vll_core.specs.Moves.{Move, stored_by, entry_store, is_on}
-use Rattle.vll_sca.specs.Status.{is_waiting, is_running}
+use Rattle.vll_sca.specs.Headline.Status.{is_waiting}
+use Rattle.vll_sca.specs.Status.{is_running}
 use Rattle.vll_sca.specs.declared.status.Status.TheVariants.{Running, Gone}
 use Rattle.vll_core.specs.Laws.{StoresMakeTheSerialState, OtherValuesStay}
 use Rattle.vll_core.proofs.Tests.{both_true, and_not_parts, none_pos}

@@ -2,7 +2,7 @@
 use Rattle.std.proofs.Common.{◌≡◌, ℕ, ◌≤◌, ◌<◌, Bool, true, false, List, [], ◌∷◌, slice_get, slice_set, get_or, Some, cond, count_by, refl, ap, arith}
 use Rattle.std.proofs.lemmas.List.Sums.{count_by-le-length, sum_by-append, sum_by-set}
 use Rattle.std.proofs.lemmas.Option.{slice_get_within, get_or_from_slice_get}
-use Rattle.vll_sca.specs.Status.{is_waiting}
+use Rattle.vll_sca.specs.Headline.Status.{is_waiting}
 use Rattle.vll_core.specs.Machine.{waiting, with_entry}
 use Rattle.vll_core.specs.Moves.{Move, IsReached, begun, moved}
 use Rattle.vll_core.specs.State.{Opening, Entered, State, Turn}

@@ -12,7 +12,7 @@ use Rattle.vll_sca.specs.declared.entry.Entry.{Entry}
 use Rattle.vll_sca.specs.declared.status.Status.{Status}
 use Rattle.vll_sca.specs.declared.status.Status.TheVariants.{Running, Waiting, Gone}
 use Rattle.vll_sca.specs.Scan.{scan}
-use Rattle.vll_sca.specs.Status.{is_waiting}
+use Rattle.vll_sca.specs.Headline.Status.{is_waiting}
 use Rattle.vll_core.specs.State.{Entered, State}
 use Rattle.vll_core.specs.Machine.{Outcome, refuse_if, or_refuse, front, with_entry, with_status, step, scanned as scanned_entry}
 use Rattle.vll_core.specs.Moves.{by_event, requested_by, released_by, stored_by}

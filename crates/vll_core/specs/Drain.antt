@@ -1,11 +1,12 @@
 -- Draining a machine: an open turn is closed and each call finished, by events other than Find, Enter and Scan.
 use Rattle.std.specs.Prelude.{◌≡◌, ℕ, ◌+◌, ◌*◌, Bool, true, false, List, length, Option, Some, None, All, is_ok, slice_index, if◌then◌else◌}
 use Rattle.std.specs.List.{sum_by}
-use Rattle.vll_proc.specs.Serial.{end}
+use Rattle.vll_proc.specs.Headline.Serial.{end}
 use Rattle.vll_sca.specs.Status.{is_gone}
 use Rattle.vll_core.specs.declared.event.Event.{Event}
 use Rattle.vll_core.specs.declared.event.Event.TheVariants as event
-use Rattle.vll_core.specs.State.{Base, Opening, Entered, Turn, State, entered, counter, value}
+use Rattle.vll_core.specs.Headline.State.{Base}
+use Rattle.vll_core.specs.State.{Opening, Entered, Turn, State, entered, counter, value}
 use Rattle.vll_core.specs.Machine.{answers, run}
 
 -- an event is Find, Enter or Scan

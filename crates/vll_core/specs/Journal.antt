@@ -4,7 +4,8 @@ use Rattle.std.specs.List.{enumerate_from}
 use Rattle.vll_proc.specs.declared.call.Reply.{Reply}
 use Rattle.vll_core.specs.declared.line.Line.{Line}
 use Rattle.vll_sca.specs.Status.{is_gone}
-use Rattle.vll_core.specs.State.{Base, Entered, State, reply_at}
+use Rattle.vll_core.specs.Headline.State.{Base}
+use Rattle.vll_core.specs.State.{Entered, State, reply_at}
 
 module _ (o : Base) (s : State) where
   -- a finished call has the reply that it gives if the calls run one at a time; other calls have none

@@ -2,18 +2,20 @@
 -- a time.
 use Rattle.std.specs.Prelude.{◌≡◌, ◌≢◌, ℕ, suc, ◌+◌, ◌≤◌, ◌<◌, true, false, not, List, ◌++◌, length, map, count_by, Some, None, Ok, All, slice_get, slice_index}
 use Rattle.vll_record.specs.declared.claim.Claim.{Claim}
-use Rattle.vll_record.specs.Claim.{is_write}
-use Rattle.vll_record.specs.Counter.{claims_on}
+use Rattle.vll_record.specs.Headline.Claim.{is_write}
+use Rattle.vll_record.specs.Headline.Counter.{claims_on}
 use Rattle.vll_proc.specs.declared.call.Call.{Call}
 use Rattle.vll_proc.specs.declared.syntax.Proc.{Proc}
-use Rattle.vll_proc.specs.Serial.{Made, answer, before, end}
+use Rattle.vll_proc.specs.Headline.Serial.{Made, answer, before, end}
 use Rattle.vll_check.specs.Calls.{Fits, IsReady}
-use Rattle.vll_check.specs.Catalog.{Catalog, IsCatalog}
+use Rattle.vll_check.specs.Headline.Catalog.{Catalog}
+use Rattle.vll_check.specs.Catalog.{IsCatalog}
 use Rattle.vll_core.specs.declared.event.Event.{Event}
 use Rattle.vll_core.specs.declared.event.Event.TheVariants as event
 use Rattle.vll_core.specs.declared.seen.Seen.{Seen}
 use Rattle.vll_core.specs.declared.seen.Seen.TheVariants.{Loaded}
-use Rattle.vll_sca.specs.Status.{is_waiting, is_gone}
+use Rattle.vll_sca.specs.Headline.Status.{is_waiting}
+use Rattle.vll_sca.specs.Status.{is_gone}
 use Rattle.vll_sca.specs.Scan.{scan}
 use Rattle.vll_core.specs.State.{Opening, Entered, State, Turn, entered, open_claims, counter, writes, records_before, value, is_clear}
 use Rattle.vll_core.specs.Machine.{waiting, running_count, front, scanned, running, step, opened, run}

@@ -1,3 +1,4 @@
+pub mod Headline
 pub mod State
 pub mod Machine
 pub mod Moves

@@ -3,10 +3,11 @@ use Rattle.std.specs.Prelude.{ℕ, ◌+◌, Bool, true, false, ◌&&◌, ◌||�
 use Rattle.vll_record.specs.declared.claim.Claim.{Claim}
 use Rattle.vll_record.specs.Claim.{conflict}
 use Rattle.vll_proc.specs.declared.call.Call.{Call}
-use Rattle.vll_check.specs.Calls.{source, with_found}
+use Rattle.vll_check.specs.Headline.Calls.{source, with_found}
 use Rattle.vll_sca.specs.declared.status.Status.{Status}
 use Rattle.vll_sca.specs.declared.status.Status.TheVariants.{Running, Waiting, Gone}
-use Rattle.vll_sca.specs.Status.{is_waiting, is_running, is_gone}
+use Rattle.vll_sca.specs.Headline.Status.{is_waiting}
+use Rattle.vll_sca.specs.Status.{is_running, is_gone}
 use Rattle.vll_sca.specs.declared.entry.Entry.{Entry}
 use Rattle.vll_sca.specs.Scan.{scan}
 use Rattle.vll_core.specs.declared.event.Event.{Event}
@@ -15,7 +16,8 @@ use Rattle.vll_core.specs.declared.seen.Seen.{Seen}
 use Rattle.vll_core.specs.declared.seen.Seen.TheVariants.{Found, Opened, Claimed, Free, Blocked, Run, Loaded, Stored, Released, Replied}
 use Rattle.vll_core.specs.declared.refusal.Refusal.{Refusal}
 use Rattle.vll_core.specs.declared.refusal.Refusal.TheVariants.{TurnOpen, NoTurn, NoCall, Spent, Busy, NotRunning, OutOfStep, Idle}
-use Rattle.vll_core.specs.State.{Base, catalog_of, Opening, Entered, Turn, State, open_claims, counter, writes, reply_at, has_aborted, value}
+use Rattle.vll_core.specs.Headline.State.{Base, catalog_of}
+use Rattle.vll_core.specs.State.{Opening, Entered, Turn, State, open_claims, counter, writes, reply_at, has_aborted, value}
 
 -- a refusal, or an answer and the next state
 abbrev pub Outcome : Type 0

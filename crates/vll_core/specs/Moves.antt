@@ -5,16 +5,17 @@ use Rattle.vll_record.specs.declared.claim.Claim.{Claim}
 use Rattle.vll_record.specs.declared.claim.Mode.TheVariants.{Write}
 use Rattle.vll_record.specs.Claim.{IsRising, mode_on}
 use Rattle.vll_proc.specs.declared.call.Call.{Call}
-use Rattle.vll_proc.specs.Serial.{apply}
-use Rattle.vll_check.specs.Calls.{source, with_found}
+use Rattle.vll_proc.specs.Headline.Serial.{apply}
+use Rattle.vll_check.specs.Headline.Calls.{source, with_found}
 use Rattle.vll_core.specs.declared.event.Event.{Event}
 use Rattle.vll_core.specs.declared.event.Event.TheVariants as event
 use Rattle.vll_core.specs.declared.seen.Seen.{Seen}
 use Rattle.vll_core.specs.declared.seen.Seen.TheVariants.{Run}
 use Rattle.vll_sca.specs.declared.status.Status.TheVariants.{Running}
 use Rattle.vll_core.specs.declared.refusal.Refusal.TheVariants.{TurnOpen, Idle}
-use Rattle.vll_sca.specs.Status.{is_waiting}
-use Rattle.vll_core.specs.State.{Base, catalog_of, Opening, Entered, Turn, State, delta_on, writes, is_clear}
+use Rattle.vll_sca.specs.Headline.Status.{is_waiting}
+use Rattle.vll_core.specs.Headline.State.{Base, catalog_of}
+use Rattle.vll_core.specs.State.{Opening, Entered, Turn, State, delta_on, writes, is_clear}
 use Rattle.vll_core.specs.Machine.{Outcome, refuse_if, or_refuse, enter, with_status, step, opened}
 
 -- a call of checked procedures: its claims rise by record number, and it changes no record that it does not claim for

@@ -2,10 +2,12 @@
 use Rattle.std.specs.Prelude.{◌≡◌, ℕ, ◌+◌, ◌*◌, ◌<◌, List, length, map, slice_index}
 use Rattle.std.specs.Global.{Vec}
 use Rattle.vll_proc.specs.declared.call.Call.{Call}
-use Rattle.vll_check.specs.Catalog.{Catalog}
-use Rattle.vll_record.specs.Word.{value_word_of, pair_word_of_record}
+use Rattle.vll_check.specs.Headline.Catalog.{Catalog}
+use Rattle.vll_record.specs.Headline.Word.{pair_word_of_record}
+use Rattle.vll_record.specs.Word.{value_word_of}
 use Rattle.vll_core.specs.declared.config.Config.{Config}
-use Rattle.vll_core.specs.State.{Base, catalog_of, Opening, State, counter, value}
+use Rattle.vll_core.specs.Headline.State.{Base, catalog_of}
+use Rattle.vll_core.specs.State.{Opening, State, counter, value}
 use Rattle.vll_core.specs.Machine.{Outcome, opened, state_after}
 
 -- what is fixed from the opening on, with the hash itself, and the state of the machine

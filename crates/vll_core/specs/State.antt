@@ -2,24 +2,16 @@
 use Rattle.std.specs.Prelude.{ℕ, Bool, true, false, ◌&&◌, ◌==◌, not, List, [], ◌++◌, map, filter, length, take, drop, Option, Some, None, slice_index, if◌then◌else◌}
 use Rattle.std.specs.List.{list_any, flat_map, enumerate_from, position_or_len}
 use Rattle.vll_record.specs.declared.claim.Claim.{Claim}
-use Rattle.vll_record.specs.Claim.{is_write, conflict}
-use Rattle.vll_record.specs.Counter.{delta_of, claims_on, pair_word_of}
+use Rattle.vll_record.specs.Headline.Claim.{is_write}
+use Rattle.vll_record.specs.Claim.{conflict}
+use Rattle.vll_record.specs.Headline.Counter.{claims_on, pair_word_of}
+use Rattle.vll_record.specs.Counter.{delta_of}
 use Rattle.vll_proc.specs.declared.call.Call.{Call}
 use Rattle.vll_proc.specs.declared.call.Reply.{Reply}
 use Rattle.vll_proc.specs.declared.call.Reply.TheVariants.{Committed, Aborted}
-use Rattle.vll_proc.specs.declared.syntax.Proc.{Proc}
-use Rattle.vll_proc.specs.Serial.{Made, apply, before}
-use Rattle.vll_check.specs.Catalog.{Catalog}
+use Rattle.vll_proc.specs.Headline.Serial.{Made, apply, before}
 use Rattle.vll_sca.specs.declared.status.Status.{Status}
-
--- the procedures, and the records as they were at the opening
-pub record Base : Type 0 where
-  pub procs : List Proc
-  pub records : List ℕ
-
--- the catalog of the library: the procedures, checked for this number of records
-abbrev pub catalog_of : Base → Catalog
-catalog_of base = record { records = length base.records; procs = base.procs }
+use Rattle.vll_core.specs.Headline.State.{Base}
 
 -- what is fixed from the opening on: the base, how many calls may be entered and how many may wait, and for the
 -- contention analysis the hash as the places that it gives to records, and the number of bits

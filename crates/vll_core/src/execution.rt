@@ -2,11 +2,11 @@
 ghost use Rattle.std.specs.Prelude.{◌≡◌, ◌+◌, ◌<◌, ◌==◌, ◌&&◌, ◌||◌, ℕ, List, All, Option, Some, None, false, IfSome, length, filter, replicate, option_map, option_and_then, slice_get, slice_index};
 ghost use Rattle.std.specs.Option.{option_map_or};
 ghost use Rattle.vll_record.specs.declared.claim.Claim.{Claim};
-ghost use Rattle.vll_record.specs.Claim.{is_write as writes_record};
+ghost use Rattle.vll_record.specs.Headline.Claim.{is_write as writes_record};
 ghost use Rattle.vll_proc.specs.declared.call.Call.{Call};
 ghost use Rattle.vll_proc.specs.declared.syntax.Proc.{Proc};
 ghost use Rattle.vll_proc.specs.Made.{IsCallOf};
-ghost use Rattle.vll_proc.specs.Serial.{apply};
+ghost use Rattle.vll_proc.specs.Headline.Serial.{apply};
 ghost use Rattle.vll_proc.specs.WellFormed.{IsWellFormed};
 ghost use Rattle.vll_core.specs.State.{is_aborted, writes};
 ghost use Rattle.vll_core.specs.Private.Execution.{IsLoading, IsAtWork};

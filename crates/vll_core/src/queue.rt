@@ -1,7 +1,8 @@
 //! The queue: the entered calls in order of entry, with their lines, their statuses and their contention analysis.
 ghost use Rattle.std.specs.Prelude.{◌≡◌, ◌<◌, ◌≤◌, ◌↔◌, Some, length, count_by, position, slice_get, slice_set, vec_capacity, IfOk, IsTrue};
 ghost use Rattle.std.specs.Option.{option_copied};
-ghost use Rattle.vll_sca.specs.Status.{is_waiting as waiting, is_running as running};
+ghost use Rattle.vll_sca.specs.Headline.Status.{is_waiting as waiting};
+ghost use Rattle.vll_sca.specs.Status.{is_running as running};
 ghost use Rattle.vll_sca.specs.declared.status.Status.TheVariants as Status;
 ghost use Rattle.vll_core.specs.Faults.{Refuses, config_fault};
 ghost use Rattle.vll_core.specs.Queue.{IsQueued, empty, emptied, entry, admitted, lines, statuses, is_left, started, finished, front_among, fronted, found_by, scanned};

@@ -8,12 +8,14 @@ use lib.ListN.{get_elem?}
 use Rattle.atomic_table.specs.Table as table
 use Rattle.atomic_table.specs.Table.{Splits, opening, Seen as SeenBy}
 use Rattle.atomic_table.proofs.Lists.{set_here, at_longer}
-use Rattle.vll_proc.specs.Serial.{Made, end}
+use Rattle.vll_proc.specs.Headline.Serial.{Made, end}
 use Rattle.vll_sca.specs.declared.status.Status.{Status}
 use Rattle.vll_sca.specs.declared.status.Status.TheVariants.{Running, Waiting, Gone}
-use Rattle.vll_sca.specs.Status.{is_waiting, is_running, is_gone}
+use Rattle.vll_sca.specs.Headline.Status.{is_waiting}
+use Rattle.vll_sca.specs.Status.{is_running, is_gone}
 use Rattle.vll_core.specs.declared.line.Line.{Line}
-use Rattle.vll_core.specs.State.{Base, Entered}
+use Rattle.vll_core.specs.Headline.State.{Base}
+use Rattle.vll_core.specs.State.{Entered}
 use Rattle.vll_core.specs.Machine.{opened}
 use Rattle.vll_core.specs.Moves.{begun}
 use Rattle.vll_core.specs.Shown.{AreWords}
@@ -23,7 +25,8 @@ use Rattle.vll_core.proofs.Finished.{finished_reached}
 use Rattle.vll_counters.specs.declared.views.QueueView.{QueueView}
 use Rattle.vll_counters.specs.declared.views.View.{View}
 use Rattle.vll_counters.specs.declared.views.View.TheVariants.{Queue, Session}
-use Rattle.vll_counters.specs.Views.{calls_in, pass_in, session_in, news_in}
+use Rattle.vll_counters.specs.Headline.Views.{calls_in, pass_in}
+use Rattle.vll_counters.specs.Views.{session_in, news_in}
 use Rattle.vll_counters.specs.Rule.{widest, pass_of, Rule}
 use Rattle.vll_counters.specs.Steps.{first_queue, first_view, new_session}
 use Rattle.vll_counters.specs.Told.{IsAtEnd}

@@ -8,13 +8,14 @@ use mathlib.Core.Option.{some}
 use lib.ListN.{get_elem?}
 use Rattle.atomic_table.specs.Table.{step, keeps, Allows, Splits, Joins}
 use Rattle.atomic_table.proofs.Lists.{set_here, set_else, at_longer}
-use Rattle.vll_proc.specs.Serial.{Made, apply}
+use Rattle.vll_proc.specs.Headline.Serial.{Made, apply}
 use Rattle.vll_sca.specs.declared.status.Status.{Status}
 use Rattle.vll_sca.specs.declared.status.Status.TheVariants.{Running, Waiting, Gone}
 use Rattle.vll_sca.specs.Status.{is_running}
 use Rattle.vll_core.specs.declared.event.Event.TheVariants as event
 use Rattle.vll_core.specs.declared.line.Line.{Line}
-use Rattle.vll_core.specs.State.{Base, Entered, entered}
+use Rattle.vll_core.specs.Headline.State.{Base}
+use Rattle.vll_core.specs.State.{Entered, entered}
 use Rattle.vll_core.specs.Machine.{with_entry}
 use Rattle.vll_core.specs.Moves.{by_event, moved}
 use Rattle.vll_core.specs.Shown.{AreWords}
@@ -26,7 +27,7 @@ use Rattle.vll_counters.specs.declared.views.SessionView.{SessionView}
 use Rattle.vll_counters.specs.declared.views.QueueView.{QueueView}
 use Rattle.vll_counters.specs.declared.views.View.{View}
 use Rattle.vll_counters.specs.declared.views.View.TheVariants.{Queue, Pass, Session, Spent}
-use Rattle.vll_counters.specs.Views.{calls_in}
+use Rattle.vll_counters.specs.Headline.Views.{calls_in}
 use Rattle.vll_counters.specs.Rule.{widest, pass_of, IsHosted, AreSessions, Rule}
 use Rattle.vll_counters.specs.Steps.{new_status, told, admitted, turn_ended, leaving, session_left, answered, finished, finished_by, ended}
 use Rattle.vll_counters.specs.Told.{KnowsPass, has_stored_pass, EndTells, MayLeave, IsGivenOut}

@@ -11,11 +11,13 @@ use Rattle.atomic_table.specs.Table.{step, keeps, Allows}
 use Rattle.atomic_table.proofs.Lists.{set_else}
 use Rattle.vll_record.specs.declared.claim.Claim.{Claim}
 use Rattle.vll_record.specs.Word.{value_word_of}
-use Rattle.vll_proc.specs.Serial.{Made, before}
+use Rattle.vll_proc.specs.Headline.Serial.{Made, before}
 use Rattle.vll_sca.specs.declared.status.Status.{Status}
 use Rattle.vll_sca.specs.declared.status.Status.TheVariants.{Gone}
-use Rattle.vll_sca.specs.Status.{is_waiting, is_gone}
-use Rattle.vll_core.specs.State.{Base, Opening, Entered, State, made, writes, has_aborted, will_store, unstored, value}
+use Rattle.vll_sca.specs.Headline.Status.{is_waiting}
+use Rattle.vll_sca.specs.Status.{is_gone}
+use Rattle.vll_core.specs.Headline.State.{Base}
+use Rattle.vll_core.specs.State.{Opening, Entered, State, made, writes, has_aborted, will_store, unstored, value}
 use Rattle.vll_core.specs.Moves.{IsReached}
 use Rattle.vll_core.specs.Shown.{AreWords}
 use Rattle.vll_core.proofs.Tests.{both_true, or_rest, not_yes, at_least}
@@ -29,7 +31,7 @@ use Rattle.vll_core.proofs.Reached.{kept_reached}
 use Rattle.vll_counters.specs.declared.views.SessionView.{SessionView}
 use Rattle.vll_counters.specs.declared.views.QueueView.{QueueView}
 use Rattle.vll_counters.specs.declared.views.View.TheVariants.{Session}
-use Rattle.vll_counters.specs.Views.{calls_in}
+use Rattle.vll_counters.specs.Headline.Views.{calls_in}
 use Rattle.vll_counters.specs.Rule.{widest, Rule, Shows, HasSeen, pass_of}
 use Rattle.vll_counters.specs.Steps.{told}
 use Rattle.vll_counters.specs.Told.{is_claimed_by, WasThere, FindTells}

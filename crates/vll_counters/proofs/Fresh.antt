@@ -1,7 +1,7 @@
 -- A call that waits has made no step, in every state that lawful moves reach.
 use Rattle.std.proofs.Common.{◌≡◌, ◌⊎◌, ℕ, true, false, refl, sym, ap, ◌∙◌, inl, inr, slice_get, Some, length}
 use Rattle.vll_sca.specs.declared.status.Status.TheVariants.{Running, Gone}
-use Rattle.vll_sca.specs.Status.{is_waiting}
+use Rattle.vll_sca.specs.Headline.Status.{is_waiting}
 use Rattle.vll_core.specs.State.{Opening, Entered, State}
 use Rattle.vll_core.specs.Machine.{with_entry}
 use Rattle.vll_core.specs.Moves.{Move, IsReached, begun, moved}

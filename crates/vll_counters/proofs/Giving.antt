@@ -6,12 +6,14 @@ use Rattle.atomic_table.specs.Table.{Splits}
 use Rattle.atomic_table.proofs.Lists.{set_here, at_longer}
 use Rattle.vll_record.specs.Claim.{conflict}
 use Rattle.vll_proc.specs.declared.call.Call.{Call}
-use Rattle.vll_proc.specs.Serial.{Made}
+use Rattle.vll_proc.specs.Headline.Serial.{Made}
 use Rattle.vll_sca.specs.declared.status.Status.{Status}
 use Rattle.vll_sca.specs.declared.status.Status.TheVariants.{Running, Waiting, Gone}
-use Rattle.vll_sca.specs.Status.{is_waiting, is_running, is_gone}
+use Rattle.vll_sca.specs.Headline.Status.{is_waiting}
+use Rattle.vll_sca.specs.Status.{is_running, is_gone}
 use Rattle.vll_core.specs.declared.line.Line.{Line}
-use Rattle.vll_core.specs.State.{Base, Entered, State, entered, is_clear}
+use Rattle.vll_core.specs.Headline.State.{Base}
+use Rattle.vll_core.specs.State.{Entered, State, entered, is_clear}
 use Rattle.vll_core.specs.Machine.{with_entry}
 use Rattle.vll_core.specs.Moves.{wake, moved}
 use Rattle.vll_core.proofs.WordsKept.{words_stay}
@@ -21,7 +23,7 @@ use Rattle.vll_counters.specs.declared.views.TurnView.{TurnView}
 use Rattle.vll_counters.specs.declared.views.QueueView.{QueueView}
 use Rattle.vll_counters.specs.declared.views.View.{View}
 use Rattle.vll_counters.specs.declared.views.View.TheVariants.{Queue, Pass, Spent}
-use Rattle.vll_counters.specs.Views.{calls_in}
+use Rattle.vll_counters.specs.Headline.Views.{calls_in}
 use Rattle.vll_counters.specs.Rule.{widest, values_before, pass_for, pass_of, Shows, Rule}
 use Rattle.vll_counters.specs.Steps.{new_line, admitted, new_pass, pass_given, pass_at}
 use Rattle.vll_counters.specs.Told.{MayStart, MayRun}

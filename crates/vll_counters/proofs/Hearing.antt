@@ -7,14 +7,14 @@ use lib.ListN.{get_elem?}
 use Rattle.atomic_table.specs.Seated.{TableId}
 use Rattle.atomic_table.specs.Table.{Me, step, keeps, Allows, Splits, Joins}
 use Rattle.atomic_table.proofs.Lists.{set_else, at_longer}
-use Rattle.vll_proc.specs.Serial.{Made}
-use Rattle.vll_core.specs.State.{Base}
+use Rattle.vll_proc.specs.Headline.Serial.{Made}
+use Rattle.vll_core.specs.Headline.State.{Base}
 use Rattle.vll_core.specs.Shown.{AreWords}
 use Rattle.vll_counters.specs.declared.views.QueueView.{QueueView}
 use Rattle.vll_counters.specs.declared.views.SessionView.{SessionView}
 use Rattle.vll_counters.specs.declared.views.View.{View}
 use Rattle.vll_counters.specs.declared.views.View.TheVariants.{Queue, Session, News, Hearing, Spent}
-use Rattle.vll_counters.specs.Views.{Begins, calls_in}
+use Rattle.vll_counters.specs.Headline.Views.{Begins, calls_in}
 use Rattle.vll_counters.specs.Rule.{HasSeen, Rule, pass_of}
 use Rattle.vll_counters.specs.Steps.{told, spent}
 use Rattle.vll_counters.specs.News.{NewsShown, calls_of_view, as_it_is, news_told, with_news, HearTells}

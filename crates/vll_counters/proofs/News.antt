@@ -4,9 +4,10 @@ use Rattle.std.proofs.lemmas.List.{append-nil}
 use mathlib.Core.Option.{some}
 use lib.ListN.{get_elem?}
 use Rattle.atomic_table.proofs.Lists.{at_set}
-use Rattle.vll_proc.specs.Serial.{Made}
+use Rattle.vll_proc.specs.Headline.Serial.{Made}
 use Rattle.vll_counters.specs.declared.views.View.{View}
-use Rattle.vll_counters.specs.Views.{Begins, news_in}
+use Rattle.vll_counters.specs.Headline.Views.{Begins}
+use Rattle.vll_counters.specs.Views.{news_in}
 use Rattle.vll_counters.specs.Rule.{AreNews}
 use Rattle.vll_counters.proofs.Places.{no_some, at_end}
 

@@ -9,11 +9,13 @@ use Rattle.std.proofs.lemmas.Option.{slice_get_within}
 use mathlib.Core.Option.{some, some-injective, some-ne-none}
 use lib.ListN.{get_elem?}
 use Rattle.vll_record.specs.declared.claim.Claim.{Claim}
-use Rattle.vll_proc.specs.Serial.{Made}
+use Rattle.vll_proc.specs.Headline.Serial.{Made}
 use Rattle.vll_sca.specs.declared.status.Status.{Status}
 use Rattle.vll_sca.specs.declared.status.Status.TheVariants.{Running, Waiting, Gone}
-use Rattle.vll_sca.specs.Status.{is_waiting, is_running, is_gone}
-use Rattle.vll_core.specs.State.{Base, Entered, Turn, State, entered, open_of, requested_of}
+use Rattle.vll_sca.specs.Headline.Status.{is_waiting}
+use Rattle.vll_sca.specs.Status.{is_running, is_gone}
+use Rattle.vll_core.specs.Headline.State.{Base}
+use Rattle.vll_core.specs.State.{Entered, Turn, State, entered, open_of, requested_of}
 use Rattle.vll_core.specs.Machine.{if_running}
 use Rattle.vll_core.proofs.Tests.{eq_same}
 use Rattle.vll_core.proofs.Places.{drop_none}
@@ -23,8 +25,8 @@ use Rattle.vll_counters.specs.declared.views.PassView.{PassView}
 use Rattle.vll_counters.specs.declared.views.QueueView.{QueueView}
 use Rattle.vll_counters.specs.declared.views.View.{View}
 use Rattle.vll_counters.specs.declared.views.View.TheVariants.{Queue}
-use Rattle.vll_counters.specs.Views.{pass_in}
-use Rattle.vll_counters.specs.Open.{requested_in, waiting_in, held_by, held_in}
+use Rattle.vll_counters.specs.Headline.Views.{pass_in}
+use Rattle.vll_counters.specs.Headline.Open.{requested_in, waiting_in, held_by, held_in}
 use Rattle.vll_counters.specs.Rule.{ArePasses, widest, turn_view, pass_for, pass_of}
 use Rattle.vll_counters.specs.Laws.{PairWordsCountOpenClaims}
 use Rattle.vll_counters.proofs.Passes.{AreNamed}

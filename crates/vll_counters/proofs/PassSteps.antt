@@ -10,12 +10,14 @@ use Rattle.atomic_table.specs.Table.{Me, Step, step, keeps, stepped, Allows, hom
 use Rattle.atomic_table.proofs.Lists.{set_else}
 use Rattle.vll_record.specs.declared.claim.Claim.{Claim}
 use Rattle.vll_record.specs.Counter.{delta_of}
-use Rattle.vll_record.specs.Word.{value_word_of, pair_word_of_record}
-use Rattle.vll_proc.specs.Serial.{Made, apply, before, end}
+use Rattle.vll_record.specs.Headline.Word.{pair_word_of_record}
+use Rattle.vll_record.specs.Word.{value_word_of}
+use Rattle.vll_proc.specs.Headline.Serial.{Made, apply, before, end}
 use Rattle.vll_sca.specs.Status.{is_running, is_gone}
 use Rattle.vll_core.specs.declared.event.Event.TheVariants as event
 use Rattle.vll_core.specs.declared.seen.Seen.{Seen}
-use Rattle.vll_core.specs.State.{Base, Entered, State, made, entered, records_before, writes, is_aborted, counter, value}
+use Rattle.vll_core.specs.Headline.State.{Base}
+use Rattle.vll_core.specs.State.{Entered, State, made, entered, records_before, writes, is_aborted, counter, value}
 use Rattle.vll_core.specs.Machine.{with_entry, has_stored}
 use Rattle.vll_core.specs.Moves.{Move, move, by_event, IsLawful, moved, is_on, entry_store}
 use Rattle.vll_core.specs.Shown.{AreWords}

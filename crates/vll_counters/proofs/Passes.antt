@@ -7,7 +7,7 @@ use lib.ListN.{get_elem?}
 use Rattle.atomic_table.proofs.Lists.{at_set, at_longer, at_last, set_here, set_else}
 use Rattle.vll_counters.specs.declared.views.PassView.{PassView}
 use Rattle.vll_counters.specs.declared.views.View.{View}
-use Rattle.vll_counters.specs.Views.{pass_in}
+use Rattle.vll_counters.specs.Headline.Views.{pass_in}
 use Rattle.vll_counters.specs.Rule.{ArePasses}
 use Rattle.vll_counters.proofs.Places.{no_some, at_below, at_end, seat_with, seat_here, seat_else}
 

@@ -8,10 +8,11 @@ use Rattle.atomic_table.specs.Table.{step, keeps, Allows}
 use Rattle.atomic_table.proofs.Lists.{set_here}
 use Rattle.vll_record.specs.declared.claim.Claim.{Claim}
 use Rattle.vll_record.specs.Counter.{delta_of}
-use Rattle.vll_record.specs.Word.{pair_word_of_record}
+use Rattle.vll_record.specs.Headline.Word.{pair_word_of_record}
 use Rattle.vll_proc.specs.declared.call.Call.{Call}
 use Rattle.vll_core.specs.declared.line.Line.{Line}
-use Rattle.vll_core.specs.State.{Base, State, counter}
+use Rattle.vll_core.specs.Headline.State.{Base}
+use Rattle.vll_core.specs.State.{State, counter}
 use Rattle.vll_core.specs.Machine.{waiting}
 use Rattle.vll_core.specs.Moves.{IsProper, IsReached, hand, moved}
 use Rattle.vll_core.specs.Shown.{AreWords}
@@ -21,7 +22,7 @@ use Rattle.vll_counters.specs.declared.views.TurnView.{TurnView}
 use Rattle.vll_counters.specs.declared.views.SessionView.{SessionView}
 use Rattle.vll_counters.specs.declared.views.QueueView.{QueueView}
 use Rattle.vll_counters.specs.declared.views.View.TheVariants.{Queue}
-use Rattle.vll_counters.specs.Views.{calls_in}
+use Rattle.vll_counters.specs.Headline.Views.{calls_in}
 use Rattle.vll_counters.specs.Rule.{widest, turn_view, Moment, Rule, pass_of}
 use Rattle.vll_counters.specs.Steps.{asked, requested, turn_of, opened}
 use Rattle.vll_counters.specs.Told.{KnowsSession, RequestTells, OpenTells}

@@ -5,15 +5,19 @@ use Rattle.atomic_table.specs.Seated.{TableId}
 use Rattle.atomic_table.specs.Table.{Me, step, Allows, Splits, Joins, opening, Final, Seen as SeenBy}
 use Rattle.vll_record.specs.declared.claim.Claim.{Claim}
 use Rattle.vll_record.specs.Counter.{delta_of}
-use Rattle.vll_record.specs.Word.{value_word_of, pair_word_of_record}
+use Rattle.vll_record.specs.Headline.Word.{pair_word_of_record}
+use Rattle.vll_record.specs.Word.{value_word_of}
 use Rattle.vll_proc.specs.declared.call.Call.{Call}
-use Rattle.vll_proc.specs.Serial.{apply}
+use Rattle.vll_proc.specs.Headline.Serial.{apply}
 use Rattle.vll_check.specs.Calls.{IsReady}
-use Rattle.vll_check.specs.Catalog.{Catalog, IsCatalog}
+use Rattle.vll_check.specs.Headline.Catalog.{Catalog}
+use Rattle.vll_check.specs.Catalog.{IsCatalog}
 use Rattle.vll_core.specs.declared.line.Line.{Line}
-use Rattle.vll_sca.specs.Status.{is_waiting, is_running}
+use Rattle.vll_sca.specs.Headline.Status.{is_waiting}
+use Rattle.vll_sca.specs.Status.{is_running}
 use Rattle.vll_counters.specs.Laid.{AreLaid}
-use Rattle.vll_core.specs.State.{Base, catalog_of, writes, is_aborted}
+use Rattle.vll_core.specs.Headline.State.{Base, catalog_of}
+use Rattle.vll_core.specs.State.{writes, is_aborted}
 use Rattle.vll_core.specs.Moves.{IsProper}
 use Rattle.vll_core.proofs.Fitted.{proper_ready}
 use Rattle.vll_counters.specs.declared.key.Key.{Key}

@@ -8,12 +8,13 @@ use mathlib.Core.Option.{some}
 use lib.ListN.{get_elem?}
 use Rattle.atomic_table.proofs.Lists.{at_set}
 use Rattle.vll_proc.specs.declared.call.Call.{Call}
-use Rattle.vll_proc.specs.Serial.{Made}
+use Rattle.vll_proc.specs.Headline.Serial.{Made}
 use Rattle.vll_sca.specs.declared.status.Status.{Status}
 use Rattle.vll_sca.specs.declared.status.Status.TheVariants.{Gone}
 use Rattle.vll_counters.specs.declared.views.SessionView.{SessionView}
 use Rattle.vll_counters.specs.declared.views.View.{View}
-use Rattle.vll_counters.specs.Views.{calls_by, Begins, session_in}
+use Rattle.vll_counters.specs.Headline.Views.{calls_by, Begins}
+use Rattle.vll_counters.specs.Views.{session_in}
 use Rattle.vll_counters.specs.Rule.{HasSeen, IsSession, AreSessions}
 use Rattle.vll_counters.proofs.Places.{no_some, at_end, get_longer, seat_with, seat_here, seat_else}
 

@@ -10,19 +10,20 @@ use Rattle.vll_record.specs.Claim.{conflict}
 use Rattle.vll_record.specs.Counter.{is_granted}
 use Rattle.vll_record.proofs.Counted.{is_granted-no_conflict}
 use Rattle.vll_proc.specs.declared.syntax.Proc.{Proc}
-use Rattle.vll_proc.specs.Serial.{Made, apply, before, answer}
+use Rattle.vll_proc.specs.Headline.Serial.{Made, apply, before, answer}
 use Rattle.vll_sca.specs.declared.status.Status.{Status}
 use Rattle.vll_sca.specs.declared.status.Status.TheVariants.{Gone}
 use Rattle.vll_sca.specs.Status.{is_gone}
 use Rattle.vll_core.specs.declared.line.Line.{Line}
-use Rattle.vll_core.specs.State.{Base, Entered, Turn, State, made, entered, open_claims, counter}
+use Rattle.vll_core.specs.Headline.State.{Base}
+use Rattle.vll_core.specs.State.{Entered, Turn, State, made, entered, open_claims, counter}
 use Rattle.vll_core.specs.Moves.{IsReached}
 use Rattle.vll_core.proofs.Counters.{counters_within}
 use Rattle.vll_core.proofs.SerialRun.{made_at}
 use Rattle.vll_counters.specs.declared.views.TurnView.{TurnView}
 use Rattle.vll_counters.specs.declared.views.SessionView.{SessionView}
 use Rattle.vll_counters.specs.declared.views.QueueView.{QueueView}
-use Rattle.vll_counters.specs.Views.{calls_in}
+use Rattle.vll_counters.specs.Headline.Views.{calls_in}
 use Rattle.vll_counters.specs.Rule.{widest, turn_view, Shows, IsHosted}
 use Rattle.vll_counters.specs.Steps.{asked}
 use Rattle.vll_counters.specs.Told.{AreReplied}

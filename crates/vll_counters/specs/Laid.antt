@@ -1,6 +1,7 @@
 -- The words with which a table begins.
 use Rattle.std.specs.Prelude.{◌≡◌, ℕ, ◌+◌, ◌*◌, ◌<◌, List, length, slice_index}
-use Rattle.vll_record.specs.Word.{value_word_of, pair_word_of_record}
+use Rattle.vll_record.specs.Headline.Word.{pair_word_of_record}
+use Rattle.vll_record.specs.Word.{value_word_of}
 
 -- word 0 is 0, and each record has its value, with no claim open
 pub record AreLaid (records words : List ℕ) : Type 0 where

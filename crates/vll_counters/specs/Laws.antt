@@ -2,17 +2,20 @@
 use Rattle.std.specs.Prelude.{◌≡◌, ℕ, ◌<◌, true, false, length, Some, slice_get, slice_index}
 use mathlib.Core.Option as opt
 use lib.ListN.{get_elem?}
-use Rattle.vll_record.specs.Counter.{claims_on, pair_word_of}
-use Rattle.vll_record.specs.Word.{pair_word_of_record}
-use Rattle.vll_sca.specs.Status.{is_waiting, is_running}
-use Rattle.vll_core.specs.State.{Base, Entered, is_clear}
+use Rattle.vll_record.specs.Headline.Counter.{claims_on, pair_word_of}
+use Rattle.vll_record.specs.Headline.Word.{pair_word_of_record}
+use Rattle.vll_sca.specs.Headline.Status.{is_waiting}
+use Rattle.vll_sca.specs.Status.{is_running}
+use Rattle.vll_core.specs.Headline.State.{Base}
+use Rattle.vll_core.specs.State.{Entered, is_clear}
 use Rattle.vll_counters.specs.declared.views.PassView.{PassView}
 use Rattle.vll_counters.specs.declared.views.QueueView.{QueueView}
 use Rattle.vll_counters.specs.declared.views.SessionView.{SessionView}
 use Rattle.vll_counters.specs.declared.views.View.{View}
 use Rattle.vll_counters.specs.declared.views.View.TheVariants.{Queue}
-use Rattle.vll_counters.specs.Views.{pass_in, session_in}
-use Rattle.vll_counters.specs.Open.{open_in}
+use Rattle.vll_counters.specs.Headline.Views.{pass_in}
+use Rattle.vll_counters.specs.Views.{session_in}
+use Rattle.vll_counters.specs.Headline.Open.{open_in}
 use Rattle.vll_counters.specs.Rule.{Moment, Rule}
 use Rattle.vll_counters.specs.Told.{IsClear}
 

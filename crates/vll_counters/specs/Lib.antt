@@ -1,3 +1,4 @@
+pub mod Headline
 pub mod Views
 pub mod Rule
 pub mod Steps
@@ -6,5 +7,4 @@ pub mod News
 pub mod Shown
 pub mod Laid
 pub mod Kept
-pub mod Open
 pub mod Laws

@@ -2,11 +2,11 @@
 use Rattle.std.specs.Prelude.{◌≡◌, ℕ, List, []}
 use Rattle.atomic_table.specs.Seated.{TableId}
 use Rattle.atomic_table.specs.Table.{Me, Step}
-use Rattle.vll_proc.specs.Serial.{Made}
+use Rattle.vll_proc.specs.Headline.Serial.{Made}
 use Rattle.vll_counters.specs.declared.views.SessionView.{SessionView}
 use Rattle.vll_counters.specs.declared.views.View.{View}
 use Rattle.vll_counters.specs.declared.views.View.TheVariants.{Session, News, Hearing, Spent}
-use Rattle.vll_counters.specs.Views.{calls_by, Begins}
+use Rattle.vll_counters.specs.Headline.Views.{calls_by, Begins}
 use Rattle.vll_counters.specs.Steps.{told}
 
 -- what contracts see of news: the identity of its words, and the entered calls that it has

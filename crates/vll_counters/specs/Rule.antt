@@ -4,10 +4,11 @@ use mathlib.Core.Option as opt
 use lib.ListN.{get_elem?}
 use Rattle.atomic_table.specs.Table as table
 use Rattle.vll_record.specs.declared.claim.Claim.{Claim}
-use Rattle.vll_proc.specs.Serial.{Made, before}
+use Rattle.vll_proc.specs.Headline.Serial.{Made, before}
 use Rattle.vll_sca.specs.declared.status.Status.{Status}
 use Rattle.vll_sca.specs.declared.status.Status.TheVariants.{Gone}
-use Rattle.vll_core.specs.State.{Base, Opening, Entered, Turn, State, entered}
+use Rattle.vll_core.specs.Headline.State.{Base}
+use Rattle.vll_core.specs.State.{Opening, Entered, Turn, State, entered}
 use Rattle.vll_core.specs.declared.config.TheConstants.{MOST_CALLS, MOST_WAITING}
 use Rattle.vll_core.specs.Machine.{running}
 use Rattle.vll_core.specs.Moves.{IsReached}
@@ -19,7 +20,8 @@ use Rattle.vll_counters.specs.declared.views.SessionView.{SessionView}
 use Rattle.vll_counters.specs.declared.views.QueueView.{QueueView}
 use Rattle.vll_counters.specs.declared.views.View.{View}
 use Rattle.vll_counters.specs.declared.views.View.TheVariants.{Queue}
-use Rattle.vll_counters.specs.Views.{calls_in, calls_by, Begins, pass_in, session_in, news_in}
+use Rattle.vll_counters.specs.Headline.Views.{calls_in, calls_by, Begins, pass_in}
+use Rattle.vll_counters.specs.Views.{session_in, news_in}
 
 -- the most permissive opening: as many calls as a machine can have, which may all wait. No step uses its hash
 abbrev pub widest : Base → Opening

@@ -6,21 +6,23 @@ use lib.ListN.{get_elem?}
 use Rattle.atomic_table.specs.Table.{Me, Step}
 use Rattle.vll_record.specs.declared.claim.Claim.{Claim}
 use Rattle.vll_record.specs.Claim.{conflict}
-use Rattle.vll_record.specs.Word.{value_word_of, pair_word_of_record}
+use Rattle.vll_record.specs.Headline.Word.{pair_word_of_record}
+use Rattle.vll_record.specs.Word.{value_word_of}
 use Rattle.vll_proc.specs.declared.call.Call.{Call}
 use Rattle.vll_sca.specs.declared.status.Status.{Status}
 use Rattle.vll_sca.specs.declared.status.Status.TheVariants.{Running, Waiting, Gone}
 use Rattle.vll_sca.specs.Status.{is_gone}
-use Rattle.vll_core.specs.State.{Base, entered, counter, value, writes, is_aborted, is_clear}
+use Rattle.vll_core.specs.Headline.State.{Base}
+use Rattle.vll_core.specs.State.{entered, counter, value, writes, is_aborted, is_clear}
 use Rattle.vll_core.specs.declared.line.Line.{Line}
-use Rattle.vll_proc.specs.Serial.{Made, answer, before, end}
+use Rattle.vll_proc.specs.Headline.Serial.{Made, answer, before, end}
 use Rattle.vll_counters.specs.declared.views.TurnView.{TurnView}
 use Rattle.vll_counters.specs.declared.views.PassView.{PassView}
 use Rattle.vll_counters.specs.declared.views.SessionView.{SessionView}
 use Rattle.vll_counters.specs.declared.views.QueueView.{QueueView}
 use Rattle.vll_counters.specs.declared.views.View.{View}
 use Rattle.vll_counters.specs.declared.views.View.TheVariants.{Queue, Pass, Session}
-use Rattle.vll_counters.specs.Views.{calls_in, calls_by, Begins}
+use Rattle.vll_counters.specs.Headline.Views.{calls_in, calls_by, Begins}
 use Rattle.vll_counters.specs.Rule.{HasSeen, Moment, Rule}
 use Rattle.vll_counters.specs.Steps.{on_queue, on_pass, on_session, told, opened, requested, loaded, stored, released, ended, records_before_pass, reply_of_pass}
 

@@ -1,6 +1,6 @@
 //! The seat of a pass, and its steps under no lock: loads, stores and releases.
 ghost use Rattle.std.specs.Prelude.{◌≡◌, ◌<◌, true, false, length, Some, slice_get, slice_index};
-ghost use Rattle.vll_proc.specs.Serial.{apply};
+ghost use Rattle.vll_proc.specs.Headline.Serial.{apply};
 ghost use Rattle.vll_core.specs.State.{writes, is_aborted};
 ghost use Rattle.vll_counters.specs.Shown.{passed, record_of};
 ghost use Rattle.vll_counters.specs.Steps.{loaded, stored, released, records_before_pass, reply_of_pass};

@@ -8,7 +8,7 @@ pub trait Known {
     ghost use Rattle.std.specs.Prelude.{ℕ, Option};
     ghost use Rattle.vll_record.specs.declared.claim.Claim.{Claim};
     ghost use Rattle.vll_proc.specs.declared.call.Call.{Call};
-    ghost use Rattle.vll_core.specs.State.{Base};
+    ghost use Rattle.vll_core.specs.Headline.State.{Base};
 
     ghost base: { Base };
 

@@ -1,7 +1,8 @@
 //! The shared words of an engine: opening and reopening them, looking at a pair word, and closing them.
 ghost use Rattle.std.specs.Prelude.{◌≡◌, ◌+◌, ◌*◌, ◌<◌, ◌≤◌, ◌∷◌, length, take, slice_index, count_by, vec_capacity, vec_len, IfOk, None, []};
 ghost use Rattle.std.specs.Mem.Slots.{slots_items, slots_len, IsFull};
-ghost use Rattle.vll_sca.specs.Status.{is_waiting, is_running};
+ghost use Rattle.vll_sca.specs.Headline.Status.{is_waiting};
+ghost use Rattle.vll_sca.specs.Status.{is_running};
 ghost use Rattle.vll_counters.specs.Laid.{AreLaid};
 ghost use Rattle.vll_counters.specs.Shown.{shown_queue, AreNewSessions};
 ghost use Rattle.vll_counters.specs.Steps.{first_queue};

@@ -1,7 +1,7 @@
 -- The window of a list of steps to which one more is added, and columns for its steps.
 use Rattle.std.proofs.Common.{◌≡◌, ℕ, ◌<◌, ◌≤◌, List, [], ◌∷◌, ◌++◌, length, suc, take, drop, refl, sym, ap, ◌∙◌, arith, length-append}
 use Rattle.std.proofs.lemmas.List.{drop-append-le, drop_all, length-take, take-append-le, take_all}
-use Rattle.vll_core.specs.State.{Base}
+use Rattle.vll_core.specs.Headline.State.{Base}
 use Rattle.vll_replay.specs.Steps.{Step}
 use Rattle.vll_picture.specs.Columns.{AreColumns, IsColumn, window}
 use Rattle.vll_picture.specs.declared.column.Column.{Column}

@@ -3,10 +3,10 @@ use Rattle.std.specs.Prelude.{◌≡◌, ℕ, List, ◌++◌, Option, Ok, codes}
 use Rattle.std.specs.List.{flat_map, enumerate_from}
 use Rattle.std.specs.Fmt.{decimal}
 use Rattle.std.specs.Str.Lines.{lines}
-use Rattle.vll_scenario.specs.Setup.{Setup}
+use Rattle.vll_scenario.specs.Headline.Setup.{Setup}
 use Rattle.vll_scenario.specs.Reading.{IsRead}
 use Rattle.vll_replay.specs.Replay.{text_of_setup}
-use Rattle.vll_replay.specs.Text.{Text}
+use Rattle.vll_replay.specs.Headline.Text.{Text}
 
 -- the item of a line, with the line's number from 0
 abbrev pub item : ℕ × Text → Text

@@ -11,16 +11,17 @@ use Rattle.vll_proc.specs.declared.call.Reason.TheVariants.{Overflow, Underflow}
 use Rattle.vll_proc.specs.declared.syntax.Expr.TheBlock.{hidden-the_row-Expr-0}
 use Rattle.vll_proc.specs.declared.syntax.Stmt.TheBlock.{hidden-the_row-Stmt-0}
 use Rattle.vll_proc.specs.declared.syntax.Proc.{Proc}
-use Rattle.vll_proc.specs.Made.{call_of}
-use Rattle.vll_proc.specs.Meaning.{Action, Scene, and_then, effect, in_turn, opening_scene, source_of, truth}
-use Rattle.vll_proc.specs.Serial.{Keeps, after, applied, applied_at}
+use Rattle.vll_proc.specs.Headline.Made.{call_of}
+use Rattle.vll_proc.specs.Headline.Meaning.{Action, Scene, and_then, effect, in_turn, opening_scene, source_of, truth}
+use Rattle.vll_proc.specs.Headline.Serial.{after, applied, applied_at}
+use Rattle.vll_proc.specs.Serial.{Keeps}
 use Rattle.vll_proc.proofs.Kept.{length-applied}
 use Rattle.vll_check.specs.Calls.{IsReady, place_is_there}
-use Rattle.vll_check.specs.Catalog.{Catalog}
+use Rattle.vll_check.specs.Headline.Catalog.{Catalog}
 use Rattle.vll_check.proofs.Fitting.{fits_made, found_of}
 use Rattle.vll_core.specs.declared.line.Line.{Line}
 use Rattle.vll_core.proofs.Tests.{both_true, lt_no, lt_yes}
-use Rattle.vll_counters.specs.Views.{calls_in}
+use Rattle.vll_counters.specs.Headline.Views.{calls_in}
 use Rattle.vll_example.specs.Bank.{HoldInTotal, procedures, sum_body, sum_of_two, transfer, transfer_body}
 
 -- what is taken from one place is added to another

@@ -8,7 +8,7 @@ use Rattle.vll_scenario.specs.Reading.{IsRead, IsScenarioOf, Reads, Tells}
 use Rattle.vll_scenario.specs.Scenario.{IsTree, scenario_at, setup_of}
 use Rattle.vll_scenario.specs.Shape.{◌>>=◌, shape_of}
 use Rattle.vll_scenario.specs.declared.reading.shape.Parts.{Parts}
-use Rattle.vll_scenario.specs.Setup.{Setup}
+use Rattle.vll_scenario.specs.Headline.Setup.{Setup}
 use Rattle.vll_scenario.specs.declared.fault.ScenarioFault.{ScenarioFault}
 use Rattle.vll_scenario.specs.declared.fault.ScenarioFault.TheVariants as fault
 use Rattle.vll_scenario.specs.declared.reading.bytes.ReadFault.{ReadFault}

@@ -9,7 +9,7 @@ use Rattle.vll_scenario.specs.declared.piece.Step.TheVariants as step
 use Rattle.vll_scenario.specs.Line.{fault_words}
 use Rattle.vll_scenario.specs.Reading.{IsRead, Tells}
 use Rattle.vll_scenario.specs.Scenario.{scenario_at, tree_or_json}
-use Rattle.vll_scenario.specs.Setup.{Setup}
+use Rattle.vll_scenario.specs.Headline.Setup.{Setup}
 use Rattle.vll_scenario.specs.Ways.{LeadsToFault, step_words, words_of}
 
 -- the line of a fault

@@ -3,7 +3,7 @@ ghost use Rattle.std.specs.Prelude.{◌≡◌, ◌≤◌, ◌↔◌, false, true
 ghost use Rattle.std.specs.Io.KnownBytes.{Appends};
 ghost use Rattle.vll_scenario.specs.Reading.{Tells};
 ghost use Rattle.vll_scenario.specs.Scenario.{scenario_at};
-ghost use Rattle.vll_scenario.specs.Setup.{Setup};
+ghost use Rattle.vll_scenario.specs.Headline.Setup.{Setup};
 ghost use Rattle.vll_scenario.specs.Streams.{AppendsBeginning};
 ghost use Rattle.vll_scenario.specs.declared.fault.ScenarioFault.{ScenarioFault};
 ghost use Rattle.vll_scenario.specs.declared.fault.ScenarioFault.TheVariants.{Read};

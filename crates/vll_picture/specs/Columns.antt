@@ -1,12 +1,14 @@
 -- The columns of a drawing, each for a step of the plain machine.
 use Rattle.std.specs.Prelude.{◌≡◌, ℕ, suc, ◌<◌, List, [], ◌∷◌, length, take, drop, Option, Some, None, Ok, Err, IfSome, slice_get, slice_index, if◌then◌else◌}
 use Rattle.vll_record.specs.declared.claim.Claim.{Claim}
-use Rattle.vll_record.specs.Word.{value_word_of, pair_word_of_record}
+use Rattle.vll_record.specs.Headline.Word.{pair_word_of_record}
+use Rattle.vll_record.specs.Word.{value_word_of}
 use Rattle.vll_core.specs.declared.event.Event.{Event}
 use Rattle.vll_core.specs.declared.event.Event.TheVariants as event
 use Rattle.vll_core.specs.declared.seen.Seen.{Seen}
 use Rattle.vll_core.specs.declared.seen.Seen.TheVariants as seen
-use Rattle.vll_core.specs.State.{Base, State, counter, value}
+use Rattle.vll_core.specs.Headline.State.{Base}
+use Rattle.vll_core.specs.State.{State, counter, value}
 use Rattle.vll_core.specs.Moves.{is_on}
 use Rattle.vll_core.specs.Next.{claim_of}
 use Rattle.vll_replay.specs.Steps.{Step}

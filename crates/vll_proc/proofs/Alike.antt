@@ -7,7 +7,7 @@ use Rattle.std.proofs.lemmas.List.{get_or-set_same, get_or-set_other, get_or_pas
 use Rattle.vll_proc.specs.declared.call.Reason.{Reason}
 use Rattle.vll_proc.specs.declared.syntax.Expr.{Expr, Row_of-Expr, end_of-Expr, more_of-Expr, Num, Arg, Key, Local, Add', Sub', Mul', Div', Rem', Min', Max', Equal', Less', Not'}
 use Rattle.vll_proc.specs.declared.syntax.Stmt.{Stmt, Row_of-Stmt, end_of-Stmt, more_of-Stmt, Let, Set, If', Abort, Reply, Repeat'}
-use Rattle.vll_proc.specs.Meaning.{Scene, Value, Action, and_then, both, sum, difference, product, quotient, remainder, lesser, greater, equality, order, truth, value_of, operand, effect, list_effect, in_turn, repeated}
+use Rattle.vll_proc.specs.Headline.Meaning.{Scene, Value, Action, and_then, both, sum, difference, product, quotient, remainder, lesser, greater, equality, order, truth, value_of, operand, effect, list_effect, in_turn, repeated}
 use Rattle.vll_proc.specs.WellFormed.{Locals, all_leaves, operand_leaves, throughout, list_throughout, key_is_below, arg_is_below, set_is_below, any_stmt, local_is_set, both_set, set_behind, list_set_behind, body_set_behind, reads_set, list_reads_set, body_reads_set}
 use Rattle.vll_proc.proofs.Copy.{both_true}
 

@@ -4,7 +4,7 @@ use Rattle.std.proofs.lemmas.Bool.{false≢true}
 use Rattle.vll_proc.specs.declared.limits.TheConstants.{MOST_LOCALS}
 use Rattle.vll_proc.specs.declared.call.Reason.{Reason}
 use Rattle.vll_proc.specs.declared.syntax.Proc.{Proc}
-use Rattle.vll_proc.specs.Meaning.{Scene, effect, in_turn}
+use Rattle.vll_proc.specs.Headline.Meaning.{Scene, effect, in_turn}
 use Rattle.vll_proc.specs.Undeclared.{AgreeOnDeclared, EndsAlike}
 use Rattle.vll_proc.specs.WellFormed.{IsWellFormed, Locals, nothing_set, body_set_behind}
 use Rattle.vll_proc.proofs.Alike.{Bridge, IsAlike, EndAlike, alike_in_turn}

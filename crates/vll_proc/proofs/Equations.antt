@@ -3,7 +3,7 @@ use Rattle.std.proofs.Common.{◌≡◌, ℕ, suc, ◌+◌, max, Bool, ◌==◌,
 use denote.Hole.Carrier.{hidden}
 use Rattle.vll_proc.specs.declared.syntax.Expr.{Expr, Add, Sub, Mul, Div, Rem, Min, Max, Equal, Less, Not}
 use Rattle.vll_proc.specs.declared.syntax.Expr.TheBlock.{hidden-the_row-Expr-0}
-use Rattle.vll_proc.specs.Meaning.{Scene, and_then, value_of, truth, sum, difference, product, quotient, remainder, lesser, greater, equality, order}
+use Rattle.vll_proc.specs.Headline.Meaning.{Scene, and_then, value_of, truth, sum, difference, product, quotient, remainder, lesser, greater, equality, order}
 use Rattle.vll_proc.specs.Private.Running.{operation_of}
 use Rattle.vll_proc.specs.WellFormed.{all_leaves, depth, nodes}
 

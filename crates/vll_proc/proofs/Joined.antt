@@ -4,7 +4,8 @@ use Rattle.std.proofs.lemmas.List.{take-append-le}
 use Rattle.std.proofs.lemmas.List.Elements.{All-head, All-tail}
 use Rattle.vll_proc.specs.declared.call.Reply.{Reply}
 use Rattle.vll_proc.specs.declared.syntax.Proc.{Proc}
-use Rattle.vll_proc.specs.Serial.{Made, Keeps, answer, apply, before, end, replies}
+use Rattle.vll_proc.specs.Headline.Serial.{Made, answer, apply, before, end}
+use Rattle.vll_proc.specs.Serial.{Keeps, replies}
 use Rattle.vll_proc.specs.Epochs.{in_a_row, replies_by_epochs, end_by_epochs}
 
 -- the second list goes on from the end of the first

@@ -17,8 +17,8 @@ use Rattle.vll_proc.specs.declared.syntax.KeyDecl.{KeyDecl}
 use Rattle.vll_proc.specs.declared.syntax.Proc.{Proc}
 use Rattle.vll_proc.specs.declared.syntax.Stmt.{Stmt, Row_of-Stmt, end_of-Stmt, more_of-Stmt, Let, Set, If', Abort, Reply, Repeat'}
 use Rattle.vll_proc.specs.Made.{IsCallOf}
-use Rattle.vll_proc.specs.Meaning.{Scene, Action, and_then, value_of, effect, list_effect, in_turn, repeated, record_named, found_at, has_moved, opening_scene, source_of, unless_moved, body}
-use Rattle.vll_proc.specs.Serial.{after, applied}
+use Rattle.vll_proc.specs.Headline.Meaning.{Scene, Action, and_then, value_of, effect, list_effect, in_turn, repeated, record_named, found_at, has_moved, opening_scene, source_of, unless_moved, body}
+use Rattle.vll_proc.specs.Headline.Serial.{after, applied}
 use Rattle.vll_proc.specs.WellFormed.{IsWellFormed, key_is_below, set_is_below, any_leaf, throughout, list_throughout, is_not_read, sets_no_read_key}
 use Rattle.vll_proc.proofs.Called.{claims_named, claim_named, number_named, some_key, key_record}
 use Rattle.vll_proc.proofs.Copy.{both_true}

@@ -8,7 +8,7 @@ use Rattle.vll_proc.specs.declared.syntax.Edition.{Edition}
 use Rattle.vll_proc.specs.declared.syntax.Expr.{Expr}
 use Rattle.vll_proc.specs.declared.syntax.Stmt.{Stmt, If, Repeat}
 use Rattle.vll_proc.specs.declared.syntax.Stmt.TheBlock.{hidden-the_row-Stmt-0}
-use Rattle.vll_proc.specs.Meaning.{Scene, Action, and_then, value_of, effect, in_turn, repeated, list_effect}
+use Rattle.vll_proc.specs.Headline.Meaning.{Scene, Action, and_then, value_of, effect, in_turn, repeated, list_effect}
 use Rattle.vll_proc.specs.WellFormed.{Locals, local_is_set, all_leaves, throughout, list_throughout, both_set, set_behind, list_set_behind, body_set_behind, reads_set, list_reads_set, body_reads_set, replies, list_replies, depth, stmt_depth, list_depth, body_depth, nodes, stmt_nodes, list_nodes, weight, list_weight, may_repeat, turns_are_few, list_turns_are_few}
 
 same_then : (r : Result Scene Reason) (f g : Action) → ((s : Scene) → f s ≡ g s) → and_then r f ≡ and_then r g

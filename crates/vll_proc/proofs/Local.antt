@@ -8,8 +8,8 @@ use Rattle.vll_proc.specs.declared.call.Reason.{Reason}
 use Rattle.vll_proc.specs.declared.syntax.Proc.{Proc}
 use Rattle.vll_proc.specs.Cells.{AgreeAt}
 use Rattle.vll_proc.specs.Made.{IsCallOf}
-use Rattle.vll_proc.specs.Meaning.{Scene}
-use Rattle.vll_proc.specs.Serial.{After, applied}
+use Rattle.vll_proc.specs.Headline.Meaning.{Scene}
+use Rattle.vll_proc.specs.Headline.Serial.{After, applied}
 use Rattle.vll_proc.specs.WellFormed.{IsWellFormed}
 use Rattle.vll_proc.proofs.Runs.{ToldBy, cell_body, told_on}
 

@@ -4,7 +4,7 @@ use denote.Hole.Carrier.{hidden}
 use Rattle.vll_proc.specs.declared.call.Reason.{Reason}
 use Rattle.vll_proc.specs.declared.syntax.Expr.{Expr, Add, Sub, Mul, Div, Rem, Min, Max, Equal, Less}
 use Rattle.vll_proc.specs.declared.syntax.Expr.TheBlock.{hidden-the_row-Expr-0}
-use Rattle.vll_proc.specs.Meaning.{Scene, and_then, value_of}
+use Rattle.vll_proc.specs.Headline.Meaning.{Scene, and_then, value_of}
 use Rattle.vll_proc.specs.Private.Running.{noted, behind, operation_of}
 use Rattle.vll_proc.specs.WellFormed.{all_leaves, nodes}
 use Rattle.vll_proc.proofs.Copy.{both_true}

@@ -13,8 +13,8 @@ use Rattle.vll_proc.specs.declared.syntax.Proc.{Proc}
 use Rattle.vll_proc.specs.declared.syntax.Stmt.{Stmt, Let, Set, If, Abort, Reply, Repeat}
 use Rattle.vll_proc.specs.declared.syntax.Stmt.TheBlock.{hidden-the_row-Stmt-0}
 use Rattle.vll_proc.specs.declared.syntax.KeyDecl.{KeyDecl}
-use Rattle.vll_proc.specs.Made.{call_of}
-use Rattle.vll_proc.specs.Serial.{apply}
+use Rattle.vll_proc.specs.Headline.Made.{call_of}
+use Rattle.vll_proc.specs.Headline.Serial.{apply}
 use Rattle.vll_proc.specs.Epochs.{replies_by_epochs}
 use Rattle.vll_proc.specs.WellFormed.{IsWellFormed, body_reads_set, nothing_set, has_few_keys, has_few_replies, has_few_turns, is_light, weight}
 

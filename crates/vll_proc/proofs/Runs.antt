@@ -16,9 +16,9 @@ use Rattle.vll_proc.specs.declared.syntax.Proc.{Proc}
 use Rattle.vll_proc.specs.declared.syntax.Stmt.{Stmt, Row_of-Stmt, end_of-Stmt, more_of-Stmt, Let, Set, If', Abort, Reply, Repeat'}
 use Rattle.vll_proc.specs.Cells.{Holds}
 use Rattle.vll_proc.specs.Made.{IsCallOf}
-use Rattle.vll_proc.specs.Meaning.{Scene, and_then, effect, has_moved, in_turn, opening_scene, source_of, unless_moved}
+use Rattle.vll_proc.specs.Headline.Meaning.{Scene, and_then, effect, has_moved, in_turn, opening_scene, source_of, unless_moved}
 use Rattle.vll_proc.specs.Private.Running.{cell_opening}
-use Rattle.vll_proc.specs.Serial.{After, after, applied}
+use Rattle.vll_proc.specs.Headline.Serial.{After, after, applied}
 use Rattle.vll_proc.specs.WellFormed.{IsWellFormed, all_leaves, operand_leaves, throughout, list_throughout, key_is_below, arg_is_below, set_is_below, any_stmt, nothing_set, body_set_behind}
 use Rattle.vll_proc.proofs.Alike.{Bridge, IsAlike, EndAlike, alike_in_turn}
 use Rattle.vll_proc.proofs.Called.{keys_few, claims_rise, claims_few, key_place, source_within}

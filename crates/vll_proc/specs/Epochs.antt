@@ -2,7 +2,8 @@
 use Rattle.std.specs.Prelude.{ℕ, List, [], ◌∷◌, ◌++◌}
 use Rattle.vll_proc.specs.declared.call.Reply.{Reply}
 use Rattle.vll_proc.specs.declared.syntax.Proc.{Proc}
-use Rattle.vll_proc.specs.Serial.{Made, end, replies}
+use Rattle.vll_proc.specs.Headline.Serial.{Made, end}
+use Rattle.vll_proc.specs.Serial.{replies}
 
 -- the calls of all epochs, one epoch after the other
 abbrev pub in_a_row : List (List Made) → List Made

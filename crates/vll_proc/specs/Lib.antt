@@ -1,4 +1,4 @@
-pub mod Meaning
+pub mod Headline
 pub mod Serial
 pub mod Text
 pub mod Epochs

@@ -2,7 +2,7 @@
 use Rattle.std.specs.Prelude.{◌≡◌, ℕ, ◌<◌, length, Result, Ok, Err, slice_index}
 use Rattle.vll_proc.specs.declared.call.Reason.{Reason}
 use Rattle.vll_proc.specs.declared.syntax.Proc.{Proc}
-use Rattle.vll_proc.specs.Meaning.{Scene}
+use Rattle.vll_proc.specs.Headline.Meaning.{Scene}
 
 -- two scenes agree on each declared key position and argument, and on the records and outputs;
 -- they have equally many locals, whatever those hold

@@ -2,7 +2,8 @@
 ghost use Rattle.std.specs.Fmt.{DisplaysOnOk};
 ghost use Rattle.std.specs.List.{flat_map};
 ghost use Rattle.std.specs.Prelude.{Some};
-ghost use Rattle.vll_proc.specs.Text.{output_text, outputs_text, reason_text, reply_text};
+ghost use Rattle.vll_proc.specs.Headline.Text.{output_text, reason_text, reply_text};
+ghost use Rattle.vll_proc.specs.Text.{outputs_text};
 
 use crate::call::{Reason, Reply};
 use crate::outputs::Outputs;

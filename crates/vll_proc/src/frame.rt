@@ -4,9 +4,9 @@ ghost use Rattle.vll_proc.specs.declared.call.Reason.{Reason};
 ghost use Rattle.vll_proc.specs.declared.call.Reply.TheVariants.{Aborted};
 ghost use Rattle.vll_proc.specs.Cells.{Holds};
 ghost use Rattle.vll_proc.specs.Made.{IsCallOf};
-ghost use Rattle.vll_proc.specs.Meaning.{has_moved, source_of};
+ghost use Rattle.vll_proc.specs.Headline.Meaning.{has_moved, source_of};
 ghost use Rattle.vll_proc.specs.Private.Running.{cell_opening};
-ghost use Rattle.vll_proc.specs.Serial.{applied};
+ghost use Rattle.vll_proc.specs.Headline.Serial.{applied};
 ghost use Rattle.vll_proc.specs.WellFormed.{IsWellFormed};
 
 use crate::call::{Call, Reason, Reply};

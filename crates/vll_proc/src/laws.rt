@@ -8,8 +8,9 @@ ghost use Rattle.vll_proc.specs.declared.syntax.Proc.{Proc};
 ghost use Rattle.vll_proc.specs.Cells.{AgreeAt};
 ghost use Rattle.vll_proc.specs.Epochs.{in_a_row, end_by_epochs, replies_by_epochs};
 ghost use Rattle.vll_proc.specs.Made.{IsCallOf};
-ghost use Rattle.vll_proc.specs.Meaning.{Scene, effect, in_turn};
-ghost use Rattle.vll_proc.specs.Serial.{Made, Keeps, answer, applied, before, end, replies};
+ghost use Rattle.vll_proc.specs.Headline.Meaning.{Scene, effect, in_turn};
+ghost use Rattle.vll_proc.specs.Headline.Serial.{Made, answer, applied, before, end};
+ghost use Rattle.vll_proc.specs.Serial.{Keeps, replies};
 ghost use Rattle.vll_proc.specs.Undeclared.{AgreeOnDeclared, EndsAlike};
 ghost use Rattle.vll_proc.specs.WellFormed.{IsWellFormed};
 

@@ -1,7 +1,7 @@
 //! The run of a body on the cells of a frame: its statements, its expressions and their operators.
 ghost use Rattle.std.specs.Prelude.{◌≡◌, ◌+◌, ◌*◌, ◌<◌, ◌≤◌, ◌&&◌, ◌^◌, ◌==◌, ℕ, true, length, map, drop, sum_by, nat_lt, OnOk, slice_index};
 ghost use Rattle.std.specs.List.{list_all};
-ghost use Rattle.vll_proc.specs.Meaning.{sum, difference, product, quotient, remainder, value_of, effect, in_turn, repeated};
+ghost use Rattle.vll_proc.specs.Headline.Meaning.{sum, difference, product, quotient, remainder, value_of, effect, in_turn, repeated};
 ghost use Rattle.vll_proc.specs.Private.Running.{scene_of, HasCells, HasCellsBelow, ended, noted, behind, operation_of};
 ghost use Rattle.vll_proc.specs.WellFormed.{all_leaves, throughout, key_is_below, arg_is_below, local_is_known, set_is_below, let_is_known, any_stmt, replies};
 

@@ -1,6 +1,6 @@
 //! The syntax of stored procedures: expressions, statements, key positions, editions, and procedures with their names.
 ghost use Rattle.std.specs.Prelude.{◌≡◌, string_bytes};
-ghost use Rattle.vll_proc.specs.Meaning.{source_at, source_of};
+ghost use Rattle.vll_proc.specs.Headline.Meaning.{source_at, source_of};
 
 use sqlite_items::{Boxed, Items};
 use std::marker::Model;

@@ -1,6 +1,6 @@
 //! Tests of the replies and the cells of calls that run on frames.
 ghost use Rattle.std.specs.Prelude.{◌≡◌, ◌∷◌, [], IfOk, ℕ};
-ghost use Rattle.vll_record.specs.Claim.{with_claim};
+ghost use Rattle.vll_record.specs.Headline.Claim.{with_claim};
 ghost use Rattle.vll_proc.specs.Made.{IsCallOf};
 ghost use Rattle.vll_proc.specs.WellFormed.{IsWellFormed};
 

@@ -5,13 +5,13 @@ use Rattle.std.proofs.lemmas.Grind.{same_number_lists}
 use Rattle.std.proofs.lemmas.List.{get_or-map, length-map}
 use Rattle.vll_proc.specs.declared.syntax.Proc.{Proc}
 use Rattle.vll_proc.specs.declared.call.Call.{Call}
-use Rattle.vll_proc.specs.Serial.{Made, apply, applied_at, end}
+use Rattle.vll_proc.specs.Headline.Serial.{Made, apply, applied_at, end}
 use Rattle.vll_proc.proofs.Kept.{length-applied}
 use Rattle.vll_core.specs.declared.line.Line.{Line}
-use Rattle.vll_core.specs.State.{Base}
+use Rattle.vll_core.specs.Headline.State.{Base}
 use Rattle.vll_counters.specs.Shown.{SessionShown}
 use Rattle.vll_counters.specs.Told.{IsAtEnd}
-use Rattle.vll_counters.specs.Views.{calls_in}
+use Rattle.vll_counters.specs.Headline.Views.{calls_in}
 use Rattle.vll_queue.specs.Closed.{AreSerial, IsSerial}
 use Rattle.vll_queue.specs.Private.Divided.{AreDivided}
 use Rattle.vll_queue.specs.Private.Kept.{AreOwn}

@@ -9,18 +9,19 @@ use Rattle.std.proofs.lemmas.List.Sums.{sum_by-append}
 use Rattle.atomic_table.specs.Seated.{TableId}
 use Rattle.vll_record.specs.declared.claim.Claim.{Claim}
 use Rattle.vll_proc.specs.declared.call.Call.{Call}
-use Rattle.vll_check.specs.Calls.{source, IsReady}
+use Rattle.vll_check.specs.Headline.Calls.{source}
+use Rattle.vll_check.specs.Calls.{IsReady}
 use Rattle.vll_check.specs.Catalog.{IsCatalog}
 use Rattle.vll_check.proofs.Fitting.{ready_well}
 use Rattle.vll_sca.specs.declared.status.Status.{Status}
 use Rattle.vll_sca.specs.declared.status.Status.TheVariants.{Running, Waiting}
-use Rattle.vll_sca.specs.Status.{is_waiting}
+use Rattle.vll_sca.specs.Headline.Status.{is_waiting}
 use Rattle.vll_core.specs.declared.line.Line.{Line}
-use Rattle.vll_core.specs.State.{Base}
+use Rattle.vll_core.specs.Headline.State.{Base}
 use Rattle.vll_core.specs.Queue.{QueueEntry, Queued, IsQueued, lines, statuses, entry, admitted}
 use Rattle.vll_core.proofs.QueueLaws.{lines_admitted, statuses_admitted}
 use Rattle.vll_counters.specs.declared.views.SessionView.{SessionView}
-use Rattle.vll_counters.specs.Views.{calls_in}
+use Rattle.vll_counters.specs.Headline.Views.{calls_in}
 use Rattle.vll_counters.specs.Shown.{QueueShown, SessionShown, PassShown, WordsShown, queue_view, after, without_session, left_session, with_pass_given}
 use Rattle.vll_counters.specs.Steps.{turn_of, new_pass, told}
 use Rattle.vll_counters.specs.Told.{KnowsSession}
@@ -28,10 +29,10 @@ use Rattle.vll_counters.proofs.Places.{get_last}
 use Rattle.vll_queue.specs.declared.begun.BeginRefusal.{BeginRefusal}
 use Rattle.vll_queue.specs.declared.begun.BeginRefusal.TheVariants.{Spent, Busy}
 use Rattle.vll_queue.specs.Begin.{IsPassFor, IsRefused, refusal}
-use Rattle.vll_queue.specs.Sessions.{SawOwn}
+use Rattle.vll_queue.specs.Headline.Sessions.{SawOwn}
 use Rattle.vll_queue.specs.Shown.{Named, library_of, words_of}
 use Rattle.vll_queue.specs.Private.Begun.{asked_turn}
-use Rattle.vll_queue.specs.Found.{FoundThere, AreFoundThere}
+use Rattle.vll_queue.specs.Headline.Found.{FoundThere, AreFoundThere}
 use Rattle.vll_queue.specs.Private.Kept.{AreOwn, IsKept}
 use Rattle.vll_queue.specs.Private.Looked.{IsLookedUp}
 use Rattle.vll_queue.proofs.There.{found_more, looked_up_next}

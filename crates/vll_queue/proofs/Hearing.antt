@@ -3,14 +3,16 @@ use Rattle.std.proofs.Common.{◌≡◌, ℕ, ◌<◌, List, [], ◌∷◌, ◌+
 use Rattle.std.proofs.lemmas.List.{append-nil, append_cancel_left, length-append}
 use Rattle.std.proofs.lemmas.Option.{slice_get_within}
 use Rattle.vll_proc.specs.declared.call.Call.{Call}
-use Rattle.vll_proc.specs.Serial.{Made}
+use Rattle.vll_proc.specs.Headline.Serial.{Made}
 use Rattle.vll_counters.specs.declared.views.SessionView.{SessionView}
 use Rattle.vll_counters.specs.News.{HasHeard}
-use Rattle.vll_counters.specs.Views.{calls_by, Begins}
+use Rattle.vll_counters.specs.Headline.Views.{calls_by, Begins}
 use Rattle.vll_counters.proofs.News.{begins_further}
 use Rattle.vll_counters.proofs.Places.{get_longer, get_last}
-use Rattle.vll_queue.specs.News.{Hears, IsHandedOn, NewsOrdersEntries, NewsOrdersCalls}
-use Rattle.vll_queue.specs.Sessions.{SawOthers, SawOwn}
+use Rattle.vll_queue.specs.Headline.News.{IsHandedOn, NewsOrdersEntries}
+use Rattle.vll_queue.specs.News.{Hears, NewsOrdersCalls}
+use Rattle.vll_queue.specs.Headline.Sessions.{SawOwn}
+use Rattle.vll_queue.specs.Sessions.{SawOthers}
 use Rattle.vll_queue.proofs.Learning.{calls_by-append}
 
 -- what a session hears is of other clients

@@ -2,7 +2,7 @@
 use Rattle.std.proofs.Common.{◌≡◌, ℕ, zero, suc, ◌<◌, List, [], ◌∷◌, map, Option, Some, None, slice_get, slice_set, refl, sym, ap, ◌∙◌, subst}
 use Rattle.std.proofs.lemmas.List.Elements.{All-set}
 use Rattle.vll_proc.specs.declared.call.Reply.{Reply}
-use Rattle.vll_proc.specs.Serial.{Made, apply, before}
+use Rattle.vll_proc.specs.Headline.Serial.{Made, apply, before}
 use Rattle.vll_check.specs.Calls.{IsReady}
 use Rattle.vll_sca.specs.declared.status.Status.{Status}
 use Rattle.vll_sca.specs.declared.status.Status.TheVariants.{Running, Gone}
@@ -18,7 +18,7 @@ use Rattle.vll_counters.specs.Steps.{finished as ended, reply_of_pass, answered,
 use Rattle.vll_counters.specs.Told.{KnowsPass}
 use Rattle.vll_queue.specs.Shown.{Named, library_of}
 use Rattle.vll_queue.specs.Pass.{DoneShown, IsOf, IsReply}
-use Rattle.vll_queue.specs.Found.{AreFoundThere}
+use Rattle.vll_queue.specs.Headline.Found.{AreFoundThere}
 use Rattle.vll_queue.specs.Private.Kept.{AreOwn, IsKept}
 use Rattle.vll_queue.proofs.There.{calls_replied}
 

@@ -9,23 +9,24 @@ use Rattle.std.proofs.lemmas.List.{map-append, append-nil, append_cancel_left}
 use Rattle.std.proofs.lemmas.List.Elements.{filter-append}
 use Rattle.vll_proc.specs.declared.call.Call.{Call}
 use Rattle.vll_proc.specs.declared.call.Reply.{Reply}
-use Rattle.vll_proc.specs.Serial.{Made, answer}
+use Rattle.vll_proc.specs.Headline.Serial.{Made, answer}
 use Rattle.vll_sca.specs.declared.status.Status.{Status}
 use Rattle.vll_sca.specs.declared.status.Status.TheVariants.{Running, Waiting, Gone}
 use Rattle.vll_sca.specs.Status.{is_gone}
 use Rattle.vll_core.specs.declared.line.Line.{Line}
-use Rattle.vll_core.specs.State.{Base}
+use Rattle.vll_core.specs.Headline.State.{Base}
 use Rattle.vll_core.specs.Queue.{Queued, IsQueued, has_reply, lines, statuses}
 use Rattle.vll_counters.specs.declared.views.SessionView.{SessionView}
 use Rattle.vll_counters.specs.declared.views.QueueView.{QueueView}
-use Rattle.vll_counters.specs.Views.{calls_by, calls_in}
+use Rattle.vll_counters.specs.Headline.Views.{calls_by, calls_in}
 use Rattle.vll_counters.specs.Rule.{HasSeen}
 use Rattle.vll_counters.specs.Shown.{QueueShown, SessionShown, queue_view, left_session}
 use Rattle.vll_counters.specs.Steps.{leaving}
 use Rattle.vll_counters.specs.Told.{KnowsSession, AreReplied, IsGivenOut}
 use Rattle.vll_queue.specs.Private.Kept.{IsKept}
 use Rattle.vll_queue.specs.Private.Replied.{reply_in}
-use Rattle.vll_queue.specs.Sessions.{SawOthers, SawOwn}
+use Rattle.vll_queue.specs.Headline.Sessions.{SawOwn}
+use Rattle.vll_queue.specs.Sessions.{SawOthers}
 use Rattle.vll_queue.specs.Shown.{Named}
 
 pub calls_by-append : (client : ℕ) (xs ys : List Made) → calls_by client (xs ++ ys) ≡ calls_by client xs ++ calls_by client ys

@@ -4,14 +4,15 @@ use Rattle.std.proofs.lemmas.List.{append-nil, append_assoc, append_cancel_left,
 use Rattle.std.proofs.lemmas.Option.{none-some, same_Some, slice_get-get_or}
 use Rattle.vll_record.specs.declared.claim.Claim.{Claim}
 use Rattle.vll_proc.specs.declared.call.Call.{Call}
-use Rattle.vll_proc.specs.Serial.{Made, before}
-use Rattle.vll_check.specs.Calls.{source, with_found, Fits}
+use Rattle.vll_proc.specs.Headline.Serial.{Made, before}
+use Rattle.vll_check.specs.Headline.Calls.{source, with_found}
+use Rattle.vll_check.specs.Calls.{Fits}
 use Rattle.vll_check.specs.Catalog.{IsCatalog}
 use Rattle.vll_check.proofs.Fitting.{fits_within, found_bare, found_source, found_value, found_without}
-use Rattle.vll_core.specs.State.{Base}
+use Rattle.vll_core.specs.Headline.State.{Base}
 use Rattle.vll_core.proofs.SerialRun.{later_leave_states}
 use Rattle.vll_counters.specs.declared.views.SessionView.{SessionView}
-use Rattle.vll_counters.specs.Views.{calls_by}
+use Rattle.vll_counters.specs.Headline.Views.{calls_by}
 use Rattle.vll_counters.specs.Shown.{WordsShown}
 use Rattle.vll_counters.specs.Told.{HasFound, WasThere}
 use Rattle.vll_counters.proofs.Places.{get_longer}
@@ -19,7 +20,8 @@ use Rattle.vll_queue.specs.declared.begun.Begun.{Begun}
 use Rattle.vll_queue.specs.declared.begun.Begun.TheVariants.{Free, Blocked, Refused}
 use Rattle.vll_queue.specs.Begin.{Begins, WasFound, FindsAndBegins}
 use Rattle.vll_queue.specs.Private.Looked.{HasLooked, IsLookedUp}
-use Rattle.vll_queue.specs.Sessions.{SawOthers, SawOwn}
+use Rattle.vll_queue.specs.Headline.Sessions.{SawOwn}
+use Rattle.vll_queue.specs.Sessions.{SawOthers}
 use Rattle.vll_queue.specs.Shown.{Named, library_of, words_of}
 use Rattle.vll_queue.proofs.Learning.{calls_by-append}
 

@@ -5,7 +5,8 @@ use Rattle.std.proofs.lemmas.List.{get_or-set_same, take-set}
 use Rattle.std.proofs.lemmas.List.Elements.{All-push}
 use Rattle.std.proofs.lemmas.Option.{same_Some}
 use Rattle.vll_proc.specs.declared.call.Call.{Call}
-use Rattle.vll_check.specs.Calls.{Fits, source}
+use Rattle.vll_check.specs.Headline.Calls.{source}
+use Rattle.vll_check.specs.Calls.{Fits}
 use Rattle.vll_check.specs.Catalog.{IsCatalog}
 use Rattle.vll_counters.specs.declared.views.SessionView.{SessionView}
 use Rattle.vll_counters.specs.Shown.{PassShown}

@@ -9,13 +9,14 @@ use Rattle.vll_record.specs.Claim.{conflict}
 use Rattle.vll_check.specs.Calls.{IsReady}
 use Rattle.vll_sca.specs.declared.status.Status.{Status}
 use Rattle.vll_sca.specs.declared.status.Status.TheVariants.{Running, Waiting, Gone}
-use Rattle.vll_sca.specs.Status.{is_waiting, is_gone}
+use Rattle.vll_sca.specs.Headline.Status.{is_waiting}
+use Rattle.vll_sca.specs.Status.{is_gone}
 use Rattle.vll_sca.proofs.Scanning.{position-first, position-next, scanned_within, scanned_waits, scanned_is_clear}
 use Rattle.vll_core.specs.declared.line.Line.{Line}
 use Rattle.vll_core.specs.Queue.{QueueEntry, Queued, lines, statuses, is_left, waiting_ticket, front_among, found_by, analysed, started, started_if}
 use Rattle.vll_core.proofs.QueueLaws.{lines_started}
 use Rattle.vll_core.proofs.Places.{all_at, entry_at}
-use Rattle.vll_counters.specs.Views.{calls_in}
+use Rattle.vll_counters.specs.Headline.Views.{calls_in}
 use Rattle.vll_counters.specs.Shown.{QueueShown, PassShown, WordsShown}
 use Rattle.vll_counters.specs.Steps.{new_pass}
 use Rattle.vll_counters.specs.Told.{MayStart}

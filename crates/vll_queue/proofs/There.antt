@@ -4,17 +4,17 @@ use Rattle.std.proofs.lemmas.List.{length-append}
 use Rattle.std.proofs.lemmas.Option.{same_Some, slice_get_within}
 use Rattle.vll_proc.specs.declared.call.Call.{Call}
 use Rattle.vll_proc.specs.declared.call.Reply.{Reply}
-use Rattle.vll_proc.specs.Serial.{Made}
-use Rattle.vll_check.specs.Calls.{source}
+use Rattle.vll_proc.specs.Headline.Serial.{Made}
+use Rattle.vll_check.specs.Headline.Calls.{source}
 use Rattle.vll_sca.specs.declared.status.Status.{Status}
 use Rattle.vll_core.specs.declared.line.Line.{Line}
-use Rattle.vll_core.specs.State.{Base, catalog_of}
+use Rattle.vll_core.specs.Headline.State.{Base, catalog_of}
 use Rattle.vll_core.proofs.Places.{at_push}
 use Rattle.vll_core.proofs.SerialRun.{later_leave_states}
 use Rattle.vll_counters.specs.declared.views.SessionView.{SessionView}
 use Rattle.vll_counters.specs.Rule.{HasSeen}
-use Rattle.vll_counters.specs.Views.{calls_in}
-use Rattle.vll_queue.specs.Found.{FoundThere, AreFoundThere}
+use Rattle.vll_counters.specs.Headline.Views.{calls_in}
+use Rattle.vll_queue.specs.Headline.Found.{FoundThere, AreFoundThere}
 use Rattle.vll_queue.specs.Shown.{Named}
 
 -- what was there is still there with more calls after

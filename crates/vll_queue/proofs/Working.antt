@@ -7,7 +7,7 @@ use Rattle.std.proofs.lemmas.List.Elements.{filter-append}
 use Rattle.atomic_table.specs.Seated.{TableId}
 use Rattle.vll_record.specs.declared.claim.Claim.{Claim}
 use Rattle.vll_record.specs.declared.claims.TheConstants.{MOST_CLAIMS}
-use Rattle.vll_record.specs.Claim.{is_write}
+use Rattle.vll_record.specs.Headline.Claim.{is_write}
 use Rattle.vll_proc.specs.Cells.{Holds}
 use Rattle.vll_proc.specs.declared.call.Call.{Call}
 use Rattle.vll_proc.specs.declared.call.Reason.{Reason}
@@ -15,12 +15,14 @@ use Rattle.vll_proc.specs.declared.call.Reply.{Reply}
 use Rattle.vll_proc.specs.declared.call.Reply.TheVariants.{Aborted}
 use Rattle.vll_proc.specs.declared.syntax.Proc.{Proc}
 use Rattle.vll_proc.specs.Made.{IsCallOf}
-use Rattle.vll_proc.specs.Serial.{Made, answer, applied, applied_at, apply, before}
+use Rattle.vll_proc.specs.Headline.Serial.{Made, answer, applied, applied_at, apply, before}
 use Rattle.vll_proc.specs.WellFormed.{IsWellFormed}
 use Rattle.vll_check.specs.Calls.{IsReady}
-use Rattle.vll_check.specs.Catalog.{Catalog, IsCatalog}
+use Rattle.vll_check.specs.Headline.Catalog.{Catalog}
+use Rattle.vll_check.specs.Catalog.{IsCatalog}
 use Rattle.vll_check.proofs.Fitting.{ready_well}
-use Rattle.vll_core.specs.State.{Base, is_aborted, writes}
+use Rattle.vll_core.specs.Headline.State.{Base}
+use Rattle.vll_core.specs.State.{is_aborted, writes}
 use Rattle.vll_core.specs.Private.Execution.{HoldsFirst}
 use Rattle.vll_core.proofs.SerialRun.{length_before}
 use Rattle.vll_core.proofs.AtWork.{loading_next, holds_all, procedure_ready}

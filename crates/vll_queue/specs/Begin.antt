@@ -2,8 +2,9 @@
 -- is refused.
 use Rattle.std.specs.Prelude.{◌≡◌, ◌<◌, ℕ, nat_le, length, count_by, Option, Some, None, if◌then◌else◌}
 use Rattle.vll_proc.specs.declared.call.Call.{Call}
-use Rattle.vll_check.specs.Calls.{bare, source, with_found}
-use Rattle.vll_sca.specs.Status.{is_waiting}
+use Rattle.vll_check.specs.Headline.Calls.{source, with_found}
+use Rattle.vll_check.specs.Calls.{bare}
+use Rattle.vll_sca.specs.Headline.Status.{is_waiting}
 use Rattle.vll_core.specs.Queue.{Queued, statuses}
 use Rattle.vll_counters.specs.declared.views.SessionView.{SessionView}
 use Rattle.vll_counters.specs.Shown.{PassShown}
@@ -13,7 +14,8 @@ use Rattle.vll_queue.specs.declared.begun.BeginRefusal.TheVariants.{Spent, Busy}
 use Rattle.vll_queue.specs.declared.begun.Begun.{Begun}
 use Rattle.vll_queue.specs.declared.begun.Begun.TheVariants.{Free, Blocked, Refused}
 use Rattle.vll_queue.specs.Pass.{IsFresh}
-use Rattle.vll_queue.specs.Sessions.{SawOthers, SawOwn}
+use Rattle.vll_queue.specs.Headline.Sessions.{SawOwn}
+use Rattle.vll_queue.specs.Sessions.{SawOthers}
 use Rattle.vll_queue.specs.Shown.{Named, library_of}
 
 -- a pass of the engine, for this call, which has seen what the session has seen

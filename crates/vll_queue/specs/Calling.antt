@@ -2,11 +2,13 @@
 use Rattle.std.specs.Prelude.{◌≡◌, ℕ, [], ◌∷◌, ◌++◌, length, List, Ok, Some}
 use Rattle.vll_proc.specs.declared.call.Call.{Call}
 use Rattle.vll_proc.specs.declared.call.Reply.{Reply}
-use Rattle.vll_proc.specs.Serial.{answer}
-use Rattle.vll_check.specs.Calls.{bare, call_made, source, with_found}
+use Rattle.vll_proc.specs.Headline.Serial.{answer}
+use Rattle.vll_check.specs.Headline.Calls.{source, with_found}
+use Rattle.vll_check.specs.Calls.{bare, call_made}
 use Rattle.vll_counters.specs.declared.views.SessionView.{SessionView}
 use Rattle.vll_counters.specs.Told.{WasThere}
-use Rattle.vll_queue.specs.Sessions.{SawOthers, SawOwn}
+use Rattle.vll_queue.specs.Headline.Sessions.{SawOwn}
+use Rattle.vll_queue.specs.Sessions.{SawOthers}
 use Rattle.vll_queue.specs.Shown.{Named, library_of}
 
 -- the call has entered under this ticket with what it found, otherwise unchanged, as `FindsAndBegins` says of a call

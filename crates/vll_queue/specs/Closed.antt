@@ -1,10 +1,10 @@
 -- What an engine leaves when it is closed.
 use Rattle.std.specs.Prelude.{◌≡◌, ℕ, ◌<◌, List, map, All, Some, slice_get}
-use Rattle.vll_proc.specs.Serial.{Made, end, answer}
+use Rattle.vll_proc.specs.Headline.Serial.{Made, end, answer}
 use Rattle.vll_check.specs.Calls.{IsReady}
 use Rattle.vll_core.specs.declared.line.Line.{Line}
-use Rattle.vll_counters.specs.Views.{calls_in}
-use Rattle.vll_queue.specs.Found.{AreFoundThere}
+use Rattle.vll_counters.specs.Headline.Views.{calls_in}
+use Rattle.vll_queue.specs.Headline.Found.{AreFoundThere}
 use Rattle.vll_queue.specs.Shown.{Named, OpeningShown, library_of}
 use Rattle.vll_queue.specs.declared.closed.Closed.{Closed}
 

@@ -1,3 +1,4 @@
+pub mod Headline
 pub mod Shown
 pub mod Sessions
 pub mod Pass
@@ -6,5 +7,4 @@ pub mod Onto
 pub mod Calling
 pub mod News
 pub mod Closed
-pub mod Found
 pub mod Private

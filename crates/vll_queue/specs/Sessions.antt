@@ -1,8 +1,7 @@
 -- What a session learns of the entered calls each time it has been at the lock.
-use Rattle.std.specs.Prelude.{◌≡◌, ℕ, length, List, [], ◌∷◌, ◌++◌}
-use Rattle.vll_proc.specs.declared.call.Call.{Call}
-use Rattle.vll_proc.specs.Serial.{Made}
-use Rattle.vll_counters.specs.Views.{calls_by, Begins}
+use Rattle.std.specs.Prelude.{◌≡◌, List, [], ◌++◌}
+use Rattle.vll_proc.specs.Headline.Serial.{Made}
+use Rattle.vll_counters.specs.Headline.Views.{calls_by, Begins}
 use Rattle.vll_counters.specs.declared.views.SessionView.{SessionView}
 
 -- after what the session had seen, it has now seen only calls of other clients
@@ -11,15 +10,6 @@ pub record SawOthers (old new : SessionView) : Type 0 where
   pub others : List Made
   pub not_own : calls_by old.client others ≡ []
   pub seen : new.seen ≡ old.seen ++ others
-
--- after what the session had seen, it has now seen only calls of other clients, and last this call of its own, whose
--- ticket is its place
-pub record SawOwn (old new : SessionView) (call : Call) (ticket : ℕ) : Type 0 where
-  pub client : new.client ≡ old.client
-  pub others : List Made
-  pub not_own : calls_by old.client others ≡ []
-  pub seen : new.seen ≡ (old.seen ++ others) ++ (old.client, call) ∷ []
-  pub place : ticket ≡ length (old.seen ++ others)
 
 -- the session has seen a beginning of these calls, with all calls of its client
 pub record HasItsCalls (calls : List Made) (g : SessionView) : Type 0 where

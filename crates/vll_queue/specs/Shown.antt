@@ -1,9 +1,9 @@
 -- What an engine's name states, and what contracts see of an opening and of a session.
 use Rattle.std.specs.Prelude.{ℕ, List, [], Option, Some, None}
 use Rattle.atomic_table.specs.Seated.{TableId}
-use Rattle.vll_check.specs.Catalog.{Catalog}
+use Rattle.vll_check.specs.Headline.Catalog.{Catalog}
 use Rattle.vll_core.specs.declared.config.Config.{Config}
-use Rattle.vll_core.specs.State.{Base, catalog_of}
+use Rattle.vll_core.specs.Headline.State.{Base, catalog_of}
 use Rattle.vll_counters.specs.Shown.{WordsShown, SessionShown}
 use Rattle.vll_counters.specs.Steps.{new_session}
 

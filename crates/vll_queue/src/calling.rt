@@ -1,7 +1,7 @@
 //! Calls from entry to reply.
 ghost use Rattle.std.specs.Prelude.{◌≡◌, ◌++◌, ◌∷◌, [], IfErr, IfOk, Some};
 ghost use Rattle.vll_check.specs.Calls.{Fits};
-ghost use Rattle.vll_proc.specs.Serial.{answer};
+ghost use Rattle.vll_proc.specs.Headline.Serial.{answer};
 ghost use Rattle.vll_queue.specs.Calling.{IsCalled, IsTurnedAway};
 ghost use Rattle.vll_queue.specs.Pass.{IsFresh};
 ghost use Rattle.vll_queue.specs.Private.Attempt.{IsAttempted};

@@ -1,7 +1,7 @@
 //! A session whose type knows its engine, so that a caller has nothing to prove about that.
 ghost use Rattle.std.specs.Prelude.{◌≡◌, ◌++◌, ◌∷◌, [], IfErr, IfNone, IfOk, IfSome, IsOk, IsSome, Some, Err, slice_get};
 ghost use Rattle.vll_check.specs.Calls.{Fits, call_made};
-ghost use Rattle.vll_proc.specs.Serial.{answer};
+ghost use Rattle.vll_proc.specs.Headline.Serial.{answer};
 ghost use Rattle.vll_queue.specs.Begin.{FindsAndBegins};
 ghost use Rattle.vll_queue.specs.Calling.{IsCalled, IsCalledByName, IsTurnedAway};
 ghost use Rattle.vll_queue.specs.News.{Hears};

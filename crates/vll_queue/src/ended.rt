@@ -3,7 +3,7 @@ ghost use Rattle.std.specs.Prelude.{◌≡◌, ◌≤◌, [], IfErr, IfOk, IsOk,
 ghost use Rattle.vll_core.specs.Queue.{lines};
 ghost use Rattle.vll_counters.specs.Shown.{AreNewSessions, shown_queue};
 ghost use Rattle.vll_counters.specs.Steps.{first_queue};
-ghost use Rattle.vll_counters.specs.Views.{calls_in};
+ghost use Rattle.vll_counters.specs.Headline.Views.{calls_in};
 ghost use Rattle.vll_queue.specs.Closed.{AreSerial, GoesOn, IsSerial};
 ghost use Rattle.vll_queue.specs.Private.Ended.{IsEnded};
 

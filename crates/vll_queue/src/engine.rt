@@ -2,8 +2,8 @@
 ghost use Rattle.std.specs.Prelude.{◌≡◌, ◌<◌, ◌≤◌, ◌+◌, ◌++◌, ◌∷◌, [], All, IfErr, IfNone, IfOk, IfSome, IsSome, Some, length, slice_get, vec_capacity};
 ghost use Rattle.vll_check.specs.Calls.{Fits};
 ghost use Rattle.vll_check.specs.Catalog.{IsCatalog};
-ghost use Rattle.vll_proc.specs.Serial.{answer};
-ghost use Rattle.vll_counters.specs.Views.{calls_in};
+ghost use Rattle.vll_proc.specs.Headline.Serial.{answer};
+ghost use Rattle.vll_counters.specs.Headline.Views.{calls_in};
 ghost use Rattle.vll_queue.specs.Begin.{FindsAndBegins};
 ghost use Rattle.vll_queue.specs.Closed.{AreSerial, GoesOn, IsSerial};
 ghost use Rattle.vll_queue.specs.Onto.{IsOfLast};

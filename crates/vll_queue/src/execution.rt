@@ -2,7 +2,7 @@
 ghost use Rattle.std.specs.Prelude.{◌≡◌, ◌<◌, ◌≤◌, All, false, length, true};
 ghost use Rattle.vll_record.specs.declared.claim.Claim.{Claim};
 ghost use Rattle.vll_proc.specs.Cells.{Holds};
-ghost use Rattle.vll_proc.specs.Serial.{apply};
+ghost use Rattle.vll_proc.specs.Headline.Serial.{apply};
 ghost use Rattle.vll_check.specs.Calls.{Fits};
 ghost use Rattle.vll_check.specs.Catalog.{IsCatalog};
 ghost use Rattle.vll_core.specs.State.{is_aborted, writes};

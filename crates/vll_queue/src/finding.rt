@@ -1,6 +1,7 @@
 //! Gives a call with an indirect key the value of its source, before the call enters.
 ghost use Rattle.std.specs.Prelude.{◌≡◌, ◌<◌, Some};
-ghost use Rattle.vll_check.specs.Calls.{Fits, IsReady, source as source_in};
+ghost use Rattle.vll_check.specs.Headline.Calls.{source as source_in};
+ghost use Rattle.vll_check.specs.Calls.{Fits, IsReady};
 ghost use Rattle.vll_check.specs.Catalog.{IsCatalog};
 ghost use Rattle.vll_queue.specs.Private.Looked.{HasLooked, IsLookedUp};
 ghost use Rattle.vll_queue.specs.Shown.{library_of, words_of};

@@ -1,8 +1,9 @@
 //! A hold: the engine's lock, taken once and kept for several steps.
 ghost use Rattle.std.specs.Prelude.{◌≡◌, ◌<◌, ◌++◌, ◌∷◌, [], IfNone, IfSome, IsSome, MatchBool, Some, length, slice_get, vec_capacity};
-ghost use Rattle.vll_check.specs.Calls.{Fits, IsReady, source as source_in};
+ghost use Rattle.vll_check.specs.Headline.Calls.{source as source_in};
+ghost use Rattle.vll_check.specs.Calls.{Fits, IsReady};
 ghost use Rattle.vll_check.specs.Catalog.{IsCatalog};
-ghost use Rattle.vll_proc.specs.Serial.{answer};
+ghost use Rattle.vll_proc.specs.Headline.Serial.{answer};
 ghost use Rattle.vll_queue.specs.Begin.{Begins, FindsAndBegins};
 ghost use Rattle.vll_queue.specs.Onto.{FindsAndBeginsOnto, HasOneMore};
 ghost use Rattle.vll_queue.specs.Pass.{IsFresh, IsReleased};

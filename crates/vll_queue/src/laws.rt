@@ -1,10 +1,12 @@
 //! Strict serializability, as far as threads pass news: the contract of a function that does nothing.
 ghost use Rattle.std.specs.Prelude.{ℕ};
 ghost use Rattle.vll_counters.specs.declared.views.SessionView.{SessionView};
-ghost use Rattle.vll_counters.specs.Views.{Begins};
+ghost use Rattle.vll_counters.specs.Headline.Views.{Begins};
 ghost use Rattle.vll_proc.specs.declared.call.Call.{Call};
-ghost use Rattle.vll_queue.specs.News.{NewsOrdersCalls, NewsOrdersEntries};
-ghost use Rattle.vll_queue.specs.Sessions.{SawOthers, SawOwn};
+ghost use Rattle.vll_queue.specs.Headline.News.{NewsOrdersEntries};
+ghost use Rattle.vll_queue.specs.News.{NewsOrdersCalls};
+ghost use Rattle.vll_queue.specs.Headline.Sessions.{SawOwn};
+ghost use Rattle.vll_queue.specs.Sessions.{SawOthers};
 
 /// Strict serializability, as far as threads pass news: if one session has entered a call, or made it from entry to
 /// reply, and another session that has heard of it enters a call, then the first call comes before the second in the

@@ -2,7 +2,7 @@
 ghost use Rattle.std.specs.Prelude.{◌≡◌, ◌<◌, IfOk, length};
 ghost use Rattle.vll_core.specs.Faults.{Refuses, open_fault};
 ghost use Rattle.vll_core.specs.Queue.{config_of, emptied};
-ghost use Rattle.vll_core.specs.State.{catalog_of};
+ghost use Rattle.vll_core.specs.Headline.State.{catalog_of};
 ghost use Rattle.vll_counters.specs.Shown.{AreNewSessions, shown_queue};
 ghost use Rattle.vll_counters.specs.Steps.{first_queue};
 ghost use Rattle.vll_queue.specs.Private.Seats.{AreClients};

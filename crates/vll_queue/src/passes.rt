@@ -1,7 +1,8 @@
 //! A list of passes, each of which stays where it was made until its call is executed.
 ghost use Rattle.std.specs.Prelude.{◌≡◌, ◌<◌, ◌≤◌, ◌-◌, [], IfNone, IfOk, IfSome, MatchBool, Some, length, slice_get};
 ghost use Rattle.std.specs.Option.{option_map};
-ghost use Rattle.vll_check.specs.Calls.{Fits, IsReady, source as source_in};
+ghost use Rattle.vll_check.specs.Headline.Calls.{source as source_in};
+ghost use Rattle.vll_check.specs.Calls.{Fits, IsReady};
 ghost use Rattle.vll_queue.specs.Onto.{FindsAndBeginsOnto, HasOneMore, IsOfLast};
 ghost use Rattle.vll_queue.specs.Pass.{IsReleased};
 ghost use Rattle.vll_queue.specs.Private.Looked.{IsLookedUp};

@@ -8,7 +8,8 @@ use Rattle.vll_record.proofs.WithClaim.{IsRising-with_claim, length-with_claim-l
 use Rattle.vll_record.specs.declared.claim.Claim.{Claim}
 use Rattle.vll_record.specs.declared.claim.Mode.{Mode}
 use Rattle.vll_record.specs.declared.claim.Mode.TheVariants.{Read, Write}
-use Rattle.vll_record.specs.Claim.{IsRising, AreClaimsOf, stronger, stronger_of, mode_on, with_claim, claims_of}
+use Rattle.vll_record.specs.Headline.Claim.{stronger, with_claim, claims_of}
+use Rattle.vll_record.specs.Claim.{IsRising, AreClaimsOf, stronger_of, mode_on}
 
 -- a record that two positions name is one Write claim
 one_record : claims_of (claim_of 0 Write ∷ claim_of 0 Write ∷ []) ≡ claim_of 0 Write ∷ []

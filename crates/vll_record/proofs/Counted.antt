@@ -8,8 +8,10 @@ use Rattle.vll_record.proofs.Rising.{claim_of}
 use Rattle.vll_record.specs.declared.claim.Claim.{Claim}
 use Rattle.vll_record.specs.declared.claim.Mode.{Mode}
 use Rattle.vll_record.specs.declared.claim.Mode.TheVariants.{Read, Write}
-use Rattle.vll_record.specs.Claim.{is_write, conflict}
-use Rattle.vll_record.specs.Counter.{delta_of, claims_on, pair_word_of, is_granted}
+use Rattle.vll_record.specs.Headline.Claim.{is_write}
+use Rattle.vll_record.specs.Claim.{conflict}
+use Rattle.vll_record.specs.Headline.Counter.{claims_on, pair_word_of}
+use Rattle.vll_record.specs.Counter.{delta_of, is_granted}
 
 -- two reads, a write and a read of record 0, beside a write of record 1
 one_write_three_reads : pair_word_of (claims_on 0 (claim_of 0 Read ∷ claim_of 0 Read ∷ claim_of 1 Write ∷ claim_of 0 Write ∷ claim_of 0 Read ∷ [])) ≡ 4294967299

@@ -10,7 +10,7 @@ use Rattle.vll_record.specs.declared.claim.Claim.{Claim}
 use Rattle.vll_record.specs.declared.claim.Mode.{Mode}
 use Rattle.vll_record.specs.declared.claims.TheConstants.{MOST_CLAIMS}
 use Rattle.vll_record.specs.declared.claims.Claims.TheInside.{Inside}
-use Rattle.vll_record.specs.Canon.{laid}
+use Rattle.vll_record.specs.Headline.Canon.{laid}
 use Rattle.vll_record.specs.Claim.{IsRising}
 use Rattle.vll_record.specs.Private.Kept.{kept, from_list, ids_of, IsCanonical}
 use Rattle.vll_record.specs.Private.Masks.{claims_with, mask_of}

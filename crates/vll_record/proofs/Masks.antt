@@ -11,7 +11,7 @@ use Rattle.vll_record.specs.declared.claim.Claim.{Claim}
 use Rattle.vll_record.specs.declared.claim.Mode.{Mode}
 use Rattle.vll_record.specs.declared.claim.Mode.TheVariants.{Read, Write}
 use Rattle.std.proofs.lemmas.Option.{slice_get_within, get_or_from_slice_get}
-use Rattle.vll_record.specs.Claim.{is_write, stronger}
+use Rattle.vll_record.specs.Headline.Claim.{is_write, stronger}
 use Rattle.vll_record.specs.Private.Masks.{claims_with, mask_of}
 use Rattle.vll_record.specs.Private.Kept.{ids_of}
 

@@ -10,7 +10,8 @@ use Rattle.vll_record.specs.declared.claim.Claim.{Claim}
 use Rattle.vll_record.specs.declared.claim.Mode.{Mode}
 use Rattle.vll_record.specs.declared.claim.Mode.TheVariants.{Read, Write}
 use Rattle.vll_record.specs.declared.claims.Claims.TheInside.{Inside}
-use Rattle.vll_record.specs.Claim.{is_write, is_same_claim}
+use Rattle.vll_record.specs.Headline.Claim.{is_write}
+use Rattle.vll_record.specs.Claim.{is_same_claim}
 use Rattle.vll_record.specs.Private.Kept.{kept, IsCanonical}
 use Rattle.vll_record.proofs.Laid.{lies-kept}
 

@@ -5,7 +5,8 @@ use Rattle.std.specs.List.{position, position_or_len}
 use Rattle.std.proofs.lemmas.List.Sums.{fails_before_first, passes_at_first, prefix_len-le-length}
 use Rattle.std.proofs.lemmas.Option.{none-some, same_Some, get_or_from_slice_get, slice_get_within}
 use Rattle.vll_record.specs.declared.claim.Claim.{Claim}
-use Rattle.vll_record.specs.Claim.{IsRising, stronger, mode_on, with_claim}
+use Rattle.vll_record.specs.Headline.Claim.{stronger, with_claim}
+use Rattle.vll_record.specs.Claim.{IsRising, mode_on}
 use Rattle.vll_record.specs.Private.Place.{place_in}
 use Rattle.vll_record.proofs.Rising.{RisesFrom, RisesFrom-zero, IsRising-from_rises, mode_on_below, mode_on-other}
 

@@ -1,23 +1,13 @@
--- The pair word of a record, CX * 2^32 + CS: what it counts, and which requests it grants.
-use Rattle.std.specs.Prelude.{ℕ, ◌+◌, ◌*◌, ◌/◌, ◌%◌, ◌^◌, Bool, ◌==◌, nat_lt, not, List, count_by, filter}
+-- What requests and releases do to a pair word, CX * 2^32 + CS, and which requests it grants.
+use Rattle.std.specs.Prelude.{ℕ, ◌+◌, ◌*◌, ◌/◌, ◌%◌, ◌^◌, Bool, ◌==◌, nat_lt}
 use Rattle.vll_record.specs.declared.claim.Mode.{Mode}
 use Rattle.vll_record.specs.declared.claim.Mode.TheVariants.{Read, Write}
-use Rattle.vll_record.specs.declared.claim.Claim.{Claim}
 use Rattle.vll_record.specs.declared.pair.Pair.{Pair}
-use Rattle.vll_record.specs.Claim.{is_write}
 
 -- what a request adds to a pair word and a release subtracts: 2^32 for Write, 1 for Read
 abbrev pub delta_of : Mode → ℕ
 delta_of Read = 1
 delta_of Write = 2 ^ 32
-
--- the claims of a list on one record
-abbrev pub claims_on : ℕ → List Claim → List Claim
-claims_on r cs = filter (λ (c : Claim). c.id == r) cs
-
--- the pair word of a list of claims: the number of its Write claims times 2^32, plus the number of its Read claims
-abbrev pub pair_word_of : List Claim → ℕ
-pair_word_of cs = count_by is_write cs * 2 ^ 32 + count_by (λ c. not (is_write c)) cs
 
 -- the pair that a word holds: CS in the low 32 bits, CX above them
 abbrev pub pair_of : ℕ → Pair

@@ -1,5 +1,5 @@
+pub mod Headline
 pub mod Claim
 pub mod Counter
 pub mod Word
-pub mod Canon
 pub mod Private

@@ -1,6 +1,7 @@
 //! The claims of a call, in ascending order of record number.
 ghost use Rattle.std.specs.Prelude.{◌≡◌, ◌<◌, ◌≤◌, ◌⊎◌, ◌↔◌, [], length, slice_get, slice_set, insert, IsSome, Some, IsTrue};
-ghost use Rattle.vll_record.specs.Claim.{IsRising, stronger, mode_on, with_claim};
+ghost use Rattle.vll_record.specs.Headline.Claim.{stronger, with_claim};
+ghost use Rattle.vll_record.specs.Claim.{IsRising, mode_on};
 ghost use Rattle.vll_record.specs.declared.claim.Claim.{Claim};
 ghost use Rattle.vll_record.specs.Private.Place.{place_in};
 

@@ -1,8 +1,11 @@
 //! Laws about claims and the words of records, each the contract of a function that does nothing.
 ghost use Rattle.std.specs.Prelude.{◌≡◌, ◌≢◌, ℕ, ◌+◌, ◌*◌, ◌/◌, ◌%◌, ◌^◌, ◌<◌, ◌≤◌, ◌==◌, not, if◌then◌else◌, List, [], ◌∷◌, ◌++◌, length, count_by};
-ghost use Rattle.vll_record.specs.Claim.{AreClaimsOf, claims_of, is_write, conflict};
-ghost use Rattle.vll_record.specs.Counter.{delta_of, claims_on, pair_word_of, pair_of, word_of, is_granted};
-ghost use Rattle.vll_record.specs.Word.{value_word_of, pair_word_of_record};
+ghost use Rattle.vll_record.specs.Headline.Claim.{claims_of, is_write};
+ghost use Rattle.vll_record.specs.Claim.{AreClaimsOf, conflict};
+ghost use Rattle.vll_record.specs.Headline.Counter.{claims_on, pair_word_of};
+ghost use Rattle.vll_record.specs.Counter.{delta_of, pair_of, word_of, is_granted};
+ghost use Rattle.vll_record.specs.Headline.Word.{pair_word_of_record};
+ghost use Rattle.vll_record.specs.Word.{value_word_of};
 ghost use Rattle.vll_record.specs.declared.claim.Claim.{Claim};
 ghost use Rattle.vll_record.specs.declared.claim.Mode.{Mode};
 ghost use Rattle.vll_record.specs.declared.pair.Pair.{Pair};

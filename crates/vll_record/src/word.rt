@@ -1,6 +1,7 @@
 //! The indices of a record's value word and pair word.
 ghost use Rattle.std.specs.Prelude.{◌≡◌};
-ghost use Rattle.vll_record.specs.Word.{value_word_of, pair_word_of_record};
+ghost use Rattle.vll_record.specs.Headline.Word.{pair_word_of_record};
+ghost use Rattle.vll_record.specs.Word.{value_word_of};
 
 use crate::claim::RecordId;
 

@@ -7,14 +7,14 @@ use Rattle.vll_proc.specs.declared.syntax.Edition.TheVariants.{One}
 use Rattle.vll_proc.specs.declared.syntax.Expr.TheBlock.{hidden-the_row-Expr-0}
 use Rattle.vll_proc.specs.declared.syntax.Stmt.TheBlock.{hidden-the_row-Stmt-0}
 use Rattle.vll_proc.specs.declared.syntax.Proc.{Proc}
-use Rattle.vll_proc.specs.Made.{call_of}
+use Rattle.vll_proc.specs.Headline.Made.{call_of}
 use Rattle.vll_proc.proofs.Rows.{transfer_keys, transfer_body, bump_keys, bump_body, via_keys, via_body}
 use Rattle.vll_sca.specs.declared.place.Placing.TheVariants.{Modulo}
 use Rattle.vll_core.specs.declared.event.Event.{Event}
 use Rattle.vll_core.specs.declared.event.Event.TheVariants.{Find, Enter, Claim, Admit, Front, Scan, Load, Store, Release, Finish}
 use Rattle.vll_replay.specs.Replay.{text_of_setup}
-use Rattle.vll_scenario.specs.Setup.{Setup}
-use Rattle.vll_replay.specs.Text.{Text}
+use Rattle.vll_scenario.specs.Headline.Setup.{Setup}
+use Rattle.vll_replay.specs.Headline.Text.{Text}
 
 abbrev bump : Proc
 bump = record { edition = One; name = codes "bump"; args = 1; keys = bump_keys; body = bump_body }

@@ -12,10 +12,11 @@ use Rattle.vll_sca.specs.Status.{is_gone}
 use Rattle.vll_core.specs.declared.line.Line.{Line}
 use Rattle.vll_core.specs.Journal.{journal_of, line_of}
 use Rattle.vll_core.specs.Shown.{AreWords}
-use Rattle.vll_core.specs.State.{Base, Entered, State, counter, reply_at, value}
+use Rattle.vll_core.specs.Headline.State.{Base}
+use Rattle.vll_core.specs.State.{Entered, State, counter, reply_at, value}
 use Rattle.vll_replay.specs.ReplayText.{call_words, status_text}
 use Rattle.vll_replay.specs.Private.ReplayText.{standing_text}
-use Rattle.vll_replay.specs.Text.{call_line, record_line}
+use Rattle.vll_replay.specs.Headline.Text.{call_line, record_line}
 
 -- the texts of the items from one on, each made of the item's result and its number
 abbrev pub texts_from : {A B : Type 0} → (ℕ × B → List ℕ) → (ℕ × A → B) → List A → ℕ → List ℕ

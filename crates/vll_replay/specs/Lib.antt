@@ -1,4 +1,4 @@
-pub mod Text
+pub mod Headline
 pub mod ReplayText
 pub mod Replay
 pub mod Steps

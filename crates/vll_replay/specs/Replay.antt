@@ -4,8 +4,8 @@ use Rattle.vll_sca.specs.Placing.{placing}
 use Rattle.vll_core.specs.State.{Opening}
 use Rattle.vll_scenario.specs.Reading.{IsRead}
 use Rattle.vll_replay.specs.ReplayText.{replay_text}
-use Rattle.vll_scenario.specs.Setup.{Setup}
-use Rattle.vll_replay.specs.Text.{Text}
+use Rattle.vll_scenario.specs.Headline.Setup.{Setup}
+use Rattle.vll_replay.specs.Headline.Text.{Text}
 
 -- how the plain machine is opened for a scenario
 abbrev pub opening_for : Setup → Opening

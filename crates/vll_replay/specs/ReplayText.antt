@@ -11,10 +11,11 @@ use Rattle.vll_core.specs.declared.seen.Seen.{Seen}
 use Rattle.vll_core.specs.declared.seen.Seen.TheVariants.{Found, Opened, Claimed, Free, Blocked, Run, Loaded, Stored, Released, Replied}
 use Rattle.vll_core.specs.declared.refusal.Refusal.{Refusal}
 use Rattle.vll_core.specs.declared.refusal.Refusal.TheVariants.{TurnOpen, NoTurn, NoCall, Spent, Busy, NotRunning, OutOfStep, Idle}
-use Rattle.vll_core.specs.State.{Base, Opening, Entered, State, reply_at, value, counter}
+use Rattle.vll_core.specs.Headline.State.{Base}
+use Rattle.vll_core.specs.State.{Opening, Entered, State, reply_at, value, counter}
 use Rattle.vll_core.specs.Machine.{opened, answers, run}
-use Rattle.vll_proc.specs.Text.{reply_text}
-use Rattle.vll_replay.specs.Text.{Text, outcome_text}
+use Rattle.vll_proc.specs.Headline.Text.{reply_text}
+use Rattle.vll_replay.specs.Headline.Text.{Text, outcome_text}
 
 -- whether a request was granted
 abbrev pub grant_text : Bool → Text

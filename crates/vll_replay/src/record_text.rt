@@ -1,6 +1,6 @@
 //! The line of a record in an outcome.
 ghost use Rattle.std.specs.Prelude.{◌≡◌, ◌++◌, OnOk, string_bytes};
-ghost use Rattle.vll_replay.specs.Text.{record_line};
+ghost use Rattle.vll_replay.specs.Headline.Text.{record_line};
 
 use std::alloc::AllocError;
 

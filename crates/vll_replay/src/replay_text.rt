@@ -5,7 +5,7 @@ ghost use Rattle.vll_sca.specs.Placing.{placing};
 ghost use Rattle.vll_core.specs.State.{counter, value};
 ghost use Rattle.vll_replay.specs.ReplayText.{call_words, state_text};
 ghost use Rattle.vll_replay.specs.Private.ReplayText.{standing_text};
-ghost use Rattle.vll_replay.specs.Text.{call_line, record_line};
+ghost use Rattle.vll_replay.specs.Headline.Text.{call_line, record_line};
 
 use crate::record_text::push_record_line;
 use std::alloc::AllocError;

@@ -8,7 +8,7 @@ use Rattle.std.proofs.lemmas.List.Sums.{position_or_len_is}
 use Rattle.vll_sca.specs.declared.entry.Entry.{Entry}
 use Rattle.vll_sca.specs.declared.claim_marks.ClaimMarks.{ClaimMarks}
 use Rattle.vll_sca.specs.declared.status.Status.TheVariants.{Gone}
-use Rattle.vll_sca.specs.Status.{is_waiting}
+use Rattle.vll_sca.specs.Headline.Status.{is_waiting}
 use Rattle.vll_sca.specs.Scan.{hashed, may_run, scan}
 use Rattle.vll_sca.specs.Private.ClaimMarks.{HasRoom, IsClear, meets, with_claims, claims_left}
 use Rattle.vll_sca.proofs.Meeting.{meets_is_held}

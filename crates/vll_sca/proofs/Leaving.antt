@@ -3,7 +3,8 @@ use Rattle.std.proofs.Common.{◌≡◌, ℕ, suc, ◌+◌, Bool, true, false, n
 use Rattle.std.proofs.lemmas.Bool.{and_left}
 use Rattle.std.specs.List.{list_any, enumerate_from, filter}
 use Rattle.vll_sca.specs.declared.entry.Entry.{Entry}
-use Rattle.vll_sca.specs.Status.{is_waiting, is_gone}
+use Rattle.vll_sca.specs.Headline.Status.{is_waiting}
+use Rattle.vll_sca.specs.Status.{is_gone}
 use Rattle.vll_sca.specs.Scan.{holds_back, scan_numbered}
 use Rattle.vll_sca.proofs.Scanning.{Shifted, position-first, position-next, position-shifted, gone_holds_none_back, not_waiting}
 

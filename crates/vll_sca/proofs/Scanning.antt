@@ -6,11 +6,13 @@ use Rattle.std.proofs.lemmas.List.Quantifiers.{position-Some}
 use Rattle.std.proofs.lemmas.Option.{slice_get_within, get_or_from_slice_get, none-some, same_Some}
 use Rattle.std.specs.List.{list_any, enumerate_from, position_or_len}
 use Rattle.vll_record.specs.declared.claim.Claim.{Claim}
-use Rattle.vll_record.specs.Claim.{conflict, conflicts, is_write}
+use Rattle.vll_record.specs.Headline.Claim.{is_write}
+use Rattle.vll_record.specs.Claim.{conflict, conflicts}
 use Rattle.vll_sca.specs.declared.entry.Entry.{Entry}
 use Rattle.vll_sca.specs.declared.status.Status.{Status}
 use Rattle.vll_sca.specs.declared.status.Status.TheVariants.{Running, Waiting, Gone}
-use Rattle.vll_sca.specs.Status.{is_waiting, is_gone}
+use Rattle.vll_sca.specs.Headline.Status.{is_waiting}
+use Rattle.vll_sca.specs.Status.{is_gone}
 use Rattle.vll_sca.specs.Scan.{hashed, hash_conflict, holds_back, may_run, scan}
 
 one_in_map : {X Y : Type 0} (p : X → Bool) (q : Y → Bool) (h : X → Y) (x : X) (xs : List X) → (p x ≡ true → q (h x) ≡ true)

@@ -1,3 +1,4 @@
+pub mod Headline
 pub mod Status
 pub mod Placing
 pub mod Scan

@@ -4,7 +4,8 @@ use Rattle.std.specs.List.{list_any, enumerate_from}
 use Rattle.vll_record.specs.declared.claim.Claim.{Claim}
 use Rattle.vll_record.specs.Claim.{conflict}
 use Rattle.vll_sca.specs.declared.entry.Entry.{Entry}
-use Rattle.vll_sca.specs.Status.{is_waiting, is_gone}
+use Rattle.vll_sca.specs.Headline.Status.{is_waiting}
+use Rattle.vll_sca.specs.Status.{is_gone}
 
 module _ (place : ℕ → ℕ) (bits : ℕ) where
   -- a claim on the place of its record, modulo the number of bits

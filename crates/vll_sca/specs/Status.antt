@@ -1,13 +1,7 @@
--- The status of an entered call, as tests.
+-- The other statuses of an entered call, as tests.
 use Rattle.std.specs.Prelude.{Bool, true, false}
 use Rattle.vll_sca.specs.declared.status.Status.{Status}
 use Rattle.vll_sca.specs.declared.status.Status.TheVariants.{Running, Waiting, Gone}
-
--- entered, and not yet begun
-abbrev pub is_waiting : Status → Bool
-is_waiting Running = false
-is_waiting Waiting = true
-is_waiting Gone = false
 
 -- begun, and not yet finished
 abbrev pub is_running : Status → Bool

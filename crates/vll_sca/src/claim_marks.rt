@@ -1,7 +1,7 @@
 //! The places of the claims that a scan has passed, marked by mode, and the test of each entry against these marks.
 ghost use Rattle.std.specs.Prelude.{◌≡◌, ◌<◌, ◌≤◌, ◌&&◌, not, false, true, [], ◌∷◌, length, map, take, IfOk};
 ghost use Rattle.std.specs.List.{list_any};
-ghost use Rattle.vll_sca.specs.Status.{is_waiting};
+ghost use Rattle.vll_sca.specs.Headline.Status.{is_waiting};
 ghost use Rattle.vll_sca.specs.Scan.{hashed, scan};
 ghost use Rattle.vll_sca.specs.Private.ClaimMarks.{HasRoom, IsClear, meets, with_claims, claims_left, passed};
 

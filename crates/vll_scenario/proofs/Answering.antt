@@ -10,7 +10,7 @@ use Rattle.vll_proc.specs.declared.syntax.Proc.{Proc}
 use Rattle.vll_check.specs.declared.fault.CallFault.{CallFault}
 use Rattle.vll_check.specs.declared.fault.CheckFault.{CheckFault}
 use Rattle.vll_check.specs.Calls.{call_made}
-use Rattle.vll_check.specs.Catalog.{Catalog}
+use Rattle.vll_check.specs.Headline.Catalog.{Catalog}
 use Rattle.vll_check.specs.Faults.{check_fault}
 use Rattle.vll_check.specs.Names.{has_name_twice}
 use Rattle.vll_core.specs.Faults.{open_fault}
@@ -24,7 +24,8 @@ use Rattle.vll_scenario.specs.Reading.{IsAnswerBy, ReadsEnough, Reads, Tells}
 use Rattle.vll_scenario.specs.Private.Reading.{data_of, GivesUnlessMemory}
 use Rattle.vll_scenario.specs.Scenario.{IsTree, call_at, config_of, each_given, first_check, first_check_from, in_call, ok_unless, or_else, script_made, scripts_made, setup_of, tree_or_json}
 use Rattle.vll_scenario.specs.Schedule.{event_at}
-use Rattle.vll_scenario.specs.Setup.{Setup, has_sizes}
+use Rattle.vll_scenario.specs.Headline.Setup.{Setup}
+use Rattle.vll_scenario.specs.Setup.{has_sizes}
 use Rattle.vll_scenario.specs.Shape.{◌>>=◌, edition_at, in_part, list_if_there, may_names, must_names, option_at, part_at, parts_of, placing_at, script_at, shape_of}
 use Rattle.vll_scenario.specs.Streams.{AreTooMany}
 use Rattle.vll_scenario.specs.Syntax.{has_members, proc_at}

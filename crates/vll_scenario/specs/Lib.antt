@@ -1,3 +1,4 @@
+pub mod Headline
 pub mod Tree
 pub mod Syntax
 pub mod Schedule

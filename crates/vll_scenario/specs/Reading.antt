@@ -6,7 +6,7 @@ use Rattle.vll_scenario.specs.declared.fault.ScenarioFault.{ScenarioFault}
 use Rattle.vll_scenario.specs.declared.fault.ScenarioFault.TheVariants as fault
 use Rattle.vll_scenario.specs.declared.limits.TheConstants.{MOST_BYTES}
 use Rattle.vll_scenario.specs.Scenario.{IsTree, scenario_at}
-use Rattle.vll_scenario.specs.Setup.{Setup}
+use Rattle.vll_scenario.specs.Headline.Setup.{Setup}
 use Rattle.vll_scenario.specs.Streams.{AreTooMany}
 
 -- the result for bytes: that there are too many, or the result for their tree

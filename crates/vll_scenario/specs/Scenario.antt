@@ -7,7 +7,7 @@ use Rattle.vll_proc.specs.declared.call.Call.{Call}
 use Rattle.vll_proc.specs.declared.syntax.Proc.{Proc}
 use Rattle.vll_check.specs.declared.fault.CallFault.{CallFault}
 use Rattle.vll_check.specs.Calls.{call_made}
-use Rattle.vll_check.specs.Catalog.{Catalog}
+use Rattle.vll_check.specs.Headline.Catalog.{Catalog}
 use Rattle.vll_check.specs.Faults.{check_fault}
 use Rattle.vll_check.specs.Names.{has_name_twice}
 use Rattle.vll_scenario.specs.declared.reading.asked.Asked.{Asked}
@@ -18,7 +18,8 @@ use Rattle.vll_core.specs.Faults.{open_fault}
 use Rattle.vll_core.specs.Machine.{refuse_if}
 use Rattle.vll_sca.specs.declared.place.Placing.TheVariants.{Modulo}
 use Rattle.vll_scenario.specs.declared.reading.setup.TheConstants.{BITS, CAP}
-use Rattle.vll_scenario.specs.Setup.{Setup, has_sizes}
+use Rattle.vll_scenario.specs.Headline.Setup.{Setup}
+use Rattle.vll_scenario.specs.Setup.{has_sizes}
 use Rattle.vll_scenario.specs.declared.reading.shape.Parts.{Parts}
 use Rattle.vll_scenario.specs.Shape.{◌>>=◌, shape_of}
 

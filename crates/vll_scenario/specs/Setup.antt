@@ -1,26 +1,15 @@
--- The contents of a scenario: its records, its procedures, each client's calls, the machine's settings, its schedule.
-use Rattle.std.specs.Prelude.{◌≡◌, ℕ, ◌≤◌, Bool, ◌&&◌, nat_le, List, length, map, sum_by, All, None}
+-- The limits and the invariant of a scenario.
+use Rattle.std.specs.Prelude.{◌≡◌, ◌≤◌, Bool, ◌&&◌, nat_le, List, length, map, sum_by, All, None}
 use Rattle.std.specs.Global.{Vec}
 use Rattle.vll_proc.specs.declared.call.Call.{Call}
 use Rattle.vll_proc.specs.declared.syntax.Proc.{Proc}
 use Rattle.vll_check.specs.Calls.{Fits}
-use Rattle.vll_check.specs.Catalog.{Catalog}
-use Rattle.vll_sca.specs.declared.place.Placing.{Placing}
-use Rattle.vll_core.specs.declared.config.Config.{Config}
 use Rattle.vll_core.specs.declared.config.TheConstants.{MOST_CALLS}
 use Rattle.vll_core.specs.declared.event.Event.{Event}
 use Rattle.vll_core.specs.Faults.{open_fault}
 use Rattle.vll_scenario.specs.declared.scenario.ScenarioParts.{ScenarioParts}
 use Rattle.vll_scenario.specs.declared.limits.TheConstants.{MOST_CLIENTS, MOST_EVENTS, MOST_PROCS}
-
--- a `Scenario` in contracts: records, procedures, calls, the machine's settings, the hash, and the schedule
-pub record Setup : Type 0 where
-  pub records : List ℕ
-  pub procs : List Proc
-  pub scripts : List (List Call)
-  pub config : Config
-  pub placing : Placing
-  pub schedule : List Event
+use Rattle.vll_scenario.specs.Headline.Setup.{Setup, catalog_of}
 
 -- scripts as lists of calls
 abbrev pub lists_of : List (Vec Call) → List (List Call)
@@ -30,10 +19,6 @@ lists_of scripts = map (λ (v : Vec Call). v.items) scripts
 abbrev pub has_sizes : {C : Type 0} → List Proc → List (List C) → List Event → Bool
 has_sizes procs scripts schedule =
     nat_le (length procs) MOST_PROCS && nat_le (length scripts) MOST_CLIENTS && nat_le (sum_by length scripts) MOST_CALLS && nat_le (length schedule) MOST_EVENTS
-
--- the library of a scenario: its procedures, checked for its number of records
-abbrev pub catalog_of : Setup → Catalog
-catalog_of s = record { records = length s.records; procs = s.procs }
 
 -- the numbers of procedures, clients, calls and events are within a scenario's limits
 pub record HasSizes {C : Type 0} (procs : List Proc) (scripts : List (List C)) (schedule : List Event) : Type 0 where

@@ -1,7 +1,8 @@
 //! A checked scenario, and what callers do with it: take its parts, or change its cap and its bits.
 ghost use Rattle.std.specs.Prelude.{◌≡◌, ◌≤◌, All, length};
 ghost use Rattle.vll_check.specs.Calls.{Fits};
-ghost use Rattle.vll_scenario.specs.Setup.{lists_of, IsSetup, catalog_of, setup_with};
+ghost use Rattle.vll_scenario.specs.Headline.Setup.{catalog_of};
+ghost use Rattle.vll_scenario.specs.Setup.{lists_of, IsSetup, setup_with};
 
 use sqlite_items::Items;
 use std::marker::Model;
@@ -32,7 +33,7 @@ impl Model for Scenario {
     ghost use Rattle.vll_proc.specs.contracts.syntax.Expr as expr;
     ghost use Rattle.vll_proc.specs.contracts.syntax.Stmt as stmt;
     ghost use Rattle.std.specs.Coded.{codes};
-    ghost use Rattle.vll_scenario.specs.Setup.{Setup};
+    ghost use Rattle.vll_scenario.specs.Headline.Setup.{Setup};
 
     ghost Value = { Setup };
 

@@ -15,12 +15,13 @@ use Rattle.vll_core.proofs.MachineState.{all_from}
 use Rattle.vll_core.proofs.Places.{all_at}
 use Rattle.vll_counters.specs.Shown.{AreNewSessions, SessionShown}
 use Rattle.vll_counters.specs.Steps.{new_session}
-use Rattle.vll_counters.specs.Views.{calls_by, calls_in}
+use Rattle.vll_counters.specs.Headline.Views.{calls_by, calls_in}
 use Rattle.vll_queue.specs.Closed.{IsSerial}
 use Rattle.vll_queue.specs.Sessions.{HasItsCalls}
 use Rattle.vll_queue.specs.Shown.{Named, library_of}
 use Rattle.vll_queue.specs.declared.closed.Closed.{Closed}
-use Rattle.vll_workers.specs.Merge.{AreForScripts, IsAtStart, IsClosedWith, IsMerge}
+use Rattle.vll_workers.specs.Headline.Merge.{IsMerge}
+use Rattle.vll_workers.specs.Merge.{AreForScripts, IsAtStart, IsClosedWith}
 use Rattle.vll_workers.specs.Shown.{TokenShown, token}
 use Rattle.vll_workers.specs.Tokens.{AreBack, AreFit, IsFit, IsThrough, clients_of}
 use Rattle.vll_workers.proofs.Merged.{merged}

@@ -7,9 +7,9 @@ use Rattle.vll_proc.specs.declared.syntax.Edition.TheVariants.{One}
 use Rattle.vll_proc.specs.declared.syntax.Expr.TheBlock.{hidden-the_row-Expr-0}
 use Rattle.vll_proc.specs.declared.syntax.Stmt.TheBlock.{hidden-the_row-Stmt-0}
 use Rattle.vll_proc.specs.declared.syntax.Proc.{Proc}
-use Rattle.vll_proc.specs.Made.{call_of}
+use Rattle.vll_proc.specs.Headline.Made.{call_of}
 use Rattle.vll_proc.proofs.Rows.{transfer_keys, transfer_body, bump_keys, bump_body, sum2_keys, sum2_body, via_keys, via_body}
-use Rattle.vll_replay.specs.Text.{Text}
+use Rattle.vll_replay.specs.Headline.Text.{Text}
 use Rattle.vll_server.specs.Text.{serial_text}
 
 abbrev transfer : Proc

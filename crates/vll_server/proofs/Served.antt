@@ -4,21 +4,22 @@ use Rattle.std.specs.List.{enumerate_from, zip}
 use Rattle.std.proofs.Math.Seq.{take-length}
 use Rattle.vll_proc.specs.declared.call.Call.{Call}
 use Rattle.vll_proc.specs.declared.syntax.Proc.{Proc}
-use Rattle.vll_proc.specs.Serial.{Made, answer, end}
+use Rattle.vll_proc.specs.Headline.Serial.{Made, answer, end}
 use Rattle.vll_core.specs.declared.line.Line.{Line}
-use Rattle.vll_core.specs.State.{Base, catalog_of as catalog_in}
+use Rattle.vll_core.specs.Headline.State.{Base, catalog_of as catalog_in}
 use Rattle.vll_core.proofs.SerialRun.{length_before}
-use Rattle.vll_counters.specs.Views.{calls_in}
+use Rattle.vll_counters.specs.Headline.Views.{calls_in}
 use Rattle.vll_queue.specs.declared.closed.Closed.{Closed}
 use Rattle.vll_queue.specs.Closed.{IsSerial}
-use Rattle.vll_queue.specs.Found.{AreFoundThere}
+use Rattle.vll_queue.specs.Headline.Found.{AreFoundThere}
 use Rattle.vll_queue.specs.Shown.{Named, library_of}
-use Rattle.vll_workers.specs.Merge.{IsMerge}
-use Rattle.vll_scenario.specs.Setup.{Setup}
+use Rattle.vll_workers.specs.Headline.Merge.{IsMerge}
+use Rattle.vll_scenario.specs.Headline.Setup.{Setup}
 use Rattle.vll_server.specs.declared.fault.ServeFault.{ServeFault}
-use Rattle.vll_server.specs.Serve.{IsServed, base_of}
-use Rattle.vll_replay.specs.Text.{outcome_text}
-use Rattle.vll_server.specs.Text.{answer_text, closed_text, line_words, serial_text}
+use Rattle.vll_server.specs.Headline.Serve.{IsServed, base_of}
+use Rattle.vll_replay.specs.Headline.Text.{outcome_text}
+use Rattle.vll_server.specs.Headline.Text.{answer_text, closed_text, line_words}
+use Rattle.vll_server.specs.Text.{serial_text}
 
 -- the lines from one on have the replies of the serial run
 lines_tell : (procs : List Proc) (calls : List Made) (records : List ℕ) (k : ℕ) (lines : List Line) → ((t : ℕ) (l : Line) → slice_get lines t ≡ Some l → l.reply ≡ answer procs calls records (k + t))

@@ -1,5 +1,5 @@
+pub mod Headline
 pub mod Text
 pub mod Scripts
-pub mod Serve
 pub mod Options
 pub mod Private

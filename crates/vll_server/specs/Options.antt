@@ -1,6 +1,6 @@
 -- A scenario as it is served with options.
 use Rattle.std.specs.Prelude.{unwrap_or}
-use Rattle.vll_scenario.specs.Setup.{Setup}
+use Rattle.vll_scenario.specs.Headline.Setup.{Setup}
 use Rattle.vll_server.specs.declared.options.RunOptions.{RunOptions}
 
 -- the scenario with the cap and the number of bits that the options give, and the same in all else

@@ -3,7 +3,7 @@ ghost use Rattle.std.specs.Prelude.{◌≡◌, ◌<◌, ◌≤◌, ◌+◌, ◌�
 ghost use Rattle.std.specs.Io.KnownBytes.{Appends};
 ghost use Rattle.vll_scenario.specs.Streams.{AppendsBeginning};
 ghost use Rattle.vll_server.specs.Options.{with_options};
-ghost use Rattle.vll_server.specs.Serve.{Serves};
+ghost use Rattle.vll_server.specs.Headline.Serve.{Serves};
 ghost use Rattle.vll_workers.specs.declared.fault.RunFault.TheVariants as RunFault;
 
 use crate::fault::ServeFault;

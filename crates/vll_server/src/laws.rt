@@ -1,10 +1,11 @@
 //! The text of a served scenario.
 ghost use Rattle.std.specs.Prelude.{◌≡◌};
-ghost use Rattle.vll_counters.specs.Views.{calls_in};
+ghost use Rattle.vll_counters.specs.Headline.Views.{calls_in};
 ghost use Rattle.vll_queue.specs.declared.closed.Closed.{Closed};
-ghost use Rattle.vll_scenario.specs.Setup.{Setup};
-ghost use Rattle.vll_server.specs.Serve.{IsServed};
-ghost use Rattle.vll_server.specs.Text.{closed_text, serial_text};
+ghost use Rattle.vll_scenario.specs.Headline.Setup.{Setup};
+ghost use Rattle.vll_server.specs.Headline.Serve.{IsServed};
+ghost use Rattle.vll_server.specs.Headline.Text.{closed_text};
+ghost use Rattle.vll_server.specs.Text.{serial_text};
 
 /// The text of what a run of a scenario leaves is the text of its journal's calls, run one at a time.
 #[tactic(auto, using(crate::proofs::Served::served_text))]

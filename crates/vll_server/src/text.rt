@@ -1,8 +1,8 @@
 //! The text of what a run leaves: a line for each call, and then one for each record.
 ghost use Rattle.std.specs.Prelude.{◌≡◌, ◌++◌, ◌∷◌, [], IfOk, OnOk, map, string_bytes};
 ghost use Rattle.std.specs.List.{enumerate_from, flat_map, zip};
-ghost use Rattle.vll_replay.specs.Text.{call_line, record_line};
-ghost use Rattle.vll_server.specs.Text.{closed_text, line_words};
+ghost use Rattle.vll_replay.specs.Headline.Text.{call_line, record_line};
+ghost use Rattle.vll_server.specs.Headline.Text.{closed_text, line_words};
 
 pub(crate) mod outcome;
 

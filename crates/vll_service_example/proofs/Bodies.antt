@@ -6,8 +6,8 @@ use Rattle.vll_proc.specs.declared.call.Reason.{Reason}
 use Rattle.vll_proc.specs.declared.call.Reason.TheVariants.{Overflow, Underflow}
 use Rattle.vll_proc.specs.declared.syntax.Expr.TheBlock.{hidden-the_row-Expr-0}
 use Rattle.vll_proc.specs.declared.syntax.Stmt.TheBlock.{hidden-the_row-Stmt-0}
-use Rattle.vll_proc.specs.Meaning.{Action, Scene, and_then, effect, in_turn, truth}
-use Rattle.vll_proc.specs.Serial.{after}
+use Rattle.vll_proc.specs.Headline.Meaning.{Action, Scene, and_then, effect, in_turn, truth}
+use Rattle.vll_proc.specs.Headline.Serial.{after}
 use Rattle.vll_service_example.specs.Bank.{deposit_body, transfer_body}
 
 -- what is taken from one place is added to another

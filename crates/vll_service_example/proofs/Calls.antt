@@ -9,16 +9,17 @@ use Rattle.std.proofs.lemmas.List.Elements.{All-map, All-weaker}
 use Rattle.std.proofs.lemmas.List.Sums.{sum_by-cons}
 use Rattle.vll_proc.specs.declared.call.Call.{Call}
 use Rattle.vll_proc.specs.declared.syntax.Proc.{Proc}
-use Rattle.vll_proc.specs.Made.{call_of}
-use Rattle.vll_proc.specs.Meaning.{opening_scene, source_of}
-use Rattle.vll_proc.specs.Serial.{Keeps, answer, applied, applied_at, apply, before}
+use Rattle.vll_proc.specs.Headline.Made.{call_of}
+use Rattle.vll_proc.specs.Headline.Meaning.{opening_scene, source_of}
+use Rattle.vll_proc.specs.Headline.Serial.{answer, applied, applied_at, apply, before}
+use Rattle.vll_proc.specs.Serial.{Keeps}
 use Rattle.vll_proc.proofs.Kept.{length-applied}
 use Rattle.vll_check.specs.Calls.{IsReady, place_is_there}
-use Rattle.vll_check.specs.Catalog.{Catalog}
+use Rattle.vll_check.specs.Headline.Catalog.{Catalog}
 use Rattle.vll_check.proofs.Fitting.{fits_made, found_of}
 use Rattle.vll_core.specs.declared.line.Line.{Line}
 use Rattle.vll_core.proofs.Tests.{both_true, eq_same, lt_yes}
-use Rattle.vll_counters.specs.Views.{calls_in}
+use Rattle.vll_counters.specs.Headline.Views.{calls_in}
 use Rattle.vll_service_example.specs.Bank.{HoldInTotal, deposit, procedures, read_all, transfer}
 use Rattle.vll_service_example.specs.Tally.{is_faulty, is_wrong, replies_total}
 use Rattle.vll_service_example.proofs.Bodies.{all_of_eight, deposit_keeps, transfer_keeps}

@@ -2,9 +2,10 @@
 use Rattle.std.proofs.Common.{◌≡◌, ℕ, List, ap, ◌∙◌, subst, length, sum, count_by, All}
 use Rattle.vll_check.specs.Calls.{IsReady}
 use Rattle.vll_proc.proofs.Joined.{carried_before, carried_to_end}
-use Rattle.vll_proc.specs.Serial.{Keeps, answer, before, end}
+use Rattle.vll_proc.specs.Headline.Serial.{answer, before, end}
+use Rattle.vll_proc.specs.Serial.{Keeps}
 use Rattle.vll_core.specs.declared.line.Line.{Line}
-use Rattle.vll_counters.specs.Views.{calls_in}
+use Rattle.vll_counters.specs.Headline.Views.{calls_in}
 use Rattle.vll_queue.specs.Closed.{AreSerial, GoesOn}
 use Rattle.vll_queue.specs.Shown.{Named, OpeningShown, library_of, name_of}
 use Rattle.vll_service_example.specs.Bank.{HoldInTotal}

@@ -7,12 +7,13 @@ use Rattle.std.proofs.lemmas.List.Sums.{sum_by-append}
 use Rattle.vll_proc.specs.declared.call.Reply.{Reply}
 use Rattle.vll_proc.specs.declared.syntax.Proc.{Proc}
 use Rattle.vll_proc.specs.Epochs.{end_by_epochs, replies_by_epochs}
-use Rattle.vll_proc.specs.Serial.{Made, answer, apply, end, replies}
+use Rattle.vll_proc.specs.Headline.Serial.{Made, answer, apply, end}
+use Rattle.vll_proc.specs.Serial.{replies}
 use Rattle.vll_proc.proofs.Joined.{end_in_a_row, replies_in_a_row}
 use Rattle.vll_check.specs.Calls.{IsReady}
-use Rattle.vll_check.specs.Catalog.{Catalog}
+use Rattle.vll_check.specs.Headline.Catalog.{Catalog}
 use Rattle.vll_core.specs.declared.line.Line.{Line}
-use Rattle.vll_counters.specs.Views.{calls_in}
+use Rattle.vll_counters.specs.Headline.Views.{calls_in}
 use Rattle.vll_queue.specs.Closed.{AreSerial}
 use Rattle.vll_queue.specs.Shown.{Named, library_of}
 use Rattle.vll_service_example.specs.Bank.{procedures}

@@ -2,11 +2,12 @@
 use Rattle.std.specs.Prelude.{◌≡◌, ℕ, ◌+◌, ◌-◌, ◌/◌, List, Some, All, count_by, length, map, replicate, sum}
 use Rattle.std.specs.List.{flat_map}
 use Rattle.vll_proc.specs.Epochs.{in_a_row}
-use Rattle.vll_proc.specs.Serial.{end, replies}
+use Rattle.vll_proc.specs.Headline.Serial.{end}
+use Rattle.vll_proc.specs.Serial.{replies}
 use Rattle.vll_check.specs.Calls.{IsReady}
-use Rattle.vll_check.specs.Catalog.{Catalog}
+use Rattle.vll_check.specs.Headline.Catalog.{Catalog}
 use Rattle.vll_core.specs.declared.line.Line.{Line}
-use Rattle.vll_counters.specs.Views.{calls_in}
+use Rattle.vll_counters.specs.Headline.Views.{calls_in}
 use Rattle.vll_queue.specs.Shown.{Named}
 use Rattle.vll_service_example.specs.Bank.{HoldInTotal, procedures}
 use Rattle.vll_service_example.specs.Tally.{is_aborted, is_committed, is_faulty}

@@ -1,6 +1,6 @@
 //! An epoch: the calls that one engine takes, by a thread for each client.
 ghost use Rattle.std.specs.Prelude.{◌≡◌, ◌≤◌, IfOk, sum, vec_capacity};
-ghost use Rattle.vll_counters.specs.Views.{calls_in};
+ghost use Rattle.vll_counters.specs.Headline.Views.{calls_in};
 ghost use Rattle.vll_queue.specs.Closed.{AreSerial, GoesOn};
 ghost use Rattle.vll_queue.specs.Shown.{name_of};
 ghost use Rattle.vll_sca.specs.Placing.{placing};

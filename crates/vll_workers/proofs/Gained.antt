@@ -6,12 +6,13 @@ use Rattle.std.proofs.lemmas.List.{append-nil, map-append}
 use Rattle.std.proofs.lemmas.List.Elements.{filter-append}
 use Rattle.std.proofs.lemmas.Option.{same_Some, slice_get-get_or}
 use Rattle.vll_proc.specs.declared.call.Call.{Call}
-use Rattle.vll_proc.specs.Serial.{Made}
-use Rattle.vll_check.specs.Calls.{bare, bares, with_found}
+use Rattle.vll_proc.specs.Headline.Serial.{Made}
+use Rattle.vll_check.specs.Headline.Calls.{with_found}
+use Rattle.vll_check.specs.Calls.{bare, bares}
 use Rattle.vll_core.proofs.Places.{entry_at, take_next}
 use Rattle.vll_counters.specs.declared.views.SessionView.{SessionView}
 use Rattle.vll_counters.specs.Shown.{PassShown, SessionShown}
-use Rattle.vll_counters.specs.Views.{Begins, calls_by}
+use Rattle.vll_counters.specs.Headline.Views.{Begins, calls_by}
 use Rattle.vll_queue.specs.declared.begun.BeginRefusal.{BeginRefusal}
 use Rattle.vll_queue.specs.declared.begun.BeginRefusal.TheVariants.{Busy, Spent}
 use Rattle.vll_queue.specs.declared.begun.Begun.{Begun}
@@ -20,7 +21,8 @@ use Rattle.vll_queue.specs.declared.begun.BegunOnto.{BegunOnto}
 use Rattle.vll_queue.specs.declared.begun.BegunOnto.TheVariants as onto
 use Rattle.vll_queue.specs.Begin.{Begins as BeginsWith, FindsAndBegins}
 use Rattle.vll_queue.specs.Onto.{FindsAndBeginsOnto, IsOnto}
-use Rattle.vll_queue.specs.Sessions.{SawOthers, SawOwn}
+use Rattle.vll_queue.specs.Headline.Sessions.{SawOwn}
+use Rattle.vll_queue.specs.Sessions.{SawOthers}
 use Rattle.vll_queue.specs.Shown.{Named, library_of}
 use Rattle.vll_workers.specs.Private.Begin.{IsBegun, begun_token}
 use Rattle.vll_workers.specs.Shown.{TokenShown}

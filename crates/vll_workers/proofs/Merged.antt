@@ -14,19 +14,20 @@ use Rattle.std.proofs.lemmas.List.Sorted.{length_permutation}
 use Rattle.std.proofs.lemmas.List.Sums.{sum_by-cons}
 use Rattle.std.proofs.lemmas.Option.{get_or_from_slice_get, same_Some, slice_get-map, slice_get_past, slice_get_within}
 use Rattle.vll_proc.specs.declared.call.Call.{Call}
-use Rattle.vll_proc.specs.Serial.{Made}
+use Rattle.vll_proc.specs.Headline.Serial.{Made}
 use Rattle.vll_check.specs.Calls.{bare, bares, Fits, IsReady}
-use Rattle.vll_check.specs.Catalog.{Catalog}
+use Rattle.vll_check.specs.Headline.Catalog.{Catalog}
 use Rattle.vll_check.proofs.Fitting.{are_found}
 use Rattle.vll_core.specs.declared.line.Line.{Line}
 use Rattle.vll_core.proofs.MachineState.{all_from}
 use Rattle.vll_core.proofs.Places.{all_at}
-use Rattle.vll_counters.specs.Views.{calls_by, calls_in}
+use Rattle.vll_counters.specs.Headline.Views.{calls_by, calls_in}
 use Rattle.vll_queue.proofs.Learning.{calls_by-append}
 use Rattle.vll_queue.specs.declared.closed.Closed.{Closed}
 use Rattle.vll_queue.specs.Sessions.{HasItsCalls}
 use Rattle.vll_queue.specs.Shown.{Named, library_of}
-use Rattle.vll_workers.specs.Merge.{AreForScripts, HasFound, IsAtStart, IsClosedWith, IsMerge}
+use Rattle.vll_workers.specs.Headline.Merge.{IsMerge}
+use Rattle.vll_workers.specs.Merge.{AreForScripts, HasFound, IsAtStart, IsClosedWith}
 use Rattle.vll_workers.specs.Shown.{TokenShown}
 use Rattle.vll_workers.specs.Tokens.{AreBack, AreFit, IsFit, IsOf, IsThrough, OneIsSpent, calls_between, clients_of}
 

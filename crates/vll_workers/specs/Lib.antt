@@ -1,3 +1,4 @@
+pub mod Headline
 pub mod Shown
 pub mod Tokens
 pub mod Merge

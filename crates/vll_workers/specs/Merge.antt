@@ -1,21 +1,16 @@
 -- What the journal contains of the scripts that were passed to a run.
-use Rattle.std.specs.Prelude.{◌≡◌, ◌++◌, ℕ, List, [], All, Some, length, slice_get, unwrap_or}
+use Rattle.std.specs.Prelude.{◌≡◌, ◌++◌, List, [], All, Some, length, slice_get}
 use Rattle.vll_proc.specs.declared.call.Call.{Call}
-use Rattle.vll_proc.specs.Serial.{Made}
-use Rattle.vll_check.specs.Calls.{AreFound}
-use Rattle.vll_check.specs.Catalog.{Catalog}
+use Rattle.vll_check.specs.Headline.Calls.{AreFound}
+use Rattle.vll_check.specs.Headline.Catalog.{Catalog}
 use Rattle.vll_counters.specs.declared.views.SessionView.{SessionView}
-use Rattle.vll_counters.specs.Views.{calls_by, calls_in}
+use Rattle.vll_counters.specs.Headline.Views.{calls_by, calls_in}
 use Rattle.vll_queue.specs.Closed.{IsSerial}
 use Rattle.vll_queue.specs.Sessions.{HasItsCalls}
 use Rattle.vll_queue.specs.Shown.{Named}
 use Rattle.vll_queue.specs.declared.closed.Closed.{Closed}
 use Rattle.vll_workers.specs.Shown.{TokenShown}
 use Rattle.vll_workers.specs.Tokens.{AreFit}
-
--- each client's calls are its script, each with a value found if it has an indirect key, and no other client occurs
-abbrev pub IsMerge : Catalog → List Made → List (List Call) → Type 0
-IsMerge library calls scripts = (c : ℕ) → AreFound library (unwrap_or (slice_get scripts c) []) (calls_by c calls)
 
 -- a token with its client's script, of which no call has entered, and with its client's session, which has seen none
 pub record IsAtStart (scripts : List (List Call)) (t : TokenShown) : Type 0 where

@@ -4,7 +4,7 @@ use Rattle.std.specs.List.Sorted.{IsStrictlyIncreasing}
 use Rattle.vll_proc.specs.declared.call.Call.{Call}
 use Rattle.vll_check.specs.Calls.{bares, Fits}
 use Rattle.vll_counters.specs.declared.views.SessionView.{SessionView}
-use Rattle.vll_counters.specs.Views.{Begins, calls_by}
+use Rattle.vll_counters.specs.Headline.Views.{Begins, calls_by}
 use Rattle.vll_queue.specs.Shown.{Named, library_of}
 use Rattle.vll_workers.specs.Shown.{TokenShown}
 

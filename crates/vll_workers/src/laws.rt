@@ -1,10 +1,11 @@
 //! Laws of what a run leaves in the journal and in its tokens' sessions, once the engine is closed with these.
 ghost use Rattle.std.specs.Prelude.{◌≡◌, ◌<◌, ℕ, All, List, Some, length, slice_get, sum_by};
 ghost use Rattle.vll_proc.specs.declared.call.Call.{Call};
-ghost use Rattle.vll_counters.specs.Views.{calls_in};
+ghost use Rattle.vll_counters.specs.Headline.Views.{calls_in};
 ghost use Rattle.vll_queue.specs.declared.closed.Closed.{Closed};
 ghost use Rattle.vll_queue.specs.Shown.{Named, library_of};
-ghost use Rattle.vll_workers.specs.Merge.{AreForScripts, HasFound, IsClosedWith, IsMerge};
+ghost use Rattle.vll_workers.specs.Headline.Merge.{IsMerge};
+ghost use Rattle.vll_workers.specs.Merge.{AreForScripts, HasFound, IsClosedWith};
 ghost use Rattle.vll_workers.specs.Shown.{TokenShown};
 ghost use Rattle.vll_workers.specs.Tokens.{AreBack, AreFit, IsOf, IsThrough, OneIsSpent, calls_between};
 

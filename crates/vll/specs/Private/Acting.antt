@@ -2,12 +2,12 @@
 use Rattle.std.specs.Prelude.{◌≡◌, ℕ, List, [], Option, None, Result, Ok}
 use Rattle.vll_draw.specs.Page.{Draws}
 use Rattle.vll_explain.specs.Explained.{Explains}
-use Rattle.vll_scenario.specs.Setup.{Setup}
+use Rattle.vll_scenario.specs.Headline.Setup.{Setup}
 use Rattle.vll_server.specs.Options.{with_options}
 use Rattle.vll_scenario.specs.Reading.{IsRead}
 use Rattle.vll_replay.specs.Replay.{Replays}
-use Rattle.vll_server.specs.Serve.{Serves}
-use Rattle.vll_replay.specs.Text.{Text}
+use Rattle.vll_server.specs.Headline.Serve.{Serves}
+use Rattle.vll_replay.specs.Headline.Text.{Text}
 use Rattle.vll_server.specs.declared.options.RunOptions.{RunOptions}
 use Rattle.vll.specs.declared.command.Action.{Action}
 use Rattle.vll.specs.declared.fault.Fault.{Fault}

@@ -1,6 +1,6 @@
 -- The model of a checked procedure, and its invariant.
 use Rattle.std.specs.Prelude.{◌≡◌, None}
-use Rattle.vll_proc.specs.Meaning.{source_of}
+use Rattle.vll_proc.specs.Headline.Meaning.{source_of}
 use Rattle.vll_check.specs.declared.checked.Checked.TheInside.{Inside}
 use Rattle.vll_check.specs.Entry.{Entry}
 use Rattle.vll_check.specs.Faults.{check_fault}

@@ -1,7 +1,8 @@
 -- The model of a library, and its invariant.
 use Rattle.std.specs.List.Sorted.{IsStrictlySortedBy}
 use Rattle.vll_check.specs.declared.library.Library.TheInside.{Inside}
-use Rattle.vll_check.specs.Catalog.{Catalog, IsCatalog}
+use Rattle.vll_check.specs.Headline.Catalog.{Catalog}
+use Rattle.vll_check.specs.Catalog.{IsCatalog}
 use Rattle.vll_check.specs.Private.Order.{by_name, numbered, IsIndexed}
 
 -- what contracts see of it: the procedures in the order of their numbers

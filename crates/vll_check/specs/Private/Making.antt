@@ -4,8 +4,8 @@ use Rattle.vll_record.specs.declared.claim.Claim.{Claim}
 use Rattle.vll_proc.specs.declared.call.Call.{Call}
 use Rattle.vll_proc.specs.declared.syntax.KeyDecl.{KeyDecl}
 use Rattle.vll_proc.specs.declared.syntax.Proc.{Proc}
-use Rattle.vll_proc.specs.Made.{place_for}
-use Rattle.vll_proc.specs.Meaning.{record_named}
+use Rattle.vll_proc.specs.Headline.Made.{place_for}
+use Rattle.vll_proc.specs.Headline.Meaning.{record_named}
 use Rattle.vll_proc.specs.WellFormed.{argument_is_declared}
 use Rattle.vll_check.specs.Calls.{call_to}
 

@@ -1,6 +1,7 @@
 -- The words of a machine at its opening.
 use Rattle.std.specs.Prelude.{◌≡◌, ℕ, ◌+◌, ◌*◌, ◌<◌, List, length, slice_index}
-use Rattle.vll_record.specs.Word.{value_word_of, pair_word_of_record}
+use Rattle.vll_record.specs.Headline.Word.{pair_word_of_record}
+use Rattle.vll_record.specs.Word.{value_word_of}
 
 -- the words when nothing is entered: each record's value, with no open claim
 pub record AreFirstWords (records words : List ℕ) : Type 0 where

@@ -1,7 +1,8 @@
 -- How the queue keeps its entries: lines and statuses are in two lists by ticket, whose room is allocated at the
 -- opening, and the window has the tickets of those that are left.
 use Rattle.std.specs.Prelude.{◌≡◌, ℕ, ◌≤◌, true, map, length, count_by, None, vec_capacity}
-use Rattle.vll_sca.specs.Status.{is_waiting, is_running, is_gone}
+use Rattle.vll_sca.specs.Headline.Status.{is_waiting}
+use Rattle.vll_sca.specs.Status.{is_running, is_gone}
 use Rattle.vll_sca.specs.declared.bits.TheConstants.{MOST_BITS}
 use Rattle.vll_core.specs.declared.config.TheConstants.{MOST_CALLS, MOST_WAITING}
 use Rattle.vll_core.specs.declared.queue.Queue.TheInside.{Inside}

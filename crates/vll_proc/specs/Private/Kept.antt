@@ -2,7 +2,7 @@
 use Rattle.std.specs.Prelude.{◌≡◌, ℕ, ◌≤◌, List, length, take}
 use Rattle.std.proofs.Common.{ap, sym, ◌∙◌}
 use Rattle.vll_proc.specs.declared.limits.TheConstants.{MOST_OUTPUTS}
-use Rattle.vll_record.specs.Canon.{laid}
+use Rattle.vll_record.specs.Headline.Canon.{laid}
 use Rattle.vll_proc.specs.declared.outputs.Outputs.TheInside.{Inside}
 
 abbrev pub kept : Inside → List ℕ

@@ -6,7 +6,7 @@ use Rattle.vll_proc.specs.declared.call.Call.{Call}
 use Rattle.vll_proc.specs.declared.call.Reason.{Reason}
 use Rattle.vll_proc.specs.declared.run.Progress.{Progress}
 use Rattle.vll_proc.specs.declared.syntax.Expr.{Expr, Add', Sub', Mul', Div', Rem', Min', Max', Equal', Less'}
-use Rattle.vll_proc.specs.Meaning.{Scene, sum, difference, product, quotient, remainder, lesser, greater, equality, order}
+use Rattle.vll_proc.specs.Headline.Meaning.{Scene, sum, difference, product, quotient, remainder, lesser, greater, equality, order}
 
 -- the scene whose records are the cells: each key position names its claim's cell
 abbrev pub scene_of : Call → List ℕ → Progress → Scene

@@ -1,8 +1,8 @@
 -- What is left of an engine in which no call runs or waits.
 use Rattle.std.specs.Prelude.{◌≡◌, ℕ, ◌+◌, ◌*◌, ◌<◌, ◌≤◌, [], length, map, vec_capacity}
-use Rattle.vll_proc.specs.Serial.{end}
+use Rattle.vll_proc.specs.Headline.Serial.{end}
 use Rattle.vll_core.specs.Queue.{config_of, lines}
-use Rattle.vll_counters.specs.Views.{calls_in}
+use Rattle.vll_counters.specs.Headline.Views.{calls_in}
 use Rattle.vll_queue.specs.Closed.{AreSerial}
 use Rattle.vll_queue.specs.Shown.{Named, library_of}
 use Rattle.vll_queue.specs.declared.ended.Ended.{Ended}

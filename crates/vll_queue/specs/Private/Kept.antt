@@ -4,8 +4,8 @@ use Rattle.vll_check.specs.Calls.{IsReady}
 use Rattle.vll_core.specs.declared.line.Line.{Line}
 use Rattle.vll_core.specs.Queue.{Queued, lines, statuses}
 use Rattle.vll_counters.specs.Shown.{QueueShown}
-use Rattle.vll_counters.specs.Views.{calls_in}
-use Rattle.vll_queue.specs.Found.{AreFoundThere}
+use Rattle.vll_counters.specs.Headline.Views.{calls_in}
+use Rattle.vll_queue.specs.Headline.Found.{AreFoundThere}
 use Rattle.vll_queue.specs.Shown.{Named, library_of}
 
 -- each call is one that may enter, of a client of the engine, and has found what was there

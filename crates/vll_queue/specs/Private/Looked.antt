@@ -1,10 +1,11 @@
 -- What a session knows once it has looked for the record of a call's indirect key.
 use Rattle.std.specs.Prelude.{◌≡◌, ℕ, ◌<◌, length, Some, slice_get}
 use Rattle.vll_proc.specs.declared.call.Call.{Call}
-use Rattle.vll_check.specs.Calls.{bare, source, with_found}
+use Rattle.vll_check.specs.Headline.Calls.{source, with_found}
+use Rattle.vll_check.specs.Calls.{bare}
 use Rattle.vll_counters.specs.declared.views.SessionView.{SessionView}
 use Rattle.vll_counters.specs.Told.{WasThere}
-use Rattle.vll_queue.specs.Found.{FoundThere}
+use Rattle.vll_queue.specs.Headline.Found.{FoundThere}
 use Rattle.vll_queue.specs.Sessions.{SawOthers}
 use Rattle.vll_queue.specs.Shown.{Named, library_of}
 

@@ -1,8 +1,9 @@
 //! The close of an engine: what is left if no call runs or waits, else the engine, which goes on.
 ghost use Rattle.std.specs.Prelude.{◌≡◌, ◌+◌, ◌*◌, ◌<◌, ◌≤◌, [], All, IfErr, IfOk, None, count_by, length, vec_capacity};
 ghost use Rattle.vll_core.specs.Queue.{lines, statuses};
-ghost use Rattle.vll_counters.specs.Views.{calls_in};
-ghost use Rattle.vll_sca.specs.Status.{is_running, is_waiting};
+ghost use Rattle.vll_counters.specs.Headline.Views.{calls_in};
+ghost use Rattle.vll_sca.specs.Headline.Status.{is_waiting};
+ghost use Rattle.vll_sca.specs.Status.{is_running};
 ghost use Rattle.vll_queue.specs.Private.Divided.{AreDivided};
 ghost use Rattle.vll_queue.specs.Private.Ended.{IsEnded};
 ghost use Rattle.vll_queue.specs.Sessions.{HasItsCalls};

@@ -1,7 +1,7 @@
 //! The reply in a ticket's line, as a session gets it under the lock.
 ghost use Rattle.std.specs.Prelude.{◌≡◌, ◌++◌, ◌∷◌, [], IfNone, IfSome, IsSome, Some, slice_get};
 ghost use Rattle.vll_core.specs.Queue.{IsQueued, lines};
-ghost use Rattle.vll_proc.specs.Serial.{answer};
+ghost use Rattle.vll_proc.specs.Headline.Serial.{answer};
 ghost use Rattle.vll_queue.specs.Private.Replied.{reply_in};
 ghost use Rattle.vll_queue.specs.Sessions.{SawOthers};
 ghost use Rattle.vll_queue.specs.Shown.{words_of};

@@ -4,7 +4,7 @@ use Rattle.vll_record.specs.Claim.{IsRising}
 use Rattle.vll_record.specs.declared.claim.Claim.{Claim}
 use Rattle.vll_record.specs.declared.claims.TheConstants.{MOST_CLAIMS}
 use Rattle.vll_record.specs.declared.claims.Claims.TheInside.{Inside}
-use Rattle.vll_record.specs.Canon.{laid}
+use Rattle.vll_record.specs.Headline.Canon.{laid}
 use Rattle.vll_record.specs.Private.Masks.{claims_with, mask_of}
 
 -- the claims that the fields represent

@@ -2,7 +2,7 @@
 use Rattle.std.specs.Prelude.{ℕ, ◌+◌, ◌*◌, ◌/◌, ◌%◌, ◌==◌, List, [], ◌∷◌, if◌then◌else◌}
 use Rattle.vll_record.specs.declared.claim.Mode.TheVariants.{Read, Write}
 use Rattle.vll_record.specs.declared.claim.Claim.{Claim}
-use Rattle.vll_record.specs.Claim.{is_write}
+use Rattle.vll_record.specs.Headline.Claim.{is_write}
 
 -- the claims on these records, in order, with the modes that a word holds
 abbrev pub claims_with : List ℕ → ℕ → List Claim

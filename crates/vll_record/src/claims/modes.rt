@@ -2,7 +2,7 @@
 ghost use Rattle.std.specs.Prelude.{◌≡◌, ◌<◌, ◌≤◌, ℕ, List, length, slice_get, slice_index, slice_set, insert, Some};
 ghost use Rattle.vll_record.specs.declared.claim.Claim.{Claim};
 ghost use Rattle.vll_record.specs.declared.claims.TheConstants.{MOST_CLAIMS};
-ghost use Rattle.vll_record.specs.Claim.{stronger};
+ghost use Rattle.vll_record.specs.Headline.Claim.{stronger};
 ghost use Rattle.vll_record.specs.Private.Masks.{mask_of, claims_with};
 
 use super::MOST_CLAIMS;

@@ -1,7 +1,8 @@
 -- The invariant of the type `Scenario`.
 use Rattle.std.specs.Prelude.{◌≡◌, length}
 use Rattle.vll_scenario.specs.declared.scenario.Scenario.TheInside.{Inside}
-use Rattle.vll_scenario.specs.Setup.{Setup, IsSetup, lists_of}
+use Rattle.vll_scenario.specs.Headline.Setup.{Setup}
+use Rattle.vll_scenario.specs.Setup.{IsSetup, lists_of}
 
 -- the setup that a scenario represents
 abbrev pub setup_in : Inside → Setup

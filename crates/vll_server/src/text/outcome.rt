@@ -2,7 +2,7 @@
 ghost use Rattle.std.specs.Prelude.{◌≡◌, ◌↔◌, false, true, OnOk};
 ghost use Rattle.std.specs.Io.KnownBytes.{Appends};
 ghost use Rattle.vll_scenario.specs.Streams.{AppendsBeginning};
-ghost use Rattle.vll_server.specs.Text.{closed_text};
+ghost use Rattle.vll_server.specs.Headline.Text.{closed_text};
 
 use crate::text::closed_text_of;
 use std::alloc::Global;

@@ -3,7 +3,7 @@ use Rattle.std.proofs.Common.{All, List, sym, subst}
 use Rattle.std.specs.Global.{Vec}
 use Rattle.vll_proc.specs.declared.call.Call.{Call}
 use Rattle.vll_check.specs.Calls.{Fits}
-use Rattle.vll_check.specs.Catalog.{Catalog}
+use Rattle.vll_check.specs.Headline.Catalog.{Catalog}
 use Rattle.vll_bench.proofs.ways.time_by_locks.Goals as goal
 
 abbrev AllFit : Catalog → List (Vec Call) → Type 0

@@ -1,6 +1,6 @@
 use Rattle.std.proofs.Common.{sym, subst}
 use Rattle.vll_check.specs.Calls.{IsReady}
-use Rattle.vll_check.specs.Catalog.{Catalog}
+use Rattle.vll_check.specs.Headline.Catalog.{Catalog}
 use Rattle.vll_counters.proofs.Seats.{library_is}
 use Rattle.vll_counters_tests.proofs.words.a_read_finds_the_record_and_leaves_no_claim.Goals as goal
 

@@ -1,6 +1,6 @@
 use Rattle.std.proofs.Common.{sym, subst}
 use Rattle.vll_check.specs.Calls.{IsReady}
-use Rattle.vll_check.specs.Catalog.{Catalog}
+use Rattle.vll_check.specs.Headline.Catalog.{Catalog}
 use Rattle.vll_counters.proofs.Seats.{library_is}
 use Rattle.vll_counters_tests.proofs.words.a_session_finds_what_a_pass_has_stored.Goals as goal
 

@@ -4,13 +4,14 @@ use Rattle.std.proofs.lemmas.Option.{same_Some}
 use Rattle.vll_record.specs.declared.claim.Claim.{Claim}
 use Rattle.vll_proc.specs.Cells.{Holds}
 use Rattle.vll_proc.specs.Made.{IsCallOf}
-use Rattle.vll_proc.specs.Serial.{applied, applied_at, apply}
+use Rattle.vll_proc.specs.Headline.Serial.{applied, applied_at, apply}
 use Rattle.vll_proc.specs.WellFormed.{IsWellFormed}
 use Rattle.vll_proc.specs.declared.call.Call.{Call}
 use Rattle.vll_proc.specs.declared.call.Reply.{Reply}
 use Rattle.vll_proc.specs.declared.syntax.Proc.{Proc}
 use Rattle.vll_check.specs.Calls.{IsReady}
-use Rattle.vll_check.specs.Catalog.{Catalog, IsCatalog}
+use Rattle.vll_check.specs.Headline.Catalog.{Catalog}
+use Rattle.vll_check.specs.Catalog.{IsCatalog}
 use Rattle.vll_check.proofs.Fitting.{ready_well}
 use Rattle.vll_core.specs.State.{is_aborted}
 use Rattle.vll_core.proofs.SerialRun.{length_before}

@@ -3,7 +3,8 @@ use Rattle.vll_record.specs.declared.claim.Claim.{Claim}
 use Rattle.vll_core.specs.declared.event.Event.{Event}
 use Rattle.vll_core.specs.declared.refusal.Refusal.{Refusal}
 use Rattle.vll_core.specs.declared.seen.Seen.{Seen}
-use Rattle.vll_core.specs.State.{Base, State}
+use Rattle.vll_core.specs.Headline.State.{Base}
+use Rattle.vll_core.specs.State.{State}
 use Rattle.vll_core.specs.Next.{claim_of}
 use Rattle.vll_replay.specs.Steps.{Step}
 use Rattle.vll_picture.specs.Columns.{AreWordsOf, ticket_of, ticket_seen}

@@ -1,6 +1,6 @@
 -- Each call of the journal may enter, so it keeps the total.
 use Rattle.std.proofs.Common.{refl, ap, ◌∙◌, sum}
-use Rattle.vll_counters.specs.Views.{calls_in}
+use Rattle.vll_counters.specs.Headline.Views.{calls_in}
 use Rattle.vll_queue.specs.Shown.{library_of}
 use Rattle.vll_example.proofs.Total.{journal_keeps}
 use Rattle.vll_example.proofs.bank.close.Goals as goal

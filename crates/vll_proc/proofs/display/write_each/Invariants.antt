@@ -1,7 +1,7 @@
 use Rattle.std.proofs.Common.{take}
 use Rattle.std.specs.Fmt.{HasWritten, IsPlainFormatter}
 use Rattle.std.specs.List.{flat_map}
-use Rattle.vll_proc.specs.Text.{output_text}
+use Rattle.vll_proc.specs.Headline.Text.{output_text}
 use Rattle.vll_proc.proofs.display.write_each.Given as goal
 
 abbrev pub invariant-loop-output : goal.invariant-loop-output

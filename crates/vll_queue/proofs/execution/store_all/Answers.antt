@@ -1,7 +1,7 @@
 use Rattle.std.proofs.Common.{◌≡◌, true, Some, filter, length, slice_get, slice_index, sym, ap, ◌∙◌, rules, arith}
 use Rattle.std.proofs.lemmas.Grind.{common_steps}
-use Rattle.vll_record.specs.Claim.{is_write}
-use Rattle.vll_proc.specs.Serial.{apply}
+use Rattle.vll_record.specs.Headline.Claim.{is_write}
+use Rattle.vll_proc.specs.Headline.Serial.{apply}
 use Rattle.vll_core.specs.State.{writes}
 use Rattle.vll_counters.specs.Shown.{PassShown, record_of}
 use Rattle.vll_counters.specs.Steps.{records_before_pass}

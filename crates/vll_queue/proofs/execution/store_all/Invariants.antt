@@ -1,5 +1,5 @@
 use Rattle.std.proofs.Common.{◌≡◌, ◌++◌, length, filter}
-use Rattle.vll_record.specs.Claim.{is_write}
+use Rattle.vll_record.specs.Headline.Claim.{is_write}
 use Rattle.vll_counters.specs.Shown.{passed}
 use Rattle.vll_queue.proofs.execution.store_all.Given as goal
 

@@ -1,6 +1,6 @@
 use Rattle.std.proofs.Common.{◌∙◌, sym, ap, subst}
 use Rattle.vll_proc.specs.Cells.{Holds}
-use Rattle.vll_proc.specs.Serial.{apply}
+use Rattle.vll_proc.specs.Headline.Serial.{apply}
 use Rattle.vll_check.specs.Catalog.{IsCatalog}
 use Rattle.vll_core.specs.State.{is_aborted}
 use Rattle.vll_counters.specs.Shown.{PassShown, passed}

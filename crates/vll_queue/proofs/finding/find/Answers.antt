@@ -1,6 +1,6 @@
 use Rattle.std.proofs.Common.{◌≡◌, ◌∙◌, ap, rules}
-use Rattle.vll_check.specs.Calls.{with_found}
-use Rattle.vll_check.specs.Catalog.{Catalog}
+use Rattle.vll_check.specs.Headline.Calls.{with_found}
+use Rattle.vll_check.specs.Headline.Catalog.{Catalog}
 use Rattle.vll_queue.specs.Shown.{library_of}
 use Rattle.vll_queue.proofs.Looking.{looked_there_found, looked_up}
 use Rattle.vll_queue.proofs.finding.find.Goals as goal

@@ -3,7 +3,7 @@ use Rattle.std.specs.List.{slice_get}
 use Rattle.std.proofs.lemmas.Option.{slice_get_read}
 use Rattle.vll_core.specs.Journal.{journal_of}
 use Rattle.vll_replay.specs.ReplayText.{call_words}
-use Rattle.vll_replay.specs.Text.{call_line}
+use Rattle.vll_replay.specs.Headline.Text.{call_line}
 use Rattle.vll_replay.proofs.Standing.{calls-next, journal-length, texts_from-end}
 use Rattle.vll_replay.proofs.replay_text.push_calls.Goals as goal
 

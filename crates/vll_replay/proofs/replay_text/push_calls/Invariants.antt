@@ -1,6 +1,6 @@
 use Rattle.std.proofs.Common.{◌≡◌, ◌++◌, string_bytes}
 use Rattle.vll_replay.specs.ReplayText.{call_words}
-use Rattle.vll_replay.specs.Text.{call_line}
+use Rattle.vll_replay.specs.Headline.Text.{call_line}
 use Rattle.vll_replay.proofs.Standing.{texts_from}
 use Rattle.vll_replay.proofs.replay_text.push_calls.Given as goal
 

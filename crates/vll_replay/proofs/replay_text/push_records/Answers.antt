@@ -1,5 +1,5 @@
 use Rattle.std.proofs.Common.{◌≤◌, ◌<◌, length, arith}
-use Rattle.vll_replay.specs.Text.{record_line}
+use Rattle.vll_replay.specs.Headline.Text.{record_line}
 use Rattle.vll_replay.proofs.Standing.{record_words, records-next, texts_from-end}
 use Rattle.vll_replay.proofs.replay_text.push_records.Goals as goal
 

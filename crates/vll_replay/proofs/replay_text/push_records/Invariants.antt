@@ -1,5 +1,5 @@
 use Rattle.std.proofs.Common.{◌≡◌, ◌++◌, string_bytes}
-use Rattle.vll_replay.specs.Text.{record_line}
+use Rattle.vll_replay.specs.Headline.Text.{record_line}
 use Rattle.vll_replay.proofs.Standing.{record_words, texts_from}
 use Rattle.vll_replay.proofs.replay_text.push_records.Given as goal
 

@@ -1,8 +1,8 @@
 use Rattle.std.proofs.Common.{OnOk, subst}
 use Rattle.std.specs.Io.KnownBytes.{Appends}
-use Rattle.vll_scenario.specs.Setup.{Setup}
+use Rattle.vll_scenario.specs.Headline.Setup.{Setup}
 use Rattle.vll_scenario.specs.Streams.{AppendsBeginning}
-use Rattle.vll_server.specs.Serve.{Serves}
+use Rattle.vll_server.specs.Headline.Serve.{Serves}
 use Rattle.vll_server.proofs.choosing.serve_as.Goals as goal
 
 -- what `serve` says of the scenario that was chosen

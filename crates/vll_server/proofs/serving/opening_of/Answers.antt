@@ -5,7 +5,7 @@ use Rattle.std.specs.Global.{Vec}
 use Rattle.std.specs.List.{All}
 use Rattle.vll_proc.specs.declared.call.Call.{Call}
 use Rattle.vll_check.specs.Calls.{Fits}
-use Rattle.vll_check.specs.Catalog.{Catalog}
+use Rattle.vll_check.specs.Headline.Catalog.{Catalog}
 use Rattle.vll_core.specs.declared.config.TheConstants.{MOST_CALLS}
 use Rattle.vll_sca.specs.declared.place.Placing.{Placing}
 use Rattle.vll_sca.specs.Placing.{placing}

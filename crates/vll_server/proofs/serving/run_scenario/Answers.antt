@@ -3,11 +3,11 @@ use Rattle.std.specs.Prelude.{sum_by}
 use Rattle.vll_proc.specs.declared.call.Call.{Call}
 use Rattle.vll_sca.specs.declared.place.Placing.{Placing}
 use Rattle.vll_sca.specs.Placing.{placing}
-use Rattle.vll_counters.specs.Views.{calls_in}
+use Rattle.vll_counters.specs.Headline.Views.{calls_in}
 use Rattle.vll_queue.specs.declared.closed.Closed.{Closed}
 use Rattle.vll_queue.specs.Closed.{IsSerial}
 use Rattle.vll_queue.specs.Shown.{Named, OpeningShown, library_of, name_of}
-use Rattle.vll_workers.specs.Merge.{IsMerge}
+use Rattle.vll_workers.specs.Headline.Merge.{IsMerge}
 use Rattle.vll_scenario.specs.Setup.{lists_of}
 use Rattle.vll_server.proofs.Served.{all_served}
 use Rattle.vll_server.proofs.serving.run_scenario.Goals as goal

@@ -1,7 +1,7 @@
 use Rattle.std.proofs.Common.{◌≡◌, ◌++◌, drop, map, string_bytes}
 use Rattle.std.specs.List.{enumerate_from, flat_map}
-use Rattle.vll_replay.specs.Text.{call_line}
-use Rattle.vll_server.specs.Text.{line_words}
+use Rattle.vll_replay.specs.Headline.Text.{call_line}
+use Rattle.vll_server.specs.Headline.Text.{line_words}
 use Rattle.vll_server.proofs.text.push_call_lines.Given as goal
 
 abbrev pub invariant-loop-ticket : goal.invariant-loop-ticket

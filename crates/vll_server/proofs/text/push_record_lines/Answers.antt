@@ -2,7 +2,7 @@ use Rattle.std.proofs.Common.{◌++◌, ap, ◌∙◌, string_bytes}
 use Rattle.std.specs.List.{flat_map}
 use Rattle.std.proofs.lemmas.Iterator.{YieldsList-from_slice, YieldsList-from_zip}
 use Rattle.std.proofs.lemmas.Iterator.Consumers.{YieldsList-end, YieldsList-from_enumerate}
-use Rattle.vll_replay.specs.Text.{record_line}
+use Rattle.vll_replay.specs.Headline.Text.{record_line}
 use Rattle.vll_server.proofs.text.push_record_lines.Goals as goal
 
 pub returns : goal.returns

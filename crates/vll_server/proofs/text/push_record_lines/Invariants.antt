@@ -1,6 +1,6 @@
 use Rattle.std.proofs.Common.{◌≡◌, ◌++◌, map, string_bytes}
 use Rattle.std.specs.List.{flat_map}
-use Rattle.vll_replay.specs.Text.{record_line}
+use Rattle.vll_replay.specs.Headline.Text.{record_line}
 use Rattle.vll_server.proofs.text.push_record_lines.Given as goal
 
 abbrev pub invariant-loop-index : goal.invariant-loop-index

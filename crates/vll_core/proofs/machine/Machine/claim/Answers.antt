@@ -1,6 +1,6 @@
 use Rattle.vll_core.proofs.machine.Machine.claim.Given.{Over}
 use Rattle.std.proofs.Common.{◌≡◌, ◌&&◌, Bool, Some, ℕ, ◌+◌, slice_get, slice_set, ap, sym, ◌∙◌, arith}
-use Rattle.vll_record.specs.Word.{pair_word_of_record}
+use Rattle.vll_record.specs.Headline.Word.{pair_word_of_record}
 use Rattle.vll_core.specs.declared.event.Event.TheVariants as event
 use Rattle.vll_core.specs.Machine.{step, answer_of}
 use Rattle.vll_core.specs.Shown.{Shown, after, opening_of}

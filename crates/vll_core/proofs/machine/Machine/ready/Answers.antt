@@ -3,7 +3,7 @@ use Rattle.std.proofs.Common.{◌≡◌, ◌∙◌, Option, Some, ap, sym, arith
 use Rattle.std.specs.Option.{option_map}
 use Rattle.std.proofs.lemmas.Option.{slice_get_read}
 use Rattle.vll_proc.specs.declared.call.Call.{Call}
-use Rattle.vll_check.specs.Calls.{with_found}
+use Rattle.vll_check.specs.Headline.Calls.{with_found}
 use Rattle.vll_core.specs.Machine.{ready}
 use Rattle.vll_core.proofs.Entering.{client_kept, catalog_handed, none_there, found_told}
 use Rattle.vll_check.proofs.Fitting.{ready_without}

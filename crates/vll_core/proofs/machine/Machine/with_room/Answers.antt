@@ -4,7 +4,8 @@ use Rattle.std.proofs.Common.{rules, ℕ, ap, ◌∙◌, refl, List, ◌≡◌, 
 use Rattle.vll_proc.specs.declared.call.Call.{Call}
 use Rattle.std.specs.Global.{Vec}
 use Rattle.vll_check.specs.Calls.{Fits}
-use Rattle.vll_check.specs.Catalog.{Catalog, IsCatalog}
+use Rattle.vll_check.specs.Headline.Catalog.{Catalog}
+use Rattle.vll_check.specs.Catalog.{IsCatalog}
 use Rattle.vll_core.specs.declared.config.TheConstants.{MOST_RECORDS}
 use Rattle.vll_core.specs.declared.machine.Machine.TheInside.{Inside}
 use Rattle.vll_core.specs.Faults.{open_fault}

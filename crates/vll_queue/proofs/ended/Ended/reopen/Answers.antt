@@ -1,7 +1,7 @@
 use Rattle.std.proofs.Common.{◌≡◌, ℕ, ◌+◌, ◌*◌, ◌≤◌, length, vec_capacity, sym, ap, ◌∙◌, subst}
-use Rattle.vll_check.specs.Catalog.{Catalog}
+use Rattle.vll_check.specs.Headline.Catalog.{Catalog}
 use Rattle.vll_core.specs.Queue.{lines}
-use Rattle.vll_core.specs.State.{Base, catalog_of}
+use Rattle.vll_core.specs.Headline.State.{Base, catalog_of}
 use Rattle.vll_queue.proofs.Ending.{end_is_as_long, serial_closed}
 use Rattle.vll_queue.proofs.ended.Ended.reopen.Goals as goal
 

@@ -1,6 +1,7 @@
 use Rattle.std.proofs.Common.{◌≡◌, ◌∙◌, None, ap, sym, subst}
-use Rattle.vll_check.specs.Calls.{source}
-use Rattle.vll_check.specs.Catalog.{Catalog, IsCatalog}
+use Rattle.vll_check.specs.Headline.Calls.{source}
+use Rattle.vll_check.specs.Headline.Catalog.{Catalog}
+use Rattle.vll_check.specs.Catalog.{IsCatalog}
 use Rattle.vll_queue.specs.Shown.{library_of}
 use Rattle.vll_queue.proofs.Looking.{begins_found, begins_without}
 use Rattle.vll_queue.proofs.engine.Engine.begin.Goals as goal

@@ -1,6 +1,6 @@
 use Rattle.std.proofs.Common.{◌≡◌, ◌∙◌, None, ap, sym}
-use Rattle.vll_check.specs.Calls.{source}
-use Rattle.vll_check.specs.Catalog.{Catalog}
+use Rattle.vll_check.specs.Headline.Calls.{source}
+use Rattle.vll_check.specs.Headline.Catalog.{Catalog}
 use Rattle.vll_queue.specs.Shown.{library_of}
 use Rattle.vll_queue.proofs.Looking.{begins_found, begins_without}
 use Rattle.vll_queue.proofs.hold.Hold.begin.Goals as goal

@@ -1,7 +1,7 @@
 use Rattle.std.proofs.Common.{◌≡◌, ℕ, ◌+◌, ◌*◌, ◌≤◌, List, length, vec_capacity, ap, arith, rules, subst, sym, ◌∙◌}
 use Rattle.vll_core.specs.declared.line.Line.{Line}
 use Rattle.vll_core.specs.Queue.{lines}
-use Rattle.vll_core.specs.State.{Base}
+use Rattle.vll_core.specs.Headline.State.{Base}
 use Rattle.vll_counters.specs.Shown.{QueueShown, WordsShown}
 use Rattle.vll_counters.specs.Told.{IsAtEnd}
 use Rattle.vll_queue.proofs.Ending.{have_calls_of, serial_end}

@@ -1,6 +1,6 @@
 use Rattle.std.proofs.Common.{◌≡◌, ◌∙◌, None, ap, sym}
-use Rattle.vll_check.specs.Calls.{source}
-use Rattle.vll_check.specs.Catalog.{Catalog}
+use Rattle.vll_check.specs.Headline.Calls.{source}
+use Rattle.vll_check.specs.Headline.Catalog.{Catalog}
 use Rattle.vll_queue.specs.Shown.{library_of}
 use Rattle.vll_queue.proofs.Onto.{begins_without_onto}
 use Rattle.vll_queue.proofs.passes.Passes.begin.Goals as goal

@@ -1,7 +1,7 @@
 use Rattle.std.proofs.Common.{◌≡◌, ◌∙◌, ℕ, Ok, true, ap, sym, subst, length}
 use Rattle.std.specs.List.{All}
 use Rattle.vll_check.specs.Calls.{Fits}
-use Rattle.vll_check.specs.Catalog.{Catalog}
+use Rattle.vll_check.specs.Headline.Catalog.{Catalog}
 use Rattle.vll_core.specs.Faults.{open_fault}
 use Rattle.vll_scenario.specs.Setup.{lists_of, has_sizes}
 use Rattle.vll_scenario.specs.Scenario.{scripts_made}

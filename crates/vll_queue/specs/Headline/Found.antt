@@ -1,9 +1,9 @@
 -- The values that entered calls have found.
 use Rattle.std.specs.Prelude.{◌≡◌, ◌≤◌, ℕ, List, Some, slice_get, slice_index}
 use Rattle.vll_proc.specs.declared.call.Call.{Call}
-use Rattle.vll_proc.specs.Serial.{Made, before}
-use Rattle.vll_check.specs.Calls.{source}
-use Rattle.vll_core.specs.State.{Base, catalog_of}
+use Rattle.vll_proc.specs.Headline.Serial.{Made, before}
+use Rattle.vll_check.specs.Headline.Calls.{source}
+use Rattle.vll_core.specs.Headline.State.{Base, catalog_of}
 
 -- a call has found a value that was in a record: if these calls run one at a time, it is the record's value before some
 -- ticket up to a bound

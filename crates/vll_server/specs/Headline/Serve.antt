@@ -1,15 +1,15 @@
 -- The result of serving a scenario: the scripts' calls in the order in which they entered, and the text that they give.
 use Rattle.std.specs.Prelude.{◌≡◌, ℕ, Some, map, slice_get}
-use Rattle.vll_proc.specs.Serial.{answer, end}
+use Rattle.vll_proc.specs.Headline.Serial.{answer, end}
 use Rattle.vll_core.specs.declared.line.Line.{Line}
-use Rattle.vll_core.specs.State.{Base}
-use Rattle.vll_counters.specs.Views.{calls_in}
+use Rattle.vll_core.specs.Headline.State.{Base}
+use Rattle.vll_counters.specs.Headline.Views.{calls_in}
 use Rattle.vll_queue.specs.declared.closed.Closed.{Closed}
-use Rattle.vll_queue.specs.Found.{AreFoundThere}
-use Rattle.vll_workers.specs.Merge.{IsMerge}
-use Rattle.vll_scenario.specs.Setup.{Setup, catalog_of}
-use Rattle.vll_replay.specs.Text.{Text}
-use Rattle.vll_server.specs.Text.{closed_text}
+use Rattle.vll_queue.specs.Headline.Found.{AreFoundThere}
+use Rattle.vll_workers.specs.Headline.Merge.{IsMerge}
+use Rattle.vll_scenario.specs.Headline.Setup.{Setup, catalog_of}
+use Rattle.vll_replay.specs.Headline.Text.{Text}
+use Rattle.vll_server.specs.Headline.Text.{closed_text}
 
 -- the procedures and the records of a scenario
 abbrev pub base_of : Setup → Base

@@ -2,13 +2,13 @@
 use Rattle.std.specs.Prelude.{List, [], ◌∷◌, ◌++◌, take, drop, Option, Some, None, if◌then◌else◌}
 use Rattle.vll_record.specs.declared.claim.Claim.{Claim}
 use Rattle.vll_sca.specs.declared.status.Status.{Status}
-use Rattle.vll_sca.specs.Status.{is_waiting}
+use Rattle.vll_sca.specs.Headline.Status.{is_waiting}
 use Rattle.vll_core.specs.declared.line.Line.{Line}
 use Rattle.vll_counters.specs.declared.views.TurnView.{TurnView}
 use Rattle.vll_counters.specs.declared.views.PassView.{PassView}
 use Rattle.vll_counters.specs.declared.views.QueueView.{QueueView}
 use Rattle.vll_counters.specs.declared.views.View.{View}
-use Rattle.vll_counters.specs.Views.{pass_in}
+use Rattle.vll_counters.specs.Headline.Views.{pass_in}
 
 -- the claims that the open turn has requested
 abbrev pub requested_in : Option TurnView → List Claim

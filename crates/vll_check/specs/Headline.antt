@@ -1,0 +1,3 @@
+-- All that the headline needs of this crate, and nothing else.
+pub mod Catalog
+pub mod Calls

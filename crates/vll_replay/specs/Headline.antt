@@ -1,0 +1,2 @@
+-- All that the headline needs of this crate, and nothing else.
+pub mod Text
