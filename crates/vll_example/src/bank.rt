@@ -40,7 +40,7 @@ impl<'a, R: Wait + Print> Service for Bank<'a, R> {
 
     ghost allows = { λ _ e. e.base.procs ≡ procedures };
 
-    fn host<N: Name + Send + Sync>(
+    fn host<N: Name>(
         self,
         engine: Engine<N, Placing>,
         mut clients: Clients<N>,

@@ -24,7 +24,7 @@ use vll_sca::Place;
 #[derive(Clone, Copy, PartialEq, Eq, Debug)]
 pub struct EngineSpent;
 
-impl<N: Name, H: Place + Send + Drop> Engine<N, H> {
+impl<N: Name, H: Place + Drop> Engine<N, H> {
     // Makes a call of the session's client, from its entry to its reply, as `Client::make` says. A call that may run at
     // entry takes the lock twice.
     pub(crate) fn call(

@@ -69,7 +69,7 @@ impl<N: Name> Client<N> {
     /// Calls the procedure with this name, from entry to reply, as `make` does, and returns the call's ticket and reply.
     /// Fails with `Call` and the fault if the library does not make the call: the client is then unchanged.
     /// Fails with `Refused(Spent)` if the engine takes no more calls: the call has not entered. There is no other fault.
-    pub fn call<H: Place + Send + Drop>(
+    pub fn call<H: Place + Drop>(
         &mut self,
         wait: &impl Wait,
         engine: &Engine<N, H>,
@@ -88,7 +88,7 @@ impl<N: Name> Client<N> {
     /// at once. While it waits, or as many calls as the cap wait, this thread brings other calls to their end, of any
     /// client: the front, or what the scan finds. If there are none it rests and looks again; it does not give up. If
     /// the engine is spent, no call has entered. No worker is needed, and no memory is taken.
-    pub fn make<H: Place + Send + Drop>(
+    pub fn make<H: Place + Drop>(
         &mut self,
         wait: &impl Wait,
         engine: &Engine<N, H>,
@@ -102,7 +102,7 @@ impl<N: Name> Client<N> {
     }
 
     /// Enters a call, as `Engine::begin` does.
-    pub fn begin<H: Place + Send + Drop>(
+    pub fn begin<H: Place + Drop>(
         &mut self,
         wait: &impl Wait,
         engine: &Engine<N, H>,
@@ -116,7 +116,7 @@ impl<N: Name> Client<N> {
     }
 
     /// Returns the reply of a ticket, as `Engine::reply` does.
-    pub fn reply<H: Place + Send + Drop>(
+    pub fn reply<H: Place + Drop>(
         &mut self,
         wait: &impl Wait,
         engine: &Engine<N, H>,
@@ -133,7 +133,7 @@ impl<N: Name> Client<N> {
 
     /// Returns news of what it has seen: its own calls, and all that entered before it was last at the lock, found or
     /// heard. It can be called any number of times. Takes no lock.
-    pub fn tell<H: Place + Send + Drop>(&mut self, engine: &Engine<N, H>) -> News<N>
+    pub fn tell<H: Place + Drop>(&mut self, engine: &Engine<N, H>) -> News<N>
         ensures news { result.calls ≡ self.old.session.seen }
         ensures same { self.new ≡ self.old }
     {
@@ -142,7 +142,7 @@ impl<N: Name> Client<N> {
 
     /// Hears news of this engine: what it has seen now begins with the calls of the news, so each of its later calls
     /// gets a higher ticket than all of them. What it has seen grows by calls of other clients only. Takes no lock.
-    pub fn hear<H: Place + Send + Drop>(&mut self, engine: &Engine<N, H>, news: News<N>)
+    pub fn hear<H: Place + Drop>(&mut self, engine: &Engine<N, H>, news: News<N>)
         ensures heard { Hears self.old.session self.new.session news.calls }
     {
         engine.hear(&mut self.session, news);

@@ -101,7 +101,7 @@ impl<N: Name> Clients<N> {
     }
 }
 
-impl<H: Place + Send + Drop> Opening<H> {
+impl<H: Place + Drop> Opening<H> {
     /// Starts the engine, and returns it with its clients, in order. `N` has to name this opening.
     pub fn start_clients<N: Name>(self) -> (Engine<N, H>, Clients<N>)
         requires named { N.engine ≡ name_of H.place_of self }

@@ -16,7 +16,7 @@ pub struct Closed {
 
 /// An engine that was not closed, since calls run or wait in it. It goes on unchanged.
 #[derive(Drop)]
-pub struct NotClosed<N: Name, H: Place + Send + Drop> {
+pub struct NotClosed<N: Name, H: Place + Drop> {
     pub engine: Engine<N, H>,
     /// The sessions that were passed.
     pub sessions: Vec<Session>,
@@ -37,7 +37,7 @@ pub struct Reopened<H: Place> {
 
 /// An engine that was not reopened.
 #[derive(Drop)]
-pub struct NotReopened<N: Name, H: Place + Send + Drop> {
+pub struct NotReopened<N: Name, H: Place + Drop> {
     /// What `close` returns: an engine that was not closed, if calls run or wait in it, else what the closed engine
     /// leaves, since an allocation failed.
     pub left: Result<Closed, NotClosed<N, H>>,

@@ -32,7 +32,7 @@ pub(crate) struct Ended<H: Place> {
     pub(crate) clients: usize,
 }
 
-impl<H: Place + Send + Drop> Ended<H> {
+impl<H: Place + Drop> Ended<H> {
     // Returns what the engine leaves.
     pub(crate) fn into_closed<N: Name>(self) -> Closed
         requires { IsEnded H.place_of N.engine self }

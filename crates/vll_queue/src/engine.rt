@@ -34,7 +34,7 @@ use vll_sca::Place;
 /// The engine. Many threads may share it. Only a function that takes `wait` takes the lock: `hold` keeps it for several
 /// calls, and each of the others takes it once.
 #[derive(Drop)]
-pub struct Engine<N: Name, H: Place + Send + Drop> {
+pub struct Engine<N: Name, H: Place + Drop> {
     library: Library,
     pub(crate) words: Words,
     room: Room,
@@ -49,7 +49,7 @@ pub struct Engine<N: Name, H: Place + Send + Drop> {
     ghost few_clients: { N.engine.clients < 4294967296 },
 }
 
-impl<N: Name, H: Place + Send + Drop> Engine<N, H> {
+impl<N: Name, H: Place + Drop> Engine<N, H> {
     // An engine of the library, the words, the queue behind its lock, and the room for what closing leaves.
     pub(crate) fn new(
         library: Library,

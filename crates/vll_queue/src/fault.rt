@@ -137,7 +137,7 @@ impl From<EngineSpent> for EngineFault {
     }
 }
 
-impl<N: Name, H: Place + Send + Drop> From<NotClosed<N, H>> for EngineFault {
+impl<N: Name, H: Place + Drop> From<NotClosed<N, H>> for EngineFault {
     ghost use Rattle.std.specs.Prelude.{◌≡◌};
     ghost use Rattle.vll_queue.specs.declared.fault.EngineFault.TheVariants.{Left};
 
@@ -148,7 +148,7 @@ impl<N: Name, H: Place + Send + Drop> From<NotClosed<N, H>> for EngineFault {
     }
 }
 
-impl<N: Name, H: Place + Send + Drop> From<NotReopened<N, H>> for EngineFault {
+impl<N: Name, H: Place + Drop> From<NotReopened<N, H>> for EngineFault {
     ghost use Rattle.std.specs.Prelude.{◌≡◌, IfErr, IfOk};
     ghost use Rattle.vll_queue.specs.declared.fault.EngineFault.TheVariants.{Left, NoMemory};
 

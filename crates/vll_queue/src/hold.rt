@@ -32,7 +32,7 @@ use vll_sca::Place;
 /// that may run, and begin others. Dropping the hold releases the lock. Until then every other thread that asks for a
 /// hold, or calls a function of the engine that takes `wait`, waits; a thread that does so under its own hold waits
 /// forever. `Engine::execute` and `Engine::release` need no hold, and are best called outside one.
-pub struct Hold<'a, N: Name, H: Place + Send + Drop> {
+pub struct Hold<'a, N: Name, H: Place + Drop> {
     pub(crate) guard: MutexGuard<'a, Locked<N, H>>,
     pub(crate) words: &'a Words,
     pub(crate) library: &'a Library,
@@ -43,7 +43,7 @@ pub struct Hold<'a, N: Name, H: Place + Send + Drop> {
     ghost catalog: { IsCatalog (library_of N.engine) },
 }
 
-impl<'a, N: Name, H: Place + Send + Drop> Hold<'a, N, H> {
+impl<'a, N: Name, H: Place + Drop> Hold<'a, N, H> {
     // A hold of a lock that was taken, and of the latch in front of it if that was taken too.
     pub(crate) fn new(
         guard: MutexGuard<'a, Locked<N, H>>,
@@ -176,7 +176,7 @@ impl<'a, N: Name, H: Place + Send + Drop> Hold<'a, N, H> {
     }
 }
 
-impl<N: Name, H: Place + Send + Drop> Drop for Hold<'_, N, H> {
+impl<N: Name, H: Place + Drop> Drop for Hold<'_, N, H> {
     // Opens the latch once the lock is free, so that the thread that takes it next finds the lock free too.
     fn drop(self) {
         let Hold {

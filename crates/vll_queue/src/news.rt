@@ -29,7 +29,7 @@ impl<N: Name> Model for News<N> {
     ghost invariant = { λ n. n.seat.table ≡ N.engine.table };
 }
 
-impl<N: Name, H: Place + Send + Drop> Engine<N, H> {
+impl<N: Name, H: Place + Drop> Engine<N, H> {
     // Returns news of what the session has seen, as `Client::tell` says.
     pub(crate) fn tell(&self, session: &mut Session) -> News<N>
         requires session { session.old.table ≡ N.engine.table }

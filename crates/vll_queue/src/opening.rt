@@ -109,7 +109,7 @@ impl<H: Place + Drop> Opening<H> {
     }
 }
 
-impl<H: Place + Send + Drop> Opening<H> {
+impl<H: Place + Drop> Opening<H> {
     /// Starts the engine, and returns it with a session for each client, in order, which has seen nothing. `N` has to
     /// name this opening.
     pub fn start<N: Name>(self) -> (Engine<N, H>, Vec<Session>)

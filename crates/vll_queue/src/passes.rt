@@ -84,7 +84,7 @@ impl<N: Name> Passes<N> {
 
     /// As `Hold::begin`, but the pass of a call that may run is appended to the list, which has room for it.
     #[inline(always)]
-    pub fn begin<H: Place + Send + Drop>(
+    pub fn begin<H: Place + Drop>(
         &mut self,
         hold: &mut Hold<'_, N, H>,
         session: &mut Session,
@@ -105,7 +105,7 @@ impl<N: Name> Passes<N> {
 
     // As `begin`, for a call with an indirect key. It is not inlined, so that other calls make no room for it.
     #[inline(never)]
-    fn find_and_begin<H: Place + Send + Drop>(
+    fn find_and_begin<H: Place + Drop>(
         &mut self,
         hold: &mut Hold<'_, N, H>,
         session: &mut Session,
@@ -127,7 +127,7 @@ impl<N: Name> Passes<N> {
 
     // As `begin`, for a ready call.
     #[inline(always)]
-    fn begin_ready<H: Place + Send + Drop>(
+    fn begin_ready<H: Place + Drop>(
         &mut self,
         hold: &mut Hold<'_, N, H>,
         session: &mut Session,
@@ -158,7 +158,7 @@ impl<N: Name> Passes<N> {
     /// As `Hold::next_front`, but the pass is appended to the list, which has room for it. Returns whether there is
     /// one.
     #[inline(always)]
-    pub fn next_front<H: Place + Send + Drop>(&mut self, hold: &mut Hold<'_, N, H>) -> bool
+    pub fn next_front<H: Place + Drop>(&mut self, hold: &mut Hold<'_, N, H>) -> bool
         requires room { length self.old < MOST_PASSES }
         ensures pass { MatchBool result (HasOneMore N.engine self.old self.new) (self.new ≡ self.old) }
     {
@@ -171,7 +171,7 @@ impl<N: Name> Passes<N> {
 
     /// As `Hold::next_scan` of a scan that is not put off, but the pass is appended to the list, which has room for it.
     /// Returns whether there is one.
-    pub fn next_scan<H: Place + Send + Drop>(&mut self, hold: &mut Hold<'_, N, H>) -> bool
+    pub fn next_scan<H: Place + Drop>(&mut self, hold: &mut Hold<'_, N, H>) -> bool
         requires room { length self.old < MOST_PASSES }
         ensures pass { MatchBool result (HasOneMore N.engine self.old self.new) (self.new ≡ self.old) }
     {
@@ -185,7 +185,7 @@ impl<N: Name> Passes<N> {
     /// Takes the last pass off, executes its call and releases the claims, as `Engine::execute` and then
     /// `Engine::release`, but without copying the call. Returns `None` exactly if the list is empty.
     #[inline(always)]
-    pub fn run_last<H: Place + Send + Drop>(&mut self, engine: &Engine<N, H>) -> Option<Released>
+    pub fn run_last<H: Place + Drop>(&mut self, engine: &Engine<N, H>) -> Option<Released>
         ensures released { IfSome result (IsReleased N.engine) }
         ensures same { IfSome result (λ r. IsOfLast self.old self.new r.pass) }
         ensures none { IfNone result ((self.old ≡ []) × (self.new ≡ [])) }

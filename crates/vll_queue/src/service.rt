@@ -23,11 +23,7 @@ pub trait Service {
     ghost answers: { Self → Named → Self.Answer → Type 0 } = { λ _ _ _. Unit {0} };
 
     /// Runs the service on the engine and its clients, in order, which have seen nothing.
-    fn host<N: Name + Send + Sync>(
-        self,
-        engine: Engine<N, Placing>,
-        clients: Clients<N>,
-    ) -> Self::Answer
+    fn host<N: Name>(self, engine: Engine<N, Placing>, clients: Clients<N>) -> Self::Answer
         requires allowed { allows self N.engine }
         requires clients { AreNewSessions N.engine.table N.engine.clients clients }
         ensures answered { answers self N.engine result };
@@ -44,7 +40,7 @@ impl Opening<Placing> {
 }
 
 // Runs the service on the engine of this name.
-fn host_by<N: Name + Send + Sync, S: Service>(opening: Opening<Placing>, service: S) -> S::Answer
+fn host_by<N: Name, S: Service>(opening: Opening<Placing>, service: S) -> S::Answer
     requires named { N.engine ≡ name_of placing opening }
     requires allowed { S.allows service N.engine }
     ensures answered { S.answers service N.engine result }

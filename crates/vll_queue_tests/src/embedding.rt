@@ -57,7 +57,7 @@ struct OneCallsByName<'a, R> {
 impl<'a, R: Wait + Abort> Service for OneCallsByName<'a, R> {
     type Answer = Result<(), EngineFault>;
 
-    fn host<N: Name + Send + Sync>(
+    fn host<N: Name>(
         self,
         engine: Engine<N, Placing>,
         mut clients: Clients<N>,

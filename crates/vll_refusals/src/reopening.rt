@@ -58,7 +58,7 @@ impl<'a, R: Print + Wait> Service for Reopening<'a, R> {
 
     ghost allows = { λ _ e. e.config.limit ≡ CALLS };
 
-    fn host<N: Name + Send + Sync>(
+    fn host<N: Name>(
         self,
         engine: Engine<N, Placing>,
         mut clients: Clients<N>,
@@ -164,7 +164,7 @@ struct Closing;
 impl Service for Closing {
     type Answer = bool;
 
-    fn host<N: Name + Send + Sync>(self, engine: Engine<N, Placing>, clients: Clients<N>) -> bool {
+    fn host<N: Name>(self, engine: Engine<N, Placing>, clients: Clients<N>) -> bool {
         match engine.close(clients.into_sessions()) {
             Ok(closed) => closed.journal.is_empty() && holds(&closed, u64::from(CALLS)),
             Err(_) => false,

@@ -19,7 +19,7 @@ impl Service for Total {
 
     ghost answers = { λ _ e answer. IfOk answer (λ total. total ≡ sum e.base.records) };
 
-    fn host<N: Name + Send + Sync>(
+    fn host<N: Name>(
         self,
         engine: Engine<N, Placing>,
         clients: Clients<N>,

@@ -21,7 +21,7 @@ use vll_counters::{QueueSeat, SessionSeat, Words};
 use vll_record::{RecordId, pair_word, value_word};
 use vll_sca::Place;
 
-impl<N: Name, H: Place + Send + Drop> Locked<N, H> {
+impl<N: Name, H: Place + Drop> Locked<N, H> {
     // Returns what is left if no call runs or waits. If one does, returns the engine, which goes on, with the exact
     // numbers of calls that run and that wait.
     pub(crate) fn close(

@@ -4,9 +4,10 @@ use Rattle.std.specs.Prelude.{All}
 use Rattle.vll_queue.specs.Pass.{DoneShown, IsReleased}
 use Rattle.vll_workers.proofs.work.Work.finish_all.Goals as goal
 
-pub finish-requires-clause-released : goal.finish-requires-clause-released
-finish-requires-clause-released g c κs within =
-    All-head (IsReleased g.N.Name.engine) c.in-Some.done c.pop.new.self (subst (All (IsReleased g.N.Name.engine)) c.in-Some.ensures.some c.loop-done.invariant.0)
+pub finish-requires : goal.finish-requires
+finish-requires g c = record {
+  released = All-head (IsReleased g.N.Name.engine) c.in-Some.done c.pop.new.self (subst (All (IsReleased g.N.Name.engine)) c.in-Some.ensures.some c.loop-done.invariant.0);
+}
 
 pub loop-done-preserved : goal.loop-done-preserved
 loop-done-preserved g c =

@@ -4,7 +4,7 @@ use Rattle.vll_proc.specs.declared.call.Call.{Call}
 use Rattle.vll_workers.proofs.Owned.{call_fits}
 use Rattle.vll_workers.proofs.work.Work.looks_free.Goals as goal
 
-pub look-requires-after_bounds : goal.look-requires-after_bounds
-look-requires-after_bounds g c κs within =
+pub look-requires : goal.look-requires
+look-requires g c =
     call_fits g.N.Name.engine c.args.token.now (c.args.token.now.next + c.loop-ahead.ahead) c.in-Some.call.now (record { session = c.requires.session; fits = c.requires.fits })
     (sym c.upcoming.ensures ∙ ap (option_map (λ (b : Bor Call). b.now)) c.in-Some.is)
