@@ -40,8 +40,8 @@ impl<N: Name> Model for Client<N> {
 }
 
 impl<N: Name> Client<N> {
-    /// The client with this session.
-    pub fn of(session: Session) -> Client<N>
+    // The client with this session.
+    pub(crate) fn of(session: Session) -> Client<N>
         requires { session.table ≡ N.engine.table }
         ensures { result ≡ session }
     {
@@ -51,19 +51,12 @@ impl<N: Name> Client<N> {
         }
     }
 
-    /// Returns its session.
-    pub fn into_session(self) -> Session
+    // Returns its session.
+    pub(crate) fn into_session(self) -> Session
         ensures session { result ≡ self }
         ensures table { result.table ≡ N.engine.table }
     {
         self.session
-    }
-
-    /// Its number among the clients.
-    pub fn number(&self) -> u32
-        ensures { result ≡ self.now.session.client }
-    {
-        self.session.client()
     }
 
     /// Calls the procedure with this name, from entry to reply, as `make` does, and returns the call's ticket and reply.

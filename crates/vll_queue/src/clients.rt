@@ -1,5 +1,5 @@
 //! The clients of an engine that no thread is using, and the start of an engine with all its clients.
-ghost use Rattle.std.specs.Prelude.{◌≡◌, ◌++◌, ◌∷◌, ◌↔◌, [], All, IfNone, IfOk, IfSome, IsTrue, OnErr, OnOk, length};
+ghost use Rattle.std.specs.Prelude.{◌≡◌, ◌++◌, ◌∷◌, ◌↔◌, [], All, IfNone, IfSome, IsTrue, OnErr, OnOk, length};
 ghost use Rattle.vll_counters.specs.Shown.{AreNewSessions};
 ghost use Rattle.vll_queue.specs.Shown.{name_of};
 
@@ -8,7 +8,7 @@ use crate::engine::Engine;
 use crate::name::Name;
 use crate::opening::Opening;
 use crate::session::Session;
-use std::alloc::{AllocError, Global};
+use std::alloc::AllocError;
 use std::marker::{Model, PhantomData};
 use vll_sca::Place;
 
@@ -55,13 +55,6 @@ impl<N: Name> Clients<N> {
         self.sessions
     }
 
-    /// The number of clients in the list.
-    pub fn len(&self) -> usize
-        ensures { result ≡ length self.now }
-    {
-        self.sessions.len()
-    }
-
     /// Whether the list has as many clients as the engine, as `Engine::reopen` requires.
     pub fn are_all(&self) -> bool
         ensures { IsTrue result ↔ (length self.now ≡ N.engine.clients) }
@@ -85,19 +78,6 @@ impl<N: Name> Clients<N> {
     {
         self.sessions.push(client.into_session())?;
         Ok(())
-    }
-
-    /// Takes all clients off, in order. If the allocation fails, the list is unchanged.
-    pub fn take_all(&mut self, alloc: Global) -> Result<Vec<Client<N>>, AllocError>
-        ensures ok { IfOk result (λ clients. (clients.items ≡ self.old) × (self.new ≡ [])) }
-        ensures err { OnErr result (self.new ≡ self.old) }
-    {
-        let mut clients = Vec::with_capacity(alloc, self.sessions.len())?;
-        while let Some(client) = self.pop() {
-            clients.push_reserved(client);
-        }
-        clients.reverse();
-        Ok(clients)
     }
 }
 

@@ -63,9 +63,9 @@ impl<'a, N: Name, H: Place + Drop> Hold<'a, N, H> {
         }
     }
 
-    /// Enters a call of the session's client, or refuses it, as `Engine::begin`. If the call has an indirect key, its
-    /// source is loaded under this hold.
-    pub fn begin(&mut self, session: &mut Session, call: &Call) -> Begun
+    // Enters a call of the session's client, or refuses it, as `Engine::begin`. If the call has an indirect key, its
+    // source is loaded under this hold.
+    pub(crate) fn begin(&mut self, session: &mut Session, call: &Call) -> Begun
         requires session { session.old.table ≡ N.engine.table }
         requires fits { Fits (library_of N.engine) call.now }
         ensures answer { FindsAndBegins N.engine session.old.session session.new.session call.now result }
@@ -121,31 +121,20 @@ impl<'a, N: Name, H: Place + Drop> Hold<'a, N, H> {
         }
     }
 
-    /// Returns a pass for the lowest ticket that is not gone, if it waits, as `Engine::next_front`.
+    // Returns a pass for the lowest ticket that is not gone, if it waits, as `Engine::next_front`.
     #[inline(always)]
-    pub fn next_front(&mut self) -> Option<Pass>
+    pub(crate) fn next_front(&mut self) -> Option<Pass>
         ensures { IfSome result (IsFresh N.engine) }
     {
         let (seat, ticket) = self.guard.next_front(self.words)?;
         Some(self.guard.pass(seat, ticket))
     }
 
-    /// Returns a pass for the ticket that the contention analysis finds, if any, as `Engine::next_scan`.
-    ///
-    /// If the scan may be put off, it may also return `None` though it would find a call. A scan that finds no call adds
-    /// a debt of as many entries as calls wait. Each finished call pays off eight of them, and each time that a scan is
-    /// put off here, 64. A scan is put off while 64 or more entries are owed and 64 or more calls wait, at most once in
-    /// a row for each 64 that wait, so that what such scans cost a call does not grow with the number of waiting calls.
-    /// A caller that is about to leave the engine alone does not let it be put off.
-    pub fn next_scan(&mut self, may_be_put_off: bool) -> Option<Pass>
+    // Returns a pass for the ticket that the contention analysis finds, if any, as `Passes::next_scan`.
+    pub(crate) fn next_scan(&mut self, may_be_put_off: bool) -> Option<Pass>
         ensures { IfSome result (IsFresh N.engine) }
     {
-        let found = if may_be_put_off {
-            self.guard.next_scan_if_due(self.words)
-        } else {
-            self.guard.next_scan(self.words)
-        };
-        let (seat, ticket) = found?;
+        let (seat, ticket) = self.guard.next_scan_if_due(self.words, may_be_put_off)?;
         Some(self.guard.pass(seat, ticket))
     }
 
@@ -158,8 +147,8 @@ impl<'a, N: Name, H: Place + Drop> Hold<'a, N, H> {
         self.guard.finish(self.words, released)
     }
 
-    /// Returns the reply in the ticket's line, if there is one yet, as `Engine::reply`.
-    pub fn reply(&mut self, session: &mut Session, ticket: Ticket) -> Option<Reply>
+    // Returns the reply in the ticket's line, if there is one yet, as `Engine::reply`.
+    pub(crate) fn reply(&mut self, session: &mut Session, ticket: Ticket) -> Option<Reply>
         requires session { session.old.table ≡ N.engine.table }
         ensures reply { IfSome result (λ reply. answer N.engine.base.procs session.new.session.seen N.engine.base.records ticket ≡ Some reply) }
         ensures given { IfSome result (λ _. session.new.session.given ≡ session.old.session.given ++ ticket ∷ []) }

@@ -67,14 +67,6 @@ impl<N: Name> Passes<N> {
         self.items.len()
     }
 
-    /// Whether the list is empty.
-    pub fn is_empty(&self) -> bool
-        ensures empty { MatchBool result (self.now ≡ []) (¬ self.now ≡ []) }
-        ensures few { length self.now ≤ MOST_PASSES }
-    {
-        self.items.is_empty()
-    }
-
     /// The ticket of the last pass; `None` if the list is empty.
     pub fn last(&self) -> Option<Ticket>
         ensures { result ≡ option_map (λ p. p.pass.ticket) (slice_get self.now (length self.now - 1)) }
@@ -82,7 +74,9 @@ impl<N: Name> Passes<N> {
         Some(self.items.last()?.ticket())
     }
 
-    /// As `Hold::begin`, but the pass of a call that may run is appended to the list, which has room for it.
+    /// Enters a call of the session's client under a hold, or refuses it, as `Engine::begin`, but the pass of a call that
+    /// may run is appended to the list, which has room for it. If the call has an indirect key, its source is loaded
+    /// under the hold.
     #[inline(always)]
     pub fn begin<H: Place + Drop>(
         &mut self,
@@ -155,8 +149,8 @@ impl<N: Name> Passes<N> {
         }
     }
 
-    /// As `Hold::next_front`, but the pass is appended to the list, which has room for it. Returns whether there is
-    /// one.
+    /// Appends the pass of the lowest ticket that is not gone, if it waits, as `Engine::next_front`, to the list, which
+    /// has room for it. Returns whether there is one.
     #[inline(always)]
     pub fn next_front<H: Place + Drop>(&mut self, hold: &mut Hold<'_, N, H>) -> bool
         requires room { length self.old < MOST_PASSES }
@@ -169,13 +163,24 @@ impl<N: Name> Passes<N> {
         true
     }
 
-    /// As `Hold::next_scan` of a scan that is not put off, but the pass is appended to the list, which has room for it.
-    /// Returns whether there is one.
-    pub fn next_scan<H: Place + Drop>(&mut self, hold: &mut Hold<'_, N, H>) -> bool
+    /// Appends the pass of the ticket that the contention analysis finds, if any, as `Engine::next_scan`, to the list,
+    /// which has room for it. Returns whether there is one.
+    ///
+    /// If the scan may be put off, it may also return `false` though it would find a call. A scan that finds no call
+    /// adds a debt of as many entries as calls wait. Each finished call pays off eight of them, and each time that a
+    /// scan is put off here, 64. A scan is put off while 64 or more entries are owed and 64 or more calls wait, at most
+    /// once in a row for each 64 that wait, so that what such scans cost a call does not grow with the number of waiting
+    /// calls. A caller that is about to leave the engine alone does not let it be put off.
+    pub fn next_scan<H: Place + Drop>(
+        &mut self,
+        hold: &mut Hold<'_, N, H>,
+        may_be_put_off: bool,
+    ) -> bool
         requires room { length self.old < MOST_PASSES }
         ensures pass { MatchBool result (HasOneMore N.engine self.old self.new) (self.new ≡ self.old) }
     {
-        let Some((seat, ticket)) = hold.guard.next_scan(hold.words) else {
+        let found = hold.guard.next_scan_if_due(hold.words, may_be_put_off);
+        let Some((seat, ticket)) = found else {
             return false;
         };
         hold.guard.push_pass(seat, ticket, &mut self.items);

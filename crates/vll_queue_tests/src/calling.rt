@@ -6,8 +6,8 @@ ghost use Rattle.vll_sca.specs.Placing.{placing};
 use crate::asserts::{equal, fail, holds};
 use crate::opening::opening;
 use crate::playing::{
-    begins_blocked, begins_free, bump_of, closed_of, closes, finishes, last_of, output_of,
-    put_back, releases, started,
+    begins_blocked, begins_free, bump_of, closed_of, closes, finishes, last_client, last_of,
+    output_of, releases,
 };
 use std::marker::Brand;
 use std::process::Abort;
@@ -40,12 +40,8 @@ const BUMPS: u32 = 1_000;
 fn bumps_often<N: Name, R: Wait + Abort>(
     rt: &R,
     engine: &Engine<N, Placing>,
-    session: Session,
-) -> Session
-    requires { session.table ≡ N.engine.table }
-    ensures { result.table ≡ N.engine.table }
-{
-    let mut client = Client::<N>::of(session);
+    mut client: Client<N>,
+) {
     let mut before: u64 = 0;
     for _ in 0..BUMPS {
         let (ticket, output) = bumps(rt, engine, &mut client, 0);
@@ -53,7 +49,6 @@ fn bumps_often<N: Name, R: Wait + Abort>(
         equal(rt, u64::from(ticket.0) + 1, output);
         before = output;
     }
-    client.into_session()
 }
 
 // The calls reply 1, 2 and so on, each once.
@@ -71,24 +66,16 @@ fn two_threads_bump<N: Name + Send + Sync, R: Wait + Threads + Abort + Sync>(
 )
     requires { N.engine ≡ name_of placing opening }
 {
-    let (engine, mut sessions) = started::<N>(opening);
-    let one = last_of::<N>(rt, &mut sessions);
-    let zero = last_of::<N>(rt, &mut sessions);
+    let (engine, mut clients) = opening.start_clients::<N>();
+    let one = last_client(rt, &mut clients);
+    let zero = last_client(rt, &mut clients);
     let engine_now = &engine;
-    let (zero, one) = join(
+    join(
         rt,
-        move || -> Session
-            requires { zero.table ≡ N.engine.table }
-            ensures { result.table ≡ N.engine.table }
-        { bumps_often(rt, engine_now, zero) },
-        move || -> Session
-            requires { one.table ≡ N.engine.table }
-            ensures { result.table ≡ N.engine.table }
-        { bumps_often(rt, engine_now, one) },
+        move || bumps_often(rt, engine_now, zero),
+        move || bumps_often(rt, engine_now, one),
     );
-    put_back::<N>(rt, &mut sessions, zero);
-    put_back::<N>(rt, &mut sessions, one);
-    let closed = closed_of(rt, engine, sessions);
+    let closed = closed_of(rt, engine, clients.into_sessions());
     let bumped = 2 * BUMPS as u64;
     equal(rt, closed.records.as_slice(), [bumped].as_slice());
     equal(rt, closed.journal.len(), 2 * BUMPS as usize);
@@ -106,20 +93,20 @@ fn two_threads_call_until_each_has_its_reply(rt: HostRuntime) -> Result<(), Fail
 fn helps_in_a_full_queue<N: Name, R: Wait + Abort>(rt: &R, opening: Opening<Placing>)
     requires { N.engine ≡ name_of placing opening }
 {
-    let (engine, mut sessions) = started::<N>(opening);
+    let (engine, mut clients) = opening.start_clients::<N>();
+    let mut client = last_client(rt, &mut clients);
+    let mut sessions = clients.into_sessions();
     let mut session = last_of::<N>(rt, &mut sessions);
     let zero = begins_free(rt, &engine, &mut session, 0, 0);
     begins_blocked(rt, &engine, &mut session, 0, 1);
     finishes(rt, &engine, zero, 1);
-    let mut client = Client::<N>::of(session);
     equal(rt, bumps(rt, &engine, &mut client, 0), (Ticket(2), 3));
-    put_back::<N>(rt, &mut sessions, client.into_session());
-    closes(rt, engine, sessions, &[3], &[0, 0, 0]);
+    closes(rt, engine, sessions, &[3], &[0, 0, 1]);
 }
 
 #[test]
 fn call_that_meets_a_full_queue_helps(rt: HostRuntime) -> Result<(), Fail> {
-    let opening = opening(rt.alloc(), 1, 3, 1, 1)?;
+    let opening = opening(rt.alloc(), 1, 3, 1, 2)?;
     helps_in_a_full_queue::<Brand, HostRuntime>(&rt, opening);
     Ok(())
 }
@@ -127,13 +114,12 @@ fn call_that_meets_a_full_queue_helps(rt: HostRuntime) -> Result<(), Fail> {
 fn is_spent<N: Name, R: Wait + Abort>(rt: &R, opening: Opening<Placing>)
     requires { N.engine ≡ name_of placing opening }
 {
-    let (engine, mut sessions) = started::<N>(opening);
-    let mut client = Client::<N>::of(last_of::<N>(rt, &mut sessions));
+    let (engine, mut clients) = opening.start_clients::<N>();
+    let mut client = last_client(rt, &mut clients);
     equal(rt, bumps(rt, &engine, &mut client, 0), (Ticket(0), 1));
     let call = bump_of(rt, engine.library(), 0);
     holds(rt, client.make(rt, &engine, &call).is_err());
-    put_back::<N>(rt, &mut sessions, client.into_session());
-    closes(rt, engine, sessions, &[1], &[0]);
+    closes(rt, engine, clients.into_sessions(), &[1], &[0]);
 }
 
 #[test]
@@ -152,38 +138,24 @@ const HOT_BUMPS: u32 = 500;
 fn bumps_the_hot<N: Name, R: Wait + Abort>(
     rt: &R,
     engine: &Engine<N, Placing>,
-    session: Session,
-) -> Session
-    requires { session.table ≡ N.engine.table }
-    ensures { result.table ≡ N.engine.table }
-{
-    let mut client = Client::<N>::of(session);
+    mut client: Client<N>,
+) {
     for index in 0..HOT_BUMPS {
         bumps(rt, engine, &mut client, u64::from(index % HOT));
     }
-    client.into_session()
 }
 
 // Makes two clients' bumps of the hot records, each client in a thread.
 fn two_bump_the_hot<N: Name + Send + Sync, R: Wait + Threads + Abort + Sync>(
     rt: &R,
     engine: &Engine<N, Placing>,
-    one: Session,
-    other: Session,
-)
-    requires one { one.table ≡ N.engine.table }
-    requires other { other.table ≡ N.engine.table }
-{
+    one: Client<N>,
+    other: Client<N>,
+) {
     join(
         rt,
-        move || -> Session
-            requires { one.table ≡ N.engine.table }
-            ensures { result.table ≡ N.engine.table }
-        { bumps_the_hot(rt, engine, one) },
-        move || -> Session
-            requires { other.table ≡ N.engine.table }
-            ensures { result.table ≡ N.engine.table }
-        { bumps_the_hot(rt, engine, other) },
+        move || bumps_the_hot(rt, engine, one),
+        move || bumps_the_hot(rt, engine, other),
     );
 }
 
@@ -193,24 +165,18 @@ fn four_bump_the_hot<N: Name + Send + Sync, R: Wait + Threads + Abort + Sync>(
 )
     requires { N.engine ≡ name_of placing opening }
 {
-    let (engine, mut sessions) = started::<N>(opening);
-    let three = last_of::<N>(rt, &mut sessions);
-    let two = last_of::<N>(rt, &mut sessions);
-    let one = last_of::<N>(rt, &mut sessions);
-    let zero = last_of::<N>(rt, &mut sessions);
+    let (engine, mut clients) = opening.start_clients::<N>();
+    let three = last_client(rt, &mut clients);
+    let two = last_client(rt, &mut clients);
+    let one = last_client(rt, &mut clients);
+    let zero = last_client(rt, &mut clients);
     let engine_now = &engine;
     join(
         rt,
-        move || -> ()
-            requires zero { zero.table ≡ N.engine.table }
-            requires one { one.table ≡ N.engine.table }
-        { two_bump_the_hot(rt, engine_now, zero, one) },
-        move || -> ()
-            requires two { two.table ≡ N.engine.table }
-            requires three { three.table ≡ N.engine.table }
-        { two_bump_the_hot(rt, engine_now, two, three) },
+        move || two_bump_the_hot(rt, engine_now, zero, one),
+        move || two_bump_the_hot(rt, engine_now, two, three),
     );
-    let closed = closed_of(rt, engine, sessions);
+    let closed = closed_of(rt, engine, clients.into_sessions());
     let each = u64::from(4 * HOT_BUMPS / HOT);
     equal(rt, closed.records.len(), HOT as usize);
     for record in closed.records.as_slice() {
@@ -305,19 +271,16 @@ fn keeps_its_pass<N: Name, R: Wait + Abort>(
 fn waits_for_the_pass<N: Name, R: Wait + Abort>(
     rt: &R,
     engine: &Engine<N, Placing>,
-    session: Session,
+    mut client: Client<N>,
     is_kept: &AtomicBool,
     is_let_go: &AtomicBool,
-)
-    requires { session.table ≡ N.engine.table }
-{
+) {
     for _ in rt.forever() {
         if is_kept.load(Ordering::SeqCst) {
             break;
         }
         yield_now();
     }
-    let mut client = Client::<N>::of(session);
     let (_, output) = bumps(rt, engine, &mut client, 0);
     holds(rt, is_let_go.load(Ordering::SeqCst));
     equal(rt, output, 2);
@@ -329,8 +292,9 @@ fn one_keeps_and_one_waits<N: Name + Send + Sync, R: Wait + Threads + Abort + Sy
 )
     requires { N.engine ≡ name_of placing opening }
 {
-    let (engine, mut sessions) = started::<N>(opening);
-    let one = last_of::<N>(rt, &mut sessions);
+    let (engine, mut clients) = opening.start_clients::<N>();
+    let one = last_client(rt, &mut clients);
+    let mut sessions = clients.into_sessions();
     let zero = last_of::<N>(rt, &mut sessions);
     let is_kept = AtomicBool::new(false);
     let is_let_go = AtomicBool::new(false);
@@ -342,9 +306,7 @@ fn one_keeps_and_one_waits<N: Name + Send + Sync, R: Wait + Threads + Abort + Sy
         move || -> ()
             requires { zero.table ≡ N.engine.table }
         { keeps_its_pass(rt, engine_now, zero, kept, let_go) },
-        move || -> ()
-            requires { one.table ≡ N.engine.table }
-        { waits_for_the_pass(rt, engine_now, one, kept, let_go) },
+        move || waits_for_the_pass(rt, engine_now, one, kept, let_go),
     );
     let closed = closed_of(rt, engine, sessions);
     equal(rt, closed.records.as_slice().first().copied(), Some(2));

@@ -95,8 +95,8 @@ fn bumps_often<N: Name>(
     Ok(client)
 }
 
-// Makes both clients' bumps, each client in a thread, and puts the clients back.
-fn two_threads_bump<N: Name + Send + Sync, R: Wait + Threads + Sync>(
+// Makes both clients' bumps, each client in a thread, and puts the clients back. Only then all are there.
+fn two_threads_bump<N: Name + Send + Sync, R: Wait + Threads + Abort + Sync>(
     rt: &R,
     engine: &Engine<N, Placing>,
     clients: &mut Clients<N>,
@@ -110,23 +110,8 @@ fn two_threads_bump<N: Name + Send + Sync, R: Wait + Threads + Sync>(
         || bumps_often(rt, engine, one),
     );
     clients.push(zero?)?;
+    holds(rt, !clients.are_all());
     clients.push(one?)?;
-    Ok(())
-}
-
-// Takes all clients, in order, and puts them back.
-fn are_handed_out_and_put_back<N: Name>(
-    rt: &impl Abort,
-    alloc: Global,
-    clients: &mut Clients<N>,
-) -> Result<(), EngineFault> {
-    let taken = clients.take_all(alloc)?;
-    equal(rt, clients.len(), 0);
-    for (number, client) in taken.into_iter().enumerate() {
-        holds(rt, !clients.are_all());
-        equal(rt, client.number() as usize, number);
-        clients.push(client)?;
-    }
     Ok(())
 }
 
@@ -142,7 +127,6 @@ fn two_call_in_threads<N: Name + Send + Sync, R: Wait + Threads + Abort + Sync>(
 {
     let (engine, mut clients) = opening.start_clients::<N>();
     two_threads_bump(rt, &engine, &mut clients)?;
-    are_handed_out_and_put_back(rt, alloc, &mut clients)?;
     if !clients.are_all() {
         fail(rt, "a client is not there");
     }

@@ -1,16 +1,17 @@
 //! Tests of several steps under one hold.
-ghost use Rattle.std.specs.Prelude.{◌≡◌, IfOk, IfSome};
+ghost use Rattle.std.specs.Prelude.{◌≡◌, []};
 ghost use Rattle.vll_check.specs.Calls.{Fits};
-ghost use Rattle.vll_queue.specs.Pass.{IsFresh, IsReleased};
+ghost use Rattle.vll_queue.specs.Pass.{IsReleased};
 ghost use Rattle.vll_queue.specs.Shown.{library_of, name_of};
 ghost use Rattle.vll_sca.specs.Placing.{placing};
 
-use crate::asserts::{equal, fail};
+use crate::asserts::{equal, fail, holds};
 use crate::opening::opening;
 use crate::playing::{
-    begins_blocked, begins_free, bump_of, closed_of, closes, ends, finishes, is_given,
-    is_not_given, last_of, output_of, put_back, releases, replies, started,
+    begins_blocked, begins_free, bump_of, closed_of, closes, ends, finishes, is_given, last_of,
+    output_of, put_back, releases, replies, started,
 };
+use std::alloc::Global;
 use std::marker::Brand;
 use std::process::Abort;
 use std::sync::atomic::{AtomicU64, Ordering};
@@ -19,86 +20,139 @@ use std::test::*;
 use std::thread::{Threads, join};
 use vll_core::{Line, Ticket};
 use vll_proc::Call;
-use vll_queue::{Begun, Engine, Hold, Name, Opening, Pass, Released, Session};
+use vll_queue::{
+    Begun, BegunOnto, Engine, Hold, MOST_PASSES, Name, Opening, Passes, Released, Session,
+};
 use vll_sca::Placing;
 
-// Begins a call of the session's client under a hold. Returns its pass if it is free, and its ticket if it is blocked.
+// Begins a call of the session's client under a hold. Returns its ticket if it is blocked; if it is free, its pass is
+// the last of the list.
 pub(crate) fn begins_under<N: Name, R: Abort>(
     rt: &R,
     hold: &mut Hold<'_, N, Placing>,
+    passes: &mut Passes<N>,
     session: &mut Session,
     call: &Call,
-) -> Result<Pass, Ticket>
+) -> Option<Ticket>
     requires session { session.old.table ≡ N.engine.table }
     requires fits { Fits (library_of N.engine) call.now }
     ensures session { session.new.table ≡ N.engine.table }
-    ensures pass { IfOk result (IsFresh N.engine) }
 {
-    match hold.begin(session, call) {
-        Begun::Free(pass) => Ok(pass),
-        Begun::Blocked(ticket) => Err(ticket),
-        Begun::Refused(_) => fail(rt, "the call is refused"),
+    holds(rt, passes.len() < MOST_PASSES);
+    match passes.begin(hold, session, call) {
+        BegunOnto::Free => None,
+        BegunOnto::Blocked(ticket) => Some(ticket),
+        BegunOnto::Refused(_) => fail(rt, "the call is refused"),
     }
 }
 
-// Under one hold, finishes ticket 0, starts ticket 1 at the front, and begins ticket 2 on the record of ticket 0.
-// Returns the pass of ticket 1.
-fn holds<N: Name, R: Wait + Abort>(
+// Scans under a hold, and returns whether that has found a call, whose pass is then the last of the list.
+pub(crate) fn scans<N: Name, R: Abort>(
+    rt: &R,
+    hold: &mut Hold<'_, N, Placing>,
+    passes: &mut Passes<N>,
+    may_be_put_off: bool,
+) -> bool {
+    holds(rt, passes.len() < MOST_PASSES);
+    passes.next_scan(hold, may_be_put_off)
+}
+
+// Executes and releases the call of the last pass.
+pub(crate) fn last_is_released<N: Name, R: Abort>(
     rt: &R,
     engine: &Engine<N, Placing>,
+    passes: &mut Passes<N>,
+) -> Released
+    ensures { IsReleased N.engine result }
+{
+    match passes.run_last(engine) {
+        Some(released) => released,
+        None => fail(rt, "there is no pass"),
+    }
+}
+
+// Completes the call of the last pass, which has this ticket and this output as its reply.
+pub(crate) fn last_finishes<N: Name, R: Wait + Abort>(
+    rt: &R,
+    engine: &Engine<N, Placing>,
+    passes: &mut Passes<N>,
+    ticket: u32,
+    output: u64,
+) {
+    equal(rt, passes.last(), Some(Ticket(ticket)));
+    let released = last_is_released(rt, engine, passes);
+    ends(rt, engine, released, output);
+}
+
+// No pass is left in the list, which is destroyed.
+pub(crate) fn are_used_up<N: Name, R: Wait + Abort>(
+    rt: &R,
+    engine: &Engine<N, Placing>,
+    mut passes: Passes<N>,
+) {
+    if let Some(released) = passes.run_last(engine) {
+        engine.finish(rt, released);
+        fail(rt, "a pass is left");
+    }
+    passes.destroy();
+}
+
+// Under one hold, finishes ticket 0, starts ticket 1 at the front, and begins ticket 2 on the record of ticket 0. Ticket
+// 1 has the only pass.
+fn steps_under_one_hold<N: Name, R: Wait + Abort>(
+    rt: &R,
+    engine: &Engine<N, Placing>,
+    passes: &mut Passes<N>,
     session: &mut Session,
     zero: Released,
-) -> Option<Pass>
+)
     requires session { session.old.table ≡ N.engine.table }
     requires zero { IsReleased N.engine zero }
+    requires none { passes.old ≡ [] }
     ensures session { session.new.table ≡ N.engine.table }
-    ensures front { IfSome result (IsFresh N.engine) }
 {
     let next = bump_of(rt, engine.library(), 0);
     let mut hold = engine.hold(rt);
     let ticket = hold.finish(zero);
-    let front = hold.next_front();
-    let begun = begins_under(rt, &mut hold, session, &next);
-    let found = hold.next_scan(false);
-    let told = hold.reply(session, ticket);
+    let front = passes.next_front(&mut hold);
+    let begun = begins_under(rt, &mut hold, passes, session, &next);
+    let found = scans(rt, &mut hold, passes, false);
     drop(hold);
-    is_not_given(rt, engine, found);
     equal(rt, ticket, Ticket(0));
-    equal(rt, told.as_ref().and_then(output_of), Some(1));
-    match begun {
-        Ok(pass) => {
-            finishes(rt, engine, pass, 0);
-            fail(rt, "the call is free")
-        }
-        Err(ticket) => equal(rt, ticket, Ticket(2)),
-    }
-    front
+    equal(rt, (front, found), (true, false));
+    equal(rt, begun, Some(Ticket(2)));
 }
 
 // Ticket 0 is released and ticket 1 waits. After the steps under one hold, ticket 1 runs and ticket 2 waits for it.
-fn works_under_one_hold<N: Name, R: Wait + Abort>(rt: &R, opening: Opening<Placing>)
+fn works_under_one_hold<N: Name, R: Wait + Abort>(
+    rt: &R,
+    alloc: Global,
+    opening: Opening<Placing>,
+) -> Result<(), Fail>
     requires { N.engine ≡ name_of placing opening }
 {
+    let mut passes = Passes::<N>::new(alloc)?;
     let (engine, mut sessions) = started::<N>(opening);
     let mut session = last_of::<N>(rt, &mut sessions);
     let zero = begins_free(rt, &engine, &mut session, 0, 0);
     begins_blocked(rt, &engine, &mut session, 0, 1);
     let zero = releases(rt, &engine, zero);
-    let one = holds(rt, &engine, &mut session, zero);
-    let one = is_given::<N, R>(rt, one, 1);
-    finishes(rt, &engine, one, 2);
+    steps_under_one_hold(rt, &engine, &mut passes, &mut session, zero);
+    replies(rt, &engine, &mut session, 0, Some(1));
+    last_finishes(rt, &engine, &mut passes, 1, 2);
+    are_used_up(rt, &engine, passes);
     let two = is_given::<N, R>(rt, engine.next_front(rt), 2);
     finishes(rt, &engine, two, 3);
     replies(rt, &engine, &mut session, 2, Some(3));
     put_back::<N>(rt, &mut sessions, session);
     closes(rt, engine, sessions, &[3], &[0, 0, 0]);
+    Ok(())
 }
 
 #[test]
 fn one_hold_finishes_looks_and_begins(rt: HostRuntime) -> Result<(), Fail> {
     let opening = opening(rt.alloc(), 1, 3, 8, 1)?;
-    works_under_one_hold::<Brand, HostRuntime>(&rt, opening);
-    Ok(())
+    works_under_one_hold::<Brand, HostRuntime>(&rt, rt.alloc(), opening)
 }
 
 // How many pairs of bumps each of two clients makes.
@@ -127,6 +181,7 @@ fn begins<N: Name, R: Wait + Abort>(
 fn goes_on<N: Name, R: Wait + Abort>(
     rt: &R,
     engine: &Engine<N, Placing>,
+    passes: &mut Passes<N>,
     session: &mut Session,
     record: u64,
     released: Released,
@@ -141,14 +196,12 @@ fn goes_on<N: Name, R: Wait + Abort>(
     let mut hold = engine.hold(rt);
     let others = holders.fetch_add(1, Ordering::SeqCst);
     hold.finish(released);
-    let begun = begins_under(rt, &mut hold, session, &call);
+    let begun = begins_under(rt, &mut hold, passes, session, &call);
     holders.fetch_sub(1, Ordering::SeqCst);
     drop(hold);
     equal(rt, others, 0);
-    match begun {
-        Ok(pass) => releases(rt, engine, pass),
-        Err(_) => fail(rt, "the next call is blocked"),
-    }
+    equal(rt, begun, None);
+    last_is_released(rt, engine, passes)
 }
 
 // Where two threads meet: before each pair of bumps the one that comes first waits for the other. The threads that have
@@ -162,22 +215,32 @@ struct Meeting {
 // Makes a client's pairs of bumps.
 fn bumps<N: Name, R: Wait + Abort>(
     rt: &R,
+    alloc: Global,
     engine: &Engine<N, Placing>,
-    session: Session,
+    mut session: Session,
     record: u64,
     meeting: &Meeting,
-) -> Session
+)
     requires { session.table ≡ N.engine.table }
-    ensures { result.table ≡ N.engine.table }
 {
-    let mut session = session;
+    let Ok(mut passes) = Passes::<N>::new(alloc) else {
+        fail(rt, "there is no room for passes")
+    };
     for _ in 0..PAIRS {
         meeting.barrier.wait(rt);
         let first = begins(rt, engine, &mut session, record);
-        let second = goes_on(rt, engine, &mut session, record, first, &meeting.holders);
+        let second = goes_on(
+            rt,
+            engine,
+            &mut passes,
+            &mut session,
+            record,
+            first,
+            &meeting.holders,
+        );
         engine.finish(rt, second);
     }
-    session
+    are_used_up(rt, engine, passes);
 }
 
 // Each bump replies the number of bumps its client has made by then. Whenever both have made a pair, neither is ahead.
@@ -202,6 +265,7 @@ fn are_made_in_turn(rt: &impl Abort, lines: &[Line]) {
 // Two threads bump a record each, pair by pair, and then the engine is closed.
 fn bumps_by_two_threads<N: Name + Send + Sync, R: Wait + Threads + Abort + Sync>(
     rt: &R,
+    alloc: Global,
     opening: Opening<Placing>,
 )
     requires { N.engine ≡ name_of placing opening }
@@ -215,19 +279,15 @@ fn bumps_by_two_threads<N: Name + Send + Sync, R: Wait + Threads + Abort + Sync>
     };
     let met = &meeting;
     let engine_now = &engine;
-    let (zero, one) = join(
+    join(
         rt,
-        move || -> Session
+        move || -> ()
             requires { zero.table ≡ N.engine.table }
-            ensures { result.table ≡ N.engine.table }
-        { bumps(rt, engine_now, zero, 0, met) },
-        move || -> Session
+        { bumps(rt, alloc, engine_now, zero, 0, met) },
+        move || -> ()
             requires { one.table ≡ N.engine.table }
-            ensures { result.table ≡ N.engine.table }
-        { bumps(rt, engine_now, one, 1, met) },
+        { bumps(rt, alloc, engine_now, one, 1, met) },
     );
-    put_back::<N>(rt, &mut sessions, zero);
-    put_back::<N>(rt, &mut sessions, one);
     let closed = closed_of(rt, engine, sessions);
     let bumped = 2 * PAIRS as u64;
     equal(rt, closed.records.as_slice(), [bumped, bumped].as_slice());
@@ -238,6 +298,6 @@ fn bumps_by_two_threads<N: Name + Send + Sync, R: Wait + Threads + Abort + Sync>
 #[test]
 fn threads_hold_the_lock_in_turn(rt: HostRuntime) -> Result<(), Fail> {
     let opening = opening(rt.alloc(), 2, 4 * PAIRS, 1, 2)?;
-    bumps_by_two_threads::<Brand, HostRuntime>(&rt, opening);
+    bumps_by_two_threads::<Brand, HostRuntime>(&rt, rt.alloc(), opening);
     Ok(())
 }

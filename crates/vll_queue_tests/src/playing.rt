@@ -12,7 +12,9 @@ use std::test::*;
 use vll_check::Library;
 use vll_core::{Line, Ticket};
 use vll_proc::{Call, Reply};
-use vll_queue::{BeginRefusal, Begun, Closed, Engine, Name, Opening, Pass, Released, Session};
+use vll_queue::{
+    BeginRefusal, Begun, Client, Clients, Closed, Engine, Name, Opening, Pass, Released, Session,
+};
 use vll_sca::Placing;
 
 // The engine of an opening, and its sessions.
@@ -32,6 +34,14 @@ pub(crate) fn last_of<N: Name>(rt: &impl Abort, sessions: &mut Vec<Session>) -> 
     match sessions.pop() {
         Some(session) => session,
         None => fail(rt, "there is no session"),
+    }
+}
+
+// The last client of a list.
+pub(crate) fn last_client<N: Name>(rt: &impl Abort, clients: &mut Clients<N>) -> Client<N> {
+    match clients.pop() {
+        Some(client) => client,
+        None => fail(rt, "there is no client"),
     }
 }
 

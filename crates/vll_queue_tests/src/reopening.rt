@@ -6,7 +6,8 @@ ghost use Rattle.vll_sca.specs.Placing.{placing};
 use crate::asserts::{equal, fail, holds};
 use crate::judging::judge;
 use crate::playing::{
-    begins_blocked, begins_free, call_of, closes, finishes, is_given, last_of, put_back, started,
+    begins_blocked, begins_free, call_of, closes, finishes, is_given, last_client, last_of,
+    put_back, started,
 };
 use std::alloc::{AllocError, Global};
 use std::marker::Brand;
@@ -191,16 +192,16 @@ fn epoch<N: Name, R: Wait + Abort>(
     ensures clients { result.opening.clients ≡ 2 }
     ensures room { LIMIT ≤ vec_capacity result.journal }
 {
-    let (engine, mut sessions) = started::<N>(opening);
-    let mut now = Client::<N>::of(last_of::<N>(rt, &mut sessions));
-    let mut next = Client::<N>::of(last_of::<N>(rt, &mut sessions));
+    let (engine, mut clients) = opening.start_clients::<N>();
+    let mut now = last_client(rt, &mut clients);
+    let mut next = last_client(rt, &mut clients);
     for asked in calls {
         makes(rt, &engine, &mut now, *asked);
         (now, next) = (next, now);
     }
-    put_back::<N>(rt, &mut sessions, now.into_session());
-    put_back::<N>(rt, &mut sessions, next.into_session());
-    reopened(rt, alloc, engine, sessions, journal)
+    holds(rt, clients.push(now).is_ok());
+    holds(rt, clients.push(next).is_ok());
+    reopened(rt, alloc, engine, clients.into_sessions(), journal)
 }
 
 // An epoch under a name of its own, whose lines are judged and then appended to those of earlier epochs.

@@ -5,7 +5,7 @@ ghost use Rattle.vll_sca.specs.Placing.{placing};
 
 use crate::asserts::{equal, fail};
 use crate::opening::opening;
-use crate::playing::{bump_of, closes, last_of, output_of, put_back, started};
+use crate::playing::{bump_of, closes, last_client, output_of};
 use crossbeam_channel::{Receiver, Sender, unbounded};
 use std::alloc::Global;
 use std::marker::Brand;
@@ -14,7 +14,7 @@ use std::sync::Wait;
 use std::test::*;
 use std::thread::{Threads, join};
 use vll_core::Ticket;
-use vll_queue::{Client, Engine, EngineSpent, Name, News, Opening, Session};
+use vll_queue::{Client, Engine, EngineSpent, Name, News, Opening};
 use vll_sca::Placing;
 
 // A call was made from entry to reply: its ticket, its output, and news that has it.
@@ -64,38 +64,28 @@ fn hears_and_makes<N: Name, R: Wait + Abort>(
 fn tells<N: Name, R: Wait + Abort>(
     rt: &R,
     engine: &Engine<N, Placing>,
-    session: Session,
+    mut client: Client<N>,
     to: Sender<Receipt<N>, Global>,
-) -> Session
-    requires { session.table ≡ N.engine.table }
-    ensures { result.table ≡ N.engine.table }
-{
-    let mut client = Client::<N>::of(session);
+) {
     let receipt = makes_and_tells(rt, engine, &mut client);
     equal(rt, (receipt.ticket, receipt.output), (Ticket(0), 1));
     if to.send(rt, receipt).is_err() {
         fail(rt, "nobody hears")
     }
-    client.into_session()
 }
 
 // Waits for the news, and makes the other client's bump once it has heard.
 fn hears<N: Name, R: Wait + Abort>(
     rt: &R,
     engine: &Engine<N, Placing>,
-    session: Session,
+    mut client: Client<N>,
     from: Receiver<Receipt<N>, Global>,
-) -> Session
-    requires { session.table ≡ N.engine.table }
-    ensures { result.table ≡ N.engine.table }
-{
-    let mut client = Client::<N>::of(session);
+) {
     let Ok(receipt) = from.recv(rt) else {
         fail(rt, "there is no news")
     };
     let made = hears_and_makes(rt, engine, &mut client, receipt);
     equal(rt, made, (Ticket(1), 2));
-    client.into_session()
 }
 
 // Each client has a thread of its own.
@@ -107,24 +97,16 @@ fn one_tells_and_one_hears<N: Name + Send + Sync, R: Wait + Threads + Abort + Sy
     requires { N.engine ≡ name_of placing opening }
 {
     let (to, from) = unbounded(alloc)?;
-    let (engine, mut sessions) = started::<N>(opening);
-    let other = last_of::<N>(rt, &mut sessions);
-    let one = last_of::<N>(rt, &mut sessions);
+    let (engine, mut clients) = opening.start_clients::<N>();
+    let other = last_client(rt, &mut clients);
+    let one = last_client(rt, &mut clients);
     let engine_now = &engine;
-    let (one, other) = join(
+    join(
         rt,
-        move || -> Session
-            requires { one.table ≡ N.engine.table }
-            ensures { result.table ≡ N.engine.table }
-        { tells(rt, engine_now, one, to) },
-        move || -> Session
-            requires { other.table ≡ N.engine.table }
-            ensures { result.table ≡ N.engine.table }
-        { hears(rt, engine_now, other, from) },
+        move || tells(rt, engine_now, one, to),
+        move || hears(rt, engine_now, other, from),
     );
-    put_back::<N>(rt, &mut sessions, one);
-    put_back::<N>(rt, &mut sessions, other);
-    closes(rt, engine, sessions, &[2], &[0, 1]);
+    closes(rt, engine, clients.into_sessions(), &[2], &[0, 1]);
     Ok(())
 }
 

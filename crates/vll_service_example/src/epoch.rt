@@ -54,7 +54,7 @@ pub(crate) fn run_epoch<N: Name + Send + Sync, R: Threads + Wait + Sync>(
     Ok(next)
 }
 
-// Makes each client's share of an epoch's calls, on a thread of its own.
+// Makes an epoch's calls: each client a share of them, on a thread of its own.
 fn make_calls<N: Name + Send + Sync, R: Threads + Wait + Sync>(
     rt: &R,
     alloc: Global,
@@ -63,10 +63,17 @@ fn make_calls<N: Name + Send + Sync, R: Threads + Wait + Sync>(
     epoch: u32,
     calls: u32,
 ) -> Result<(), EngineFault> {
+    let mut shares = Vec::with_capacity(alloc, CLIENTS as usize)?;
+    for number in 0..CLIENTS {
+        let Some(client) = clients.pop() else {
+            return Err(EngineFault::Left);
+        };
+        shares.push(Share { client, number })?;
+    }
     let made = map_vec(
         rt,
-        clients.take_all(alloc)?,
-        &|client| make_share(rt, engine, client, epoch, calls),
+        shares,
+        &|share| make_share(rt, engine, share, epoch, calls),
     )?;
     for client in made {
         clients.push(client?)?;
@@ -74,16 +81,22 @@ fn make_calls<N: Name + Send + Sync, R: Threads + Wait + Sync>(
     Ok(())
 }
 
-// Makes a client's share of an epoch's calls, one after the other.
+// A client, and which share of an epoch's calls it makes.
+#[derive(Drop)]
+struct Share<N: Name> {
+    client: Client<N>,
+    number: u32,
+}
+
+// Makes a share of an epoch's calls, one after the other.
 fn make_share<N: Name>(
     rt: &impl Wait,
     engine: &Engine<N, Placing>,
-    client: Client<N>,
+    share: Share<N>,
     epoch: u32,
     calls: u32,
 ) -> Result<Client<N>, EngineFault> {
-    let mut client = client;
-    let number = client.number();
+    let Share { mut client, number } = share;
     let share = calls.saturating_add(CLIENTS - 1).saturating_sub(number) / CLIENTS;
     let mut draw = Draw::new(u64::from(epoch) * u64::from(CLIENTS) + u64::from(number));
     for _ in 0..share {

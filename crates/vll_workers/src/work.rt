@@ -108,7 +108,7 @@ impl<'a, N: Name, H: Place + Send + Drop, T: Roster, W: Wait, G: Gate> Work<'a, 
     {
         for _ in self.wait.forever() {
             let had_token = self.round(worker, batch);
-            if !batch.passes.is_empty() {
+            if batch.passes.len() > 0 {
                 batch.pace.went_well();
                 self.execute_all(&mut batch.passes, &mut batch.released);
             } else if !batch.pace.rest(had_token) {

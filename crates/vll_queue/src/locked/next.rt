@@ -1,5 +1,5 @@
 //! The start of a waiting call under the lock, at the front or by the scan, and the pass for it.
-ghost use Rattle.std.specs.Prelude.{◌≡◌, ◌<◌, ◌++◌, ◌∷◌, [], length, vec_capacity, IfSome, None, Some, option_map, slice_get};
+ghost use Rattle.std.specs.Prelude.{◌≡◌, ◌<◌, ◌++◌, ◌∷◌, [], length, vec_capacity, IfSome, IsFalse, None, Some, option_map, slice_get};
 ghost use Rattle.vll_core.specs.declared.line.Line.{Line};
 ghost use Rattle.vll_core.specs.Queue.{fronted, found_by, front_among, lines, scanned, started_if, statuses};
 ghost use Rattle.vll_counters.specs.Shown.{after, with_pass_given};
@@ -42,15 +42,20 @@ impl<N: Name, H: Place> Locked<N, H> {
         Some((give_pass(words, &mut self.seat, ticket), ticket))
     }
 
-    // As `next_scan`, if a scan is due.
-    pub(crate) fn next_scan_if_due(&mut self, words: &Words) -> Option<(PassSeat, Ticket)>
+    // As `next_scan`, but a scan that may be put off is made only if it is due.
+    pub(crate) fn next_scan_if_due(
+        &mut self,
+        words: &Words,
+        may_be_put_off: bool,
+    ) -> Option<(PassSeat, Ticket)>
         requires words { words.now ≡ words_of N.engine }
         ensures ticket { IfSome result (λ p. found_by H.place_of self.old ≡ Some p.1) }
+        ensures always { IsFalse may_be_put_off → option_map (λ p. p.1) result ≡ found_by H.place_of self.old }
         ensures pass { IfSome result (λ p. IsFresh N.engine p.0) }
         ensures line { IfSome result (λ p. IsPassAt (lines self.new) p.0 p.1) }
         ensures queue { self.new ≡ started_if self.old (option_map (λ p. p.1) result) }
     {
-        if !self.patience.is_due(self.queue.waiting()) {
+        if may_be_put_off && !self.patience.is_due(self.queue.waiting()) {
             return None;
         }
         self.next_scan(words)

@@ -62,8 +62,8 @@ impl<N: Name, H: Place + Send + Drop, T: Roster, W: Wait, G: Gate> Work<'_, N, H
         if !pace.takes_ahead() {
             self.put_back(worker, taken);
         }
-        if passes.is_empty() {
-            pace.saw_scan(passes.next_scan(hold));
+        if passes.len() == 0 {
+            pace.saw_scan(passes.next_scan(hold, false));
         }
         had_token
     }
@@ -153,7 +153,7 @@ impl<N: Name, H: Place + Send + Drop, T: Roster, W: Wait, G: Gate> Work<'_, N, H
             pace.saw_held(HeldBy::Look);
             return true;
         }
-        !passes.is_empty() && self.is_indirect(token, 0)
+        passes.len() > 0 && self.is_indirect(token, 0)
     }
 
     // Whether the token's next call is to be looked at once more, as each after the first one is, and does not look
