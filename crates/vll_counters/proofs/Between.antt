@@ -9,7 +9,9 @@ use Rattle.std.proofs.Common.{Option, Bool, None, if◌then◌else◌}
 use Rattle.vll_counters.specs.Rule.{widest, pass_for}
 use Rattle.vll_counters.specs.declared.views.PassView.{PassView}
 use Rattle.vll_counters.specs.declared.views.View.TheVariants.{Pass}
-use Rattle.vll_counters.specs.Laws.{TicketsAreClear, PassesAreClear, RunningTicketsHaveAPass, PassesAreOfRunningTickets, TicketsHaveOnePass, ClientsHaveOneSession}
+use Rattle.vll_counters.specs.Laws.{TicketsAreClear, PassesAreClear, RunningTicketsHaveAPass, PassesAreOfRunningTickets, TicketsHaveOnePass, ClientsHaveOneSession, PastsAreOfOneRun, OnePastBeginsTheOther, LongerPastHasBoth}
+use Rattle.std.specs.Prelude.{nat_lt, length}
+use Rattle.vll_counters.proofs.Pasts.{ordered}
 use Rattle.vll_counters.proofs.States.{pass_is}
 
 pub clear : TicketsAreClear
@@ -38,3 +40,14 @@ one_pass base m rule i j v w p q at has there own same = sym (rule.passes.each i
 
 pub one_session : ClientsHaveOneSession
 one_session base m rule i j v w g h at has there own same = sym (rule.sessions i v g at has).there ∙ ap rule.session_seat same ∙ (rule.sessions j w h there own).there
+
+pub one_run : PastsAreOfOneRun
+one_run base m rule = (rule.history.all, rule.history.words, rule.history.pasts)
+
+pub one_begins : OnePastBeginsTheOther
+one_begins base m i j v w rule at there =
+    (ordered v.past w.past rule.history.all (nat_lt (length v.past) (length w.past)) refl (rule.history.pasts i v at) (rule.history.pasts j w there)).0
+
+pub longer_has_both : LongerPastHasBoth
+longer_has_both base m i j v w rule at there =
+    (ordered v.past w.past rule.history.all (nat_lt (length v.past) (length w.past)) refl (rule.history.pasts i v at) (rule.history.pasts j w there)).1

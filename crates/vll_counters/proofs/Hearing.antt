@@ -12,16 +12,19 @@ use Rattle.vll_core.specs.Headline.State.{Base}
 use Rattle.vll_core.specs.Shown.{AreWords}
 use Rattle.vll_counters.specs.declared.views.QueueView.{QueueView}
 use Rattle.vll_counters.specs.declared.views.SessionView.{SessionView}
-use Rattle.vll_counters.specs.declared.views.View.{View}
+use Rattle.vll_counters.specs.declared.views.SeatView.{SeatView}
 use Rattle.vll_counters.specs.declared.views.View.TheVariants.{Queue, Session, News, Hearing, Spent}
 use Rattle.vll_counters.specs.Headline.Views.{Begins, calls_in}
 use Rattle.vll_counters.specs.Rule.{HasSeen, Rule, pass_of}
-use Rattle.vll_counters.specs.Steps.{told, spent}
+use Rattle.vll_counters.specs.Steps.{told}
+use Rattle.vll_counters.specs.Written.{Write, longer}
+use Rattle.vll_counters.specs.History.{seat_view, with_view, with_views, spent_seat, Stays, RuleWithHistory}
 use Rattle.vll_counters.specs.News.{NewsShown, calls_of_view, as_it_is, news_told, with_news, HearTells}
 use Rattle.vll_counters.proofs.Passes.{passes_reviewed, passes_pushed}
 use Rattle.vll_counters.proofs.Sessions.{sessions_reviewed, sessions_pushed, sessions_told, seen_all}
 use Rattle.vll_counters.proofs.News.{news_set, news_pushed, news_reviewed}
 use Rattle.vll_counters.proofs.Holding.{same_words, not_session}
+use Rattle.vll_counters.proofs.Lifting.{lifts_load, lifts_split, lifts_join}
 
 not_hearing : {P : Type 0} (q : QueueView) (g : SessionView) (calls : List Made) → some (Queue q) ≡ some (Hearing g calls) → P
 not_hearing q g calls e = let h : Queue q ≡ Hearing g calls = some-injective _ _ e in absurd (cc h)
@@ -112,18 +115,21 @@ module _ (base : Base) where
 
 -- ---- the steps of news, if the seats and their views are known by equations
 
-pub news_me : {S : Type 0} (me : Me S View) (z : TableId) (s : NewsShown) → me ≡ (News (calls_of_view me.0), []) → record { table = z; calls = calls_of_view me.0 } ≡ s → me ≡ (News s.calls, [])
-news_me me z s is shown = is ∙ ap (λ (x : NewsShown). (News x.calls, [])) shown
+pub news_me : {S : Type 0} (me : Me S SeatView) (z : TableId) (s : NewsShown) → me ≡ (seat_view (News (calls_of_view me.0.view)) me.0.past, []) → record { table = z; calls = calls_of_view me.0.view; past = me.0.past } ≡ s → me ≡ (seat_view (News s.calls) s.past, [])
+news_me me z s is shown = is ∙ ap (λ (x : NewsShown). (seat_view (News x.calls) x.past, [])) shown
 
-pub joined_news : {S : Type 0} (me other : Me S View) (g : SessionView) (calls : List Made) → me ≡ (Session g, []) → other ≡ (News calls, []) → ◌≡◌ {A = Me S View} (with_news me.0 other.0, me.1) (Hearing g calls, [])
-joined_news me other g calls is has = λ i. (with_news (is i).0 (has i).0, (is i).1)
+pub joined_news : {S : Type 0} (me other : Me S SeatView) (g : SessionView) (past others : List Write) (calls : List Made) → me ≡ (seat_view (Session g) past, []) → other ≡ (seat_view (News calls) others, [])
+    → ◌≡◌ {A = Me S SeatView} (with_views with_news me.0 other.0, me.1) (seat_view (Hearing g calls) (longer past others), [])
+joined_news me other g past others calls is has = λ i. (with_views with_news (is i).0 (has i).0, (is i).1)
 
-pub tells_at : {S : Type 0} (base b : Base) (id : ℕ) (v : View) (g : SessionView) → base ≡ b → v ≡ Session g → Splits (Rule {S = S} base) id v (as_it_is v) (news_told v)
-tells_at base b id v g same is = rw (same, is) (tells b id g)
+pub tells_at : {S : Type 0} (base b : Base) (id : ℕ) (v : SeatView) (g : SessionView) (past : List Write) → base ≡ b → v ≡ seat_view (Session g) past → Splits (RuleWithHistory {S = S} base) id v (with_view as_it_is v) (with_view news_told v)
+tells_at base b id v g past same is = rw (same, is) (lifts_split b id (Session g) (Session g) (News g.seen) past (tells b id g))
 
-pub news_comes_at : {S : Type 0} (base b : Base) (id other : ℕ) (v u : View) (g : SessionView) (calls : List Made) → base ≡ b → v ≡ Session g → u ≡ News calls → Joins (Rule {S = S} base) id v other u (with_news v u) spent
-news_comes_at base b id other v u g calls same is has = rw (same, is, has) (news_comes b id other g calls)
+pub news_comes_at : {S : Type 0} (base b : Base) (id other : ℕ) (v u : SeatView) (g : SessionView) (past others : List Write) (calls : List Made) → base ≡ b → v ≡ seat_view (Session g) past → u ≡ seat_view (News calls) others
+    → Joins (RuleWithHistory {S = S} base) id v other u (with_views with_news v u) spent_seat
+news_comes_at base b id other v u g past others calls same is has = rw (same, is, has) (lifts_join b id (Session g) past other (News calls) others (Hearing g calls) Spent (news_comes b id other g calls))
 
-pub hears_at : (base b : Base) (slots id : ℕ) (me : Me (Unit {0}) View) (g : SessionView) (calls : List Made) → base ≡ b → me ≡ (Hearing g calls, [])
-    → Allows (Rule {S = Unit {0}} base) slots id me 0 (λ n. n) (HearTells (step 0 0 0 0 mathlib.Core.Option.none) me)
-hears_at base b slots id me g calls same is = rw (same, is) (hears b slots id g calls)
+pub hears_at : (base b : Base) (slots id : ℕ) (me : Me (Unit {0}) SeatView) (g : SessionView) (past : List Write) (calls : List Made) → base ≡ b → me ≡ (seat_view (Hearing g calls) past, [])
+    → Allows (RuleWithHistory {S = Unit {0}} base) slots id me 0 (λ n. n) (Stays HearTells (step 0 0 0 0 mathlib.Core.Option.none) me)
+hears_at base b slots id me g past calls same is =
+    rw (same, is) (lifts_load b slots id (Hearing g calls) [] past 0 (HearTells (step 0 0 0 0 mathlib.Core.Option.none) (Hearing g calls, [])) (hears b slots id g calls))

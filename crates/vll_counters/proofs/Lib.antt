@@ -6,6 +6,8 @@ pub mod Moves
 pub mod States
 pub mod Fresh
 pub mod Holding
+pub mod Pasts
+pub mod Lifting
 pub mod Turns
 pub mod PassSteps
 pub mod Finding

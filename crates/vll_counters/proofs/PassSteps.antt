@@ -23,7 +23,7 @@ use Rattle.vll_core.specs.Moves.{Move, move, by_event, IsLawful, moved, is_on, e
 use Rattle.vll_core.specs.Shown.{AreWords}
 use Rattle.vll_core.proofs.WordsKept.{words_stay, counters_stay}
 use Rattle.vll_core.proofs.WordChanges.{words_set_value, words_set_pair}
-use Rattle.vll_core.proofs.Claiming.{delta_here, delta_elsewhere}
+use Rattle.vll_core.proofs.Claiming.{counter_fits, delta_here, delta_elsewhere}
 use Rattle.vll_core.proofs.Deltas.{counter_release}
 use Rattle.vll_core.proofs.Places.{take_next}
 use Rattle.vll_core.proofs.Reached.{load_reached}
@@ -35,7 +35,7 @@ use Rattle.vll_counters.specs.declared.views.View.{View}
 use Rattle.vll_counters.specs.declared.views.View.TheVariants.{Pass}
 use Rattle.vll_counters.specs.Rule.{widest, values_before, pass_for, pass_of, Moment, Rule}
 use Rattle.vll_counters.specs.Steps.{loaded, stored, released, records_before_pass, reply_of_pass}
-use Rattle.vll_counters.specs.Told.{PassMoment, has_stored_pass, LoadTells, StoreTells, ReleaseTells}
+use Rattle.vll_counters.specs.Told.{PassMoment, IsCountedNow, has_stored_pass, LoadTells, StoreTells, ReleaseTells}
 use Rattle.vll_counters.proofs.Moves.{load_made, store_made, release_made}
 use Rattle.vll_counters.proofs.Passes.{passes_moved}
 use Rattle.vll_counters.proofs.Sessions.{sessions_reviewed}
@@ -209,3 +209,19 @@ module _ (base : Base) where
     where
       left_after : (x z d : ℕ) → x ≡ z + d → x < 18446744073709551616 → z ≡ (x + (18446744073709551616 - d)) % 18446744073709551616
       left_after x z d e small = omega arith
+
+  -- the word has the claim that is released
+  pub release_fits : (p : PassView) (c : Claim) (n : ℕ) → slice_get p.call.claims p.releases ≡ Some c → IsCountedNow base p c.id n → (n + (18446744073709551616 - delta_of c.mode)) % 18446744073709551616 ≡ n - delta_of c.mode
+  release_fits p c n next counts =
+      let k = counts.now.rule in
+      let s = k.state in
+      let o = own_pass base counts.now.moment k counts.now.seat p counts.now.at in
+      let e = o.entry in
+      let left : slice_get e.call.claims e.releases ≡ Some c = ap (λ (x : PassView). slice_get x.call.claims x.releases) (sym o.is) ∙ next in
+      let after = with_entry s p.ticket (record e { releases = e.releases + 1 }) in
+      let less : counter s c.id ≡ counter after c.id + delta_of c.mode = counter_release s p.ticket e c c.id o.at left ∙ ap (λ (m : ℕ). counter after c.id + m) (delta_here c) in
+      let fits = counter_fits (widest base) s c.id k.shows.reached (omega arith) in
+      taken n (counter s c.id) (counter after c.id) (delta_of c.mode) counts.counts less fits
+    where
+      taken : (x y z d : ℕ) → x ≡ y → y ≡ z + d → y < 18446744073709551616 → (x + (18446744073709551616 - d)) % 18446744073709551616 ≡ x - d
+      taken x y z d same e small = omega arith

@@ -25,7 +25,7 @@ use Rattle.vll_counters.specs.declared.views.View.TheVariants.{Queue}
 use Rattle.vll_counters.specs.Headline.Views.{calls_in}
 use Rattle.vll_counters.specs.Rule.{widest, turn_view, Moment, Rule, pass_of}
 use Rattle.vll_counters.specs.Steps.{asked, requested, turn_of, opened}
-use Rattle.vll_counters.specs.Told.{KnowsSession, RequestTells, OpenTells}
+use Rattle.vll_counters.specs.Told.{IsCounterNow, KnowsSession, RequestTells, OpenTells}
 use Rattle.vll_counters.proofs.Places.{at_below}
 use Rattle.vll_counters.proofs.Passes.{passes_reviewed}
 use Rattle.vll_counters.proofs.Sessions.{sessions_reviewed}
@@ -82,6 +82,23 @@ module _ (base : Base) where
             here,
         (refl, record { now = record { moment = t; rule = k; at = at }; counts = k.words.pairs c.id room }),
       )
+
+  -- the word has room for the claim that is requested
+  pub request_fits : (q : QueueView) (turn : TurnView) (c : Claim) (n : ℕ) → q.turn ≡ Some turn → slice_get turn.call.claims turn.requested ≡ Some c → c.id < length base.records
+      → IsCounterNow base q c.id n → (n + delta_of c.mode) % 18446744073709551616 ≡ n + delta_of c.mode
+  request_fits q turn c n turn_open next room counts =
+      let k = counts.now.rule in
+      let h = held base counts.now.moment q k counts.now.at in
+      let s = h.state in
+      let found = turn_is s.turn turn (sym h.shows.turn ∙ turn_open) in
+      let u = found.0 in
+      let left : slice_get u.call.claims u.requested ≡ Some c = ap (λ (z : TurnView). slice_get z.call.claims z.requested) found.2 ∙ next in
+      let after = after_request s u c in
+      let reached = request_reached (widest base) s u c h.shows.reached found.1 left in
+      let same : n ≡ counter s c.id = counts.counts ∙ sym (k.words.pairs c.id room) ∙ h.words.pairs c.id room in
+      let more : counter after c.id ≡ n + delta_of c.mode = counter_asked s u c found.1 left ∙ ap (λ (m : ℕ). m + delta_of c.mode) (sym same) in
+      let fits = counter_fits (widest base) after c.id reached (omega arith) in
+      uncut n (delta_of c.mode) (counter after c.id) more fits ∙ more
 
   -- what the queue's seat learns of a session that has joined it
   knows : (t : Moment) (q : QueueView) → Holds base q t.words t.views → get_elem? t.views 0 ≡ some (Queue q) → (g : SessionView) → q.session ≡ Some g → KnowsSession base q g

@@ -1,5 +1,5 @@
 -- What the rule says of tickets, passes, sessions and pair words, whenever it holds.
-use Rattle.std.specs.Prelude.{◌≡◌, ℕ, ◌<◌, true, false, length, Some, slice_get, slice_index}
+use Rattle.std.specs.Prelude.{◌≡◌, ◌⊎◌, ℕ, ◌<◌, List, true, false, length, Some, slice_get, slice_index}
 use mathlib.Core.Option as opt
 use lib.ListN.{get_elem?}
 use Rattle.vll_record.specs.Headline.Counter.{claims_on, pair_word_of}
@@ -16,6 +16,10 @@ use Rattle.vll_counters.specs.declared.views.View.TheVariants.{Queue}
 use Rattle.vll_counters.specs.Headline.Views.{pass_in}
 use Rattle.vll_counters.specs.Views.{session_in}
 use Rattle.vll_counters.specs.Headline.Open.{open_in}
+use Rattle.vll_counters.specs.declared.views.SeatView.{SeatView}
+use Rattle.vll_counters.specs.Laid.{laid_words}
+use Rattle.vll_counters.specs.Written.{Write, written, IsPastOf, longer}
+use Rattle.vll_counters.specs.History.{MomentWithPasts, RuleWithHistory}
 use Rattle.vll_counters.specs.Rule.{Moment, Rule}
 use Rattle.vll_counters.specs.Told.{IsClear}
 
@@ -61,3 +65,22 @@ PairWordsCountOpenClaims =
     (base : Base) (m : Moment) (q : QueueView) (r : ℕ)
     → Rule base m → get_elem? m.views 0 ≡ opt.some (Queue q) → r < length base.records
     → slice_index m.words (pair_word_of_record r) ≡ pair_word_of (claims_on r (open_in q m.views))
+
+-- there is one history of writes, which lead from the opening words to the present ones, and each seat's past is a
+-- beginning of it
+abbrev pub PastsAreOfOneRun : Type 0
+PastsAreOfOneRun =
+    (base : Base) (m : MomentWithPasts) → RuleWithHistory base m
+    → (all : List Write) × (m.words ≡ written (laid_words base.records) all) × ((seat : ℕ) (k : SeatView) → get_elem? m.views seat ≡ opt.some k → IsPastOf k.past all)
+
+-- of the pasts of two seats one begins with the other
+abbrev pub OnePastBeginsTheOther : Type 0
+OnePastBeginsTheOther =
+    (base : Base) (m : MomentWithPasts) (i j : ℕ) (v w : SeatView) → RuleWithHistory base m
+    → get_elem? m.views i ≡ opt.some v → get_elem? m.views j ≡ opt.some w → IsPastOf v.past w.past ⊎ IsPastOf w.past v.past
+
+-- the longer of the pasts of two seats begins with each of them: a seat that another one joins loses no write
+abbrev pub LongerPastHasBoth : Type 0
+LongerPastHasBoth =
+    (base : Base) (m : MomentWithPasts) (i j : ℕ) (v w : SeatView) → RuleWithHistory base m
+    → get_elem? m.views i ≡ opt.some v → get_elem? m.views j ≡ opt.some w → IsPastOf v.past (longer v.past w.past) × IsPastOf w.past (longer v.past w.past)

@@ -3,8 +3,10 @@ pub mod Views
 pub mod Rule
 pub mod Steps
 pub mod Told
+pub mod Written
 pub mod News
-pub mod Shown
 pub mod Laid
+pub mod History
+pub mod Shown
 pub mod Kept
 pub mod Laws

@@ -7,12 +7,14 @@ use Rattle.vll_counters.specs.declared.views.SessionView.{SessionView}
 use Rattle.vll_counters.specs.declared.views.View.{View}
 use Rattle.vll_counters.specs.declared.views.View.TheVariants.{Session, News, Hearing, Spent}
 use Rattle.vll_counters.specs.Headline.Views.{calls_by, Begins}
+use Rattle.vll_counters.specs.Written.{Write}
 use Rattle.vll_counters.specs.Steps.{told}
 
--- what contracts see of news: the identity of its words, and the entered calls that it has
+-- what contracts see of news: the identity of its words, the entered calls that it has, and its past
 pub record NewsShown : Type 0 where
   pub table : TableId
   pub calls : List Made
+  pub past : List Write
 
 -- the calls of news in a view of its seat
 abbrev pub calls_of_view : View → List Made

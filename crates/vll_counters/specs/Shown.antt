@@ -15,6 +15,7 @@ use Rattle.vll_counters.specs.declared.views.SessionView.{SessionView}
 use Rattle.vll_counters.specs.declared.views.QueueView.{QueueView}
 use Rattle.vll_counters.specs.declared.views.View.{View}
 use Rattle.vll_counters.specs.declared.views.View.TheVariants.{Queue, Pass, Session}
+use Rattle.vll_counters.specs.Written.{Write}
 use Rattle.vll_counters.specs.Steps.{first_queue, new_session, new_pass, turn_ended, leaving, pass_given}
 
 -- the base of the plain machine that a key names
@@ -30,7 +31,7 @@ pub record WordsShown : Type 0 where
 abbrev pub library_of : WordsShown → Catalog
 library_of w = catalog_of w.base
 
--- what the queue's seat knows between two functions of `Words`, when no pass is joined to it
+-- what the queue's seat knows between two functions of `Words`, when no pass is joined to it, and its past
 pub record QueueShown : Type 0 where
   pub table : TableId
   pub lines : List Line
@@ -38,16 +39,19 @@ pub record QueueShown : Type 0 where
   pub turn : Option TurnView
   pub session : Option SessionView
   pub clients : ℕ
+  pub past : List Write
 
--- what contracts see of a session's seat: the identity of its words, and its view
+-- what contracts see of a session's seat: the identity of its words, its view and its past
 pub record SessionShown : Type 0 where
   pub table : TableId
   pub session : SessionView
+  pub past : List Write
 
--- what contracts see of a pass's seat: the identity of its words, and its view
+-- what contracts see of a pass's seat: the identity of its words, its view and its past
 pub record PassShown : Type 0 where
   pub table : TableId
   pub pass : PassView
+  pub past : List Write
 
 -- the view that a queue's seat has
 abbrev pub queue_view : QueueShown → QueueView
@@ -76,21 +80,21 @@ abbrev pub pass_of_view : View → PassView
 pass_of_view (Pass p) = p
 pass_of_view v = new_pass 0 no_call []
 
--- what contracts see of the queue's seat of a table, by its view
-abbrev pub shown_queue : TableId → QueueView → QueueShown
-shown_queue id q = record { table = id; lines = q.lines; statuses = q.statuses; turn = q.turn; session = q.session; clients = q.clients }
+-- what contracts see of the queue's seat of a table, by its past and its view
+abbrev pub shown_queue : TableId → List Write → QueueView → QueueShown
+shown_queue id past q = record { table = id; lines = q.lines; statuses = q.statuses; turn = q.turn; session = q.session; clients = q.clients; past = past }
 
 -- a queue's view with no pass joined to it
 abbrev pub settled : QueueView → QueueView
 settled q = record q { pass = None }
 
--- the same seat with another view
+-- the same seat with another view, and the same past
 abbrev pub after : QueueShown → QueueView → QueueShown
-after s q = shown_queue s.table q
+after s q = shown_queue s.table s.past q
 
--- the same pass's seat with another view
+-- the same pass's seat with another view, and the same past
 abbrev pub passed : PassShown → PassView → PassShown
-passed s p = record { table = s.table; pass = p }
+passed s p = record { table = s.table; pass = p; past = s.past }
 
 -- the claim that the open turn requests next
 abbrev pub next_claim : Option TurnView → Option Claim
@@ -107,7 +111,7 @@ without_session s = record (turn_ended s.turn (queue_view s)) { session = None }
 
 -- the session that leaves
 abbrev pub left_session : QueueShown → Option ℕ → SessionView → SessionShown
-left_session s given g = record { table = s.table; session = leaving given (turn_ended s.turn (queue_view s)) g }
+left_session s given g = record { table = s.table; session = leaving given (turn_ended s.turn (queue_view s)) g; past = s.past }
 
 -- the queue once a pass is given
 abbrev pub with_pass_given : QueueShown → ℕ → QueueView
@@ -115,4 +119,4 @@ with_pass_given s t = pass_given t s.turn (queue_view s)
 
 -- one session for each client, in order, which have seen nothing
 abbrev pub AreNewSessions : TableId → ℕ → List SessionShown → Type 0
-AreNewSessions table clients sessions = (length sessions ≡ clients) × ((c : ℕ) → c < clients → slice_get sessions c ≡ Some (record { table = table; session = new_session c }))
+AreNewSessions table clients sessions = (length sessions ≡ clients) × ((c : ℕ) → c < clients → slice_get sessions c ≡ Some (record { table = table; session = new_session c; past = [] }))

@@ -1,5 +1,5 @@
 //! Laws that hold between any two atomic steps, as the rule does, each the contract of a function that does nothing.
-ghost use Rattle.vll_counters.specs.Laws.{TicketsAreClear, PassesAreClear, RunningTicketsHaveAPass, PassesAreOfRunningTickets, TicketsHaveOnePass, ClientsHaveOneSession, PairWordsCountOpenClaims};
+ghost use Rattle.vll_counters.specs.Laws.{TicketsAreClear, PassesAreClear, RunningTicketsHaveAPass, PassesAreOfRunningTickets, TicketsHaveOnePass, ClientsHaveOneSession, PairWordsCountOpenClaims, PastsAreOfOneRun, OnePastBeginsTheOther, LongerPastHasBoth};
 
 /// A ticket that is running or gone is clear: no claim that a lower ticket has requested and not released conflicts
 /// with a claim of its own.
@@ -28,4 +28,13 @@ pub fn clients_have_one_session()
 /// the open turn has requested, all claims of the waiting calls, and the claims that each pass has not released.
 pub fn pair_words_count_open_claims()
     ensures { PairWordsCountOpenClaims }
+{}
+
+/// One history of writes leads from the opening words to the present ones, and the past of each seat is a beginning of
+/// it. So the answers of all steps are of one run: those of `Words::request`, `Words::release` and `Words::find` are
+/// what the past of their seat had left in the word.
+pub fn pasts_are_of_one_run()
+    ensures history { PastsAreOfOneRun }
+    ensures order { OnePastBeginsTheOther }
+    ensures longer { LongerPastHasBoth }
 {}

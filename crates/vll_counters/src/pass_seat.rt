@@ -1,13 +1,17 @@
 //! The seat of a pass, and its steps under no lock: loads, stores and releases.
-ghost use Rattle.std.specs.Prelude.{◌≡◌, ◌<◌, true, false, length, Some, slice_get, slice_index};
+ghost use Rattle.std.specs.Prelude.{◌≡◌, ◌-◌, ◌<◌, true, false, length, Some, slice_get, slice_index};
 ghost use Rattle.vll_proc.specs.Headline.Serial.{apply};
 ghost use Rattle.vll_core.specs.State.{writes, is_aborted};
+ghost use Rattle.vll_record.specs.Counter.{delta_of};
+ghost use Rattle.vll_record.specs.Headline.Word.{pair_word_of_record};
+ghost use Rattle.vll_counters.specs.Written.{IsOfItsStep};
+ghost use Rattle.vll_counters.specs.Laid.{laid_words};
 ghost use Rattle.vll_counters.specs.Shown.{passed, record_of};
 ghost use Rattle.vll_counters.specs.Steps.{loaded, stored, released, records_before_pass, reply_of_pass};
 ghost use Rattle.vll_counters.specs.Told.{IsValueNow, IsCountedNow, has_stored_pass};
 
 use crate::steps::{Known, Loads, Releases, Stores};
-use crate::views::View;
+use crate::views::SeatView;
 use crate::words::Words;
 use atomic_table::Seat;
 use std::marker::{Brand, Model};
@@ -16,19 +20,20 @@ use vll_record::{Claim, RecordId, delta, pair_word, value_word};
 /// The seat of one running call, which makes its steps under no lock. `Words::join_pass` has to consume it. Contracts
 /// see its ticket and call, the entered calls up to its own, the numbers of its steps, and the values it has loaded.
 pub struct PassSeat {
-    pub(crate) seat: Seat<(), View>,
+    pub(crate) seat: Seat<(), SeatView>,
 }
 
 impl Model for PassSeat {
     ghost use Rattle.std.specs.Prelude.{◌≡◌, []};
+    ghost use Rattle.vll_counters.specs.History.{seat_view};
     ghost use Rattle.vll_counters.specs.Shown.{PassShown, pass_of_view};
     ghost use Rattle.vll_counters.specs.declared.views.View.TheVariants.{Pass};
 
     ghost Value = { PassShown };
 
-    ghost view = { λ s. record { table = s.seat.table_id; pass = pass_of_view s.seat.me.0 } };
+    ghost view = { λ s. record { table = s.seat.table_id; pass = pass_of_view s.seat.me.0.view; past = s.seat.me.0.past } };
 
-    ghost invariant = { λ s. s.seat.me ≡ (Pass (pass_of_view s.seat.me.0), []) };
+    ghost invariant = { λ s. s.seat.me ≡ (seat_view (Pass (pass_of_view s.seat.me.0.view)) s.seat.me.0.past, []) };
 }
 
 impl Words {
@@ -75,27 +80,29 @@ impl Words {
     }
 
     /// Releases the pass's next claim, by one fetch_sub on the record's pair word, once all its stores are made.
-    /// Returns the word before that: by the clause, the record's counter at a moment consistent with what the pass
-    /// knew.
+    /// Returns the word before that, which is the record's counter, as the writes before this step have left it: the
+    /// last write of the seat's new past is this step's own, and its old past is a beginning of the writes before it.
     pub fn release(&self, pass: &mut PassSeat, claim: Claim) -> u64
         requires same { pass.old.table ≡ self.now.table }
         requires next { slice_get pass.old.pass.call.claims pass.old.pass.releases ≡ Some claim }
         requires there { claim.id < length self.now.base.records }
         requires stored { has_stored_pass self.now.base pass.old.pass ≡ true }
-        ensures pass { pass.new ≡ passed pass.old (released pass.old.pass) }
+        ensures pass { pass.new ≡ record (passed pass.old (released pass.old.pass)) { past = pass.new.past } }
         ensures counter { IsCountedNow self.now.base pass.old.pass claim.id result }
+        ensures step { IsOfItsStep (laid_words self.now.base.records) pass.old.past pass.new.past (pair_word_of_record claim.id) result (result - delta_of claim.mode) }
     {
         self.release_knowing::<Brand>(pass, claim)
     }
 
     fn release_knowing<T: Known>(&self, pass: &mut PassSeat, claim: Claim) -> u64
-        requires told { (T.base ≡ self.now.base) × (T.number ≡ claim.id) }
+        requires told { (T.base ≡ self.now.base) × (T.claim ≡ claim) }
         requires same { pass.old.table ≡ self.now.table }
         requires next { slice_get pass.old.pass.call.claims pass.old.pass.releases ≡ Some claim }
         requires there { claim.id < length self.now.base.records }
         requires stored { has_stored_pass self.now.base pass.old.pass ≡ true }
-        ensures pass { pass.new ≡ passed pass.old (released pass.old.pass) }
+        ensures pass { pass.new ≡ record (passed pass.old (released pass.old.pass)) { past = pass.new.past } }
         ensures counter { IsCountedNow self.now.base pass.old.pass claim.id result }
+        ensures step { IsOfItsStep (laid_words self.now.base.records) pass.old.past pass.new.past (pair_word_of_record claim.id) result (result - delta_of claim.mode) }
     {
         self.table
             .shared

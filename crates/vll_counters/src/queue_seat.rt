@@ -1,13 +1,17 @@
 //! The queue's seat, and its steps for calls: requesting claims, giving passes, and ending them.
-ghost use Rattle.std.specs.Prelude.{◌≡◌, ◌<◌, true, length, Some, None, slice_get, option_map};
+ghost use Rattle.std.specs.Prelude.{◌≡◌, ◌+◌, ◌<◌, true, length, Some, None, slice_get, option_map};
 ghost use Rattle.vll_core.specs.declared.line.Line.{Line};
+ghost use Rattle.vll_record.specs.Counter.{delta_of};
+ghost use Rattle.vll_record.specs.Headline.Word.{pair_word_of_record};
+ghost use Rattle.vll_counters.specs.Written.{IsOfItsStep, longer};
+ghost use Rattle.vll_counters.specs.Laid.{laid_words};
 ghost use Rattle.vll_counters.specs.Shown.{queue_view, after, next_claim, with_pass_given};
 ghost use Rattle.vll_counters.specs.Steps.{requested, new_pass, finished};
 ghost use Rattle.vll_counters.specs.Told.{IsCounterNow, MayRun, KnowsPass, has_stored_pass};
 
 use crate::pass_seat::PassSeat;
 use crate::steps::{Comes, Ends, GivesPass, Known, Requests};
-use crate::views::View;
+use crate::views::SeatView;
 use crate::words::Words;
 use atomic_table::Seat;
 use std::marker::{Brand, Model};
@@ -18,30 +22,33 @@ use vll_record::{Claim, delta, pair_word};
 /// open turn, the session that has joined it, and the number of clients.
 #[derive(Drop)]
 pub struct QueueSeat {
-    pub(crate) seat: Seat<(), View>,
+    pub(crate) seat: Seat<(), SeatView>,
 }
 
 impl Model for QueueSeat {
     ghost use Rattle.std.specs.Prelude.{◌≡◌, []};
+    ghost use Rattle.vll_counters.specs.History.{seat_view};
     ghost use Rattle.vll_counters.specs.Shown.{QueueShown, queue_in, shown_queue, settled};
     ghost use Rattle.vll_counters.specs.declared.views.View.TheVariants.{Queue};
 
     ghost Value = { QueueShown };
 
-    ghost view = { λ s. shown_queue s.seat.table_id (queue_in s.seat.me.0) };
+    ghost view = { λ s. shown_queue s.seat.table_id s.seat.me.0.past (queue_in s.seat.me.0.view) };
 
-    ghost invariant = { λ s. (s.seat.id ≡ 0) × (s.seat.me ≡ (Queue (settled (queue_in s.seat.me.0)), [])) };
+    ghost invariant = { λ s. (s.seat.id ≡ 0) × (s.seat.me ≡ (seat_view (Queue (settled (queue_in s.seat.me.0.view))) s.seat.me.0.past, [])) };
 }
 
 impl Words {
-    /// Requests the open turn's next claim, by one fetch_add on the record's pair word. Returns the word before that:
-    /// by the clause, the record's counter at a moment consistent with what the queue's seat knew.
+    /// Requests the open turn's next claim, by one fetch_add on the record's pair word. Returns the word before that,
+    /// which is the record's counter, as the writes before this step have left it: the last write of the seat's new past
+    /// is this step's own, and its old past is a beginning of the writes before it.
     pub fn request(&self, queue: &mut QueueSeat, claim: Claim) -> u64
         requires same { queue.old.table ≡ self.now.table }
         requires next { next_claim queue.old.turn ≡ Some claim }
         requires there { claim.id < length self.now.base.records }
-        ensures queue { queue.new ≡ after queue.old (requested claim result (queue_view queue.old)) }
+        ensures queue { queue.new ≡ record (after queue.old (requested claim result (queue_view queue.old))) { past = queue.new.past } }
         ensures counter { IsCounterNow self.now.base (queue_view queue.old) claim.id result }
+        ensures step { IsOfItsStep (laid_words self.now.base.records) queue.old.past queue.new.past (pair_word_of_record claim.id) result (result + delta_of claim.mode) }
     {
         self.request_knowing::<Brand>(queue, claim)
     }
@@ -51,8 +58,9 @@ impl Words {
         requires same { queue.old.table ≡ self.now.table }
         requires next { next_claim queue.old.turn ≡ Some claim }
         requires there { claim.id < length self.now.base.records }
-        ensures queue { queue.new ≡ after queue.old (requested claim result (queue_view queue.old)) }
+        ensures queue { queue.new ≡ record (after queue.old (requested claim result (queue_view queue.old))) { past = queue.new.past } }
         ensures counter { IsCounterNow self.now.base (queue_view queue.old) claim.id result }
+        ensures step { IsOfItsStep (laid_words self.now.base.records) queue.old.past queue.new.past (pair_word_of_record claim.id) result (result + delta_of claim.mode) }
     {
         self.table
             .shared
@@ -65,7 +73,7 @@ impl Words {
         requires same { queue.old.table ≡ self.now.table }
         requires may_run { MayRun queue.old.lines queue.old.statuses queue.old.turn ticket }
         ensures queue { queue.new ≡ after queue.old (with_pass_given queue.old ticket) }
-        ensures pass { (l : Line) → slice_get queue.new.lines ticket ≡ Some l → result ≡ record { table = self.now.table; pass = new_pass ticket l.call queue.new.lines } }
+        ensures pass { (l : Line) → slice_get queue.new.lines ticket ≡ Some l → result ≡ record { table = self.now.table; pass = new_pass ticket l.call queue.new.lines; past = queue.old.past } }
     {
         self.give_pass_knowing::<Brand>(queue, ticket)
     }
@@ -75,7 +83,7 @@ impl Words {
         requires same { queue.old.table ≡ self.now.table }
         requires may_run { MayRun queue.old.lines queue.old.statuses queue.old.turn ticket }
         ensures queue { queue.new ≡ after queue.old (with_pass_given queue.old ticket) }
-        ensures pass { (l : Line) → slice_get queue.new.lines ticket ≡ Some l → result ≡ record { table = self.now.table; pass = new_pass ticket l.call queue.new.lines } }
+        ensures pass { (l : Line) → slice_get queue.new.lines ticket ≡ Some l → result ≡ record { table = self.now.table; pass = new_pass ticket l.call queue.new.lines; past = queue.old.past } }
     {
         let _ = ticket;
         PassSeat {
@@ -93,7 +101,7 @@ impl Words {
         requires closed { queue.old.turn ≡ None }
         requires stored { has_stored_pass self.now.base pass.pass ≡ true }
         requires released { pass.pass.releases ≡ length pass.pass.call.claims }
-        ensures queue { queue.new ≡ after queue.old (finished self.now.base pass.pass (queue_view queue.old)) }
+        ensures queue { queue.new ≡ record (after queue.old (finished self.now.base pass.pass (queue_view queue.old))) { past = longer queue.old.past pass.past } }
         ensures pass { KnowsPass (queue_view queue.old) pass.pass }
     {
         self.join_pass_knowing::<Brand>(queue, pass);
@@ -105,7 +113,7 @@ impl Words {
         requires closed { queue.old.turn ≡ None }
         requires stored { has_stored_pass self.now.base pass.pass ≡ true }
         requires released { pass.pass.releases ≡ length pass.pass.call.claims }
-        ensures queue { queue.new ≡ after queue.old (finished self.now.base pass.pass (queue_view queue.old)) }
+        ensures queue { queue.new ≡ record (after queue.old (finished self.now.base pass.pass (queue_view queue.old))) { past = longer queue.old.past pass.past } }
         ensures pass { KnowsPass (queue_view queue.old) pass.pass }
     {
         let PassSeat { seat } = pass;

@@ -2,13 +2,16 @@
 ghost use Rattle.std.specs.Prelude.{◌≡◌, ◌<◌, suc, [], length, Some, None, IfSome, IsSome, option_map};
 ghost use Rattle.vll_check.specs.Calls.{IsReady};
 ghost use Rattle.vll_core.specs.declared.config.TheConstants.{MOST_CALLS};
+ghost use Rattle.vll_record.specs.Word.{value_word_of};
+ghost use Rattle.vll_counters.specs.Written.{IsOfItsLoad, longer};
+ghost use Rattle.vll_counters.specs.Laid.{laid_words};
 ghost use Rattle.vll_counters.specs.Shown.{queue_view, after, library_of, without_session, left_session};
 ghost use Rattle.vll_counters.specs.Steps.{new_session, turn_of};
 ghost use Rattle.vll_counters.specs.Told.{HasFound, KnowsSession, MayLeave, IsGivenOut};
 
 use crate::queue_seat::QueueSeat;
 use crate::steps::{Comes, Finds, GivesSession, Known, MakesSession, Opens};
-use crate::views::View;
+use crate::views::SeatView;
 use crate::words::Words;
 use atomic_table::Seat;
 use std::marker::{Brand, Model};
@@ -20,19 +23,20 @@ use vll_record::{RecordId, value_word};
 /// it was given, and the number of calls that waited when it last left the lock.
 #[derive(Drop)]
 pub struct SessionSeat {
-    pub(crate) seat: Seat<(), View>,
+    pub(crate) seat: Seat<(), SeatView>,
 }
 
 impl Model for SessionSeat {
     ghost use Rattle.std.specs.Prelude.{◌≡◌, []};
+    ghost use Rattle.vll_counters.specs.History.{seat_view};
     ghost use Rattle.vll_counters.specs.Shown.{SessionShown, session_of};
     ghost use Rattle.vll_counters.specs.declared.views.View.TheVariants.{Session};
 
     ghost Value = { SessionShown };
 
-    ghost view = { λ s. record { table = s.seat.table_id; session = session_of s.seat.me.0 } };
+    ghost view = { λ s. record { table = s.seat.table_id; session = session_of s.seat.me.0.view; past = s.seat.me.0.past } };
 
-    ghost invariant = { λ s. s.seat.me ≡ (Session (session_of s.seat.me.0), []) };
+    ghost invariant = { λ s. s.seat.me ≡ (seat_view (Session (session_of s.seat.me.0.view)) s.seat.me.0.past, []) };
 }
 
 impl Words {
@@ -41,7 +45,7 @@ impl Words {
         requires same { queue.old.table ≡ self.now.table }
         requires empty { queue.old.lines ≡ [] }
         ensures queue { queue.new ≡ record queue.old { clients = suc queue.old.clients } }
-        ensures session { result ≡ record { table = self.now.table; session = new_session queue.old.clients } }
+        ensures session { result ≡ record { table = self.now.table; session = new_session queue.old.clients; past = queue.old.past } }
     {
         SessionSeat {
             seat: self
@@ -51,16 +55,17 @@ impl Words {
         }
     }
 
-    /// Loads a record for a session, by one load of its value word, which needs no lock. By the clause, the value is
-    /// the record's present one at a moment consistent with what the session knew. The session has then seen all calls
-    /// that have entered, no more of its own client than before. If these run one at a time, the record has the value
-    /// before some ticket, which comes after each ticket whose reply the session was given and whose call claims the
-    /// record.
+    /// Loads a record for a session, by one load of its value word, which needs no lock. The value is the record's
+    /// present one, as the writes up to this load have left it, which are the seat's new past; the old one is a beginning
+    /// of it. The session has then seen all calls that have entered, no more of its own client than before. If these run
+    /// one at a time, the record has the value before some ticket, which comes after each ticket whose reply the session
+    /// was given and whose call claims the record.
     pub fn find(&self, session: &mut SessionSeat, id: RecordId) -> u64
         requires same { session.old.table ≡ self.now.table }
         requires there { id < length self.now.base.records }
         ensures table { session.new.table ≡ session.old.table }
         ensures found { HasFound self.now.base session.old.session session.new.session id result }
+        ensures step { IsOfItsLoad (laid_words self.now.base.records) session.old.past session.new.past (value_word_of id) result }
     {
         self.find_knowing::<Brand>(session, id)
     }
@@ -71,6 +76,7 @@ impl Words {
         requires there { id < length self.now.base.records }
         ensures table { session.new.table ≡ session.old.table }
         ensures found { HasFound self.now.base session.old.session session.new.session id result }
+        ensures step { IsOfItsLoad (laid_words self.now.base.records) session.old.past session.new.past (value_word_of id) result }
     {
         self.table
             .shared
@@ -85,7 +91,7 @@ impl Words {
         requires closed { queue.old.turn ≡ None }
         requires ready { IfSome call (λ c. IsReady (library_of self.now) c.now) }
         requires room { IfSome call (λ _. length queue.old.lines < MOST_CALLS) }
-        ensures queue { queue.new ≡ record queue.old { session = Some session.session; turn = turn_of (option_map (λ c. c.now) call.entry) (Some session.session) } }
+        ensures queue { queue.new ≡ record queue.old { session = Some session.session; turn = turn_of (option_map (λ c. c.now) call.entry) (Some session.session); past = longer queue.old.past session.past } }
         ensures session { KnowsSession self.now.base (queue_view queue.old) session.session }
     {
         self.join_session_knowing::<Brand>(queue, session, call);
@@ -103,7 +109,7 @@ impl Words {
         requires closed { queue.old.turn ≡ None }
         requires ready { IfSome call (λ c. IsReady (library_of self.now) c.now) }
         requires room { IfSome call (λ _. length queue.old.lines < MOST_CALLS) }
-        ensures queue { queue.new ≡ record queue.old { session = Some session.session; turn = turn_of (option_map (λ c. c.now) call.entry) (Some session.session) } }
+        ensures queue { queue.new ≡ record queue.old { session = Some session.session; turn = turn_of (option_map (λ c. c.now) call.entry) (Some session.session); past = longer queue.old.past session.past } }
         ensures session { KnowsSession self.now.base (queue_view queue.old) session.session }
     {
         let _ = call;

@@ -1,5 +1,5 @@
 //! The kinds of step: what each does to views, and what its caller learns.
-use crate::views::View;
+use crate::views::SeatView;
 use atomic_table::{Join, Play, Split};
 use std::marker::{Brand, PhantomData};
 
@@ -39,138 +39,148 @@ impl Known for Brand {
 /// Makes a client's session, at the opening.
 pub struct MakesSession;
 
-impl Split<View> for MakesSession {
+impl Split<SeatView> for MakesSession {
+    ghost use Rattle.vll_counters.specs.History.{with_view};
     ghost use Rattle.vll_counters.specs.Steps.{more_clients, session_made};
 
-    ghost left = { more_clients };
+    ghost left = { with_view more_clients };
 
-    ghost right = { session_made };
+    ghost right = { with_view session_made };
 }
 
 /// Joins a pass or a session to the queue's seat.
 pub struct Comes;
 
-impl Join<View> for Comes {
-    ghost use Rattle.vll_counters.specs.Steps.{joined, spent};
+impl Join<SeatView> for Comes {
+    ghost use Rattle.vll_counters.specs.History.{with_views, spent_seat};
+    ghost use Rattle.vll_counters.specs.Steps.{joined};
 
-    ghost both = { joined };
+    ghost both = { with_views joined };
 
-    ghost spent = { spent };
+    ghost spent = { spent_seat };
 }
 
 /// Opens a turn for the call of the joined session, if it brings one.
 pub struct Opens<T>(PhantomData<T>);
 
-impl<T: Known> Play<(), View> for Opens<T> {
+impl<T: Known> Play<(), SeatView> for Opens<T> {
+    ghost use Rattle.vll_counters.specs.History.{Stays};
     ghost use Rattle.vll_counters.specs.Told.{OpenTells};
 
-    ghost then = { OpenTells T.base T.call };
+    ghost then = { Stays (OpenTells T.base T.call) };
 }
 
 /// Requests the open turn's next claim.
 pub struct Requests<T>(PhantomData<T>);
 
-impl<T: Known> Play<(), View> for Requests<T> {
-    ghost use Rattle.vll_counters.specs.Told.{RequestTells};
+impl<T: Known> Play<(), SeatView> for Requests<T> {
+    ghost use Rattle.vll_counters.specs.History.{Requested};
 
-    ghost then = { RequestTells T.base T.claim };
+    ghost then = { Requested T.base T.claim };
 }
 
 /// Starts a call: that of the open turn, which enters, or a waiting one.
 pub struct GivesPass<T>(PhantomData<T>);
 
-impl<T: Known> Split<View> for GivesPass<T> {
+impl<T: Known> Split<SeatView> for GivesPass<T> {
+    ghost use Rattle.vll_counters.specs.History.{with_view};
     ghost use Rattle.vll_counters.specs.Steps.{pass_kept, pass_made};
 
-    ghost left = { pass_kept T.number };
+    ghost left = { with_view (pass_kept T.number) };
 
-    ghost right = { pass_made T.number };
+    ghost right = { with_view (pass_made T.number) };
 }
 
 /// Lets the session leave the queue; if its turn is open, its call enters.
 pub struct GivesSession<T>(PhantomData<T>);
 
-impl<T: Known> Split<View> for GivesSession<T> {
+impl<T: Known> Split<SeatView> for GivesSession<T> {
+    ghost use Rattle.vll_counters.specs.History.{with_view};
     ghost use Rattle.vll_counters.specs.Steps.{session_kept, session_given};
 
-    ghost left = { session_kept };
+    ghost left = { with_view session_kept };
 
-    ghost right = { session_given T.given };
+    ghost right = { with_view (session_given T.given) };
 }
 
 /// Loads a record for a call that a session has not entered yet.
 pub struct Finds<T>(PhantomData<T>);
 
-impl<T: Known> Play<(), View> for Finds<T> {
-    ghost use Rattle.vll_counters.specs.Told.{FindTells};
+impl<T: Known> Play<(), SeatView> for Finds<T> {
+    ghost use Rattle.vll_counters.specs.History.{Found};
 
-    ghost then = { FindTells T.base T.number };
+    ghost then = { Found T.base T.number };
 }
 
 /// Makes news of what a session has seen.
 pub struct Tells;
 
-impl Split<View> for Tells {
+impl Split<SeatView> for Tells {
+    ghost use Rattle.vll_counters.specs.History.{with_view};
     ghost use Rattle.vll_counters.specs.News.{as_it_is, news_told};
 
-    ghost left = { as_it_is };
+    ghost left = { with_view as_it_is };
 
-    ghost right = { news_told };
+    ghost right = { with_view news_told };
 }
 
 /// Joins news to a session's seat.
 pub struct NewsComes;
 
-impl Join<View> for NewsComes {
+impl Join<SeatView> for NewsComes {
+    ghost use Rattle.vll_counters.specs.History.{with_views, spent_seat};
     ghost use Rattle.vll_counters.specs.News.{with_news};
-    ghost use Rattle.vll_counters.specs.Steps.{spent};
 
-    ghost both = { with_news };
+    ghost both = { with_views with_news };
 
-    ghost spent = { spent };
+    ghost spent = { spent_seat };
 }
 
 /// Makes a session hear the news that has joined its seat.
 pub struct Hears;
 
-impl Play<(), View> for Hears {
+impl Play<(), SeatView> for Hears {
+    ghost use Rattle.vll_counters.specs.History.{Stays};
     ghost use Rattle.vll_counters.specs.News.{HearTells};
 
-    ghost then = { HearTells };
+    ghost then = { Stays HearTells };
 }
 
 /// Loads the record of a running call's next claim.
 pub struct Loads<T>(PhantomData<T>);
 
-impl<T: Known> Play<(), View> for Loads<T> {
+impl<T: Known> Play<(), SeatView> for Loads<T> {
+    ghost use Rattle.vll_counters.specs.History.{Stays};
     ghost use Rattle.vll_counters.specs.Told.{LoadTells};
 
-    ghost then = { LoadTells T.base T.number };
+    ghost then = { Stays (LoadTells T.base T.number) };
 }
 
 /// Stores the record of a running call's next Write claim.
 pub struct Stores;
 
-impl Play<(), View> for Stores {
+impl Play<(), SeatView> for Stores {
+    ghost use Rattle.vll_counters.specs.History.{Stays};
     ghost use Rattle.vll_counters.specs.Told.{StoreTells};
 
-    ghost then = { StoreTells };
+    ghost then = { Stays StoreTells };
 }
 
 /// Releases a running call's next claim.
 pub struct Releases<T>(PhantomData<T>);
 
-impl<T: Known> Play<(), View> for Releases<T> {
-    ghost use Rattle.vll_counters.specs.Told.{ReleaseTells};
+impl<T: Known> Play<(), SeatView> for Releases<T> {
+    ghost use Rattle.vll_counters.specs.History.{Released};
 
-    ghost then = { ReleaseTells T.base T.number };
+    ghost then = { Released T.base T.claim };
 }
 
 /// Ends the call of the joined pass: it is gone.
 pub struct Ends<T>(PhantomData<T>);
 
-impl<T: Known> Play<(), View> for Ends<T> {
+impl<T: Known> Play<(), SeatView> for Ends<T> {
+    ghost use Rattle.vll_counters.specs.History.{Stays};
     ghost use Rattle.vll_counters.specs.Told.{EndTells};
 
-    ghost then = { EndTells T.base };
+    ghost then = { Stays (EndTells T.base) };
 }

@@ -55,3 +55,10 @@ pub enum View {
     Hearing(SessionView, LinkedList<(u32, Call)>),
     Spent,
 }
+
+/// What a seat knows, and its past: the writes of words, each with the word's index and its new value, up to the last
+/// step of the seat that was told the history.
+pub struct SeatView {
+    pub view: View,
+    pub past: LinkedList<(u64, u64)>,
+}

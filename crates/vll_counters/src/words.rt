@@ -3,17 +3,18 @@ ghost use Rattle.std.specs.Prelude.{◌≡◌, ◌+◌, ◌*◌, ◌<◌, ◌≤
 ghost use Rattle.std.specs.Mem.Slots.{slots_items, slots_len, IsFull};
 ghost use Rattle.vll_sca.specs.Headline.Status.{is_waiting};
 ghost use Rattle.vll_sca.specs.Status.{is_running};
-ghost use Rattle.vll_counters.specs.Laid.{AreLaid};
+ghost use Rattle.vll_counters.specs.Laid.{AreLaid, laid_words};
 ghost use Rattle.vll_counters.specs.Shown.{shown_queue, AreNewSessions};
 ghost use Rattle.vll_counters.specs.Steps.{first_queue};
 ghost use Rattle.vll_counters.specs.Told.{IsAtEnd};
+ghost use Rattle.vll_counters.specs.Written.{LeadsTo};
 
 use crate::fault::NoMemory;
 use crate::key::Key;
 use crate::queue_seat::QueueSeat;
 use crate::rule::Law;
 use crate::session_seat::SessionSeat;
-use crate::views::View;
+use crate::views::SeatView;
 use atomic_table::{Closed, Table};
 use std::alloc::{AllocError, Global};
 use std::marker::Model;
@@ -26,7 +27,7 @@ use vll_record::{Claim, granted, pair_word};
 /// records of the opening.
 #[derive(Drop)]
 pub struct Words {
-    pub(crate) table: Table<(), View, Key, Law, Global>,
+    pub(crate) table: Table<(), SeatView, Key, Law, Global>,
     // Room for the words that closing returns.
     room: Vec<u64>,
 }
@@ -75,6 +76,7 @@ fn lay(words: &mut Vec<u64>, records: &[u64])
     requires empty { words.old.items ≡ [] }
     requires room { 1 + 2 * length records.now ≤ vec_capacity words.old }
     ensures words { AreLaid records.now words.new.items }
+    ensures list { words.new.items ≡ laid_words records.now }
     ensures room { vec_capacity words.new ≡ vec_capacity words.old }
 {
     words.push_reserved(0);
@@ -109,7 +111,7 @@ impl Words {
     ) -> Result<(Words, QueueSeat, Vec<SessionSeat>), NoMemory>
         requires records { library.now.records ≡ length records.now }
         ensures words { IfOk result (λ o. o.0.base ≡ record { procs = library.now.procs; records = records.now }) }
-        ensures queue { IfOk result (λ o. o.1 ≡ shown_queue o.0.table (first_queue clients)) }
+        ensures queue { IfOk result (λ o. o.1 ≡ shown_queue o.0.table [] (first_queue clients)) }
         ensures sessions { IfOk result (λ o. AreNewSessions o.0.table clients o.2.items) }
     {
         let room = copied(alloc, records)?;
@@ -133,7 +135,7 @@ impl Words {
         requires records { library.now.records ≡ length records.now }
         requires room { 1 + 2 * length records.now ≤ vec_capacity room }
         ensures words { IfOk result (λ o. o.0.base ≡ record { procs = library.now.procs; records = records.now }) }
-        ensures queue { IfOk result (λ o. o.1 ≡ shown_queue o.0.table (first_queue 0)) }
+        ensures queue { IfOk result (λ o. o.1 ≡ shown_queue o.0.table [] (first_queue 0)) }
     {
         copy(&mut room, records);
         Ok(Words::laid(alloc, room, records, library)?)
@@ -150,7 +152,7 @@ impl Words {
         requires items { room.items ≡ records.now }
         requires room { 1 + 2 * length records.now ≤ vec_capacity room }
         ensures words { IfOk result (λ o. o.0.base ≡ record { procs = library.now.procs; records = records.now }) }
-        ensures queue { IfOk result (λ o. o.1 ≡ shown_queue o.0.table (first_queue 0)) }
+        ensures queue { IfOk result (λ o. o.1 ≡ shown_queue o.0.table [] (first_queue 0)) }
     {
         let _ = library.records();
         let key = Key {
@@ -174,13 +176,15 @@ impl Words {
     }
 
     /// Returns the words, once no turn is open and no call waits or runs: each value is what the entered calls make of
-    /// the record, one at a time in the order of entry, and each pair word is 0. Allocates nothing.
+    /// the record, one at a time in the order of entry, and each pair word is 0. One history leads from the opening
+    /// words to them, and begins with what the queue's seat knew of it. Allocates nothing.
     pub fn close(self, queue: QueueSeat) -> Vec<u64>
         requires same { queue.table ≡ self.table }
         requires closed { queue.turn ≡ None }
         requires waiting { count_by is_waiting queue.statuses ≡ 0 }
         requires running { count_by is_running queue.statuses ≡ 0 }
         ensures words { IsAtEnd self.base queue.lines result.items }
+        ensures history { LeadsTo (laid_words self.base.records) queue.past result.items }
         ensures room { 1 + 2 * length self.base.records ≤ vec_capacity result }
     {
         let Words { table, room } = self;

@@ -85,7 +85,7 @@ fn enter(
     call: &Call,
     claim: &Claim,
 ) -> (u64, PassSeat, SessionSeat)
-    requires queue { queue.old ≡ shown_queue words.now.table (first_queue 1) }
+    requires queue { queue.old ≡ shown_queue words.now.table [] (first_queue 1) }
     requires session { session.table ≡ words.now.table }
     requires ready { IsReady (library_of words.now) call.now }
     requires claim { call.now.claims ≡ claim.now ∷ [] }

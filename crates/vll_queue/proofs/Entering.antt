@@ -22,6 +22,7 @@ use Rattle.vll_core.specs.Queue.{QueueEntry, Queued, IsQueued, lines, statuses, 
 use Rattle.vll_core.proofs.QueueLaws.{lines_admitted, statuses_admitted}
 use Rattle.vll_counters.specs.declared.views.SessionView.{SessionView}
 use Rattle.vll_counters.specs.Headline.Views.{calls_in}
+use Rattle.vll_counters.specs.Written.{Write}
 use Rattle.vll_counters.specs.Shown.{QueueShown, SessionShown, PassShown, WordsShown, queue_view, after, without_session, left_session, with_pass_given}
 use Rattle.vll_counters.specs.Steps.{turn_of, new_pass, told}
 use Rattle.vll_counters.specs.Told.{KnowsSession}
@@ -75,49 +76,52 @@ abbrev status_of : Bool → Status
 status_of free = if free then Running else Waiting
 
 -- the seat once the turn has requested all its claims
-abbrev asked_seat : QueueShown → SessionView → ℕ → Call → Bool → QueueShown
-asked_seat s g client call free = record s { turn = Some (asked_turn client call free); session = Some g }
+abbrev asked_seat : QueueShown → SessionView → ℕ → Call → Bool → List Write → QueueShown
+asked_seat s g client call free past = record s { turn = Some (asked_turn client call free); session = Some g; past = past }
 
 -- the seat once the call has entered and its session has left
-abbrev entered_seat : QueueShown → ℕ → Call → Bool → QueueShown
-entered_seat s client call free =
-    record { table = s.table; lines = s.lines ++ line_of client call ∷ []; statuses = s.statuses ++ status_of free ∷ []; turn = None; session = None; clients = s.clients }
+abbrev entered_seat : QueueShown → ℕ → Call → Bool → List Write → QueueShown
+entered_seat s client call free past =
+    record { table = s.table; lines = s.lines ++ line_of client call ∷ []; statuses = s.statuses ++ status_of free ∷ []; turn = None; session = None; clients = s.clients; past = past }
 
 -- the session that has left has seen its call
-abbrev entered_session : QueueShown → SessionView → ℕ → Call → Bool → SessionShown
-entered_session s g client call free =
-    record { table = s.table; session = record g { seen = calls_in (s.lines ++ line_of client call ∷ []); waited = count_by is_waiting (s.statuses ++ status_of free ∷ []) } }
+abbrev entered_session : QueueShown → SessionView → ℕ → Call → Bool → List Write → SessionShown
+entered_session s g client call free past =
+    record { table = s.table; session = record g { seen = calls_in (s.lines ++ line_of client call ∷ []); waited = count_by is_waiting (s.statuses ++ status_of free ∷ []) }; past = past }
 
 pub record HasEntered (old seat : QueueShown) (g : SessionView) (client : ℕ) (call : Call) (free : Bool) (left : SessionShown) : Type 0 where
-  pub seat_is : seat ≡ entered_seat old client call free
-  pub session_is : left ≡ entered_session old g client call free
+  pub past : List Write
+  pub seat_is : seat ≡ entered_seat old client call free past
+  pub session_is : left ≡ entered_session old g client call free past
 
 -- a turn opens and requests all its claims
-pub all_asked : (old joined asked : QueueShown) (g : SessionView) (client : ℕ) (call : Call) (free : Bool) → joined ≡ record old { session = Some g; turn = turn_of (Some call) (Some g) }
-    → asked ≡ record joined { turn = Some (asked_turn client call free) } → asked ≡ asked_seat old g client call free
-all_asked old joined asked g client call free opens asks =
-    asks ∙ ap (λ (s : QueueShown). let x : QueueShown = record s { turn = Some (asked_turn client call free) } in x) opens
+pub all_asked : (old joined asked : QueueShown) (before past : List Write) (g : SessionView) (client : ℕ) (call : Call) (free : Bool) → joined ≡ record old { session = Some g; turn = turn_of (Some call) (Some g); past = before }
+    → asked ≡ record joined { turn = Some (asked_turn client call free); past = past } → asked ≡ asked_seat old g client call free past
+all_asked old joined asked before past g client call free opens asks =
+    asks ∙ ap (λ (s : QueueShown). let x : QueueShown = record s { turn = Some (asked_turn client call free); past = past } in x) opens
 
 -- the call is blocked: it enters as its session leaves
-pub entered_blocked : (old asked seat : QueueShown) (g : SessionView) (client : ℕ) (call : Call) (free : Bool) (left : SessionShown) → asked ≡ asked_seat old g client call free
+pub entered_blocked : (old asked seat : QueueShown) (past : List Write) (g : SessionView) (client : ℕ) (call : Call) (free : Bool) (left : SessionShown) → asked ≡ asked_seat old g client call free past
     → seat ≡ after asked (without_session asked) → IfSome asked.session (λ (h : SessionView). left ≡ left_session asked None h) → HasEntered old seat g client call free left
-entered_blocked old asked seat g client call free left is now leaves = record {
+entered_blocked old asked seat past g client call free left is now leaves = record {
+  past = past;
   seat_is = now ∙ ap (λ (s : QueueShown). after s (without_session s)) is;
   session_is = subst (λ (s : QueueShown). IfSome s.session (λ (h : SessionView). left ≡ left_session s None h)) is leaves;
 }
 
 -- the seat once the call has entered with its pass
-abbrev given_seat : QueueShown → SessionView → ℕ → Call → Bool → QueueShown
-given_seat s g client call free = record (entered_seat s client call free) { session = Some (told (calls_in (s.lines ++ line_of client call ∷ [])) g) }
+abbrev given_seat : QueueShown → SessionView → ℕ → Call → Bool → List Write → QueueShown
+given_seat s g client call free past = record (entered_seat s client call free past) { session = Some (told (calls_in (s.lines ++ line_of client call ∷ [])) g) }
 
-pub pass_given_seat : (old asked given : QueueShown) (g : SessionView) (client : ℕ) (call : Call) (free : Bool) (t : ℕ) → asked ≡ asked_seat old g client call free
-    → given ≡ after asked (with_pass_given asked t) → given ≡ given_seat old g client call free
-pass_given_seat old asked given g client call free t is now = now ∙ ap (λ (s : QueueShown). after s (with_pass_given s t)) is
+pub pass_given_seat : (old asked given : QueueShown) (past : List Write) (g : SessionView) (client : ℕ) (call : Call) (free : Bool) (t : ℕ) → asked ≡ asked_seat old g client call free past
+    → given ≡ after asked (with_pass_given asked t) → given ≡ given_seat old g client call free past
+pass_given_seat old asked given past g client call free t is now = now ∙ ap (λ (s : QueueShown). after s (with_pass_given s t)) is
 
 -- the call is free: it enters as its pass is given, and its session leaves
-pub entered_free : (old given seat : QueueShown) (g : SessionView) (client : ℕ) (call : Call) (free : Bool) (left : SessionShown) → given ≡ given_seat old g client call free
+pub entered_free : (old given seat : QueueShown) (past : List Write) (g : SessionView) (client : ℕ) (call : Call) (free : Bool) (left : SessionShown) → given ≡ given_seat old g client call free past
     → seat ≡ after given (without_session given) → IfSome given.session (λ (h : SessionView). left ≡ left_session given None h) → HasEntered old seat g client call free left
-entered_free old given seat g client call free left is now leaves = record {
+entered_free old given seat past g client call free left is now leaves = record {
+  past = past;
   seat_is = now ∙ ap (λ (s : QueueShown). after s (without_session s)) is;
   session_is = subst (λ (s : QueueShown). IfSome s.session (λ (h : SessionView). left ≡ left_session s None h)) is leaves;
 }
@@ -181,25 +185,25 @@ blocked_waits old seat g client call free left entered is =
     omega (arith, waited, one)
 
 -- the pass of the call that has entered
-pub pass_is : {H : Type 0} (e : Named) (place : H → ℕ → ℕ) (old given : QueueShown) (q : Queued H) (g : SessionView) (client : ℕ) (call : Call) (free : Bool) (t : ℕ) (table : TableId) (p : PassShown)
-    → IsKept e place old q → given ≡ given_seat old g client call free → t ≡ length q.entries
-    → ((l : Line) → slice_get given.lines t ≡ Some l → p ≡ record { table = table; pass = new_pass t l.call given.lines })
-    → p ≡ record { table = table; pass = new_pass t call (old.lines ++ line_of client call ∷ []) }
-pass_is e place old given q g client call free t table p kept is last gets =
+pub pass_is : {H : Type 0} (e : Named) (place : H → ℕ → ℕ) (old given : QueueShown) (q : Queued H) (past before : List Write) (g : SessionView) (client : ℕ) (call : Call) (free : Bool) (t : ℕ) (table : TableId) (p : PassShown)
+    → IsKept e place old q → given ≡ given_seat old g client call free past → t ≡ length q.entries
+    → ((l : Line) → slice_get given.lines t ≡ Some l → p ≡ record { table = table; pass = new_pass t l.call given.lines; past = before })
+    → p ≡ record { table = table; pass = new_pass t call (old.lines ++ line_of client call ∷ []); past = before }
+pass_is e place old given q past before g client call free t table p kept is last gets =
     let lines_are : given.lines ≡ old.lines ++ line_of client call ∷ [] = ap (λ (s : QueueShown). s.lines) is in
     let next = next_ticket e place old q t kept last in
     gets (line_of client call) (ap (λ (ls : List Line). slice_get ls t) lines_are ∙ ap (slice_get (old.lines ++ line_of client call ∷ [])) next ∙ get_last old.lines (line_of client call))
-    ∙ ap (λ (ls : List Line). record { table = table; pass = new_pass t call ls }) lines_are
+    ∙ ap (λ (ls : List Line). record { table = table; pass = new_pass t call ls; past = before }) lines_are
 
-pub pass_for : {H : Type 0} (e : Named) (place : H → ℕ → ℕ) (base : Base) (old seat : QueueShown) (q : Queued H) (g : SessionView) (client : ℕ) (call : Call) (free : Bool) (left : SessionShown) (t : ℕ) (table : TableId) (p : PassShown)
+pub pass_for : {H : Type 0} (e : Named) (place : H → ℕ → ℕ) (base : Base) (old seat : QueueShown) (q : Queued H) (g : SessionView) (client : ℕ) (call : Call) (free : Bool) (left : SessionShown) (before : List Write) (t : ℕ) (table : TableId) (p : PassShown)
     → IsKept e place old q → KnowsSession base (queue_view old) g → HasEntered old seat g client call free left → g.client ≡ client → IsReady (library_of e) call → IsLookedUp e g call → table ≡ e.table → t ≡ length q.entries
-    → p ≡ record { table = table; pass = new_pass t call (old.lines ++ line_of client call ∷ []) } → IsPassFor e left.session call p
-pass_for e place base old seat q g client call free left t table p kept knows entered own ready up same last is =
+    → p ≡ record { table = table; pass = new_pass t call (old.lines ++ line_of client call ∷ []); past = before } → IsPassFor e left.session call p
+pass_for e place base old seat q g client call free left before t table p kept knows entered own ready up same last is =
     let low = client_there e place base old q g client kept knows own in
     let next = next_ticket e place old q t kept last in
     let long : length (calls_in (old.lines ++ line_of client call ∷ [])) ≡ length old.lines + 1 = length-map (old.lines ++ line_of client call ∷ []) (λ (l : Line). (l.client, l.call)) ∙ length-append old.lines (line_of client call ∷ []) in
     record {
-      fresh = new_pass_fresh e table p (old.lines ++ line_of client call ∷ []) t (line_of client call) same
+      fresh = new_pass_fresh e table p (old.lines ++ line_of client call ∷ []) t (line_of client call) before same
           (own_more e old.lines client call (subst (AreOwn e) (sym kept.lines_are) kept.own) low ready (λ r source_is. looked_up_next e (calls_in old.lines) old.statuses g call r knows.has_seen (up r source_is)))
           (ap (slice_get (old.lines ++ line_of client call ∷ [])) next ∙ get_last old.lines (line_of client call)) is;
       own = ap (λ (x : PassShown). x.pass.call) is;

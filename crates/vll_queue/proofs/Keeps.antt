@@ -12,6 +12,7 @@ use Rattle.vll_core.proofs.Places.{all_at}
 use Rattle.vll_core.proofs.QueueLaws.{lines_started, statuses_started, statuses_finished}
 use Rattle.vll_core.proofs.Entries.{changed_later}
 use Rattle.vll_counters.specs.declared.views.PassView.{PassView}
+use Rattle.vll_counters.specs.Written.{Write}
 use Rattle.vll_counters.specs.Shown.{QueueShown, after, queue_view, with_pass_given}
 use Rattle.vll_counters.specs.declared.views.TurnView.{TurnView}
 use Rattle.vll_counters.specs.Steps.{finished as ended, reply_of_pass, answered, pass_given}
@@ -59,9 +60,9 @@ own_set e ls t l reply own at = record {
 }
 
 -- the pass that has come ends its call, in the queue as at the seat
-pub kept_finished : {H : Type 0} (e : Named) (place : H → ℕ → ℕ) (old new : QueueShown) (q : Queued H) (p : PassView) (t : ℕ) (reply : Reply) → IsKept e place old q
-    → KnowsPass (queue_view old) p → p.ticket ≡ t → reply_of_pass e.base p ≡ reply → new ≡ after old (ended e.base p (queue_view old)) → IsKept e place new (finished q t reply)
-kept_finished e place old new q p t reply kept knows ticket right is =
+pub kept_finished : {H : Type 0} (e : Named) (place : H → ℕ → ℕ) (old new : QueueShown) (past : List Write) (q : Queued H) (p : PassView) (t : ℕ) (reply : Reply) → IsKept e place old q
+    → KnowsPass (queue_view old) p → p.ticket ≡ t → reply_of_pass e.base p ≡ reply → new ≡ record (after old (ended e.base p (queue_view old))) { past = past } → IsKept e place new (finished q t reply)
+kept_finished e place old new past q p t reply kept knows ticket right is =
     let here : slice_get (lines q) t ≡ Some knows.line = ap (λ (ls : List Line). slice_get ls t) (sym kept.lines_are) ∙ ap (λ (n : ℕ). slice_get old.lines n) (sym ticket) ∙ knows.at in
     subst (λ (s : QueueShown). IsKept e place s (finished q t reply)) (sym is) (record {
       same = kept.same;

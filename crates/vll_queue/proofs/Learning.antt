@@ -20,6 +20,7 @@ use Rattle.vll_counters.specs.declared.views.SessionView.{SessionView}
 use Rattle.vll_counters.specs.declared.views.QueueView.{QueueView}
 use Rattle.vll_counters.specs.Headline.Views.{calls_by, calls_in}
 use Rattle.vll_counters.specs.Rule.{HasSeen}
+use Rattle.vll_counters.specs.Written.{Write}
 use Rattle.vll_counters.specs.Shown.{QueueShown, SessionShown, queue_view, left_session}
 use Rattle.vll_counters.specs.Steps.{leaving}
 use Rattle.vll_counters.specs.Told.{KnowsSession, AreReplied, IsGivenOut}
@@ -65,21 +66,21 @@ leaving_others base q None g knows = saw_others (calls_in q.lines) q.statuses g 
 leaving_others base q (Some t) g knows = saw_others (calls_in q.lines) q.statuses g (leaving (Some t) q g) knows.has_seen refl refl
 
 -- the session that came with no call has left
-pub left_is : (old seat : QueueShown) (g : SessionView) (given : Option ℕ) (s : SessionShown) → seat ≡ record old { session = Some g; turn = None }
-    → IfSome seat.session (λ (h : SessionView). s ≡ left_session seat given h) → s ≡ record { table = old.table; session = leaving given (queue_view old) g }
-left_is old seat g None s is left = subst (λ (q : QueueShown). IfSome q.session (λ (h : SessionView). s ≡ left_session q None h)) is left
-left_is old seat g (Some t) s is left = subst (λ (q : QueueShown). IfSome q.session (λ (h : SessionView). s ≡ left_session q (Some t) h)) is left
+pub left_is : (old seat : QueueShown) (past : List Write) (g : SessionView) (given : Option ℕ) (s : SessionShown) → seat ≡ record old { session = Some g; turn = None; past = past }
+    → IfSome seat.session (λ (h : SessionView). s ≡ left_session seat given h) → s ≡ record { table = old.table; session = leaving given (queue_view old) g; past = past }
+left_is old seat past g None s is left = subst (λ (q : QueueShown). IfSome q.session (λ (h : SessionView). s ≡ left_session q None h)) is left
+left_is old seat past g (Some t) s is left = subst (λ (q : QueueShown). IfSome q.session (λ (h : SessionView). s ≡ left_session q (Some t) h)) is left
 
 -- it has seen all calls
-pub left_seen : (old seat : QueueShown) (g : SessionView) (given : Option ℕ) (s : SessionShown) → seat ≡ record old { session = Some g; turn = None }
+pub left_seen : (old seat : QueueShown) (past : List Write) (g : SessionView) (given : Option ℕ) (s : SessionShown) → seat ≡ record old { session = Some g; turn = None; past = past }
     → IfSome seat.session (λ (h : SessionView). s ≡ left_session seat given h) → s.session.seen ≡ calls_in old.lines
-left_seen old seat g None s is left = ap (λ (x : SessionShown). x.session.seen) (left_is old seat g None s is left)
-left_seen old seat g (Some t) s is left = ap (λ (x : SessionShown). x.session.seen) (left_is old seat g (Some t) s is left)
+left_seen old seat past g None s is left = ap (λ (x : SessionShown). x.session.seen) (left_is old seat past g None s is left)
+left_seen old seat past g (Some t) s is left = ap (λ (x : SessionShown). x.session.seen) (left_is old seat past g (Some t) s is left)
 
-pub left_others : (base : Base) (old seat : QueueShown) (g : SessionView) (given : Option ℕ) (s : SessionShown) → KnowsSession base (queue_view old) g → seat ≡ record old { session = Some g; turn = None }
+pub left_others : (base : Base) (old seat : QueueShown) (past : List Write) (g : SessionView) (given : Option ℕ) (s : SessionShown) → KnowsSession base (queue_view old) g → seat ≡ record old { session = Some g; turn = None; past = past }
     → IfSome seat.session (λ (h : SessionView). s ≡ left_session seat given h) → SawOthers g s.session
-left_others base old seat g given s knows is left =
-    subst (λ (x : SessionShown). SawOthers g x.session) (sym (left_is old seat g given s is left)) (leaving_others base (queue_view old) given g knows)
+left_others base old seat past g given s knows is left =
+    subst (λ (x : SessionShown). SawOthers g x.session) (sym (left_is old seat past g given s is left)) (leaving_others base (queue_view old) given g knows)
 
 -- ---- the reply that a session is given
 
@@ -116,9 +117,9 @@ reply_at e place seat inside q t r kept is queued at =
     }
 
 -- the ticket whose reply is given is gone
-pub given_out : (old joined : QueueShown) (g : SessionView) (t : ℕ) (r : Option Reply) (some : Bool) (given : Option ℕ) → IsReplyAt old t r → joined ≡ record old { session = Some g; turn = None }
+pub given_out : (old joined : QueueShown) (past : List Write) (g : SessionView) (t : ℕ) (r : Option Reply) (some : Bool) (given : Option ℕ) → IsReplyAt old t r → joined ≡ record old { session = Some g; turn = None; past = past }
     → some ≡ is_some r → given ≡ then_some some t → IsGivenOut joined.statuses given
-given_out old joined g t r some given there is test out u at =
+given_out old joined past g t r some given there is test out u at =
     ap (λ (s : QueueShown). slice_get s.statuses u) is ∙ by_reply some (test ∙ ap is_some there.there ∙ replied_at old.lines old.statuses t there.same) (sym out ∙ at)
   where
     by_reply : (b : Bool) → b ≡ gone_at (slice_get old.statuses t) → ◌≡◌ {A = Option ℕ} (then_some b t) (Some u) → slice_get old.statuses u ≡ Some Gone

@@ -17,6 +17,7 @@ use Rattle.vll_core.specs.Queue.{QueueEntry, Queued, lines, statuses, is_left, w
 use Rattle.vll_core.proofs.QueueLaws.{lines_started}
 use Rattle.vll_core.proofs.Places.{all_at, entry_at}
 use Rattle.vll_counters.specs.Headline.Views.{calls_in}
+use Rattle.vll_counters.specs.Written.{Write}
 use Rattle.vll_counters.specs.Shown.{QueueShown, PassShown, WordsShown}
 use Rattle.vll_counters.specs.Steps.{new_pass}
 use Rattle.vll_counters.specs.Told.{MayStart}
@@ -150,11 +151,11 @@ begins e place seat q new found t kept may some is =
     }
 
 -- its pass
-abbrev pub IsNewPass : TableId → ℕ → List Line → PassShown → Type 0
-IsNewPass table t ls p = (l : Line) → slice_get ls t ≡ Some l → p ≡ record { table = table; pass = new_pass t l.call ls }
+abbrev pub IsNewPass : TableId → List Write → ℕ → List Line → PassShown → Type 0
+IsNewPass table past t ls p = (l : Line) → slice_get ls t ≡ Some l → p ≡ record { table = table; pass = new_pass t l.call ls; past = past }
 
 -- its call is the one in its line
-pub given_at : {H : Type 0} {seat : QueueShown} {q new : Queued H} {t : ℕ} (table : TableId) (p : PassShown) → (b : Begins seat q new t) → IsNewPass table t seat.lines p → IsPassAt (lines new) p t
+pub given_at : {H : Type 0} {seat : QueueShown} {q new : Queued H} {t : ℕ} (table : TableId) (p : PassShown) → (b : Begins seat q new t) → IsNewPass table seat.past t seat.lines p → IsPassAt (lines new) p t
 given_at {t = t} table p b is =
     let new = is b.may.line b.may.at in
     record {
@@ -165,9 +166,9 @@ given_at {t = t} table p b is =
     }
 
 -- a new pass of a call of the engine's own is fresh
-pub new_pass_fresh : (e : Named) (table : TableId) (p : PassShown) (ls : List Line) (t : ℕ) (l : Line) → table ≡ e.table → AreOwn e ls → slice_get ls t ≡ Some l
-    → p ≡ record { table = table; pass = new_pass t l.call ls } → IsFresh e p
-new_pass_fresh e table p ls t l same own at is = subst (IsFresh e) (sym is) (record {
+pub new_pass_fresh : (e : Named) (table : TableId) (p : PassShown) (ls : List Line) (t : ℕ) (l : Line) (past : List Write) → table ≡ e.table → AreOwn e ls → slice_get ls t ≡ Some l
+    → p ≡ record { table = table; pass = new_pass t l.call ls; past = past } → IsFresh e p
+new_pass_fresh e table p ls t l past same own at is = subst (IsFresh e) (sym is) (record {
   of = record {
     same = same;
     ready = all_at (λ (x : Line). IsReady (library_of e) x.call) ls t l own.ready at;
@@ -181,6 +182,6 @@ new_pass_fresh e table p ls t l same own at is = subst (IsFresh e) (sym is) (rec
 })
 
 pub given_fresh : {H : Type 0} {seat : QueueShown} {new : Queued H} {t : ℕ} (q : Queued H) (e : Named) (place : H → ℕ → ℕ) (words : WordsShown) (p : PassShown) → (b : Begins seat q new t) → IsKept e place seat q → words ≡ words_of e
-    → IsNewPass words.table t seat.lines p → IsFresh e p
+    → IsNewPass words.table seat.past t seat.lines p → IsFresh e p
 given_fresh {seat = seat} {t = t} q e place words p b kept same is =
-    new_pass_fresh e words.table p seat.lines t b.may.line (ap (λ (w : WordsShown). w.table) same) (subst (AreOwn e) (sym kept.lines_are) kept.own) b.may.at (is b.may.line b.may.at)
+    new_pass_fresh e words.table p seat.lines t b.may.line seat.past (ap (λ (w : WordsShown). w.table) same) (subst (AreOwn e) (sym kept.lines_are) kept.own) b.may.at (is b.may.line b.may.at)

@@ -66,4 +66,4 @@ name_of place o = record {
 -- what contracts see of a session while its seat is there, as it always is between two calls
 abbrev pub shown_in : Option SessionShown → SessionShown
 shown_in (Some s) = s
-shown_in None = record { table = no_table; session = new_session 0 }
+shown_in None = record { table = no_table; session = new_session 0; past = [] }

@@ -101,10 +101,10 @@ fn new_sessions(
     mut sessions: Vec<Session>,
     clients: u32,
 ) -> Vec<Session>
-    requires first { queue.old ≡ shown_queue words.now.table (first_queue 0) }
+    requires first { queue.old ≡ shown_queue words.now.table [] (first_queue 0) }
     requires none { sessions.items ≡ [] }
     requires room { clients ≤ vec_capacity sessions }
-    ensures queue { queue.new ≡ shown_queue words.now.table (first_queue clients) }
+    ensures queue { queue.new ≡ shown_queue words.now.table [] (first_queue clients) }
     ensures sessions { AreNewSessions words.now.table clients result.items }
 {
     for client in 0..clients {

@@ -170,7 +170,7 @@ fn release_all(words: &Words, seat: &mut PassSeat, claims: &Claims)
     requires there { All (λ (c : Claim). c.id < length words.now.base.records) claims.now }
     requires stored { has_stored_pass words.now.base seat.old.pass ≡ true }
     requires fresh { seat.old.pass.releases ≡ 0 }
-    ensures pass { seat.new ≡ passed seat.old (all_released seat.old.pass) }
+    ensures pass { seat.new ≡ record (passed seat.old (all_released seat.old.pass)) { past = seat.new.past } }
 {
     for claim in claims.iter() {
         words.release(seat, claim);

@@ -1,5 +1,5 @@
 //! An opening: an engine that has all its memory but no name yet, and the start of that engine.
-ghost use Rattle.std.specs.Prelude.{◌≡◌, ◌<◌, IfOk, length};
+ghost use Rattle.std.specs.Prelude.{◌≡◌, ◌<◌, [], IfOk, length};
 ghost use Rattle.vll_core.specs.Faults.{Refuses, open_fault};
 ghost use Rattle.vll_core.specs.Queue.{config_of, emptied};
 ghost use Rattle.vll_core.specs.Headline.State.{catalog_of};
@@ -92,7 +92,7 @@ impl<H: Place + Drop> Opening<H> {
     ) -> Opening<H>
         requires library { library ≡ catalog_of words.base }
         requires queue { queue ≡ emptied queue }
-        requires seat { seat ≡ shown_queue words.table (first_queue seat.clients) }
+        requires seat { seat ≡ shown_queue words.table [] (first_queue seat.clients) }
         requires few { seat.clients < 4294967296 }
         requires room { room ≡ length words.base.records }
         requires sessions { AreNewSessions words.table seat.clients sessions.items }

@@ -32,7 +32,7 @@ use Rattle.vll_server.specs.Private.Serving.{sessions_in}
 
 -- a client's session that has seen nothing, and its token, of which no call has entered
 abbrev pub session_at : TableId → ℕ → SessionShown
-session_at table client = record { table = table; session = new_session client }
+session_at table client = record { table = table; session = new_session client; past = [] }
 
 abbrev pub token_at : TableId → ℕ → List Call → TokenShown
 token_at table client script = token client script 0 (session_at table client)

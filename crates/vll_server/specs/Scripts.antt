@@ -14,4 +14,4 @@ config_for s = record { cap = s.config.cap; limit = max 1 (sum_by length s.scrip
 -- a token for each client from one on, of which no call has entered, with a session that has seen nothing
 abbrev pub tokens_from : TableId → ℕ → List (List Call) → List TokenShown
 tokens_from table client [] = []
-tokens_from table client (script ∷ scripts) = token client script 0 (record { table = table; session = new_session client }) ∷ tokens_from table (suc client) scripts
+tokens_from table client (script ∷ scripts) = token client script 0 (record { table = table; session = new_session client; past = [] }) ∷ tokens_from table (suc client) scripts

@@ -12,7 +12,7 @@ get_last (y ∷ ys) x = get_last ys x
 
 -- the last session is the last client's, and those of the others come before it
 pub record IsLast (table : TableId) (client : ℕ) (session : SessionShown) (others : List SessionShown) : Type 0 where
-  pub last : session ≡ record { table = table; session = new_session client }
+  pub last : session ≡ record { table = table; session = new_session client; past = [] }
   pub before : AreNewSessions table client others
 
 pub last_session : (table : TableId) (count client : ℕ) (sessions new : List SessionShown) (session : SessionShown) → AreNewSessions table count sessions
@@ -22,11 +22,11 @@ last_session table count client sessions new session all popped number =
     let same : count ≡ suc client = sym all.0 ∙ longer in
     let here : slice_get sessions client ≡ Some session =
     ap (λ (l : List SessionShown). slice_get l client) popped ∙ ap (λ (n : ℕ). slice_get (new ++ session ∷ []) n) (sym number) ∙ get_last new session in
-    let below : (c : ℕ) → c < client → slice_get new c ≡ Some (record { table = table; session = new_session c }) = λ c low.
+    let below : (c : ℕ) → c < client → slice_get new c ≡ Some (record { table = table; session = new_session c; past = [] }) = λ c low.
     let found = entry_at new c (omega (arith, low, number)) in
     let in_all : slice_get sessions c ≡ Some found.0 = ap (λ (l : List SessionShown). slice_get l c) popped ∙ get_pushed new session c found.0 found.1 in
     found.1 ∙ sym in_all ∙ all.1 c (omega (arith, low, same)) in
     record {
-      last = same_Some session (record { table = table; session = new_session client }) (sym here ∙ all.1 client (omega (arith, same)));
+      last = same_Some session (record { table = table; session = new_session client; past = [] }) (sym here ∙ all.1 client (omega (arith, same)));
       before = (number, below);
     }

@@ -1,5 +1,5 @@
 -- What contracts see of an opening, and its type's invariant.
-use Rattle.std.specs.Prelude.{◌≡◌, ◌<◌, length}
+use Rattle.std.specs.Prelude.{◌≡◌, ◌<◌, [], length}
 use Rattle.vll_core.specs.Queue.{config_of, empty}
 use Rattle.vll_counters.specs.Shown.{shown_queue, AreNewSessions}
 use Rattle.vll_counters.specs.Steps.{first_queue}
@@ -23,7 +23,7 @@ pub record IsOpening {H : Type 0} (a : Inside H) : Type 0 where
   pub procs : a.library.procs ≡ a.words.base.procs
   pub records : a.library.records ≡ length a.words.base.records
   pub queue : a.queue ≡ empty (shown a).config a.queue.hash
-  pub seat : a.seat ≡ shown_queue a.words.table (first_queue a.seat.clients)
+  pub seat : a.seat ≡ shown_queue a.words.table [] (first_queue a.seat.clients)
   pub few : a.seat.clients < 4294967296
   pub sessions : AreNewSessions a.words.table a.seat.clients a.sessions.items
   pub room : a.room ≡ length a.words.base.records

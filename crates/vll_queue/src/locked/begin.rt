@@ -121,7 +121,7 @@ fn request_all(words: &Words, seat: &mut QueueSeat, client: u32, call: &Call) ->
     requires same { seat.old.table ≡ words.now.table }
     requires turn { seat.old.turn ≡ Some (first_turn client call.now) }
     requires there { All (λ (c : Claim). c.id < length words.now.base.records) call.now.claims }
-    ensures turn { seat.new ≡ record seat.old { turn = Some (asked_turn client call.now result) } }
+    ensures turn { seat.new ≡ record seat.old { turn = Some (asked_turn client call.now result); past = seat.new.past } }
 {
     let mut free = true;
     for claim in call.claims.iter() {

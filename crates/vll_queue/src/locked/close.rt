@@ -84,7 +84,7 @@ fn visit_all(words: &Words, queue: &mut QueueSeat, sessions: &mut Vec<Session>)
     requires sessions { All (λ s. s.table ≡ words.now.table) sessions.old.items }
     requires closed { queue.old.turn ≡ None }
     requires alone { queue.old.session ≡ None }
-    ensures same { queue.new ≡ queue.old }
+    ensures same { queue.new ≡ record queue.old { past = queue.new.past } }
     ensures sessions { All (λ s. HasItsCalls (calls_in queue.old.lines) s.session) sessions.old.items }
     ensures none { sessions.new.items ≡ [] }
     ensures room { vec_capacity sessions.new ≡ vec_capacity sessions.old }
@@ -101,7 +101,7 @@ fn visit(words: &Words, queue: &mut QueueSeat, session: SessionSeat)
     requires same { (queue.old.table ≡ words.now.table) × (session.table ≡ words.now.table) }
     requires closed { queue.old.turn ≡ None }
     requires alone { queue.old.session ≡ None }
-    ensures same { queue.new ≡ queue.old }
+    ensures same { queue.new ≡ record queue.old { past = queue.new.past } }
     ensures session { HasItsCalls (calls_in queue.old.lines) session.session }
 {
     words.join_session(queue, session, None);

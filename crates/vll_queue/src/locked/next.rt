@@ -110,7 +110,7 @@ fn give_pass(words: &Words, seat: &mut QueueSeat, ticket: Ticket) -> PassSeat
     requires closed { seat.old.turn ≡ None }
     requires may { MayStart seat.old.lines seat.old.statuses ticket }
     ensures seat { seat.new ≡ after seat.old (with_pass_given seat.old ticket) }
-    ensures pass { (l : Line) → slice_get seat.old.lines ticket ≡ Some l → result ≡ record { table = words.now.table; pass = new_pass ticket l.call seat.old.lines } }
+    ensures pass { (l : Line) → slice_get seat.old.lines ticket ≡ Some l → result ≡ record { table = words.now.table; pass = new_pass ticket l.call seat.old.lines; past = seat.old.past } }
 {
     words.give_pass(seat, ticket)
 }

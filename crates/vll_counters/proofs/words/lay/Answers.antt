@@ -1,6 +1,7 @@
-use Rattle.std.proofs.Common.{ap, ◌∙◌, ◌++◌, ◌∷◌, [], sym, arith, get_or}
+use Rattle.std.proofs.Common.{◌≡◌, ℕ, List, refl, ap, ◌∙◌, ◌++◌, ◌∷◌, [], sym, arith, get_or}
 use Rattle.std.proofs.lemmas.List.{take_all}
 use Rattle.vll_core.proofs.FirstWords.{laid, laid_more, first_words}
+use Rattle.vll_counters.specs.Laid.{record_words}
 use Rattle.vll_counters.proofs.words.lay.Goals as goal
 
 pub loop-value-preserved : goal.loop-value-preserved
@@ -12,6 +13,15 @@ loop-value-preserved c = record {
   long = omega arith;
   room = c.push_reserved-in-loop-value-2.ensures.capacity ∙ c.push_reserved-in-loop-value.ensures.capacity ∙ c.loop-value.invariant.room;
 }
+
+-- the list of the specification is the one that is laid
+same_laid : (values : List ℕ) → laid values ≡ record_words values
+same_laid [] = refl
+same_laid (v ∷ vs) = ap (λ ws. v ∷ 0 ∷ ws) (same_laid vs)
+
+pub returns-clause-list : goal.returns-clause-list
+returns-clause-list c =
+    c.loop-value.invariant.items ∙ ap (λ vs. 0 ∷ laid vs) (take_all c.loop-value.value-index c.args.records.now c.loop-value-test.false) ∙ ap (λ ws. 0 ∷ ws) (same_laid c.args.records.now)
 
 pub returns-clause-words : goal.returns-clause-words
 returns-clause-words c =

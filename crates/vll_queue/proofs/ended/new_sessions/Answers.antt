@@ -1,4 +1,4 @@
-use Rattle.std.proofs.Common.{ℕ, suc, ◌+◌, ◌≤◌, length, ap, sym, ◌∙◌, subst, add-one}
+use Rattle.std.proofs.Common.{ℕ, suc, [], ◌+◌, ◌≤◌, length, ap, sym, ◌∙◌, subst, add-one}
 use Rattle.vll_counters.specs.Shown.{QueueShown, shown_queue}
 use Rattle.vll_counters.specs.Steps.{first_queue, new_session}
 use Rattle.vll_counters.proofs.Seats.{sessions_more, sessions_none}
@@ -23,8 +23,8 @@ loop-client-preserved c =
     let i = c.loop-client.invariant in record {
       queue =
           c.make_session.ensures.queue ∙ ap (λ (q : QueueShown). let x : QueueShown = record q { clients = suc q.clients } in x) i.queue
-          ∙ ap (λ (n : ℕ). shown_queue c.args.words.now.table (first_queue n)) (sym (add-one c.loop-client.client));
-      sessions = sessions_more _ _ _ _ c.make_session.result i.sessions (c.make_session.ensures.session ∙ ap (λ (q : QueueShown). record { table = c.args.words.now.table; session = new_session q.clients }) i.queue)
+          ∙ ap (λ (n : ℕ). shown_queue c.args.words.now.table [] (first_queue n)) (sym (add-one c.loop-client.client));
+      sessions = sessions_more _ _ _ _ c.make_session.result i.sessions (c.make_session.ensures.session ∙ ap (λ (q : QueueShown). record { table = c.args.words.now.table; session = new_session q.clients; past = q.past }) i.queue)
           c.push_reserved.ensures.items;
       long = c.push_reserved.ensures.len ∙ ap (λ (n : ℕ). n + 1) i.long;
       room = subst (λ (n : ℕ). c.args.clients ≤ n) (sym c.push_reserved.ensures.capacity) i.room;

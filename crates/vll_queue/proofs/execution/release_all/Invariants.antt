@@ -6,5 +6,5 @@ use Rattle.vll_queue.proofs.execution.release_all.Given as goal
 abbrev pub invariant-loop-claim : goal.invariant-loop-claim
 invariant-loop-claim l = record {
   all : l.yielded ++ l.claim-iterator ≡ l.claims;
-  pass : l.seat ≡ passed l.initial.seat (record l.initial.seat.pass { releases = length l.yielded });
+  pass : l.seat ≡ record (passed l.initial.seat (record l.initial.seat.pass { releases = length l.yielded })) { past = l.seat.past };
 }

@@ -9,5 +9,5 @@ load-requires g c =
     let base = ap (λ (w : WordsShown). w.base) c.self.view_is in (
       table,
       value_there _ _ _ _ _ base c.self.invariant.words c.requires.there c.value_word.ensures,
-      finds_at _ _ _ _ _ _ c.args.session.now.session c.args.id _ _ base c.requires.told.0 c.requires.told.1 (session_me _ _ _ c.session.invariant c.session.view_is) c.value_word.ensures c.requires.there,
+      finds_at _ _ _ _ _ _ c.args.session.now.session c.args.session.now.past c.args.id _ _ base c.requires.told.0 c.requires.told.1 (session_me _ _ _ c.session.invariant c.session.view_is) c.value_word.ensures c.requires.there,
     )

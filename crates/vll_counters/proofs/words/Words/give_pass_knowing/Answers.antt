@@ -9,9 +9,9 @@ split_seat-requires g c =
     let base = ap (λ (w : WordsShown). w.base) c.self.view_is in
     let words = c.self.invariant.words in
     let me = queue_me _ _ _ c.queue.invariant.1 c.queue.view_is in
-    (table, omega (arith, words), gives_at _ _ _ _ c.args.ticket _ (queue_view c.args.queue.now) base c.queue.invariant.0 c.requires.told (ap (λ x. x.0) me) c.requires.may_run)
+    (table, omega (arith, words), gives_at _ _ _ _ c.args.ticket _ (queue_view c.args.queue.now) c.args.queue.now.past base c.queue.invariant.0 c.requires.told (ap (λ x. x.0) me) c.requires.may_run)
 
 pub invariant_of-result : goal.invariant_of-result
 invariant_of-result g c =
     let me = queue_me _ _ _ c.queue.invariant.1 c.queue.view_is in
-    given_pass _ _ _ _ (queue_view c.args.queue.now) c.requires.told me c.requires.may_run c.split_seat.ensures.4
+    given_pass _ _ _ _ (queue_view c.args.queue.now) c.args.queue.now.past c.requires.told me c.requires.may_run c.split_seat.ensures.4

@@ -9,4 +9,4 @@ split_seat-requires g c =
     let base = ap (λ (w : WordsShown). w.base) c.self.view_is in
     let words = c.self.invariant.words in
     let me = queue_me _ _ _ c.queue.invariant.1 c.queue.view_is in
-    (table, omega (arith, words), leaves_at _ _ _ _ (queue_view c.args.queue.now) c.args.given _ base c.queue.invariant.0 c.requires.told (ap (λ x. x.0) me) c.requires.there c.requires.may_leave c.requires.gone)
+    (table, omega (arith, words), leaves_at _ _ _ _ (queue_view c.args.queue.now) c.args.queue.now.past c.args.given _ base c.queue.invariant.0 c.requires.told (ap (λ x. x.0) me) c.requires.there c.requires.may_leave c.requires.gone)

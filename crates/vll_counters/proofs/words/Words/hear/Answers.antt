@@ -14,7 +14,7 @@ join_seat-requires c =
     let words = c.self.invariant.words in
     let me = session_me _ _ _ c.session.invariant c.session.view_is in
     let other = news_me _ _ _ c.news.invariant c.news.view_is in
-    (session, news, ap (λ x. x.1) other, omega (arith, words), news_comes_at _ _ _ _ _ _ c.args.session.now.session c.args.news.calls base (ap (λ x. x.0) me) (ap (λ x. x.0) other))
+    (session, news, ap (λ x. x.1) other, omega (arith, words), news_comes_at _ _ _ _ _ _ c.args.session.now.session c.args.session.now.past c.args.news.past c.args.news.calls base (ap (λ x. x.0) me) (ap (λ x. x.0) other))
 
 pub load-requires : goal.load-requires
 load-requires c =
@@ -24,4 +24,4 @@ load-requires c =
     let me = session_me _ _ _ c.session.invariant c.session.view_is in
     let other = news_me _ _ _ c.news.invariant c.news.view_is in
     let j = c.join_seat.ensures in
-    (j.0 ∙ session, omega (arith, words), hears_at _ _ _ _ _ c.args.session.now.session c.args.news.calls base (j.2 ∙ joined_news _ _ _ _ me other))
+    (j.0 ∙ session, omega (arith, words), hears_at _ _ _ _ _ c.args.session.now.session _ c.args.news.calls base (j.2 ∙ joined_news _ _ _ _ _ _ me other))

@@ -11,7 +11,7 @@ join_seat-requires g c =
     let words = c.self.invariant.words in
     let me = queue_me _ _ _ c.queue.invariant.1 c.queue.view_is in
     let other = pass_me _ _ _ c.pass.invariant c.pass.view_is in
-    (queue, pass, ap (λ x. x.1) other, omega (arith, words), comes_pass_at _ _ _ _ _ _ (queue_view c.args.queue.now) c.args.pass.pass base c.queue.invariant.0 (ap (λ x. x.0) me) (ap (λ x. x.0) other) refl)
+    (queue, pass, ap (λ x. x.1) other, omega (arith, words), comes_pass_at _ _ _ _ _ _ (queue_view c.args.queue.now) c.args.queue.now.past c.args.pass.past c.args.pass.pass base c.queue.invariant.0 (ap (λ x. x.0) me) (ap (λ x. x.0) other) refl)
 
 pub load-requires : goal.load-requires
 load-requires g c =
@@ -21,10 +21,10 @@ load-requires g c =
     let me = queue_me _ _ _ c.queue.invariant.1 c.queue.view_is in
     let other = pass_me _ _ _ c.pass.invariant c.pass.view_is in
     let j = c.join_seat.ensures in
-    (j.0 ∙ queue, omega (arith, words), ends_at _ _ _ _ _ _ _ c.args.pass.pass base c.requires.told (j.1 ∙ c.queue.invariant.0) (j.2 ∙ joined_pass _ _ _ _ me other) refl c.requires.closed c.requires.stored c.requires.released)
+    (j.0 ∙ queue, omega (arith, words), ends_at _ _ _ _ _ _ _ _ c.args.pass.pass base c.requires.told (j.1 ∙ c.queue.invariant.0) (j.2 ∙ joined_pass _ _ _ _ _ _ me other) refl c.requires.closed c.requires.stored c.requires.released)
 
 pub returns-clause-pass : goal.returns-clause-pass
 returns-clause-pass g c =
     let me = queue_me _ _ _ c.queue.invariant.1 c.queue.view_is in
     let other = pass_me _ _ _ c.pass.invariant c.pass.view_is in
-    told_pass _ _ _ (c.join_seat.ensures.2 ∙ joined_pass _ _ _ _ me other) c.load.ensures.2.1
+    told_pass _ _ _ _ (c.join_seat.ensures.2 ∙ joined_pass _ _ _ _ _ _ me other) c.load.ensures.2.0.1

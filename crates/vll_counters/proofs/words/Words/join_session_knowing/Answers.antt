@@ -13,7 +13,7 @@ join_seat-requires g c =
     let words = c.self.invariant.words in
     let me = queue_me _ _ _ c.queue.invariant.1 c.queue.view_is in
     let other = session_me _ _ _ c.session.invariant c.session.view_is in
-    (queue, session, ap (λ x. x.1) other, omega (arith, words), comes_session_at _ _ _ _ _ _ (queue_view c.args.queue.now) c.args.session.session base c.queue.invariant.0 (ap (λ x. x.0) me) (ap (λ x. x.0) other) c.requires.alone c.requires.closed)
+    (queue, session, ap (λ x. x.1) other, omega (arith, words), comes_session_at _ _ _ _ _ _ (queue_view c.args.queue.now) c.args.queue.now.past c.args.session.past c.args.session.session base c.queue.invariant.0 (ap (λ x. x.0) me) (ap (λ x. x.0) other) c.requires.alone c.requires.closed)
 
 pub load-requires : goal.load-requires
 load-requires g c =
@@ -25,7 +25,7 @@ load-requires g c =
     let j = c.join_seat.ensures in (
       j.0 ∙ queue,
       omega (arith, words),
-      opens_at _ _ _ _ _ _ _ (option_map (λ (b : Bor Call). b.now) c.args.call) _ base c.requires.told.0 c.requires.told.1 (j.1 ∙ c.queue.invariant.0) (j.2 ∙ joined_session _ _ _ _ me other) c.requires.closed
+      opens_at _ _ _ _ _ _ _ _ (option_map (λ (b : Bor Call). b.now) c.args.call) _ base c.requires.told.0 c.requires.told.1 (j.1 ∙ c.queue.invariant.0) (j.2 ∙ joined_session _ _ _ _ _ _ me other) c.requires.closed
           (may_open _ _ _ _ c.self.invariant.catalog (library_is _ _ _ base c.self.invariant.records) c.requires.ready c.requires.room),
     )
 
@@ -33,4 +33,4 @@ pub returns-clause-session : goal.returns-clause-session
 returns-clause-session g c =
     let me = queue_me _ _ _ c.queue.invariant.1 c.queue.view_is in
     let other = session_me _ _ _ c.session.invariant c.session.view_is in
-    told_session _ _ _ _ _ c.requires.told.0 (c.join_seat.ensures.2 ∙ joined_session _ _ _ _ me other) c.load.ensures.2.1
+    told_session _ _ _ _ _ _ c.requires.told.0 (c.join_seat.ensures.2 ∙ joined_session _ _ _ _ _ _ me other) c.load.ensures.2.0.1

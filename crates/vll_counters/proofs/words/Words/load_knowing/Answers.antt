@@ -9,5 +9,5 @@ load-requires g c =
     let base = ap (λ (w : WordsShown). w.base) c.self.view_is in (
       table,
       value_there _ _ _ _ _ base c.self.invariant.words c.requires.there c.value_word.ensures,
-      loads_at _ _ _ _ _ _ c.args.pass.now.pass c.args.id _ _ base c.requires.told.0 c.requires.told.1 (pass_me _ _ _ c.pass.invariant c.pass.view_is) c.value_word.ensures c.requires.next c.requires.there,
+      loads_at _ _ _ _ _ _ c.args.pass.now.pass c.args.pass.now.past c.args.id _ _ base c.requires.told.0 c.requires.told.1 (pass_me _ _ _ c.pass.invariant c.pass.view_is) c.value_word.ensures c.requires.next c.requires.there,
     )

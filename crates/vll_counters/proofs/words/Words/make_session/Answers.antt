@@ -9,4 +9,4 @@ split_seat-requires c =
     let base = ap (λ (w : WordsShown). w.base) c.self.view_is in
     let words = c.self.invariant.words in
     let me = queue_me _ _ _ c.queue.invariant.1 c.queue.view_is in
-    (table, omega (arith, words), makes_at _ _ _ _ (queue_view c.args.queue.now) base c.queue.invariant.0 (ap (λ x. x.0) me) c.requires.empty)
+    (table, omega (arith, words), makes_at _ _ _ _ (queue_view c.args.queue.now) c.args.queue.now.past base c.queue.invariant.0 (ap (λ x. x.0) me) c.requires.empty)

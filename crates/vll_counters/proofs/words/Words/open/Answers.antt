@@ -1,4 +1,4 @@
-use Rattle.std.proofs.Common.{◌≡◌, ℕ, suc, ◌+◌, ◌≤◌, ap, sym, ◌∙◌, arith, subst, add-one}
+use Rattle.std.proofs.Common.{◌≡◌, ℕ, suc, [], ◌+◌, ◌≤◌, ap, sym, ◌∙◌, arith, subst, add-one}
 use Rattle.vll_counters.specs.Shown.{QueueShown, shown_queue}
 use Rattle.vll_counters.specs.Steps.{first_queue, new_session}
 use Rattle.vll_counters.proofs.Seats.{sessions_more, sessions_none, sessions_all}
@@ -26,8 +26,8 @@ loop-client-preserved c =
     let i = c.loop-client.invariant in record {
       queue =
           c.make_session.ensures.queue ∙ ap (λ (q : QueueShown). let x : QueueShown = record q { clients = suc q.clients } in x) i.queue
-          ∙ ap (λ (n : ℕ). shown_queue c.in_ok-words.words.table (first_queue n)) (sym (add-one c.loop-client._client));
-      sessions = sessions_more _ _ _ _ c.make_session.result i.sessions (c.make_session.ensures.session ∙ ap (λ (q : QueueShown). record { table = c.in_ok-words.words.table; session = new_session q.clients }) i.queue)
+          ∙ ap (λ (n : ℕ). shown_queue c.in_ok-words.words.table [] (first_queue n)) (sym (add-one c.loop-client._client));
+      sessions = sessions_more _ _ _ _ c.make_session.result i.sessions (c.make_session.ensures.session ∙ ap (λ (q : QueueShown). record { table = c.in_ok-words.words.table; session = new_session q.clients; past = q.past }) i.queue)
           c.push_reserved.ensures.items;
       long = c.push_reserved.ensures.len ∙ ap (λ (n : ℕ). n + 1) i.long;
       room = subst (λ (n : ℕ). c.args.clients ≤ n) (sym c.push_reserved.ensures.capacity) i.room;
@@ -38,7 +38,7 @@ returns-clause-queue c =
     let upto = c.loop-client.auto._client-end in
     let from = c.loop-client-test.false in
     let e : c.loop-client._client ≡ c.args.clients = omega arith in
-    c.loop-client.invariant.queue ∙ ap (λ (n : ℕ). shown_queue c.in_ok-words.words.table (first_queue n)) e
+    c.loop-client.invariant.queue ∙ ap (λ (n : ℕ). shown_queue c.in_ok-words.words.table [] (first_queue n)) e
 
 pub returns-clause-sessions : goal.returns-clause-sessions
 returns-clause-sessions c =

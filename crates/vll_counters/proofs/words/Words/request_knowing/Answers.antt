@@ -10,5 +10,5 @@ fetch_add-requires g c =
     let me = queue_me _ _ _ c.queue.invariant.1 c.queue.view_is in (
       table,
       pair_there _ _ _ _ _ base c.self.invariant.words c.requires.there c.pair_word.ensures,
-      requests_at _ _ _ _ _ _ (queue_view c.args.queue.now) c.args.claim _ _ _ base c.requires.told.0 c.requires.told.1 c.queue.invariant.0 me c.pair_word.ensures c.delta.ensures c.requires.next c.requires.there,
+      requests_at _ _ _ _ _ _ (queue_view c.args.queue.now) c.args.queue.now.past c.args.claim _ _ _ base c.requires.told.0 c.requires.told.1 c.queue.invariant.0 me c.pair_word.ensures c.delta.ensures c.requires.next c.requires.there,
     )

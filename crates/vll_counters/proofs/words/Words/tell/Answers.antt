@@ -10,4 +10,4 @@ split_seat-requires c =
     let base = ap (λ (w : WordsShown). w.base) c.self.view_is in
     let words = c.self.invariant.words in
     let me = session_me _ _ _ c.session.invariant c.session.view_is in
-    (table, omega (arith, words), tells_at _ _ _ _ c.args.session.now.session base (ap (λ x. x.0) me))
+    (table, omega (arith, words), tells_at _ _ _ _ c.args.session.now.session c.args.session.now.past base (ap (λ x. x.0) me))

@@ -1,5 +1,6 @@
 use Rattle.std.proofs.Common.{sym, ap, ◌∙◌, subst, rules}
-use Rattle.vll_counters.specs.Shown.{WordsShown, after, queue_view}
+use Rattle.vll_counters.specs.Shown.{QueueShown, WordsShown, after, queue_view}
+use Rattle.vll_counters.specs.Written.{longer}
 use Rattle.vll_counters.specs.Steps.{finished as ended}
 use Rattle.vll_queue.specs.Pass.{DoneShown, IsReleased}
 use Rattle.vll_queue.specs.Private.Kept.{IsKept}
@@ -11,9 +12,11 @@ invariant_of-self g c =
     let e = g.N.Name.engine in
     let shown : DoneShown = record { table = c.released.inside.seat.table; pass = c.released.inside.seat.pass; reply = c.released.inside.reply } in
     let released : IsReleased e shown = subst (IsReleased e) (sym c.released.view_is) c.requires.released in
-    let seat = c.join_pass.ensures.queue ∙ ap (λ (w : WordsShown). after c.self.inside.seat (ended w.base c.released.inside.seat.pass (queue_view c.self.inside.seat))) c.requires.words in
+    let seat = c.join_pass.ensures.queue ∙ ap
+    (λ (w : WordsShown). let x : QueueShown = record (after c.self.inside.seat (ended w.base c.released.inside.seat.pass (queue_view c.self.inside.seat))) { past = longer c.self.inside.seat.past c.released.inside.seat.past } in x)
+    c.requires.words in
     subst (IsKept e g.H.Place.place_of c.join_pass.new.queue) (sym c.remove.ensures)
-    (kept_finished e g.H.Place.place_of c.self.inside.seat c.join_pass.new.queue c.self.inside.queue c.released.inside.seat.pass c.released.inside.ticket c.released.inside.reply c.self.invariant c.join_pass.ensures.pass c.released.invariant
+    (kept_finished e g.H.Place.place_of c.self.inside.seat c.join_pass.new.queue _ c.self.inside.queue c.released.inside.seat.pass c.released.inside.ticket c.released.inside.reply c.self.invariant c.join_pass.ensures.pass c.released.invariant
     (reply_is e shown released.of released.reply) seat)
 
 pub returns-clause-ticket : goal.returns-clause-ticket

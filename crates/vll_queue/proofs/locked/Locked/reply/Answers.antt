@@ -8,7 +8,7 @@ pub give_session-requires-clause-gone : goal.give_session-requires-clause-gone
 give_session-requires-clause-gone g c =
     let asked = c.reply_of-reply in
     let there = reply_at g.N.Name.engine g.H.Place.place_of c.self.inside.seat c.self.inside.queue c.args.self.now c.args.ticket asked.result c.self.invariant c.self.view_is asked.ensures.kept asked.ensures.reply in
-    given_out c.self.inside.seat c.join_session.new.queue c.args.session.session c.args.ticket asked.result c.is_some.result c.then_some-given.result there c.join_session.ensures.queue
+    given_out c.self.inside.seat c.join_session.new.queue _ c.args.session.session c.args.ticket asked.result c.is_some.result c.then_some-given.result there c.join_session.ensures.queue
     c.is_some.ensures c.then_some-given.ensures
 
 pub returns-clause-reply : goal.returns-clause-reply
@@ -16,7 +16,7 @@ returns-clause-reply g c =
     let asked = c.reply_of-reply in
     let there = reply_at g.N.Name.engine g.H.Place.place_of c.self.inside.seat c.self.inside.queue c.args.self.now c.args.ticket asked.result c.self.invariant c.self.view_is asked.ensures.kept asked.ensures.reply in
     let knows = subst (λ (w : WordsShown). KnowsSession w.base (queue_view c.self.inside.seat) c.args.session.session) c.requires.words c.join_session.ensures.session in
-    let seen = left_seen c.self.inside.seat c.join_session.new.queue c.args.session.session c.then_some-given.result c.give_session.result c.join_session.ensures.queue c.give_session.ensures.session in
+    let seen = left_seen c.self.inside.seat c.join_session.new.queue _ c.args.session.session c.then_some-given.result c.give_session.result c.join_session.ensures.queue c.give_session.ensures.session in
     reply_seen g.N.Name.engine.base c.self.inside.seat c.give_session.result.session.seen c.args.ticket asked.result knows.replied there seen
 
 pub returns-clause-ever : goal.returns-clause-ever
@@ -27,8 +27,8 @@ returns-clause-ever g c k at =
 
 pub returns-clause-session : goal.returns-clause-session
 returns-clause-session g c =
-    let left = left_is c.self.inside.seat c.join_session.new.queue c.args.session.session c.then_some-given.result c.give_session.result c.join_session.ensures.queue c.give_session.ensures.session in (
+    let left = left_is c.self.inside.seat c.join_session.new.queue _ c.args.session.session c.then_some-given.result c.give_session.result c.join_session.ensures.queue c.give_session.ensures.session in (
       ap (λ (s : SessionShown). s.table) left ∙ c.self.invariant.same ∙ sym c.requires.session,
-      left_others c.args.words.now.base c.self.inside.seat c.join_session.new.queue c.args.session.session c.then_some-given.result c.give_session.result c.join_session.ensures.session c.join_session.ensures.queue
+      left_others c.args.words.now.base c.self.inside.seat c.join_session.new.queue _ c.args.session.session c.then_some-given.result c.give_session.result c.join_session.ensures.session c.join_session.ensures.queue
           c.give_session.ensures.session,
     )

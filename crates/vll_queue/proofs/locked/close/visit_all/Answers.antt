@@ -20,7 +20,7 @@ loop-session-preserved c =
     let own : c.in-Some-seat.seat ≡ c.in-Some.session = ap shown_in (sym c.in-Some-seat.is) ∙ c.session.view_is in
     let has = subst (λ (p : QueueShown × SessionShown). HasItsCalls (calls_in p.0.lines) p.1.session) (λ k. (i.queue k, own k)) c.visit.ensures.session in
     record {
-      queue = c.visit.ensures.same ∙ i.queue;
+      queue = c.visit.ensures.same ∙ ap (λ (q : QueueShown). let x : QueueShown = record q { past = c.visit.new.queue.past } in x) i.queue;
       come = c.in-Some.session ∷ i.come;
       all = i.all ∙ ap (λ (xs : List SessionShown). xs ++ i.come) c.in-Some.ensures.items ∙ append_assoc c.pop.new.self.items (c.in-Some.session ∷ []) i.come;
       have = all_behind (λ (s : SessionShown). HasItsCalls (calls_in c.args.queue.now.lines) s.session) c.in-Some.session i.come has i.have;

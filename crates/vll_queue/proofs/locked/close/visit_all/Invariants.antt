@@ -7,7 +7,7 @@ use Rattle.vll_queue.proofs.locked.close.visit_all.Given as goal
 -- the sessions that have come follow those that are left
 abbrev pub invariant-loop-session : goal.invariant-loop-session
 invariant-loop-session l = record {
-  queue : l.queue ≡ l.initial.queue;
+  queue : l.queue ≡ record l.initial.queue { past = l.queue.past };
   come : List SessionShown;
   all : l.fn.sessions.items ≡ l.sessions.items ++ come;
   have : All (λ (s : SessionShown). HasItsCalls (calls_in l.initial.queue.lines) s.session) come;
