@@ -19,4 +19,5 @@ pub mod Coming
 pub mod Bounds
 pub mod Seats
 pub mod Between
+pub mod OnePass
 pub mod Open

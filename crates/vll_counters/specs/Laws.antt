@@ -4,6 +4,8 @@ use mathlib.Core.Option as opt
 use lib.ListN.{get_elem?}
 use Rattle.vll_record.specs.Headline.Counter.{claims_on, pair_word_of}
 use Rattle.vll_record.specs.Headline.Word.{pair_word_of_record}
+use Rattle.vll_sca.specs.declared.status.Status.{Status}
+use Rattle.vll_sca.specs.declared.status.Status.TheVariants.{Running}
 use Rattle.vll_sca.specs.Headline.Status.{is_waiting}
 use Rattle.vll_sca.specs.Status.{is_running}
 use Rattle.vll_core.specs.Headline.State.{Base}
@@ -21,7 +23,9 @@ use Rattle.vll_counters.specs.Laid.{laid_words}
 use Rattle.vll_counters.specs.Written.{Write, written, IsPastOf, longer}
 use Rattle.vll_counters.specs.History.{MomentWithPasts, RuleWithHistory}
 use Rattle.vll_counters.specs.Rule.{Moment, Rule}
-use Rattle.vll_counters.specs.Told.{IsClear}
+use Rattle.vll_counters.specs.Steps.{pass_given}
+use Rattle.vll_counters.specs.Told.{IsClear, MayRun}
+use Rattle.vll_counters.specs.Queueing.{QueueCall, view_after_all}
 
 -- each ticket that is running or gone is clear
 abbrev pub TicketsAreClear : Type 0
@@ -52,6 +56,19 @@ abbrev pub TicketsHaveOnePass : Type 0
 TicketsHaveOnePass =
     (base : Base) (m : Moment) (rule : Rule base m) (i j : ℕ) (v w : View) (p q : PassView)
     → get_elem? m.views i ≡ opt.some v → pass_in v ≡ Some p → get_elem? m.views j ≡ opt.some w → pass_in w ≡ Some q → p.ticket ≡ q.ticket → i ≡ j
+
+-- a ticket that gets its pass runs
+abbrev pub GivenTicketsRun : Type 0
+GivenTicketsRun =
+    (q : QueueView) (t : ℕ) → length q.lines ≡ length q.statuses → MayRun q.lines q.statuses q.turn t
+    → slice_get (pass_given t q.turn q).statuses t ≡ Some Running
+
+-- a ticket that runs or is gone may never run again, whatever calls are made with the queue's seat: no second pass
+abbrev pub TicketsGetOnePass : Type 0
+TicketsGetOnePass =
+    (base : Base) (q : QueueView) (t : ℕ) (status : Status) (calls : List QueueCall)
+    → length q.lines ≡ length q.statuses → slice_get q.statuses t ≡ Some status → is_waiting status ≡ false
+    → ¬ (MayRun (view_after_all base calls q).lines (view_after_all base calls q).statuses (view_after_all base calls q).turn t)
 
 -- no two seats have sessions of one client
 abbrev pub ClientsHaveOneSession : Type 0

@@ -9,4 +9,5 @@ pub mod Laid
 pub mod History
 pub mod Shown
 pub mod Kept
+pub mod Queueing
 pub mod Laws

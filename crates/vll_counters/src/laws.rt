@@ -1,5 +1,5 @@
 //! Laws that hold between any two atomic steps, as the rule does, each the contract of a function that does nothing.
-ghost use Rattle.vll_counters.specs.Laws.{TicketsAreClear, PassesAreClear, RunningTicketsHaveAPass, PassesAreOfRunningTickets, TicketsHaveOnePass, ClientsHaveOneSession, PairWordsCountOpenClaims, PastsAreOfOneRun, OnePastBeginsTheOther, LongerPastHasBoth};
+ghost use Rattle.vll_counters.specs.Laws.{TicketsAreClear, PassesAreClear, RunningTicketsHaveAPass, PassesAreOfRunningTickets, TicketsHaveOnePass, GivenTicketsRun, TicketsGetOnePass, ClientsHaveOneSession, PairWordsCountOpenClaims, PastsAreOfOneRun, OnePastBeginsTheOther, LongerPastHasBoth};
 
 /// A ticket that is running or gone is clear: no claim that a lower ticket has requested and not released conflicts
 /// with a claim of its own.
@@ -17,6 +17,13 @@ pub fn tickets_have_one_pass()
     ensures running { RunningTicketsHaveAPass }
     ensures other { PassesAreOfRunningTickets }
     ensures one { TicketsHaveOnePass }
+{}
+
+/// A ticket gets one pass, ever: with its pass it runs, and one that runs or is gone never again meets what
+/// `Words::give_pass` requires, whatever calls of the words' functions follow with the queue's seat.
+pub fn tickets_get_one_pass()
+    ensures runs { GivenTicketsRun }
+    ensures once { TicketsGetOnePass }
 {}
 
 /// Each client has at most one session, at its own seat or at the queue's.

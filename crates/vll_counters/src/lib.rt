@@ -27,7 +27,7 @@ mod words;
 pub use fault::NoMemory;
 pub use laws::{
     clients_have_one_session, pair_words_count_open_claims, passes_are_clear, pasts_are_of_one_run,
-    tickets_are_clear, tickets_have_one_pass,
+    tickets_are_clear, tickets_get_one_pass, tickets_have_one_pass,
 };
 pub use news_seat::NewsSeat;
 pub use pass_seat::PassSeat;
