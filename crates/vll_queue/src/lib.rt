@@ -1,8 +1,8 @@
 //! The engine, which a program embeds to run transactions on records in memory: it takes calls from many sessions,
 //! decides which may run, and brings each to its reply. The queue of entered calls is behind one lock; records are
 //! loaded and stored, and claims released, outside it. Proved: the replies and records are those of the calls made one
-//! at a time, in the order of their tickets. Start at `Opening`, `Service`, `Clients` and `Client`; `Session`, `Hold`
-//! and `Pass` are for a program that makes the steps of a call itself.
+//! at a time, in the order of their tickets. Start at `Opening`, `Service`, `Clients` and `Client`; `Session`, `Pass`,
+//! `Hold` and `Passes` are for a program that makes the steps of a call itself.
 //!
 //! ```rattle
 //! let opening = Opening::new(alloc, accounts, library, config, Placing::Spread, 2)?;
