@@ -7,7 +7,7 @@ use Rattle.std.proofs.lemmas.Map.Views.{exact_unsigned_eq}
 use Rattle.std.proofs.lemmas.Option.{same_Some, slice_get_within}
 use mathlib.Core.Option.{some}
 use lib.ListN.{get_elem?}
-use Rattle.atomic_table.specs.Table.{step, keeps, Allows}
+use Rattle.atomic_table.specs.Table.{step, keeps}
 use Rattle.atomic_table.proofs.Lists.{set_else}
 use Rattle.vll_record.specs.declared.claim.Claim.{Claim}
 use Rattle.vll_record.specs.Word.{value_word_of}
@@ -34,12 +34,12 @@ use Rattle.vll_counters.specs.declared.views.View.TheVariants.{Session}
 use Rattle.vll_counters.specs.Headline.Views.{calls_in}
 use Rattle.vll_counters.specs.Rule.{widest, Rule, Shows, HasSeen, pass_of}
 use Rattle.vll_counters.specs.Steps.{told}
-use Rattle.vll_counters.specs.Told.{is_claimed_by, WasThere, FindTells}
+use Rattle.vll_counters.specs.Told.{is_claimed_by, WasThere, FindDoes, FindTells}
 use Rattle.vll_counters.proofs.Passes.{passes_reviewed}
 use Rattle.vll_counters.proofs.Sessions.{sessions_told, seen_all}
 use Rattle.vll_counters.proofs.News.{news_reviewed}
 use Rattle.vll_counters.proofs.States.{status_of}
-use Rattle.vll_counters.proofs.Holding.{not_session, same_words}
+use Rattle.vll_counters.proofs.Holding.{AllowsOfWords, not_session, same_words}
 use Rattle.vll_counters.proofs.Turns.{entry_of_status, calls_shown}
 
 -- ---- a ticket that is gone is below the lowest one that is yet to store a record that it claims
@@ -110,7 +110,8 @@ module _ (base : Base) where
       omega (arith, low, many, calls)
 
   pub finds : (slots by : ℕ) (g : SessionView) (r : ℕ) → r < length base.records
-      → Allows (Rule {S = Unit {0}} base) slots by (Session g, []) (value_word_of r) (λ n. n) (FindTells base r (step 0 0 0 0 mathlib.Core.Option.none) (Session g, []))
+      → AllowsOfWords (Rule {S = Unit {0}} base) slots by (Session g, []) (value_word_of r) (λ n. n)
+      (λ words n w. FindDoes (step 0 0 0 0 mathlib.Core.Option.none) (Session g, []) n w × FindTells base r words (Session g, []) n w)
   finds slots by g r room t k _ at small =
       let s = k.state in
       let q = k.queue in
@@ -137,19 +138,17 @@ module _ (base : Base) where
           news = news_reviewed (calls_in q.lines) t.views by (Session y) refl k.news;
         },
         (
-          y,
-          (
-            refl,
-            record {
-              now = record { moment = t; rule = k; seat = by; at = at };
-              present = present;
-              same = refl;
-              seen = calls_shown base q s k.shows;
-              begins = seen.begins;
-              own = seen.own;
-              given = given_entered q s g k.shows seen;
-              was = was_there q s g r word k.shows seen present;
-            },
-          ),
+          refl,
+          record {
+            now = record { moment = t; rule = k; seat = by; at = at };
+            words_are = refl;
+            present = present;
+            same = refl;
+            seen = calls_shown base q s k.shows;
+            begins = seen.begins;
+            own = seen.own;
+            given = given_entered q s g k.shows seen;
+            was = was_there q s g r word k.shows seen present;
+          },
         ),
       )

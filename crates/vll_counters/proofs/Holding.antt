@@ -1,5 +1,5 @@
 -- The rule at a known view of the queue's seat, and how words stay as they were.
-use Rattle.std.proofs.Common.{◌≡◌, ℕ, List, sym, ◌∙◌, subst, slice_index, slice_set}
+use Rattle.std.proofs.Common.{◌≡◌, ℕ, ◌<◌, List, length, sym, ◌∙◌, subst, slice_index, slice_set}
 use Rattle.std.proofs.lemmas.List.{set-get_or}
 use mathlib.Core.Option.{some, some-injective}
 use lib.ListN.{get_elem?}
@@ -55,6 +55,11 @@ module _ {S : Type 0} where
     sessions = h.sessions;
     news = h.news;
   }
+
+-- a step that is allowed, as the kit says, and that also tells its caller of the words at its very moment
+abbrev pub AllowsOfWords : {S V : Type 0} → (table.State S V → Type 0) → ℕ → ℕ → table.Me S V → ℕ → (ℕ → ℕ) → (List ℕ → ℕ → table.Me S V → Type 0) → Type 0
+AllowsOfWords {S} {V} holds slots id me i f then = (s : table.State S V) → holds s → length s.homes ≡ slots → get_elem? s.views id ≡ some me.0 → slice_index s.words i < 18446744073709551616
+    → (w : V) × (a : table.Act S) × table.Valid s.homes me.1 a × holds (table.stepped s i (f (slice_index s.words i)) id me.1 w a) × then s.words (slice_index s.words i) (w, table.carried_after me.1 a)
 
 -- a word that is written back
 pub same_words : (words : List ℕ) (i : ℕ) → slice_set words i (slice_index words i) ≡ words

@@ -13,7 +13,7 @@ use Rattle.vll_counters.specs.Laid.{laid_words}
 use Rattle.vll_counters.specs.Rule.{Rule}
 use Rattle.vll_counters.specs.Written.{Write, written, IsPastOf, longer, IsOfItsStep, IsOfItsLoad}
 use Rattle.vll_counters.specs.History.{plain, seat_view, without_pasts, RuleWithHistory}
-use Rattle.vll_counters.proofs.Holding.{same_words}
+use Rattle.vll_counters.proofs.Holding.{AllowsOfWords, same_words}
 use Rattle.vll_counters.proofs.Pasts.{written-append, past_itself, past_longer, longer_past}
 
 abbrev view_of : SeatView → View
@@ -33,19 +33,19 @@ module _ {S : Type 0} (base : Base) where
   abbrev pub staying : List Write → (ℕ → Me S View → Type 0) → ℕ → Me S SeatView → Type 0
   staying past then n w = then n (plain w) × (w.0.past ≡ past)
 
-  abbrev pub pinning : List Write → ℕ → (ℕ → ℕ) → (ℕ → Me S View → Type 0) → ℕ → Me S SeatView → Type 0
-  pinning past i f then n w = then n (plain w) × IsOfItsStep (laid_words base.records) past w.0.past i n (f n)
+  abbrev pub pinning : List Write → ℕ → (ℕ → ℕ) → (ℕ → Me S View → Type 0) → (List ℕ → ℕ → Me S View → Type 0) → ℕ → Me S SeatView → Type 0
+  pinning past i f does tells n w = does n (plain w) × IsOfItsStep (laid_words base.records) (λ words. tells words n (plain w)) past w.0.past i n (f n)
 
-  abbrev pub finding : List Write → ℕ → (ℕ → Me S View → Type 0) → ℕ → Me S SeatView → Type 0
-  finding past i then n w = then n (plain w) × IsOfItsLoad (laid_words base.records) past w.0.past i n
+  abbrev pub finding : List Write → ℕ → (ℕ → Me S View → Type 0) → (List ℕ → ℕ → Me S View → Type 0) → ℕ → Me S SeatView → Type 0
+  finding past i does tells n w = does n (plain w) × IsOfItsLoad (laid_words base.records) (λ words. tells words n (plain w)) past w.0.past i n
 
   -- a step whose writes are `more`, and whose seat then has the past `new`
   pub lifts : (slots id : ℕ) (v : View) (carried : List (ℕ × S)) (past : List Write) (i : ℕ) (f : ℕ → ℕ) (more : ℕ → List Write) (new : List Write → ℕ → List Write)
-      (then : ℕ → Me S View → Type 0) (then_all : ℕ → Me S SeatView → Type 0)
+      (then : List ℕ → ℕ → Me S View → Type 0) (then_all : ℕ → Me S SeatView → Type 0)
       → ((words : List ℕ) → slice_set words i (f (slice_index words i)) ≡ written words (more (slice_index words i)))
       → ((all : List Write) (n : ℕ) → IsPastOf past all → IsPastOf (new all n) (all ++ more n))
-      → ((all : List Write) (n : ℕ) (w : Me S View) → IsPastOf past all → n ≡ slice_index (written (laid_words base.records) all) i → then n w → then_all n (seat_view w.0 (new all n), w.1))
-      → Allows (Rule {S = S} base) slots id (v, carried) i f then
+      → ((all : List Write) (n : ℕ) (w : Me S View) → IsPastOf past all → n ≡ slice_index (written (laid_words base.records) all) i → then (written (laid_words base.records) all) n w → then_all n (seat_view w.0 (new all n), w.1))
+      → AllowsOfWords (Rule {S = S} base) slots id (v, carried) i f then
       → Allows (RuleWithHistory {S = S} base) slots id (seat_view v past, carried) i f then_all
   lifts slots id v carried past i f more new then then_all writes goes tells allows t k homes at small =
       let all = k.history.all in
@@ -64,7 +64,7 @@ module _ {S : Type 0} (base : Base) where
             pasts = pasts_set t.views id x (all ++ more n) (goes all n known) (λ seat u there. past_longer u.past all (more n) (k.history.pasts seat u there));
           };
         },
-        tells all n (a.0, carried_after carried a.1) known (ap (λ (ws : List ℕ). slice_index ws i) k.history.words) a.4,
+        tells all n (a.0, carried_after carried a.1) known (ap (λ (ws : List ℕ). slice_index ws i) k.history.words) (subst (λ (ws : List ℕ). then ws n (a.0, carried_after carried a.1)) k.history.words a.4),
       )
 
   -- a load that tells nothing of its moment
@@ -72,29 +72,32 @@ module _ {S : Type 0} (base : Base) where
       → Allows (Rule {S = S} base) slots id (v, carried) i (λ n. n) then
       → Allows (RuleWithHistory {S = S} base) slots id (seat_view v past, carried) i (λ n. n) (staying past then)
   lifts_load slots id v carried past i then =
-      lifts slots id v carried past i (λ n. n) (λ _. []) (λ _ _. past) then (staying past then) (λ words. same_words words i) (λ all n p. past_longer past all [] p) (λ all n w p is told. (told, refl))
+      lifts slots id v carried past i (λ n. n) (λ _. []) (λ _ _. past) (λ _. then) (staying past then) (λ words. same_words words i) (λ all n p. past_longer past all [] p) (λ all n w p is told. (told, refl))
 
   -- a store
   pub lifts_store : (slots id : ℕ) (v : View) (carried : List (ℕ × S)) (past : List Write) (i x : ℕ) (then : ℕ → Me S View → Type 0)
       → Allows (Rule {S = S} base) slots id (v, carried) i (λ _. x) then
       → Allows (RuleWithHistory {S = S} base) slots id (seat_view v past, carried) i (λ _. x) (staying past then)
   lifts_store slots id v carried past i x then =
-      lifts slots id v carried past i (λ _. x) (λ _. (i, x) ∷ []) (λ _ _. past) then (staying past then) (λ words. refl) (λ all n p. past_longer past all ((i, x) ∷ []) p) (λ all n w p is told. (told, refl))
+      lifts slots id v carried past i (λ _. x) (λ _. (i, x) ∷ []) (λ _ _. past) (λ _. then) (staying past then) (λ words. refl) (λ all n p. past_longer past all ((i, x) ∷ []) p) (λ all n w p is told. (told, refl))
 
   -- a step that changes a word to g of what it was, and tells what it found at its moment
-  pub lifts_change : (slots id : ℕ) (v : View) (carried : List (ℕ × S)) (past : List Write) (i : ℕ) (f g : ℕ → ℕ) (then : ℕ → Me S View → Type 0) → ((n : ℕ) (w : Me S View) → then n w → f n ≡ g n)
-      → Allows (Rule {S = S} base) slots id (v, carried) i f then
-      → Allows (RuleWithHistory {S = S} base) slots id (seat_view v past, carried) i f (pinning past i g then)
-  lifts_change slots id v carried past i f g then same =
-      lifts slots id v carried past i f (λ n. (i, f n) ∷ []) (λ all n. all ++ (i, f n) ∷ []) then (pinning past i g then) (λ words. refl) (λ all n p. past_itself (all ++ (i, f n) ∷ []))
-      (λ all n w p is told. (told, record { earlier = all; goes_on = p; found_is = is; new_is = ap (λ (m : ℕ). all ++ (i, m) ∷ []) (same n w told) }))
+  pub lifts_change : (slots id : ℕ) (v : View) (carried : List (ℕ × S)) (past : List Write) (i : ℕ) (f g : ℕ → ℕ) (does : ℕ → Me S View → Type 0) (tells : List ℕ → ℕ → Me S View → Type 0)
+      → ((words : List ℕ) (n : ℕ) (w : Me S View) → tells words n w → f n ≡ g n)
+      → AllowsOfWords (Rule {S = S} base) slots id (v, carried) i f (λ words n w. does n w × tells words n w)
+      → Allows (RuleWithHistory {S = S} base) slots id (seat_view v past, carried) i f (pinning past i g does tells)
+  lifts_change slots id v carried past i f g does tells same =
+      lifts slots id v carried past i f (λ n. (i, f n) ∷ []) (λ all n. all ++ (i, f n) ∷ []) (λ words n w. does n w × tells words n w) (pinning past i g does tells) (λ words. refl)
+      (λ all n p. past_itself (all ++ (i, f n) ∷ []))
+      (λ all n w p is told. (told.0, record { earlier = all; goes_on = p; found_is = is; now = told.1; new_is = ap (λ (m : ℕ). all ++ (i, m) ∷ []) (same (written (laid_words base.records) all) n w told.1) }))
 
   -- a load that tells what it found at its moment
-  pub lifts_find : (slots id : ℕ) (v : View) (carried : List (ℕ × S)) (past : List Write) (i : ℕ) (then : ℕ → Me S View → Type 0)
-      → Allows (Rule {S = S} base) slots id (v, carried) i (λ n. n) then
-      → Allows (RuleWithHistory {S = S} base) slots id (seat_view v past, carried) i (λ n. n) (finding past i then)
-  lifts_find slots id v carried past i then =
-      lifts slots id v carried past i (λ n. n) (λ _. []) (λ all _. all) then (finding past i then) (λ words. same_words words i) (λ all n p. past_longer all all [] (past_itself all)) (λ all n w p is told. (told, record { goes_on = p; found_is = is }))
+  pub lifts_find : (slots id : ℕ) (v : View) (carried : List (ℕ × S)) (past : List Write) (i : ℕ) (does : ℕ → Me S View → Type 0) (tells : List ℕ → ℕ → Me S View → Type 0)
+      → AllowsOfWords (Rule {S = S} base) slots id (v, carried) i (λ n. n) (λ words n w. does n w × tells words n w)
+      → Allows (RuleWithHistory {S = S} base) slots id (seat_view v past, carried) i (λ n. n) (finding past i does tells)
+  lifts_find slots id v carried past i does tells =
+      lifts slots id v carried past i (λ n. n) (λ _. []) (λ all _. all) (λ words n w. does n w × tells words n w) (finding past i does tells) (λ words. same_words words i)
+      (λ all n p. past_longer all all [] (past_itself all)) (λ all n w p is told. (told.0, record { goes_on = p; found_is = is; now = told.1 }))
 
   -- a split: both seats have the past of the one
   pub lifts_split : (id : ℕ) (v left right : View) (past : List Write) → Splits (Rule {S = S} base) id v left right

@@ -35,13 +35,13 @@ use Rattle.vll_counters.specs.declared.views.View.{View}
 use Rattle.vll_counters.specs.declared.views.View.TheVariants.{Pass}
 use Rattle.vll_counters.specs.Rule.{widest, values_before, pass_for, pass_of, Moment, Rule}
 use Rattle.vll_counters.specs.Steps.{loaded, stored, released, records_before_pass, reply_of_pass}
-use Rattle.vll_counters.specs.Told.{PassMoment, IsCountedNow, has_stored_pass, LoadTells, StoreTells, ReleaseTells}
+use Rattle.vll_counters.specs.Told.{PassMoment, IsCountedNow, has_stored_pass, LoadTells, StoreTells, ReleaseDoes, ReleaseTells}
 use Rattle.vll_counters.proofs.Moves.{load_made, store_made, release_made}
 use Rattle.vll_counters.proofs.Passes.{passes_moved}
 use Rattle.vll_counters.proofs.Sessions.{sessions_reviewed}
 use Rattle.vll_counters.proofs.News.{news_reviewed}
 use Rattle.vll_counters.proofs.States.{IsPassOf, pass_is, passes_named, entered_kept, statuses_kept, lines_kept, pass_else, pass_here}
-use Rattle.vll_counters.proofs.Holding.{not_pass, same_words}
+use Rattle.vll_counters.proofs.Holding.{AllowsOfWords, not_pass, same_words}
 
 -- the pass of a seat is that of its ticket
 pub own_pass : {S : Type 0} (base : Base) (t : table.State S View) (k : Rule base t) (by : ℕ) (p : PassView) → get_elem? t.views by ≡ some (Pass p) → IsPassOf base k.state p.ticket p
@@ -180,8 +180,8 @@ module _ (base : Base) where
       )
 
   pub releases : (slots by : ℕ) (p : PassView) (c : Claim) → slice_get p.call.claims p.releases ≡ Some c → c.id < length base.records → has_stored_pass base p ≡ true
-      → Allows (Rule {S = Unit {0}} base) slots by (Pass p, []) (pair_word_of_record c.id) (λ n. (n + (18446744073709551616 - delta_of c.mode)) % 18446744073709551616)
-      (ReleaseTells base c.id (step 0 0 0 0 mathlib.Core.Option.none) (Pass p, []))
+      → AllowsOfWords (Rule {S = Unit {0}} base) slots by (Pass p, []) (pair_word_of_record c.id) (λ n. (n + (18446744073709551616 - delta_of c.mode)) % 18446744073709551616)
+      (λ words n w. ReleaseDoes (step 0 0 0 0 mathlib.Core.Option.none) (Pass p, []) n w × ReleaseTells base c.id words (Pass p, []) n w)
   releases slots by p c next room all t k _ at small =
       let o = own_pass base t k by p at in
       let s = k.state in
@@ -204,15 +204,15 @@ module _ (base : Base) where
         tt,
         pass_step t k by p (released p) o f (by_event (event.Release n)) _ (slice_set t.words i v) t.homes at refl refl (ap released o.is) tt made_is
             (words_set_pair base s after t.words c.id v room here others (λ r. others_stay (widest base) s after (by_event (event.Release n)) _ r k.shows.reached made_is refl) k.words),
-        (refl, record { now = pass_now base t k by p at; counts = counted }),
+        (refl, record { now = pass_now base t k by p at; words_are = refl; counts = counted }),
       )
     where
       left_after : (x z d : ℕ) → x ≡ z + d → x < 18446744073709551616 → z ≡ (x + (18446744073709551616 - d)) % 18446744073709551616
       left_after x z d e small = omega arith
 
   -- the word has the claim that is released
-  pub release_fits : (p : PassView) (c : Claim) (n : ℕ) → slice_get p.call.claims p.releases ≡ Some c → IsCountedNow base p c.id n → (n + (18446744073709551616 - delta_of c.mode)) % 18446744073709551616 ≡ n - delta_of c.mode
-  release_fits p c n next counts =
+  pub release_fits : (p : PassView) (c : Claim) (words : List ℕ) (n : ℕ) → slice_get p.call.claims p.releases ≡ Some c → IsCountedNow base p words c.id n → (n + (18446744073709551616 - delta_of c.mode)) % 18446744073709551616 ≡ n - delta_of c.mode
+  release_fits p c words n next counts =
       let k = counts.now.rule in
       let s = k.state in
       let o = own_pass base counts.now.moment k counts.now.seat p counts.now.at in

@@ -25,13 +25,13 @@ use Rattle.vll_counters.specs.declared.views.View.TheVariants.{Queue}
 use Rattle.vll_counters.specs.Headline.Views.{calls_in}
 use Rattle.vll_counters.specs.Rule.{widest, turn_view, Moment, Rule, pass_of}
 use Rattle.vll_counters.specs.Steps.{asked, requested, turn_of, opened}
-use Rattle.vll_counters.specs.Told.{IsCounterNow, KnowsSession, RequestTells, OpenTells}
+use Rattle.vll_counters.specs.Told.{IsCounterNow, KnowsSession, RequestDoes, RequestTells, OpenTells}
 use Rattle.vll_counters.proofs.Places.{at_below}
 use Rattle.vll_counters.proofs.Passes.{passes_reviewed}
 use Rattle.vll_counters.proofs.Sessions.{sessions_reviewed}
 use Rattle.vll_counters.proofs.News.{news_reviewed}
 use Rattle.vll_counters.proofs.Moves.{opened_turn, hand_made}
-use Rattle.vll_counters.proofs.Holding.{Holds, held, kept, same_words}
+use Rattle.vll_counters.proofs.Holding.{AllowsOfWords, Holds, held, kept, same_words}
 use Rattle.vll_counters.proofs.Turns.{seen_turn, turn_is, turn_closed, hosted_asked, granted_by, as_many, replied}
 
 -- a sum that fits is not cut
@@ -44,7 +44,8 @@ MayOpen base lines call = (c : Call) → call ≡ Some c → IsProper base c × 
 
 module _ (base : Base) where
   pub requests : (slots : ℕ) (q : QueueView) (turn : TurnView) (c : Claim) → q.turn ≡ Some turn → slice_get turn.call.claims turn.requested ≡ Some c → c.id < length base.records
-      → Allows (Rule {S = Unit {0}} base) slots 0 (Queue q, []) (pair_word_of_record c.id) (λ n. (n + delta_of c.mode) % 18446744073709551616) (RequestTells base c (step 0 0 0 0 mathlib.Core.Option.none) (Queue q, []))
+      → AllowsOfWords (Rule {S = Unit {0}} base) slots 0 (Queue q, []) (pair_word_of_record c.id) (λ n. (n + delta_of c.mode) % 18446744073709551616)
+      (λ words n w. RequestDoes c (step 0 0 0 0 mathlib.Core.Option.none) (Queue q, []) n w × RequestTells base c words (Queue q, []) n w)
   requests slots q turn c turn_open next room t k _ at small =
       let h = held base t q k at in
       let s = h.state in
@@ -80,13 +81,13 @@ module _ (base : Base) where
               news = news_reviewed (calls_in q.lines) t.views 0 (Queue new) refl h.news;
             })
             here,
-        (refl, record { now = record { moment = t; rule = k; at = at }; counts = k.words.pairs c.id room }),
+        (refl, record { now = record { moment = t; rule = k; at = at }; words_are = refl; counts = k.words.pairs c.id room }),
       )
 
   -- the word has room for the claim that is requested
-  pub request_fits : (q : QueueView) (turn : TurnView) (c : Claim) (n : ℕ) → q.turn ≡ Some turn → slice_get turn.call.claims turn.requested ≡ Some c → c.id < length base.records
-      → IsCounterNow base q c.id n → (n + delta_of c.mode) % 18446744073709551616 ≡ n + delta_of c.mode
-  request_fits q turn c n turn_open next room counts =
+  pub request_fits : (q : QueueView) (turn : TurnView) (c : Claim) (words : List ℕ) (n : ℕ) → q.turn ≡ Some turn → slice_get turn.call.claims turn.requested ≡ Some c → c.id < length base.records
+      → IsCounterNow base q words c.id n → (n + delta_of c.mode) % 18446744073709551616 ≡ n + delta_of c.mode
+  request_fits q turn c words n turn_open next room counts =
       let k = counts.now.rule in
       let h = held base counts.now.moment q k counts.now.at in
       let s = h.state in

@@ -35,7 +35,7 @@ use Rattle.vll_counters.specs.Rule.{Rule}
 use Rattle.vll_counters.specs.Steps.{new_session, new_line, admitted, joined, spent, reply_of_pass, records_before_pass, pass_given, pass_at, pass_kept, pass_made, session_kept, session_given, more_clients, session_made, new_pass}
 use Rattle.vll_counters.specs.Written.{Write, written, IsPastOf, LeadsTo, longer}
 use Rattle.vll_counters.specs.History.{seat_view, with_view, with_views, first_seat, spent_seat, Stays, Requested, Released, Found, RuleWithHistory}
-use Rattle.vll_counters.specs.Told.{IsAtEnd, AtQueue, KnowsPass, KnowsSession, RequestTells, OpenTells, LoadTells, FindTells, StoreTells, ReleaseTells, EndTells, MayRun, MayLeave, IsGivenOut, has_stored_pass}
+use Rattle.vll_counters.specs.Told.{IsAtEnd, AtQueue, KnowsPass, KnowsSession, RequestDoes, RequestTells, OpenTells, LoadTells, FindDoes, FindTells, StoreTells, ReleaseDoes, ReleaseTells, EndTells, MayRun, MayLeave, IsGivenOut, has_stored_pass}
 use Rattle.vll_counters.specs.Shown.{AreNewSessions, base_of, QueueShown, SessionShown, PassShown, shown_queue, settled, queue_in, queue_view, session_of, pass_of_view, next_claim, record_of}
 use Rattle.vll_counters.proofs.Lifting.{lifts_load, lifts_store, lifts_change, lifts_find, lifts_split, lifts_join, lowers_final}
 use Rattle.vll_counters.proofs.PassSteps.{loads, stores, releases, release_fits}
@@ -98,7 +98,7 @@ module _ (slots : ℕ) where
       let turn = turn_of_claim q.turn c next in
       rw (same, told, claim, i, is, at, by)
       (lifts_change b slots 0 (Queue q) [] past (pair_word_of_record c.id) (λ n. (n + delta_of c.mode) % 18446744073709551616) (λ n. n + delta_of c.mode)
-      (RequestTells b c no_step (Queue q, [])) (λ n w told. request_fits b q turn.0 c n turn.1 turn.2 low told.1) (requests b slots q turn.0 c turn.1 turn.2 low))
+      (RequestDoes c no_step (Queue q, [])) (λ words. RequestTells b c words (Queue q, [])) (λ words n w told. request_fits b q turn.0 c words n turn.1 turn.2 low told) (requests b slots q turn.0 c turn.1 turn.2 low))
 
   pub opens_at : (base b d : Base) (id : ℕ) (me : Me (Unit {0}) SeatView) (q : QueueView) (past : List Write) (call given : Option Call) → base ≡ b → d ≡ b → given ≡ call → id ≡ 0 → me ≡ (seat_view (Queue q) past, []) → q.turn ≡ None
       → MayOpen b q.lines call
@@ -117,7 +117,7 @@ module _ (slots : ℕ) where
   pub finds_at : (base b d : Base) (id : ℕ) (me : Me (Unit {0}) SeatView) (g : SessionView) (past : List Write) (r n word : ℕ) → base ≡ b → d ≡ b → n ≡ r → me ≡ (seat_view (Session g) past, []) → word ≡ value_word_of r → r < length b.records
       → Allows (RuleWithHistory {S = Unit {0}} base) slots id me word (λ n. n) (Found d n no_step me)
   finds_at base b d id me g past r n word same told number is at low =
-      rw (same, told, number, is, at) (lifts_find b slots id (Session g) [] past (value_word_of r) (FindTells b r no_step (Session g, [])) (finds b slots id g r low))
+      rw (same, told, number, is, at) (lifts_find b slots id (Session g) [] past (value_word_of r) (FindDoes no_step (Session g, [])) (λ words. FindTells b r words (Session g, [])) (finds b slots id g r low))
 
   pub stores_at : (base b : Base) (id : ℕ) (me : Me (Unit {0}) SeatView) (p : PassView) (past : List Write) (r word new : ℕ) → base ≡ b → me ≡ (seat_view (Pass p) past, []) → word ≡ value_word_of r
       → record_of (slice_get (writes p.call) p.stores) ≡ Some r → r < length b.records → p.loads ≡ length p.call.claims → is_aborted (reply_of_pass b p) ≡ false
@@ -135,7 +135,7 @@ module _ (slots : ℕ) where
   releases_at base b d id me p past c e word k same told claim is at by next low all =
       rw (same, told, claim, is, at, by)
       (lifts_change b slots id (Pass p) [] past (pair_word_of_record c.id) (λ n. (n + (18446744073709551616 - delta_of c.mode)) % 18446744073709551616) (λ n. n - delta_of c.mode)
-      (ReleaseTells b c.id no_step (Pass p, [])) (λ n w told. release_fits b p c n next told.1) (releases b slots id p c next low all))
+      (ReleaseDoes no_step (Pass p, [])) (λ words. ReleaseTells b c.id words (Pass p, [])) (λ words n w told. release_fits b p c words n next told) (releases b slots id p c next low all))
 
   pub ends_at : (base b d : Base) (id : ℕ) (me : Me (Unit {0}) SeatView) (q : QueueView) (past : List Write) (p : PassView) → base ≡ b → d ≡ b → id ≡ 0 → me ≡ (seat_view (Queue q) past, []) → q.pass ≡ Some p → q.turn ≡ None → has_stored_pass b p ≡ true
       → p.releases ≡ length p.call.claims

@@ -15,7 +15,7 @@ use Rattle.vll_counters.specs.Laid.{laid_words}
 use Rattle.vll_counters.specs.Rule.{Rule}
 use Rattle.vll_counters.specs.Written.{Write, written, IsPastOf, longer, IsOfItsStep, IsOfItsLoad}
 use Rattle.vll_counters.specs.Steps.{first_view, spent}
-use Rattle.vll_counters.specs.Told.{RequestTells, ReleaseTells, FindTells}
+use Rattle.vll_counters.specs.Told.{RequestDoes, RequestTells, ReleaseDoes, ReleaseTells, FindDoes, FindTells}
 
 -- what a seat knows, if this is its view and this its past
 abbrev pub seat_view : View → List Write → SeatView
@@ -46,25 +46,25 @@ module _ {S : Type 0} where
   abbrev pub Stays : (Step S → Me S View → ℕ → Me S View → Type 0) → Step S → Me S SeatView → ℕ → Me S SeatView → Type 0
   Stays Tells st v n w = Tells st (plain v) n (plain w) × (w.0.past ≡ v.0.past)
 
-  -- a step that changes a word tells this of the views, and that its answer is of the step
-  abbrev pub Pinned : List ℕ → ℕ → (ℕ → ℕ) → (Step S → Me S View → ℕ → Me S View → Type 0) → Step S → Me S SeatView → ℕ → Me S SeatView → Type 0
-  Pinned opening word change Tells st v n w = Tells st (plain v) n (plain w) × IsOfItsStep opening v.0.past w.0.past word n (change n)
+  -- a step that changes a word does this to the views, and tells this of the words at its very moment
+  abbrev pub Pinned : List ℕ → ℕ → (ℕ → ℕ) → (Step S → Me S View → ℕ → Me S View → Type 0) → (List ℕ → Me S View → ℕ → Me S View → Type 0) → Step S → Me S SeatView → ℕ → Me S SeatView → Type 0
+  Pinned opening word change Does Tells st v n w = Does st (plain v) n (plain w) × IsOfItsStep opening (λ words. Tells words (plain v) n (plain w)) v.0.past w.0.past word n (change n)
 
-  -- a load tells this of the views, and that its answer is of the load
-  abbrev pub PinnedLoad : List ℕ → ℕ → (Step S → Me S View → ℕ → Me S View → Type 0) → Step S → Me S SeatView → ℕ → Me S SeatView → Type 0
-  PinnedLoad opening word Tells st v n w = Tells st (plain v) n (plain w) × IsOfItsLoad opening v.0.past w.0.past word n
+  -- and so does a load
+  abbrev pub PinnedLoad : List ℕ → ℕ → (Step S → Me S View → ℕ → Me S View → Type 0) → (List ℕ → Me S View → ℕ → Me S View → Type 0) → Step S → Me S SeatView → ℕ → Me S SeatView → Type 0
+  PinnedLoad opening word Does Tells st v n w = Does st (plain v) n (plain w) × IsOfItsLoad opening (λ words. Tells words (plain v) n (plain w)) v.0.past w.0.past word n
 
-  -- a request tells what it does of the views, and that its answer is of the step
+  -- a request: what it does to the views, and the record's counter at its very moment
   abbrev pub Requested : Base → Claim → Step S → Me S SeatView → ℕ → Me S SeatView → Type 0
-  Requested base c = Pinned (laid_words base.records) (pair_word_of_record c.id) (λ n. n + delta_of c.mode) (RequestTells base c)
+  Requested base c = Pinned (laid_words base.records) (pair_word_of_record c.id) (λ n. n + delta_of c.mode) (RequestDoes c) (RequestTells base c)
 
-  -- and so does a release
+  -- a release, likewise
   abbrev pub Released : Base → Claim → Step S → Me S SeatView → ℕ → Me S SeatView → Type 0
-  Released base c = Pinned (laid_words base.records) (pair_word_of_record c.id) (λ n. n - delta_of c.mode) (ReleaseTells base c.id)
+  Released base c = Pinned (laid_words base.records) (pair_word_of_record c.id) (λ n. n - delta_of c.mode) ReleaseDoes (ReleaseTells base c.id)
 
-  -- and a find
+  -- a find: what it does to the views, and the record's value at its very moment
   abbrev pub Found : Base → ℕ → Step S → Me S SeatView → ℕ → Me S SeatView → Type 0
-  Found base r = PinnedLoad (laid_words base.records) (value_word_of r) (FindTells base r)
+  Found base r = PinnedLoad (laid_words base.records) (value_word_of r) FindDoes (FindTells base r)
 
   -- ---- the rule with the history
 

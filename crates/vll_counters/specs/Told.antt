@@ -24,6 +24,7 @@ use Rattle.vll_counters.specs.declared.views.View.{View}
 use Rattle.vll_counters.specs.declared.views.View.TheVariants.{Queue, Pass, Session}
 use Rattle.vll_counters.specs.Headline.Views.{calls_in, calls_by, Begins}
 use Rattle.vll_counters.specs.Rule.{HasSeen, Moment, Rule}
+use Rattle.vll_counters.specs.Shown.{session_of}
 use Rattle.vll_counters.specs.Steps.{on_queue, on_pass, on_session, told, opened, requested, loaded, stored, released, ended, records_before_pass, reply_of_pass}
 
 -- a fact about the view of the queue's seat
@@ -66,9 +67,10 @@ pub record SessionMoment (base : Base) (g : SessionView) : Type 0 where
   pub seat : ℕ
   pub at : get_elem? moment.views seat ≡ opt.some (Session g)
 
--- this is the record's counter at a moment of the queue's seat
-pub record IsCounterNow (base : Base) (q : QueueView) (r n : ℕ) : Type 0 where
+-- this is the record's counter at a moment of the queue's seat that has these words
+pub record IsCounterNow (base : Base) (q : QueueView) (words : List ℕ) (r n : ℕ) : Type 0 where
   pub now : QueueMoment base q
+  pub words_are : now.moment.words ≡ words
   pub counts : n ≡ counter now.rule.state r
 
 -- this is the record's present value at a moment of the pass, and the value before the pass's ticket, if the entered calls run one at a time
@@ -77,9 +79,10 @@ pub record IsValueNow (base : Base) (p : PassView) (r n : ℕ) : Type 0 where
   pub present : n ≡ value base now.rule.state r
   pub serial : n ≡ slice_index (records_before_pass base p) r
 
--- this is the record's counter at a moment of the pass
-pub record IsCountedNow (base : Base) (p : PassView) (r n : ℕ) : Type 0 where
+-- this is the record's counter at a moment of the pass that has these words
+pub record IsCountedNow (base : Base) (p : PassView) (words : List ℕ) (r n : ℕ) : Type 0 where
   pub now : PassMoment base p
+  pub words_are : now.moment.words ≡ words
   pub counts : n ≡ counter now.rule.state r
 
 -- a call claims a record
@@ -94,11 +97,12 @@ pub record WasThere (base : Base) (calls : List Made) (given : List ℕ) (bound 
   pub value : v ≡ slice_index (before base.procs calls base.records ticket) r
   pub behind : (k t : ℕ) (m : Made) → slice_get given k ≡ Some t → slice_get calls t ≡ Some m → is_claimed_by m.1 r ≡ true → t < ticket
 
--- a session has found a record's present value, at a moment of its own: it has then seen all calls that have entered,
--- with no more of its own client; each ticket whose reply it was given is one of theirs, and in their serial run the
--- value was there
-pub record HasFound (base : Base) (old new : SessionView) (r v : ℕ) : Type 0 where
+-- a session has found a record's present value, at a moment of its own that has these words: it has then seen all calls
+-- that have entered, with no more of its own client; each ticket whose reply it was given is one of theirs, and in
+-- their serial run the value was there
+pub record HasFound (base : Base) (old new : SessionView) (words : List ℕ) (r v : ℕ) : Type 0 where
   pub now : SessionMoment base old
+  pub words_are : now.moment.words ≡ words
   pub present : v ≡ value base now.rule.state r
   pub same : new ≡ told new.seen old
   pub seen : new.seen ≡ entered now.rule.state
@@ -177,9 +181,13 @@ pub record IsAtEnd (base : Base) (lines : List Line) (words : List ℕ) : Type 0
   pub replied : (t : ℕ) (l : Line) → slice_get lines t ≡ Some l → l.reply ≡ answer base.procs (calls_in lines) base.records t
 
 module _ {S : Type 0} where
-  -- a request changes the turn, and its caller learns the record's counter at its moment
-  abbrev pub RequestTells : Base → Claim → Step S → Me S View → ℕ → Me S View → Type 0
-  RequestTells base c st v n w = (w ≡ (on_queue (requested c n) v.0, v.1)) × AtQueue (λ q. IsCounterNow base q c.id n) v.0
+  -- a request changes the turn
+  abbrev pub RequestDoes : Claim → Step S → Me S View → ℕ → Me S View → Type 0
+  RequestDoes c st v n w = w ≡ (on_queue (requested c n) v.0, v.1)
+
+  -- and its caller learns that it has found the record's counter in these words
+  abbrev pub RequestTells : Base → Claim → List ℕ → Me S View → ℕ → Me S View → Type 0
+  RequestTells base c words v n w = AtQueue (λ q. IsCounterNow base q words c.id n) v.0
 
   -- opening a turn, the caller learns what the queue's seat does of the session that has joined it
   abbrev pub OpenTells : Base → Option Call → Step S → Me S View → ℕ → Me S View → Type 0
@@ -189,17 +197,25 @@ module _ {S : Type 0} where
   abbrev pub LoadTells : Base → ℕ → Step S → Me S View → ℕ → Me S View → Type 0
   LoadTells base r st v n w = (w ≡ (on_pass (loaded n) v.0, v.1)) × AtPass (λ p. IsValueNow base p r n) v.0
 
-  -- a find changes the session, and its caller learns what was found
-  abbrev pub FindTells : Base → ℕ → Step S → Me S View → ℕ → Me S View → Type 0
-  FindTells base r st v n w = (new : SessionView) × ((w ≡ (on_session (λ g. new) v.0, v.1)) × AtSession (λ g. HasFound base g new r n) v.0)
+  -- a find changes the session
+  abbrev pub FindDoes : Step S → Me S View → ℕ → Me S View → Type 0
+  FindDoes st v n w = w ≡ (on_session (λ g. session_of w.0) v.0, v.1)
+
+  -- and its caller learns what it has found in these words
+  abbrev pub FindTells : Base → ℕ → List ℕ → Me S View → ℕ → Me S View → Type 0
+  FindTells base r words v n w = AtSession (λ g. HasFound base g (session_of w.0) words r n) v.0
 
   -- a store changes the pass, and its caller learns nothing
   abbrev pub StoreTells : Step S → Me S View → ℕ → Me S View → Type 0
   StoreTells st v n w = w ≡ (on_pass stored v.0, v.1)
 
-  -- a release changes the pass, and its caller learns the record's counter at its moment
-  abbrev pub ReleaseTells : Base → ℕ → Step S → Me S View → ℕ → Me S View → Type 0
-  ReleaseTells base r st v n w = (w ≡ (on_pass released v.0, v.1)) × AtPass (λ p. IsCountedNow base p r n) v.0
+  -- a release changes the pass
+  abbrev pub ReleaseDoes : Step S → Me S View → ℕ → Me S View → Type 0
+  ReleaseDoes st v n w = w ≡ (on_pass released v.0, v.1)
+
+  -- and its caller learns that it has found the record's counter in these words
+  abbrev pub ReleaseTells : Base → ℕ → List ℕ → Me S View → ℕ → Me S View → Type 0
+  ReleaseTells base r words v n w = AtPass (λ p. IsCountedNow base p words r n) v.0
 
   -- ending a call, the caller learns what the queue's seat does of the pass that has joined it
   abbrev pub EndTells : Base → Step S → Me S View → ℕ → Me S View → Type 0

@@ -21,18 +21,22 @@ longer past other = if nat_lt (length past) (length other) then other else past
 -- ---- what the caller of one step learns of it
 
 -- a step on a word found this value and left that one: the new past is the history up to and with the step's own write,
--- the value found is what the writes before it had left in the word, and the old past is a beginning of these
-pub record IsOfItsStep (opening : List ℕ) (old new : List Write) (word found left : ℕ) : Type 0 where
+-- and the old past is a beginning of the writes before it. The words at the very moment of the step are what these
+-- writes had left: the value found is that of the word, and `Now` says of these words what else was so
+pub record IsOfItsStep (opening : List ℕ) (Now : List ℕ → Type 0) (old new : List Write) (word found left : ℕ) : Type 0 where
   pub earlier : List Write
   pub goes_on : IsPastOf old earlier
   pub found_is : found ≡ slice_index (written opening earlier) word
+  pub now : Now (written opening earlier)
   pub new_is : new ≡ earlier ++ (word, left) ∷ []
 
--- a load of a word found this value: the new past is the history up to the load, the value found is what its writes had
--- left in the word, and the old past is a beginning of it
-pub record IsOfItsLoad (opening : List ℕ) (old new : List Write) (word found : ℕ) : Type 0 where
+-- a load of a word found this value: the new past is the history up to the load, and the old past is a beginning of it.
+-- The words at the very moment of the load are what this history had left: the value found is that of the word, and
+-- `Now` says of these words what else was so
+pub record IsOfItsLoad (opening : List ℕ) (Now : List ℕ → Type 0) (old new : List Write) (word found : ℕ) : Type 0 where
   pub goes_on : IsPastOf old new
   pub found_is : found ≡ slice_index (written opening new) word
+  pub now : Now (written opening new)
 
 -- a history that begins with this past leads from the opening words to these
 pub record LeadsTo (opening : List ℕ) (past : List Write) (words : List ℕ) : Type 0 where

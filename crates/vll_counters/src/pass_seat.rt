@@ -80,16 +80,16 @@ impl Words {
     }
 
     /// Releases the pass's next claim, by one fetch_sub on the record's pair word, once all its stores are made.
-    /// Returns the word before that, which is the record's counter, as the writes before this step have left it: the
-    /// last write of the seat's new past is this step's own, and its old past is a beginning of the writes before it.
+    /// Returns the word before that, which is the record's counter at the very moment of this step, whose words are what
+    /// the writes before it have left: the last write of the seat's new past is this step's own, and its old past is a
+    /// beginning of the writes before it.
     pub fn release(&self, pass: &mut PassSeat, claim: Claim) -> u64
         requires same { pass.old.table ≡ self.now.table }
         requires next { slice_get pass.old.pass.call.claims pass.old.pass.releases ≡ Some claim }
         requires there { claim.id < length self.now.base.records }
         requires stored { has_stored_pass self.now.base pass.old.pass ≡ true }
         ensures pass { pass.new ≡ record (passed pass.old (released pass.old.pass)) { past = pass.new.past } }
-        ensures counter { IsCountedNow self.now.base pass.old.pass claim.id result }
-        ensures step { IsOfItsStep (laid_words self.now.base.records) pass.old.past pass.new.past (pair_word_of_record claim.id) result (result - delta_of claim.mode) }
+        ensures step { IsOfItsStep (laid_words self.now.base.records) (λ words. IsCountedNow self.now.base pass.old.pass words claim.id result) pass.old.past pass.new.past (pair_word_of_record claim.id) result (result - delta_of claim.mode) }
     {
         self.release_knowing::<Brand>(pass, claim)
     }
@@ -101,8 +101,7 @@ impl Words {
         requires there { claim.id < length self.now.base.records }
         requires stored { has_stored_pass self.now.base pass.old.pass ≡ true }
         ensures pass { pass.new ≡ record (passed pass.old (released pass.old.pass)) { past = pass.new.past } }
-        ensures counter { IsCountedNow self.now.base pass.old.pass claim.id result }
-        ensures step { IsOfItsStep (laid_words self.now.base.records) pass.old.past pass.new.past (pair_word_of_record claim.id) result (result - delta_of claim.mode) }
+        ensures step { IsOfItsStep (laid_words self.now.base.records) (λ words. IsCountedNow self.now.base pass.old.pass words claim.id result) pass.old.past pass.new.past (pair_word_of_record claim.id) result (result - delta_of claim.mode) }
     {
         self.table
             .shared

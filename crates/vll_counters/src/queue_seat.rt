@@ -40,15 +40,14 @@ impl Model for QueueSeat {
 
 impl Words {
     /// Requests the open turn's next claim, by one fetch_add on the record's pair word. Returns the word before that,
-    /// which is the record's counter, as the writes before this step have left it: the last write of the seat's new past
-    /// is this step's own, and its old past is a beginning of the writes before it.
+    /// which is the record's counter at the very moment of this step, whose words are what the writes before it have left:
+    /// the last write of the seat's new past is this step's own, and its old past is a beginning of the writes before it.
     pub fn request(&self, queue: &mut QueueSeat, claim: Claim) -> u64
         requires same { queue.old.table ≡ self.now.table }
         requires next { next_claim queue.old.turn ≡ Some claim }
         requires there { claim.id < length self.now.base.records }
         ensures queue { queue.new ≡ record (after queue.old (requested claim result (queue_view queue.old))) { past = queue.new.past } }
-        ensures counter { IsCounterNow self.now.base (queue_view queue.old) claim.id result }
-        ensures step { IsOfItsStep (laid_words self.now.base.records) queue.old.past queue.new.past (pair_word_of_record claim.id) result (result + delta_of claim.mode) }
+        ensures step { IsOfItsStep (laid_words self.now.base.records) (λ words. IsCounterNow self.now.base (queue_view queue.old) words claim.id result) queue.old.past queue.new.past (pair_word_of_record claim.id) result (result + delta_of claim.mode) }
     {
         self.request_knowing::<Brand>(queue, claim)
     }
@@ -59,8 +58,7 @@ impl Words {
         requires next { next_claim queue.old.turn ≡ Some claim }
         requires there { claim.id < length self.now.base.records }
         ensures queue { queue.new ≡ record (after queue.old (requested claim result (queue_view queue.old))) { past = queue.new.past } }
-        ensures counter { IsCounterNow self.now.base (queue_view queue.old) claim.id result }
-        ensures step { IsOfItsStep (laid_words self.now.base.records) queue.old.past queue.new.past (pair_word_of_record claim.id) result (result + delta_of claim.mode) }
+        ensures step { IsOfItsStep (laid_words self.now.base.records) (λ words. IsCounterNow self.now.base (queue_view queue.old) words claim.id result) queue.old.past queue.new.past (pair_word_of_record claim.id) result (result + delta_of claim.mode) }
     {
         self.table
             .shared

@@ -55,17 +55,16 @@ impl Words {
         }
     }
 
-    /// Loads a record for a session, by one load of its value word, which needs no lock. The value is the record's
-    /// present one, as the writes up to this load have left it, which are the seat's new past; the old one is a beginning
-    /// of it. The session has then seen all calls that have entered, no more of its own client than before. If these run
-    /// one at a time, the record has the value before some ticket, which comes after each ticket whose reply the session
-    /// was given and whose call claims the record.
+    /// Loads a record for a session, by one load of its value word, which needs no lock. The value is the record's at the
+    /// very moment of the load, whose words are what the writes up to it have left; these are the seat's new past, and the
+    /// old one is a beginning of it. The session has then seen all calls that have entered, no more of its own client than
+    /// before. If these run one at a time, the record has the value before some ticket, which comes after each ticket
+    /// whose reply the session was given and whose call claims the record.
     pub fn find(&self, session: &mut SessionSeat, id: RecordId) -> u64
         requires same { session.old.table ≡ self.now.table }
         requires there { id < length self.now.base.records }
         ensures table { session.new.table ≡ session.old.table }
-        ensures found { HasFound self.now.base session.old.session session.new.session id result }
-        ensures step { IsOfItsLoad (laid_words self.now.base.records) session.old.past session.new.past (value_word_of id) result }
+        ensures step { IsOfItsLoad (laid_words self.now.base.records) (λ words. HasFound self.now.base session.old.session session.new.session words id result) session.old.past session.new.past (value_word_of id) result }
     {
         self.find_knowing::<Brand>(session, id)
     }
@@ -75,8 +74,7 @@ impl Words {
         requires same { session.old.table ≡ self.now.table }
         requires there { id < length self.now.base.records }
         ensures table { session.new.table ≡ session.old.table }
-        ensures found { HasFound self.now.base session.old.session session.new.session id result }
-        ensures step { IsOfItsLoad (laid_words self.now.base.records) session.old.past session.new.past (value_word_of id) result }
+        ensures step { IsOfItsLoad (laid_words self.now.base.records) (λ words. HasFound self.now.base session.old.session session.new.session words id result) session.old.past session.new.past (value_word_of id) result }
     {
         self.table
             .shared

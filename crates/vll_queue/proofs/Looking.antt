@@ -31,6 +31,10 @@ looked_there e w call is catalog fits = subst (λ (x : WordsShown). All (λ (d :
 
 -- ---- the session looks
 
+-- what a session has found in the words of an engine
+pub found_of : (e : Named) (w : WordsShown) (seat old new : SessionView) (words : List ℕ) (r v : ℕ) → w ≡ words_of e → seat ≡ old → HasFound w.base seat new words r v → HasFound e.base old new words r v
+found_of e w seat old new words r v is same found = subst (λ (x : WordsShown × SessionView). HasFound x.0.base x.1 new words r v) (λ i. (is i, same i)) found
+
 -- a call without a source enters as it is
 pub looked_nowhere : (e : Named) (g : SessionView) (call : Call) → IsCatalog (library_of e) → Fits (library_of e) call → source (library_of e) call ≡ None → HasLooked e g g call call
 looked_nowhere e g call catalog fits none = record {
@@ -43,8 +47,8 @@ looked_nowhere e g call catalog fits none = record {
 }
 
 -- what entered since is other clients'
-saw_found : (base : Base) (old new : SessionView) (r v : ℕ) → HasFound base old new r v → SawOthers old new
-saw_found base old new r v found = record {
+saw_found : (base : Base) (old new : SessionView) (words : List ℕ) (r v : ℕ) → HasFound base old new words r v → SawOthers old new
+saw_found base old new words r v found = record {
   client = ap (λ (g : SessionView). g.client) found.same;
   others = found.begins.0;
   not_own = append_cancel_left (calls_by old.client old.seen) (calls_by old.client found.begins.0) []
@@ -53,14 +57,14 @@ saw_found base old new r v found = record {
 }
 
 -- a call with a source enters with the value found
-pub looked_there_found : (e : Named) (old new : SessionView) (call entering : Call) (r v : ℕ) → Fits (library_of e) call → source (library_of e) call ≡ Some r → HasFound e.base old new r v → entering ≡ with_found (library_of e) call v → HasLooked e old new call entering
-looked_there_found e old new call entering r v fits source_is found is =
+pub looked_there_found : (e : Named) (old new : SessionView) (words : List ℕ) (call entering : Call) (r v : ℕ) → Fits (library_of e) call → source (library_of e) call ≡ Some r → HasFound e.base old new words r v → entering ≡ with_found (library_of e) call v → HasLooked e old new call entering
+looked_there_found e old new words call entering r v fits source_is found is =
     let same : new.given ≡ old.given = ap (λ (g : SessionView). g.given) found.same in
     record {
       value = v;
       is = is;
       bare_is = found_bare (library_of e) call v fits;
-      others = saw_found e.base old new r v found;
+      others = saw_found e.base old new words r v found;
       same = same;
       found = λ q there.
           let one : r ≡ q = same_Some r q (sym source_is ∙ there) in (
@@ -70,9 +74,9 @@ looked_there_found e old new call entering r v fits source_is found is =
     }
 
 -- a call with a source has found what was there
-pub looked_up : (e : Named) (old new : SessionView) (call entering : Call) (r v : ℕ) → Fits (library_of e) call → source (library_of e) call ≡ Some r → HasFound e.base old new r v → entering ≡ with_found (library_of e) call v
+pub looked_up : (e : Named) (old new : SessionView) (words : List ℕ) (call entering : Call) (r v : ℕ) → Fits (library_of e) call → source (library_of e) call ≡ Some r → HasFound e.base old new words r v → entering ≡ with_found (library_of e) call v
     → IsLookedUp e new entering
-looked_up e old new call entering r v fits source_is found is q there =
+looked_up e old new words call entering r v fits source_is found is q there =
     let same : source (library_of e) entering ≡ source (library_of e) call = ap (source (library_of e)) is ∙ found_source (library_of e) call v fits in
     let one : r ≡ q = same_Some r q (sym source_is ∙ sym same ∙ there) in
     record {

@@ -1,5 +1,5 @@
 use Rattle.std.proofs.Common.{rules}
 use Rattle.vll_counters.proofs.words.Words.release.Goals as goal
 
-pub returns-clause-counter : goal.returns-clause-counter
-returns-clause-counter c = search rules
+pub returns-clause-step : goal.returns-clause-step
+returns-clause-step c = search rules
