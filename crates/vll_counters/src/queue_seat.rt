@@ -5,8 +5,9 @@ ghost use Rattle.vll_record.specs.Counter.{delta_of};
 ghost use Rattle.vll_record.specs.Headline.Word.{pair_word_of_record};
 ghost use Rattle.vll_counters.specs.Written.{IsOfItsStep, longer};
 ghost use Rattle.vll_counters.specs.Laid.{laid_words};
-ghost use Rattle.vll_counters.specs.Shown.{queue_view, after, next_claim, with_pass_given};
-ghost use Rattle.vll_counters.specs.Steps.{requested, new_pass, finished};
+ghost use Rattle.vll_counters.specs.Queueing.{after_call, requests, gives_pass, joins_pass};
+ghost use Rattle.vll_counters.specs.Shown.{queue_view, next_claim};
+ghost use Rattle.vll_counters.specs.Steps.{new_pass};
 ghost use Rattle.vll_counters.specs.Told.{IsCounterNow, MayRun, KnowsPass, has_stored_pass};
 
 use crate::pass_seat::PassSeat;
@@ -46,7 +47,7 @@ impl Words {
         requires same { queue.old.table ≡ self.now.table }
         requires next { next_claim queue.old.turn ≡ Some claim }
         requires there { claim.id < length self.now.base.records }
-        ensures queue { queue.new ≡ record (after queue.old (requested claim result (queue_view queue.old))) { past = queue.new.past } }
+        ensures queue { queue.new ≡ record (after_call self.now.base (requests claim result) queue.old) { past = queue.new.past } }
         ensures step { IsOfItsStep (laid_words self.now.base.records) (λ words. IsCounterNow self.now.base (queue_view queue.old) words claim.id result) queue.old.past queue.new.past (pair_word_of_record claim.id) result (result + delta_of claim.mode) }
     {
         self.request_knowing::<Brand>(queue, claim)
@@ -57,7 +58,7 @@ impl Words {
         requires same { queue.old.table ≡ self.now.table }
         requires next { next_claim queue.old.turn ≡ Some claim }
         requires there { claim.id < length self.now.base.records }
-        ensures queue { queue.new ≡ record (after queue.old (requested claim result (queue_view queue.old))) { past = queue.new.past } }
+        ensures queue { queue.new ≡ record (after_call self.now.base (requests claim result) queue.old) { past = queue.new.past } }
         ensures step { IsOfItsStep (laid_words self.now.base.records) (λ words. IsCounterNow self.now.base (queue_view queue.old) words claim.id result) queue.old.past queue.new.past (pair_word_of_record claim.id) result (result + delta_of claim.mode) }
     {
         self.table
@@ -70,7 +71,7 @@ impl Words {
     pub fn give_pass(&self, queue: &mut QueueSeat, ticket: Ticket) -> PassSeat
         requires same { queue.old.table ≡ self.now.table }
         requires may_run { MayRun queue.old.lines queue.old.statuses queue.old.turn ticket }
-        ensures queue { queue.new ≡ after queue.old (with_pass_given queue.old ticket) }
+        ensures queue { queue.new ≡ after_call self.now.base (gives_pass ticket) queue.old }
         ensures pass { (l : Line) → slice_get queue.new.lines ticket ≡ Some l → result ≡ record { table = self.now.table; pass = new_pass ticket l.call queue.new.lines; past = queue.old.past } }
     {
         self.give_pass_knowing::<Brand>(queue, ticket)
@@ -80,7 +81,7 @@ impl Words {
         requires told { T.number ≡ ticket }
         requires same { queue.old.table ≡ self.now.table }
         requires may_run { MayRun queue.old.lines queue.old.statuses queue.old.turn ticket }
-        ensures queue { queue.new ≡ after queue.old (with_pass_given queue.old ticket) }
+        ensures queue { queue.new ≡ after_call self.now.base (gives_pass ticket) queue.old }
         ensures pass { (l : Line) → slice_get queue.new.lines ticket ≡ Some l → result ≡ record { table = self.now.table; pass = new_pass ticket l.call queue.new.lines; past = queue.old.past } }
     {
         let _ = ticket;
@@ -99,7 +100,7 @@ impl Words {
         requires closed { queue.old.turn ≡ None }
         requires stored { has_stored_pass self.now.base pass.pass ≡ true }
         requires released { pass.pass.releases ≡ length pass.pass.call.claims }
-        ensures queue { queue.new ≡ record (after queue.old (finished self.now.base pass.pass (queue_view queue.old))) { past = longer queue.old.past pass.past } }
+        ensures queue { queue.new ≡ record (after_call self.now.base (joins_pass pass.pass) queue.old) { past = longer queue.old.past pass.past } }
         ensures pass { KnowsPass (queue_view queue.old) pass.pass }
     {
         self.join_pass_knowing::<Brand>(queue, pass);
@@ -111,7 +112,7 @@ impl Words {
         requires closed { queue.old.turn ≡ None }
         requires stored { has_stored_pass self.now.base pass.pass ≡ true }
         requires released { pass.pass.releases ≡ length pass.pass.call.claims }
-        ensures queue { queue.new ≡ record (after queue.old (finished self.now.base pass.pass (queue_view queue.old))) { past = longer queue.old.past pass.past } }
+        ensures queue { queue.new ≡ record (after_call self.now.base (joins_pass pass.pass) queue.old) { past = longer queue.old.past pass.past } }
         ensures pass { KnowsPass (queue_view queue.old) pass.pass }
     {
         let PassSeat { seat } = pass;

@@ -1,12 +1,13 @@
 //! A session's seat: how it is made, joins the queue's seat and leaves it, and loads a record under no lock.
-ghost use Rattle.std.specs.Prelude.{◌≡◌, ◌<◌, suc, [], length, Some, None, IfSome, IsSome, option_map};
+ghost use Rattle.std.specs.Prelude.{◌≡◌, ◌<◌, [], length, None, IfSome, IsSome, option_map};
 ghost use Rattle.vll_check.specs.Calls.{IsReady};
 ghost use Rattle.vll_core.specs.declared.config.TheConstants.{MOST_CALLS};
 ghost use Rattle.vll_record.specs.Word.{value_word_of};
 ghost use Rattle.vll_counters.specs.Written.{IsOfItsLoad, longer};
 ghost use Rattle.vll_counters.specs.Laid.{laid_words};
-ghost use Rattle.vll_counters.specs.Shown.{queue_view, after, library_of, without_session, left_session};
-ghost use Rattle.vll_counters.specs.Steps.{new_session, turn_of};
+ghost use Rattle.vll_counters.specs.Queueing.{after_call, makes_session, joins_session, gives_session};
+ghost use Rattle.vll_counters.specs.Shown.{queue_view, library_of, left_session};
+ghost use Rattle.vll_counters.specs.Steps.{new_session};
 ghost use Rattle.vll_counters.specs.Told.{HasFound, KnowsSession, MayLeave, IsGivenOut};
 
 use crate::queue_seat::QueueSeat;
@@ -44,7 +45,7 @@ impl Words {
     pub fn make_session(&self, queue: &mut QueueSeat) -> SessionSeat
         requires same { queue.old.table ≡ self.now.table }
         requires empty { queue.old.lines ≡ [] }
-        ensures queue { queue.new ≡ record queue.old { clients = suc queue.old.clients } }
+        ensures queue { queue.new ≡ after_call self.now.base makes_session queue.old }
         ensures session { result ≡ record { table = self.now.table; session = new_session queue.old.clients; past = queue.old.past } }
     {
         SessionSeat {
@@ -89,7 +90,7 @@ impl Words {
         requires closed { queue.old.turn ≡ None }
         requires ready { IfSome call (λ c. IsReady (library_of self.now) c.now) }
         requires room { IfSome call (λ _. length queue.old.lines < MOST_CALLS) }
-        ensures queue { queue.new ≡ record queue.old { session = Some session.session; turn = turn_of (option_map (λ c. c.now) call.entry) (Some session.session); past = longer queue.old.past session.past } }
+        ensures queue { queue.new ≡ record (after_call self.now.base (joins_session session.session (option_map (λ c. c.now) call.entry)) queue.old) { past = longer queue.old.past session.past } }
         ensures session { KnowsSession self.now.base (queue_view queue.old) session.session }
     {
         self.join_session_knowing::<Brand>(queue, session, call);
@@ -107,7 +108,7 @@ impl Words {
         requires closed { queue.old.turn ≡ None }
         requires ready { IfSome call (λ c. IsReady (library_of self.now) c.now) }
         requires room { IfSome call (λ _. length queue.old.lines < MOST_CALLS) }
-        ensures queue { queue.new ≡ record queue.old { session = Some session.session; turn = turn_of (option_map (λ c. c.now) call.entry) (Some session.session); past = longer queue.old.past session.past } }
+        ensures queue { queue.new ≡ record (after_call self.now.base (joins_session session.session (option_map (λ c. c.now) call.entry)) queue.old) { past = longer queue.old.past session.past } }
         ensures session { KnowsSession self.now.base (queue_view queue.old) session.session }
     {
         let _ = call;
@@ -124,7 +125,7 @@ impl Words {
         requires there { IsSome queue.old.session }
         requires may_leave { MayLeave queue.old.turn }
         requires gone { IsGivenOut queue.old.statuses given }
-        ensures queue { queue.new ≡ after queue.old (without_session queue.old) }
+        ensures queue { queue.new ≡ after_call self.now.base gives_session queue.old }
         ensures session { IfSome queue.old.session (λ g. result ≡ left_session queue.old given g) }
     {
         self.give_session_knowing::<Brand>(queue, given)
@@ -140,7 +141,7 @@ impl Words {
         requires there { IsSome queue.old.session }
         requires may_leave { MayLeave queue.old.turn }
         requires gone { IsGivenOut queue.old.statuses given }
-        ensures queue { queue.new ≡ after queue.old (without_session queue.old) }
+        ensures queue { queue.new ≡ after_call self.now.base gives_session queue.old }
         ensures session { IfSome queue.old.session (λ g. result ≡ left_session queue.old given g) }
     {
         let _ = given;
