@@ -84,18 +84,18 @@ left_others base old seat past g given s knows is left =
 
 -- ---- the reply that a session is given
 
-abbrev gone_at : Option Status → Bool
+abbrev pub gone_at : Option Status → Bool
 gone_at None = false
 gone_at (Some s) = is_gone s
 
-gone_is : (o : Option Status) → gone_at o ≡ true → o ≡ Some Gone
+pub gone_is : (o : Option Status) → gone_at o ≡ true → o ≡ Some Gone
 gone_is None is = absurd (false≢true is)
 gone_is (Some Running) is = absurd (false≢true is)
 gone_is (Some Waiting) is = absurd (false≢true is)
 gone_is (Some Gone) is = refl
 
 -- a line has its reply exactly if its call is gone
-replied_at : (ls : List Line) (ss : List Status) (t : ℕ) → map has_reply ls ≡ map is_gone ss → is_some (reply_in (slice_get ls t)) ≡ gone_at (slice_get ss t)
+pub replied_at : (ls : List Line) (ss : List Status) (t : ℕ) → map has_reply ls ≡ map is_gone ss → is_some (reply_in (slice_get ls t)) ≡ gone_at (slice_get ss t)
 replied_at [] [] t same = refl
 replied_at [] (s ∷ ss) t same = absurd (cc same)
 replied_at (l ∷ ls) [] t same = absurd (cc same)

@@ -1,4 +1,5 @@
 pub mod Attempts
+pub mod Collecting
 pub mod Crossing
 pub mod Ending
 pub mod Entering

@@ -7,4 +7,5 @@ pub mod Onto
 pub mod Calling
 pub mod News
 pub mod Closed
+pub mod Finished
 pub mod Private

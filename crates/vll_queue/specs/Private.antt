@@ -5,6 +5,7 @@ pub mod Ended
 pub mod Kept
 pub mod Opened
 pub mod Replied
+pub mod Finished
 pub mod Seats
 pub mod Worked
 pub mod Looked

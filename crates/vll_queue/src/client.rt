@@ -1,9 +1,10 @@
 //! A session whose type knows its engine, so that a caller has nothing to prove about that.
-ghost use Rattle.std.specs.Prelude.{◌≡◌, ◌++◌, ◌∷◌, [], IfErr, IfNone, IfOk, IfSome, IsOk, IsSome, Some, Err, slice_get};
+ghost use Rattle.std.specs.Prelude.{◌≡◌, ◌+◌, ◌-◌, ◌++◌, ◌∷◌, [], IfErr, IfNone, IfOk, IfSome, IsOk, IsSome, Some, Err, length, slice_get, vec_capacity};
 ghost use Rattle.vll_check.specs.Calls.{Fits, call_made};
 ghost use Rattle.vll_proc.specs.Headline.Serial.{answer};
 ghost use Rattle.vll_queue.specs.Begin.{FindsAndBegins};
 ghost use Rattle.vll_queue.specs.Calling.{IsCalled, IsCalledByName, IsTurnedAway};
+ghost use Rattle.vll_queue.specs.Finished.{AppendsFinished};
 ghost use Rattle.vll_queue.specs.News.{Hears};
 ghost use Rattle.vll_queue.specs.Sessions.{SawOthers};
 ghost use Rattle.vll_queue.specs.Shown.{library_of};
@@ -17,7 +18,7 @@ use crate::news::News;
 use crate::session::Session;
 use std::marker::{Model, PhantomData};
 use std::sync::Wait;
-use vll_core::Ticket;
+use vll_core::{Line, Ticket};
 use vll_proc::{Call, Reply};
 use vll_sca::Place;
 
@@ -122,6 +123,23 @@ impl<N: Name> Client<N> {
         ensures others { SawOthers self.old.session self.new.session }
     {
         engine.reply(wait, &mut self.session, ticket)
+    }
+
+    /// Appends the lines of finished calls from ticket `from` on, as `Engine::lines_from` does.
+    pub fn lines_from<H: Place + Drop>(
+        &mut self,
+        wait: &impl Wait,
+        engine: &Engine<N, H>,
+        from: Ticket,
+        lines: &mut Vec<Line>,
+    )
+        ensures lines { AppendsFinished N.engine self.new.session.seen from lines.old.items lines.new.items }
+        ensures ever { (k : _) → slice_get self.old.session.given k ≡ Some (from + (length lines.new.items - length lines.old.items)) → length lines.new.items ≡ vec_capacity lines.new }
+        ensures room { vec_capacity lines.new ≡ vec_capacity lines.old }
+        ensures given { self.new.session.given ≡ self.old.session.given }
+        ensures others { SawOthers self.old.session self.new.session }
+    {
+        engine.lines_from(wait, &mut self.session, from, lines);
     }
 
     /// Returns news of what it has seen: its own calls, and all that entered before it was last at the lock, found or

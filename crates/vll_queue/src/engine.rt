@@ -1,11 +1,12 @@
 //! The engine: the steps that its calls go through, and how it is closed or reopened.
-ghost use Rattle.std.specs.Prelude.{◌≡◌, ◌<◌, ◌≤◌, ◌+◌, ◌++◌, ◌∷◌, [], All, IfErr, IfNone, IfOk, IfSome, IsSome, Some, length, slice_get, vec_capacity};
+ghost use Rattle.std.specs.Prelude.{◌≡◌, ◌<◌, ◌≤◌, ◌+◌, ◌-◌, ◌++◌, ◌∷◌, [], All, IfErr, IfNone, IfOk, IfSome, IsSome, Some, length, slice_get, vec_capacity};
 ghost use Rattle.vll_check.specs.Calls.{Fits};
 ghost use Rattle.vll_check.specs.Catalog.{IsCatalog};
 ghost use Rattle.vll_proc.specs.Headline.Serial.{answer};
 ghost use Rattle.vll_counters.specs.Headline.Views.{calls_in};
 ghost use Rattle.vll_queue.specs.Begin.{FindsAndBegins};
 ghost use Rattle.vll_queue.specs.Closed.{AreSerial, GoesOn, IsSerial};
+ghost use Rattle.vll_queue.specs.Finished.{AppendsFinished};
 ghost use Rattle.vll_queue.specs.Onto.{IsOfLast};
 ghost use Rattle.vll_queue.specs.Pass.{IsDone, IsFresh, IsReleased, StaysOf};
 ghost use Rattle.vll_queue.specs.Sessions.{HasItsCalls, SawOthers};
@@ -207,6 +208,28 @@ impl<N: Name, H: Place + Drop> Engine<N, H> {
         ensures session { (session.new.table ≡ session.old.table) × SawOthers session.old.session session.new.session }
     {
         self.hold(wait).reply(session, ticket)
+    }
+
+    /// Appends the journal's lines from ticket `from` on, in order, as far as their calls have finished: it stops before
+    /// the first line of a call that has not, and where the room ends. It appends nothing if there is no such ticket
+    /// yet, and allocates nothing. Each line has the reply that its ticket has in the serial run of the calls that the
+    /// session has then seen. The session sees all calls that have entered; it is not given these replies (`reply` gives
+    /// one). If it stops before a ticket whose reply the session was given, the room has ended.
+    pub fn lines_from(
+        &self,
+        wait: &impl Wait,
+        session: &mut Session,
+        from: Ticket,
+        lines: &mut Vec<Line>,
+    )
+        requires session { session.old.table ≡ N.engine.table }
+        ensures lines { AppendsFinished N.engine session.new.session.seen from lines.old.items lines.new.items }
+        ensures ever { (k : _) → slice_get session.old.session.given k ≡ Some (from + (length lines.new.items - length lines.old.items)) → length lines.new.items ≡ vec_capacity lines.new }
+        ensures room { vec_capacity lines.new ≡ vec_capacity lines.old }
+        ensures given { session.new.session.given ≡ session.old.session.given }
+        ensures session { (session.new.table ≡ session.old.table) × SawOthers session.old.session session.new.session }
+    {
+        self.hold(wait).lines_from(session, from, lines);
     }
 
     /// Returns the records, their pair words and the journal, if no call runs or waits: each line has its reply, the

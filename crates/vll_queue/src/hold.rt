@@ -1,10 +1,11 @@
 //! A hold: the engine's lock, taken once and kept for several steps.
-ghost use Rattle.std.specs.Prelude.{◌≡◌, ◌<◌, ◌++◌, ◌∷◌, [], IfNone, IfSome, IsSome, MatchBool, Some, length, slice_get, vec_capacity};
+ghost use Rattle.std.specs.Prelude.{◌≡◌, ◌<◌, ◌+◌, ◌-◌, ◌++◌, ◌∷◌, [], IfNone, IfSome, IsSome, MatchBool, Some, length, slice_get, vec_capacity};
 ghost use Rattle.vll_check.specs.Headline.Calls.{source as source_in};
 ghost use Rattle.vll_check.specs.Calls.{Fits, IsReady};
 ghost use Rattle.vll_check.specs.Catalog.{IsCatalog};
 ghost use Rattle.vll_proc.specs.Headline.Serial.{answer};
 ghost use Rattle.vll_queue.specs.Begin.{Begins, FindsAndBegins};
+ghost use Rattle.vll_queue.specs.Finished.{AppendsFinished};
 ghost use Rattle.vll_queue.specs.Onto.{FindsAndBeginsOnto, HasOneMore};
 ghost use Rattle.vll_queue.specs.Pass.{IsFresh, IsReleased};
 ghost use Rattle.vll_queue.specs.Private.Begun.{IsSeatOf, begun};
@@ -22,7 +23,7 @@ use crate::pass::{Pass, Released};
 use crate::session::Session;
 use std::sync::MutexGuard;
 use vll_check::Library;
-use vll_core::Ticket;
+use vll_core::{Line, Ticket};
 use vll_counters::Words;
 use vll_proc::{Call, Reply};
 use vll_record::RecordId;
@@ -162,6 +163,21 @@ impl<'a, N: Name, H: Place + Drop> Hold<'a, N, H> {
         let (reply, seat) = self.guard.reply(self.words, seat, ticket);
         session.seat = Some(seat);
         reply
+    }
+
+    // Appends the lines of finished calls from a ticket on, as `Engine::lines_from`.
+    pub(crate) fn lines_from(&mut self, session: &mut Session, from: Ticket, lines: &mut Vec<Line>)
+        requires session { session.old.table ≡ N.engine.table }
+        ensures lines { AppendsFinished N.engine session.new.session.seen from lines.old.items lines.new.items }
+        ensures ever { (k : _) → slice_get session.old.session.given k ≡ Some (from + (length lines.new.items - length lines.old.items)) → length lines.new.items ≡ vec_capacity lines.new }
+        ensures room { vec_capacity lines.new ≡ vec_capacity lines.old }
+        ensures given { session.new.session.given ≡ session.old.session.given }
+        ensures session { (session.new.table ≡ session.old.table) × SawOthers session.old.session session.new.session }
+    {
+        let Some(seat) = session.seat.take() else {
+            unreachable!()
+        };
+        session.seat = Some(self.guard.lines_from(self.words, seat, from, lines));
     }
 }
 

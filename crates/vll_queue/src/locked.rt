@@ -12,6 +12,7 @@ use vll_sca::Place;
 mod begin;
 mod close;
 mod finish;
+mod lines;
 mod next;
 mod reply;
 

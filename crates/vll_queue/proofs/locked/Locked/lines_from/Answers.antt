@@ -1,0 +1,38 @@
+use Rattle.std.proofs.Common.{None, sym, ap, ◌∙◌, ◌≤◌, length, vec_capacity, subst, arith}
+use Rattle.vll_counters.specs.Shown.{SessionShown, WordsShown, queue_view}
+use Rattle.vll_counters.specs.Told.{KnowsSession}
+use Rattle.vll_queue.specs.Private.Kept.{IsKept}
+use Rattle.vll_queue.proofs.Collecting.{appended, filled}
+use Rattle.vll_queue.proofs.Learning.{left_is, left_seen, left_others}
+use Rattle.vll_queue.proofs.locked.Locked.lines_from.Goals as goal
+
+pub returns-clause-lines : goal.returns-clause-lines
+returns-clause-lines g c =
+    let e = g.N.Name.engine in
+    let kept = subst (IsKept e g.H.Place.place_of c.self.inside.seat) c.self.view_is c.self.invariant in
+    let knows = subst (λ (w : WordsShown). KnowsSession w.base (queue_view c.self.inside.seat) c.args.session.session) c.requires.words c.join_session.ensures.session in
+    let seen = left_seen c.self.inside.seat c.join_session.new.queue _ c.args.session.session None c.give_session.result c.join_session.ensures.queue c.give_session.ensures.session in
+    appended e g.H.Place.place_of c.self.inside.seat c.args.self.now c.give_session.result.session.seen c.args.from _ c.args.lines.now.items c.push_lines.new.lines.items kept c.push_lines.ensures.kept knows.replied seen
+    c.push_lines.ensures.lines
+
+pub returns-clause-ever : goal.returns-clause-ever
+returns-clause-ever g c k at =
+    let e = g.N.Name.engine in
+    let kept = subst (IsKept e g.H.Place.place_of c.self.inside.seat) c.self.view_is c.self.invariant in
+    let knows = subst (λ (w : WordsShown). KnowsSession w.base (queue_view c.self.inside.seat) c.args.session.session) c.requires.words c.join_session.ensures.session in
+    let count = c.args.lines.now.ok.0 in
+    let fits = c.args.lines.now.ok.1 in
+    let within : length c.args.lines.now.items ≤ vec_capacity c.args.lines.now = omega (arith, count, fits) in
+    filled e g.H.Place.place_of c.self.inside.seat c.args.self.now c.args.session.session c.args.from k (vec_capacity c.args.lines.now) c.args.lines.now.items c.push_lines.new.lines.items kept c.push_lines.ensures.kept knows within
+    c.push_lines.ensures.lines at ∙ sym c.push_lines.ensures.room
+
+pub returns-clause-given : goal.returns-clause-given
+returns-clause-given g c =
+    ap (λ (s : SessionShown). s.session.given) (left_is c.self.inside.seat c.join_session.new.queue _ c.args.session.session None c.give_session.result c.join_session.ensures.queue c.give_session.ensures.session)
+
+pub returns-clause-session : goal.returns-clause-session
+returns-clause-session g c =
+    let left = left_is c.self.inside.seat c.join_session.new.queue _ c.args.session.session None c.give_session.result c.join_session.ensures.queue c.give_session.ensures.session in (
+      ap (λ (s : SessionShown). s.table) left ∙ c.self.invariant.same ∙ sym c.requires.session,
+      left_others c.args.words.now.base c.self.inside.seat c.join_session.new.queue _ c.args.session.session None c.give_session.result c.join_session.ensures.session c.join_session.ensures.queue c.give_session.ensures.session,
+    )
