@@ -10,6 +10,8 @@ mod calling;
 #[cfg(test)]
 mod closing;
 #[cfg(test)]
+mod collecting;
+#[cfg(test)]
 mod embedding;
 #[cfg(test)]
 mod finding;
