@@ -7,8 +7,8 @@ use Rattle.vll_check.specs.Calls.{IsReady}
 use Rattle.vll_sca.specs.declared.status.Status.{Status}
 use Rattle.vll_sca.specs.declared.status.Status.TheVariants.{Running, Gone}
 use Rattle.vll_core.specs.declared.line.Line.{Line}
-use Rattle.vll_core.specs.Queue.{QueueEntry, Queued, lines, changed_at, started, finished}
-use Rattle.vll_core.proofs.Places.{all_at}
+use Rattle.vll_core.specs.Queue.{QueueEntry, Queued, lines, statuses, changed_at, started, finished}
+use Rattle.vll_core.proofs.Places.{all_at, get_set}
 use Rattle.vll_core.proofs.QueueLaws.{lines_started, statuses_started, statuses_finished}
 use Rattle.vll_core.proofs.Entries.{changed_later}
 use Rattle.vll_counters.specs.declared.views.PassView.{PassView}
@@ -21,6 +21,7 @@ use Rattle.vll_queue.specs.Shown.{Named, library_of}
 use Rattle.vll_queue.specs.Pass.{DoneShown, IsOf, IsReply}
 use Rattle.vll_queue.specs.Headline.Found.{AreFoundThere}
 use Rattle.vll_queue.specs.Private.Kept.{AreOwn, IsKept}
+use Rattle.vll_queue.specs.Private.Replied.{HasReply}
 use Rattle.vll_queue.proofs.There.{calls_replied}
 
 same_some : {A : Type 0} (a b : A) → ◌≡◌ {A = Option A} (Some a) (Some b) → a ≡ b
@@ -47,6 +48,11 @@ lines_gone (e ∷ es) (suc t) reply l at =
 pub lines_finished : {H : Type 0} (q : Queued H) (t : ℕ) (reply : Reply) (l : Line) → slice_get (lines q) t ≡ Some l → lines (finished q t reply) ≡ slice_set (lines q) t (with_reply reply l)
 lines_finished q t reply l at = lines_gone q.entries t reply l at
 
+-- the line of the pass that has come
+line_of_pass : {H : Type 0} (e : Named) (place : H → ℕ → ℕ) (old : QueueShown) (q : Queued H) (p : PassView) (t : ℕ) → IsKept e place old q → (knows : KnowsPass (queue_view old) p) → p.ticket ≡ t
+    → slice_get (lines q) t ≡ Some knows.line
+line_of_pass e place old q p t kept knows ticket = ap (λ (ls : List Line). slice_get ls t) (sym kept.lines_are) ∙ ap (λ (n : ℕ). slice_get old.lines n) (sym ticket) ∙ knows.at
+
 -- the reply of a pass is that of the serial run on what it has seen
 pub reply_is : (e : Named) (d : DoneShown) → (of : IsOf e d.table d.pass) → IsReply e d → reply_of_pass e.base d.pass ≡ d.reply
 reply_is e d of is = same_some (reply_of_pass e.base d.pass) d.reply (sym (ap (λ (o : Option Made). (elim o as (λ _. List ℕ → Option Reply) [ None ↦ λ now. None | Some made ↦ λ now. Some (apply e.base.procs made.1 now).reply ]) (before e.base.procs d.pass.seen e.base.records d.pass.ticket)) of.last) ∙ is)
@@ -63,7 +69,7 @@ own_set e ls t l reply own at = record {
 pub kept_finished : {H : Type 0} (e : Named) (place : H → ℕ → ℕ) (old new : QueueShown) (past : List Write) (q : Queued H) (p : PassView) (t : ℕ) (reply : Reply) → IsKept e place old q
     → KnowsPass (queue_view old) p → p.ticket ≡ t → reply_of_pass e.base p ≡ reply → new ≡ record (after old (ended e.base p (queue_view old))) { past = past } → IsKept e place new (finished q t reply)
 kept_finished e place old new past q p t reply kept knows ticket right is =
-    let here : slice_get (lines q) t ≡ Some knows.line = ap (λ (ls : List Line). slice_get ls t) (sym kept.lines_are) ∙ ap (λ (n : ℕ). slice_get old.lines n) (sym ticket) ∙ knows.at in
+    let here = line_of_pass e place old q p t kept knows ticket in
     subst (λ (s : QueueShown). IsKept e place s (finished q t reply)) (sym is) (record {
       same = kept.same;
       closed = kept.closed;
@@ -97,3 +103,15 @@ kept_started e place old new q t kept is =
       places = kept.places;
       own = subst (AreOwn e) (sym (lines_started q t)) kept.own;
     })
+
+-- the call of the pass that has come is gone then, and its line has the reply
+pub pass_ended : {H : Type 0} (e : Named) (place : H → ℕ → ℕ) (old : QueueShown) (q : Queued H) (p : PassView) (t : ℕ) (reply : Reply) → IsKept e place old q → KnowsPass (queue_view old) p → p.ticket ≡ t → HasReply (finished q t reply) t reply
+pass_ended e place old q p t reply kept knows ticket =
+    let here = line_of_pass e place old q p t kept knows ticket in
+    let runs : slice_get (statuses q) t ≡ Some Running = ap (λ (ss : List Status). slice_get ss t) (sym kept.statuses_are) ∙ ap (λ (n : ℕ). slice_get old.statuses n) (sym ticket) ∙ knows.runs in
+    record {
+      line = with_reply reply knows.line;
+      at = ap (λ (ls : List Line). slice_get ls t) (lines_finished q t reply knows.line here) ∙ get_set (lines q) t knows.line (with_reply reply knows.line) here;
+      reply_is = refl;
+      gone = ap (λ (ss : List Status). slice_get ss t) (statuses_finished q t reply) ∙ get_set (statuses q) t Running Gone runs;
+    }

@@ -25,7 +25,7 @@ use Rattle.vll_counters.specs.Shown.{QueueShown, SessionShown, queue_view, left_
 use Rattle.vll_counters.specs.Steps.{leaving}
 use Rattle.vll_counters.specs.Told.{KnowsSession, AreReplied, IsGivenOut}
 use Rattle.vll_queue.specs.Private.Kept.{IsKept}
-use Rattle.vll_queue.specs.Private.Replied.{reply_in}
+use Rattle.vll_queue.specs.Private.Replied.{HasReply, reply_in}
 use Rattle.vll_queue.specs.Headline.Sessions.{SawOwn}
 use Rattle.vll_queue.specs.Sessions.{SawOthers}
 use Rattle.vll_queue.specs.Shown.{Named}
@@ -141,3 +141,30 @@ reply_seen base s calls t (Some reply) all there whole = found (slice_get s.line
 -- a reply that was given once is there ever after
 pub reply_stays : (base : Base) (s : QueueShown) (g : SessionView) (t k : ℕ) (r : Option Reply) → KnowsSession base (queue_view s) g → IsReplyAt s t r → slice_get g.given k ≡ Some t → is_some r ≡ true
 reply_stays base s g t k r knows there at = ap is_some there.there ∙ replied_at s.lines s.statuses t there.same ∙ ap gone_at (knows.has_seen.given k t at)
+
+-- ---- the reply of a call that was just finished
+
+-- the seat knows that the call of a ticket is gone, and its reply
+pub record IsAnswered (seat : QueueShown) (t : ℕ) (r : Reply) : Type 0 where
+  pub line : Line
+  pub at : slice_get seat.lines t ≡ Some line
+  pub reply_is : line.reply ≡ Some r
+  pub gone : slice_get seat.statuses t ≡ Some Gone
+
+pub answered_at : {H : Type 0} (e : Named) (place : H → ℕ → ℕ) (seat : QueueShown) (inside q : Queued H) (t u : ℕ) (r : Reply) → IsKept e place seat inside → inside ≡ q → HasReply q t r → u ≡ t → IsAnswered seat u r
+answered_at e place seat inside q t u r kept is h same = record {
+  line = h.line;
+  at = (λ i. slice_get ((kept.lines_are ∙ ap lines is) i) (same i)) ∙ h.at;
+  reply_is = h.reply_is;
+  gone = (λ i. slice_get ((kept.statuses_are ∙ ap statuses is) i) (same i)) ∙ h.gone;
+}
+
+-- its ticket is gone
+pub answered_out : (old joined : QueueShown) (past : List Write) (g : SessionView) (t : ℕ) (r : Reply) → IsAnswered old t r → joined ≡ record old { session = Some g; turn = None; past = past } → IsGivenOut joined.statuses (Some t)
+answered_out old joined past g t r h is u at =
+    ap (λ (s : QueueShown). slice_get s.statuses u) is ∙ subst (λ (n : ℕ). slice_get old.statuses n ≡ Some Gone) (same_Some t u at) h.gone
+
+-- the reply is that of the calls that the session has seen, made one at a time
+pub answered_seen : (base : Base) (s : QueueShown) (calls : List Made) (t u : ℕ) (r : Reply) → AreReplied base (queue_view s) → IsAnswered s u r → u ≡ t → calls ≡ calls_in s.lines → answer base.procs calls base.records t ≡ Some r
+answered_seen base s calls t u r all h same whole =
+    (λ i. answer base.procs (whole i) base.records (sym same i)) ∙ sym (all u h.line h.at h.gone) ∙ h.reply_is

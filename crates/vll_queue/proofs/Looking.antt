@@ -134,7 +134,7 @@ was_there_later base calls more given ticket r v known within was =
     }
 
 -- what was found before the call's ticket was there
-found_own : (e : Named) (mid new : SessionView) (call : Call) (ticket r v : ℕ) → SawOwn mid new call ticket → new.given ≡ mid.given
+pub found_own : (e : Named) (mid new : SessionView) (call : Call) (ticket r v : ℕ) → SawOwn mid new call ticket → new.given ≡ mid.given
     → WasThere e.base mid.seen mid.given (length mid.seen) r v → ((k t : ℕ) → slice_get mid.given k ≡ Some t → t < length mid.seen) → WasThere e.base new.seen new.given ticket r v
 found_own e mid new call ticket r v saw same was known =
     let whole : new.seen ≡ mid.seen ++ (saw.others ++ (mid.client, call) ∷ []) = saw.seen ∙ append_assoc mid.seen saw.others ((mid.client, call) ∷ []) in

@@ -1,23 +1,28 @@
 //! Calls from entry to reply.
-ghost use Rattle.std.specs.Prelude.{◌≡◌, ◌++◌, ◌∷◌, [], IfErr, IfOk, Some};
-ghost use Rattle.vll_check.specs.Calls.{Fits};
+ghost use Rattle.std.specs.Prelude.{◌≡◌, ◌<◌, ◌++◌, ◌∷◌, [], IfErr, IfOk, Some};
+ghost use Rattle.vll_check.specs.Headline.Calls.{source as source_in};
+ghost use Rattle.vll_check.specs.Calls.{Fits, IsReady};
 ghost use Rattle.vll_proc.specs.Headline.Serial.{answer};
 ghost use Rattle.vll_queue.specs.Calling.{IsCalled, IsTurnedAway};
 ghost use Rattle.vll_queue.specs.Pass.{IsFresh};
-ghost use Rattle.vll_queue.specs.Private.Attempt.{IsAttempted};
+ghost use Rattle.vll_queue.specs.Private.Attempt.{IsAttempted, IsTried};
+ghost use Rattle.vll_queue.specs.Private.Looked.{IsLookedUp};
 ghost use Rattle.vll_queue.specs.Sessions.{SawOthers};
 ghost use Rattle.vll_queue.specs.Shown.{library_of};
 
-use crate::begun::{BeginRefusal, Begun};
+use crate::begun::{Admission, BeginRefusal};
 use crate::engine::Engine;
+use crate::finding::find;
 use crate::hold::Hold;
 use crate::name::Name;
-use crate::pass::Pass;
+use crate::pass::{Pass, Released};
 use crate::rest::Rest;
 use crate::session::Session;
 use std::sync::Wait;
 use vll_core::Ticket;
+use vll_counters::PassSeat;
 use vll_proc::{Call, Reply};
+use vll_record::RecordId;
 use vll_sca::Place;
 
 /// As many calls as the limit have entered, and the engine takes no more.
@@ -63,16 +68,62 @@ impl<N: Name, H: Place + Drop> Engine<N, H> {
         ensures answer { IsAttempted N.engine session.old.session session.new.session call.now result }
         ensures session { session.new.table ≡ session.old.table }
     {
-        let mut hold = self.hold(wait);
-        match hold.begin(session, call) {
-            Begun::Free(pass) => {
+        let source = self.library.source(call);
+        let hold = self.hold(wait);
+        match source {
+            None => self.try_ready(wait, hold, session, call, rest),
+            Some(source) => self.find_and_try(wait, hold, session, call, source, rest),
+        }
+    }
+
+    // As `try_call`, for a call with an indirect key. It is not inlined, so that other calls make no room for it.
+    #[inline(never)]
+    fn find_and_try<'a>(
+        &'a self,
+        wait: &impl Wait,
+        hold: Hold<'a, N, H>,
+        session: &mut Session,
+        call: &Call,
+        source: RecordId,
+        rest: &mut Rest,
+    ) -> Result<Option<(Ticket, Reply)>, EngineSpent>
+        requires session { session.old.table ≡ N.engine.table }
+        requires fits { Fits (library_of N.engine) call.now }
+        requires source { source_in (library_of N.engine) call.now ≡ Some source }
+        requires there { source < (library_of N.engine).records }
+        ensures answer { IsAttempted N.engine session.old.session session.new.session call.now result }
+        ensures session { session.new.table ≡ session.old.table }
+    {
+        let call = find::<N>(&self.words, &self.library, session, call, source);
+        self.try_ready(wait, hold, session, &call, rest)
+    }
+
+    // As `try_call`, for a ready call.
+    #[inline(always)]
+    fn try_ready<'a>(
+        &'a self,
+        wait: &impl Wait,
+        hold: Hold<'a, N, H>,
+        session: &mut Session,
+        ready: &Call,
+        rest: &mut Rest,
+    ) -> Result<Option<(Ticket, Reply)>, EngineSpent>
+        requires session { session.old.table ≡ N.engine.table }
+        requires ready { IsReady (library_of N.engine) ready.now }
+        requires looked_up { IsLookedUp N.engine session.old.session ready.now }
+        ensures answer { IsTried N.engine session.old.session session.new.session ready.now result }
+        ensures session { session.new.table ≡ session.old.table }
+    {
+        let mut hold = hold;
+        match hold.admit(session, ready) {
+            Admission::Free(seat, ticket) => {
                 drop(hold);
-                Ok(Some(self.make(wait, session, pass)))
+                Ok(Some((ticket, self.make(wait, session, ready, seat, ticket))))
             }
-            Begun::Blocked(ticket) => {
+            Admission::Blocked(ticket) => {
                 Ok(Some((ticket, self.reply_of(wait, hold, session, ticket))))
             }
-            Begun::Refused(why) => {
+            Admission::Refused(why) => {
                 if why == BeginRefusal::Spent {
                     return Err(EngineSpent);
                 }
@@ -82,19 +133,32 @@ impl<N: Name, H: Place + Drop> Engine<N, H> {
         }
     }
 
-    // Makes a call that may run, and returns its ticket and its reply.
-    fn make(&self, wait: &impl Wait, session: &mut Session, pass: Pass) -> (Ticket, Reply)
+    // Makes a call that may run, whose pass has this seat, and returns its reply.
+    #[inline(always)]
+    fn make(
+        &self,
+        wait: &impl Wait,
+        session: &mut Session,
+        call: &Call,
+        seat: PassSeat,
+        ticket: Ticket,
+    ) -> Reply
         requires session { session.old.table ≡ N.engine.table }
-        requires pass { IsFresh N.engine pass }
-        ensures ticket { result.0 ≡ pass.pass.ticket }
-        ensures reply { answer N.engine.base.procs session.new.session.seen N.engine.base.records pass.pass.ticket ≡ Some result.1 }
-        ensures given { session.new.session.given ≡ session.old.session.given ++ pass.pass.ticket ∷ [] }
+        requires seat { IsFresh N.engine seat }
+        requires call { seat.pass.call ≡ call.now }
+        requires ticket { seat.pass.ticket ≡ ticket }
+        ensures reply { answer N.engine.base.procs session.new.session.seen N.engine.base.records ticket ≡ Some result }
+        ensures given { session.new.session.given ≡ session.old.session.given ++ ticket ∷ [] }
         ensures session { (session.new.table ≡ session.old.table) × SawOthers session.old.session session.new.session }
     {
-        let ticket = pass.ticket();
-        let hold = self.bring_to_its_end(wait, pass);
-        let reply = self.reply_of(wait, hold, session, ticket);
-        (ticket, reply)
+        let mut seat = seat;
+        let reply = self.run_at(&mut seat, call);
+        let released = Released {
+            seat,
+            ticket,
+            reply,
+        };
+        self.hold(wait).finish_own(session, released)
     }
 
     // Returns the reply of a ticket, once it is there.

@@ -28,7 +28,7 @@ use std::alloc::Global;
 use std::sync::{Mutex, Wait};
 use vll_check::Library;
 use vll_core::{Line, Ticket};
-use vll_counters::Words;
+use vll_counters::{PassSeat, Words};
 use vll_proc::{Call, Reply};
 use vll_sca::Place;
 
@@ -36,7 +36,7 @@ use vll_sca::Place;
 /// calls, and each of the others takes it once.
 #[derive(Drop)]
 pub struct Engine<N: Name, H: Place + Drop> {
-    library: Library,
+    pub(crate) library: Library,
     pub(crate) words: Words,
     room: Room,
     // What each hold changes starts on its own cache line.
@@ -174,6 +174,17 @@ impl<N: Name, H: Place + Drop> Engine<N, H> {
         let mut pass = pass;
         let reply = self.run_in_place(&mut pass);
         pass.into_released(reply)
+    }
+
+    // Executes the call whose pass has this seat, and releases its claims. Returns the reply.
+    #[inline(always)]
+    pub(crate) fn run_at(&self, seat: &mut PassSeat, call: &Call) -> Reply
+        requires seat { IsFresh N.engine seat.old }
+        requires call { seat.old.pass.call ≡ call.now }
+        ensures released { IsReleased N.engine (record { table = seat.new.table; pass = seat.new.pass; reply = result }) }
+        ensures same { StaysOf seat.old.pass seat.new.pass }
+    {
+        execution::run_at::<N>(&self.words, &self.library, seat, call)
     }
 
     // Executes the call of a borrowed pass and releases its claims. Returns the reply.

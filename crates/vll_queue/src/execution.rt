@@ -73,8 +73,29 @@ pub(crate) fn run_in_place<N: Name>(words: &Words, library: &Library, pass: &mut
     ensures released { IsReleased N.engine (record { table = pass.new.table; pass = pass.new.pass; reply = result }) }
     ensures same { StaysOf pass.old.pass pass.new.pass }
 {
-    let reply = work::<N>(words, library, &mut pass.seat, &pass.call);
-    release_all(words, &mut pass.seat, &pass.call.claims);
+    run_at::<N>(words, library, &mut pass.seat, &pass.call)
+}
+
+// As `run_in_place` for the call whose pass has this seat.
+#[inline(always)]
+pub(crate) fn run_at<N: Name>(
+    words: &Words,
+    library: &Library,
+    seat: &mut PassSeat,
+    call: &Call,
+) -> Reply
+    requires words { words.now ≡ words_of N.engine }
+    requires library { library.now ≡ library_of N.engine }
+    requires catalog { IsCatalog (library_of N.engine) }
+    requires fresh { IsFresh N.engine seat.old }
+    requires call { seat.old.pass.call ≡ call.now }
+    ensures released { IsReleased N.engine (record { table = seat.new.table; pass = seat.new.pass; reply = result }) }
+    ensures same { StaysOf seat.old.pass seat.new.pass }
+{
+    // A contract knows that the claims are few only if they are counted.
+    let _ = call.claims.len();
+    let reply = work::<N>(words, library, seat, call);
+    release_all(words, seat, &call.claims);
     reply
 }
 

@@ -1,10 +1,9 @@
 //! A hold: the engine's lock, taken once and kept for several steps.
 ghost use Rattle.std.specs.Prelude.{◌≡◌, ◌<◌, ◌+◌, ◌-◌, ◌++◌, ◌∷◌, [], IfNone, IfSome, IsSome, MatchBool, Some, length, slice_get, vec_capacity};
-ghost use Rattle.vll_check.specs.Headline.Calls.{source as source_in};
-ghost use Rattle.vll_check.specs.Calls.{Fits, IsReady};
+ghost use Rattle.vll_check.specs.Calls.{IsReady};
 ghost use Rattle.vll_check.specs.Catalog.{IsCatalog};
 ghost use Rattle.vll_proc.specs.Headline.Serial.{answer};
-ghost use Rattle.vll_queue.specs.Begin.{Begins, FindsAndBegins};
+ghost use Rattle.vll_queue.specs.Begin.{Begins};
 ghost use Rattle.vll_queue.specs.Finished.{AppendsFinished};
 ghost use Rattle.vll_queue.specs.Onto.{FindsAndBeginsOnto, HasOneMore};
 ghost use Rattle.vll_queue.specs.Pass.{IsFresh, IsReleased};
@@ -15,7 +14,6 @@ ghost use Rattle.vll_queue.specs.Sessions.{SawOthers};
 ghost use Rattle.vll_queue.specs.Shown.{library_of, words_of};
 
 use crate::begun::{Admission, Begun, BegunOnto};
-use crate::finding::find;
 use crate::latch::Latch;
 use crate::locked::Locked;
 use crate::name::Name;
@@ -61,24 +59,6 @@ impl<'a, N: Name, H: Place + Drop> Hold<'a, N, H> {
             words,
             library,
             latch,
-        }
-    }
-
-    // Enters a call of the session's client, or refuses it, as `Engine::begin`. If the call has an indirect key, its
-    // source is loaded under this hold.
-    pub(crate) fn begin(&mut self, session: &mut Session, call: &Call) -> Begun
-        requires session { session.old.table ≡ N.engine.table }
-        requires fits { Fits (library_of N.engine) call.now }
-        ensures answer { FindsAndBegins N.engine session.old.session session.new.session call.now result }
-        ensures given { session.new.session.given ≡ session.old.session.given }
-        ensures session { session.new.table ≡ session.old.table }
-    {
-        match self.library.source(call) {
-            None => self.begin_ready(session, call),
-            Some(source) => {
-                let call = find::<N>(self.words, self.library, session, call, source);
-                self.begin_ready(session, &call)
-            }
         }
     }
 
@@ -146,6 +126,23 @@ impl<'a, N: Name, H: Place + Drop> Hold<'a, N, H> {
         ensures { result ≡ released.pass.ticket }
     {
         self.guard.finish(self.words, released)
+    }
+
+    // Finishes a call of the session's client, gives the session its ticket, and returns its reply.
+    #[inline(always)]
+    pub(crate) fn finish_own(&mut self, session: &mut Session, released: Released) -> Reply
+        requires session { session.old.table ≡ N.engine.table }
+        requires released { IsReleased N.engine released }
+        ensures reply { answer N.engine.base.procs session.new.session.seen N.engine.base.records released.pass.ticket ≡ Some result }
+        ensures given { session.new.session.given ≡ session.old.session.given ++ released.pass.ticket ∷ [] }
+        ensures session { (session.new.table ≡ session.old.table) × SawOthers session.old.session session.new.session }
+    {
+        let Some(seat) = session.seat.take() else {
+            unreachable!()
+        };
+        let reply = released.reply;
+        session.seat = Some(self.guard.finish_own(self.words, seat, released));
+        reply
     }
 
     // Returns the reply in the ticket's line, if there is one yet, as `Engine::reply`.

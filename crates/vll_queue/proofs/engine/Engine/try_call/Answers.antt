@@ -1,22 +1,15 @@
--- The call has entered, and its session was given its reply.
-use Rattle.std.proofs.Common.{ℕ, sym, subst}
-use Rattle.vll_queue.specs.Calling.{IsCalled}
-use Rattle.vll_queue.proofs.Attempts.{entered_blocked, entered_free, is_called}
+-- A call without a source is tried as it is.
+use Rattle.std.proofs.Common.{◌≡◌, ◌∙◌, None, ap, sym, subst}
+use Rattle.vll_check.specs.Headline.Calls.{source}
+use Rattle.vll_check.specs.Headline.Catalog.{Catalog}
+use Rattle.vll_check.specs.Catalog.{IsCatalog}
+use Rattle.vll_queue.specs.Shown.{library_of}
+use Rattle.vll_queue.proofs.Attempts.{attempted_as_it_is}
 use Rattle.vll_queue.proofs.engine.Engine.try_call.Goals as goal
 
-pub returns-in-Free-clause-answer : goal.returns-in-Free-clause-answer
-returns-in-Free-clause-answer g c =
+pub returns-in-None-clause-answer : goal.returns-in-None-clause-answer
+returns-in-None-clause-answer g c =
     let e = g.N.Name.engine in
-    let old = c.args.session.now.session in
-    let entered = c.begin.new.session.session in
-    let new = c.make.new.session.session in
     let call = c.args.call.now in
-    let pass = c.in-Free.pass in
-    let reply = c.make.result.1 in
-    subst (λ (t : ℕ). IsCalled e old new call t reply) (sym c.make.ensures.ticket)
-    (is_called e old entered new call pass.pass.ticket reply (entered_free e old entered call pass c.in-Free.ensures.answer) c.in-Free.ensures.given c.make.ensures.session.1 c.make.ensures.given c.make.ensures.reply)
-
-pub returns-in-Blocked-clause-answer : goal.returns-in-Blocked-clause-answer
-returns-in-Blocked-clause-answer g c =
-    is_called g.N.Name.engine c.args.session.now.session c.begin.new.session.session c.reply_of.new.session.session c.args.call.now c.in-Blocked.ticket c.reply_of.result
-    (entered_blocked g.N.Name.engine c.args.session.now.session c.begin.new.session.session c.args.call.now c.in-Blocked.ticket c.in-Blocked.ensures.answer) c.in-Blocked.ensures.given c.reply_of.ensures.session.1 c.reply_of.ensures.given c.reply_of.ensures.reply
+    let none : source (library_of e) call ≡ None = sym (ap (λ (l : Catalog). source l call) c.args.self.now.library_is) ∙ sym c.source-source.ensures.source ∙ c.in-None.is in
+    attempted_as_it_is e c.args.session.now.session c.try_ready.new.session.session call c.try_ready.result (subst IsCatalog c.args.self.now.library_is c.args.self.now.catalog) c.requires.fits none c.try_ready.ensures.answer
