@@ -1,0 +1,5 @@
+pub mod Lines
+pub mod Cuts
+pub mod Fitting
+pub mod Theirs
+pub mod Written

@@ -1,0 +1,44 @@
+use Rattle.std.proofs.Common.{◌≡◌, ℕ, List, [], ◌++◌, take, sym, ap, ◌∙◌, subst, refl, Ok}
+use Rattle.vll_lines.specs.Lines.{IsRound}
+use Rattle.vll_lines.specs.Private.Cutting.{Cuts}
+use Rattle.vll_lines.specs.declared.asked.Asked.{Asked}
+use Rattle.vll_lines.proofs.Cuts.{begun_more, begun_none, round_last, round_more}
+use Rattle.vll_lines.proofs.Fitting.{asked_fit}
+use Rattle.vll_lines.proofs.round.read_round.Goals as goal
+
+pub loop-init : goal.loop-init
+loop-init g c = (tt, tt, c.new-asked.ensures.items, c.requires.source, begun_none (g.S.Source.remaining c.args.source.now) c.args.tail.now.items c.requires.tail)
+
+pub loop-preserved : goal.loop-preserved
+loop-preserved g c =
+    let known = g.S.Source.remaining in
+    let before = c.loop.invariant in
+    let none = c.in_ok-take_piece.ensures.none (ap Ok c.if-branch.false) in (
+      tt,
+      tt,
+      none.0 ∙ before.2,
+      c.in-Ok.ensures.ok ∙ before.3,
+      begun_more (known c.args.source.now) (known c.loop.source) (known c.read.new.self) c.args.tail.now.items c.loop.tail.items c.take_piece.new.tail.items (take c.in-Ok.count c.read.new.buf) before.4
+          c.in-Ok.ensures.bytes.0 none.1 none.2,
+    )
+
+pub returns-then-branch-clause-round : goal.returns-then-branch-clause-round
+returns-then-branch-clause-round g c =
+    let known = g.S.Source.remaining in
+    let before = c.loop.invariant in
+    let begun = before.4 in
+    let library = c.args.library.now in
+    let some = c.in_ok-take_piece.ensures.some (ap Ok c.if-branch.true) (c.args.tail.now.items ++ begun.bytes) begun.stands begun.unended in
+    let cuts =
+    subst (λ (old : List Asked). Cuts library c.args.clients ((c.args.tail.now.items ++ begun.bytes) ++ take c.in-Ok.count c.read.new.buf) old c.take_piece.new.asked.items c.take_piece.new.tail.items)
+    before.2 some in
+    round_more library c.args.clients (known c.args.source.now) (known c.loop.source) (known c.read.new.self) c.args.tail.now.items c.loop.tail.items c.take_piece.new.tail.items
+    (take c.in-Ok.count c.read.new.buf) _ begun c.in-Ok.ensures.bytes.0 refl cuts
+
+pub returns-then-branch-clause-fits : goal.returns-then-branch-clause-fits
+returns-then-branch-clause-fits g c = let round = returns-then-branch-clause-round g c in asked_fit c.args.library.now c.args.clients round.lines c.take_piece.new.asked.items round.asked
+
+pub returns-then-count-eq0-clause-fits : goal.returns-then-count-eq0-clause-fits
+returns-then-count-eq0-clause-fits g c =
+    let begun = c.loop.invariant.4 in
+    asked_fit c.args.library.now c.args.clients _ c.end_line.new.asked.items (c.in_ok-end_line.ensures.asked (c.args.tail.now.items ++ begun.bytes) begun.stands begun.unended)

@@ -1,0 +1,120 @@
+-- The call that a line asks for, or why it asks for none.
+use Rattle.std.specs.Prelude.{◌≡◌, ◌⊎◌, ◌<◌, ◌≤◌, ℕ, Bool, false, List, [], ◌∷◌, length, nat_le, nat_lt, Option, Some, None, Result, Ok, Err, if◌then◌else◌, codes}
+use Rattle.serde_json.specs.Data.{Data, null, boolean, number, string, array, object}
+use Rattle.serde_json.specs.Find.{as_str, get}
+use Rattle.vll_proc.specs.declared.call.Call.{Call}
+use Rattle.vll_check.specs.Calls.{call_made}
+use Rattle.vll_check.specs.Headline.Catalog.{Catalog}
+use Rattle.vll_check.specs.declared.fault.CallFault.{CallFault}
+use Rattle.vll_check.specs.declared.fault.CallFault.TheVariants as call
+use Rattle.vll_scenario.specs.Scenario.{IsTree}
+use Rattle.vll_scenario.specs.Shape.{◌>>=◌}
+use Rattle.vll_scenario.specs.Syntax.{has_only, member_at}
+use Rattle.vll_scenario.specs.Tree.{list_at, number_at, u32_at, whole}
+use Rattle.vll_lines.specs.declared.asked.Asked.{Asked}
+use Rattle.vll_lines.specs.declared.asked.ClientCall.{ClientCall}
+use Rattle.vll_lines.specs.declared.asked.Id.{Id}
+use Rattle.vll_lines.specs.declared.asked.Id.TheVariants as id
+use Rattle.vll_lines.specs.declared.asked.LineFault.{LineFault}
+use Rattle.vll_lines.specs.declared.asked.LineFault.TheVariants as fault
+use Rattle.vll_lines.specs.declared.limits.TheConstants.{MOST_ID, MOST_LINE}
+
+-- the value, or a fault if there is none
+abbrev pub or_fault : {A : Type 0} → LineFault → Option A → Result A LineFault
+or_fault why None = Err why
+or_fault why (Some a) = Ok a
+
+-- a text that is short enough for an id
+abbrev pub short_text : List ℕ → Result Id LineFault
+short_text text = if nat_le (length text) MOST_ID then Ok (id.Text text) else Err fault.Id
+
+-- a number or a text as an id
+abbrev pub id_by : Option ℕ → Option (List ℕ) → Result Id LineFault
+id_by (Some n) text = Ok (id.Number n)
+id_by None None = Err fault.Id
+id_by None (Some text) = short_text text
+
+-- an id
+abbrev pub id_in : Data → Result Id LineFault
+id_in d = id_by (number_at d) (as_str d)
+
+-- the id of a line, if it has one
+abbrev pub id_of : Data → Result (Option Id) LineFault
+id_of d = id_at (get (codes "id") d)
+  where
+    id_at : Option Data → Result (Option Id) LineFault
+    id_at None = Ok None
+    id_at (Some member) = do
+      it ← id_in member
+      Ok (Some it)
+
+-- the members that a line may have
+abbrev pub may_names : List (List ℕ)
+may_names = codes "id" ∷ codes "client" ∷ codes "proc" ∷ codes "args" ∷ []
+
+-- an object with no other members than these
+abbrev pub has_no_other : Data → Bool
+has_no_other null = false
+has_no_other (boolean b) = false
+has_no_other (number x) = false
+has_no_other (string s) = false
+has_no_other (array ds) = false
+has_no_other (object ms) = has_only may_names ms
+
+-- the number of a client
+abbrev pub client_of : Data → Result ℕ LineFault
+client_of d = or_fault fault.Client (u32_at (member_at (codes "client") d))
+
+-- the name of a procedure
+abbrev pub name_of : Data → Result (List ℕ) LineFault
+name_of d = or_fault fault.Proc (as_str (member_at (codes "proc") d))
+
+-- the arguments
+abbrev pub args_of : Data → Result (List ℕ) LineFault
+args_of d = or_fault fault.Args (whole (list_at number_at (member_at (codes "args") d)))
+
+-- a client's call, or why the library does not make it
+abbrev pub made_by : ℕ → List ℕ → Result Call CallFault → Result ClientCall LineFault
+made_by client name (Ok made) = Ok (record { client = client; call = made })
+made_by client name (Err call.UnknownProc) = Err (fault.NoProc name)
+made_by client name (Err call.ArgCount) = Err fault.ArgCount
+made_by client name (Err call.RecordRange) = Err fault.NoRecord
+
+-- the call that a JSON tree asks for, of a client below a number, or the first fault
+abbrev pub call_asked : Catalog → ℕ → Data → Result ClientCall LineFault
+call_asked library clients d =
+    if has_no_other d then
+    (do
+      client ← client_of d
+      name ← name_of d
+      args ← args_of d
+      if nat_lt client clients then made_by client name (call_made library name args) else Err (fault.NoClient client))
+    else Err fault.Object
+
+-- a line with this id, or with a fault in its place, and what it asks for otherwise
+abbrev pub asked_with : Result (Option Id) LineFault → Result ClientCall LineFault → Asked
+asked_with (Ok it) asked = record { id = it; call = asked }
+asked_with (Err why) asked = record { id = None; call = Err why }
+
+-- what a JSON tree asks for
+abbrev pub asked_of : Catalog → ℕ → Data → Asked
+asked_of library clients d = asked_with (id_of d) (call_asked library clients d)
+
+-- what a line asks for: what its JSON tree does, or the fault at some column if it has none
+abbrev pub IsAsked : Catalog → ℕ → List ℕ → Asked → Type 0
+IsAsked library clients line asked =
+    ((tree : Data) × IsTree line (Some tree) × (asked ≡ asked_of library clients tree))
+    ⊎ (IsTree line None × ((column : ℕ) × (asked ≡ record { id = None; call = Err (fault.Json column) })))
+
+-- what a line asks for, whatever its length
+abbrev pub IsLine : Catalog → ℕ → List ℕ → Asked → Type 0
+IsLine library clients line asked =
+    ((MOST_LINE < length line) × (asked ≡ record { id = None; call = Err fault.Long }))
+    ⊎ ((length line ≤ MOST_LINE) × IsAsked library clients line asked)
+
+-- what each of these lines asks for
+abbrev pub AreAsked : Catalog → ℕ → List (List ℕ) → List Asked → Type 0
+AreAsked library clients [] [] = Unit {0}
+AreAsked library clients [] (a ∷ more) = ⊥
+AreAsked library clients (line ∷ lines) [] = ⊥
+AreAsked library clients (line ∷ lines) (a ∷ more) = IsLine library clients line a × AreAsked library clients lines more

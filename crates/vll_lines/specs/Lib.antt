@@ -1,0 +1,5 @@
+pub mod Asked
+pub mod Lines
+pub mod Theirs
+pub mod Answers
+pub mod Private

@@ -1,0 +1,96 @@
+//! The answers to the lines of a round.
+ghost use Rattle.std.specs.Prelude.{◌≡◌, ◌+◌, ◌<◌, ◌^◌, List, IfOk, IsSome, IsTrue, Some, count_by, is_ok, length, map};
+ghost use Rattle.vll_proc.specs.declared.call.Reply.{Reply as SpecReply};
+ghost use Rattle.vll_lines.specs.Answers.{answers};
+ghost use Rattle.vll_lines.specs.Private.Replied.{IsReplied, Replies};
+ghost use Rattle.vll_lines.specs.Theirs.{AreTheirs, call_of_line, call_shown};
+
+use crate::asked::{Asked, ClientCall};
+use crate::replying::{push_fault, push_reply};
+use std::alloc::{AllocError, Global};
+use vll_core::Line;
+use vll_proc::Reply;
+
+/// Whether these are the journal's lines of the calls that lines ask for, in order: each is of the client and of its
+/// call, whatever that found, and has a reply.
+pub fn are_theirs(asked: &[Asked], lines: &[Line]) -> bool
+    ensures theirs { IsTrue result → AreTheirs asked.now lines.now }
+    ensures all { AreTheirs asked.now lines.now → IsTrue result }
+{
+    let mut lines = lines;
+    for one in asked {
+        if let Ok(call) = &one.call {
+            let Some((line, more)) = lines.split_first() else {
+                return false;
+            };
+            if !is_of(line, call) {
+                return false;
+            }
+            lines = more;
+        }
+    }
+    lines.is_empty()
+}
+
+// Whether a line is of this call of this client, whatever it found, and has a reply.
+fn is_of(line: &Line, asked: &ClientCall) -> bool
+    ensures call { IsTrue result → call_shown asked.now ≡ call_of_line line.now }
+    ensures reply { IsTrue result → IsSome line.now.reply }
+    ensures all { call_shown asked.now ≡ call_of_line line.now → IsSome line.now.reply → IsTrue result }
+{
+    line.client == asked.client
+        && line.call.number == asked.call.number
+        && line.call.arg_count == asked.call.arg_count
+        && line.call.args == asked.call.args
+        && line.reply.is_some()
+}
+
+/// The number of calls that lines ask for.
+pub fn count_calls(asked: &[Asked]) -> usize
+    ensures { result ≡ count_by (λ one. is_ok one.call) asked.now }
+{
+    asked.iter().filter(|one| one.call.is_ok()).count()
+}
+
+/// Returns the text of the answers to lines, in order. The calls that they ask for are numbered from `number` on, and
+/// have these journal lines. Fails only for want of memory.
+pub fn answers(
+    alloc: Global,
+    asked: &[Asked],
+    lines: &[Line],
+    number: u64,
+) -> Result<Vec<u8>, AllocError>
+    requires lines { AreTheirs asked.now lines.now }
+    requires number { number + length lines.now < 2 ^ 64 }
+    ensures { IfOk result (λ text. (replies : List SpecReply) → map (λ l. l.reply) lines.now ≡ map Some replies → text.items ≡ answers asked.now number replies) }
+{
+    let mut text = Vec::new(alloc);
+    let mut lines = lines;
+    let mut number = number;
+    for one in asked {
+        match &one.call {
+            Err(why) => text = push_fault(alloc, text, &one.id, why)?,
+            Ok(_) => {
+                let (reply, more) = first_reply(lines);
+                text = push_reply(text, &one.id, number, reply)?;
+                number += 1;
+                lines = more;
+            }
+        }
+    }
+    Ok(text)
+}
+
+// The reply of the first line, and the lines behind it.
+fn first_reply(lines: &[Line]) -> (&Reply, &[Line])
+    requires { IsReplied lines.now }
+    ensures { Replies lines.now result.0.now result.1.now }
+{
+    match lines.split_first() {
+        Some((line, more)) => match &line.reply {
+            Some(reply) => (reply, more),
+            None => unreachable!(),
+        },
+        None => unreachable!(),
+    }
+}

@@ -1,0 +1,84 @@
+//! A line as it was read: the call that it asks for, or why it asks for none.
+use std::fmt;
+use vll_proc::{Call, Text};
+
+/// What a client names a line by. It comes back with the answer.
+#[derive(Drop)]
+pub enum Id {
+    Number(u64),
+    /// At most `MOST_ID` bytes.
+    Text(Text),
+}
+
+/// A call, and the client that makes it.
+#[derive(Clone, Copy)]
+pub struct ClientCall {
+    pub client: u32,
+    pub call: Call,
+}
+
+/// Why a line asks for no call. Of several reasons the first in this order is told.
+#[derive(Drop)]
+pub enum LineFault {
+    /// The line has more than `MOST_LINE` bytes.
+    Long,
+    /// The line is not a JSON text. The number is the column, from 1, up to which it was read.
+    Json(u64),
+    /// The member `id` is neither a whole number of 64 bits without a sign nor a text of at most `MOST_ID` bytes.
+    Id,
+    /// The JSON text is not an object, or has other members than `id`, `client`, `proc` and `args`.
+    Object,
+    /// The member `client` is missing, or no whole number of 32 bits without a sign.
+    Client,
+    /// The member `proc` is missing, or not a text.
+    Proc,
+    /// The member `args` is missing, or not a list of whole numbers of 64 bits without a sign.
+    Args,
+    /// There is no client with this number.
+    NoClient(u32),
+    /// No procedure has this name.
+    NoProc(Text),
+    /// Not the number of arguments that the procedure declares.
+    ArgCount,
+    /// An argument that names a key's record is not below the number of records.
+    NoRecord,
+}
+
+/// The words that are told of it.
+impl fmt::Display for LineFault {
+    ghost use Rattle.std.specs.Prelude.{Some};
+    ghost use Rattle.vll_lines.specs.Answers.{fault_words};
+
+    ghost output = { λ why. Some (fault_words why) };
+
+    fn fmt<W: fmt::Write>(&self, f: &mut fmt::Formatter<W>) -> fmt::Result {
+        match self {
+            LineFault::Long => f.write_str("the line has more than 65536 bytes"),
+            LineFault::Json(column) => write!(f, "no JSON text: column {column}"),
+            LineFault::Id => {
+                f.write_str("id has to be a whole number or a text of at most 64 bytes")
+            }
+            LineFault::Object => {
+                f.write_str("the line has to be an object with client, proc, args and perhaps id")
+            }
+            LineFault::Client => f.write_str("client has to be the number of a client"),
+            LineFault::Proc => f.write_str("proc has to be the name of a procedure"),
+            LineFault::Args => f.write_str("args has to be a list of whole numbers"),
+            LineFault::NoClient(client) => write!(f, "there is no client {client}"),
+            LineFault::NoProc(name) => { write!(f, "no procedure has the name {}", name.as_str()) }
+            LineFault::ArgCount => {
+                f.write_str("the procedure takes another number of arguments")
+            }
+            LineFault::NoRecord => {
+                f.write_str("an argument that names a record is not below the number of records")
+            }
+        }
+    }
+}
+
+/// A line as it was read: its id, if it has one, and its call or why it asks for none.
+#[derive(Drop)]
+pub struct Asked {
+    pub id: Option<Id>,
+    pub call: Result<ClientCall, LineFault>,
+}

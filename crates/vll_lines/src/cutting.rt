@@ -1,0 +1,71 @@
+//! Cutting bytes into lines at line feeds.
+ghost use Rattle.std.specs.Prelude.{◌≡◌, ◌++◌, ◌∷◌, [], IfOk, IfNone, IfSome, false, OnOk};
+ghost use Rattle.vll_lines.specs.Asked.{IsLine};
+ghost use Rattle.vll_lines.specs.Lines.{has_feed};
+ghost use Rattle.vll_lines.specs.Private.Cutting.{Cuts};
+
+use crate::asked::{Asked, LineFault};
+use crate::limits::MOST_LINE;
+use crate::reading::read_line;
+use memchr::memchr;
+use std::alloc::{AllocError, Global};
+use vll_check::Library;
+
+// The byte that ends a line.
+const LINE_FEED: u8 = 10;
+
+// The first line that is complete, and what follows its line feed.
+pub(crate) fn first_line(bytes: &[u8]) -> Option<(&[u8], &[u8])>
+    ensures some { IfSome result (λ cut. (bytes.now ≡ cut.0.now ++ 10 ∷ cut.1.now) × (has_feed cut.0.now ≡ false)) }
+    ensures none { IfNone result (has_feed bytes.now ≡ false) }
+{
+    let length = memchr(LINE_FEED, bytes)?;
+    Some((&bytes[..length], &bytes[length + 1..]))
+}
+
+// Appends what each complete line asks for, in order, and to `tail` the bytes that follow the last one.
+pub(crate) fn cut(
+    alloc: Global,
+    library: &Library,
+    clients: u32,
+    bytes: &[u8],
+    tail: &mut Vec<u8>,
+    asked: &mut Vec<Asked>,
+) -> Result<(), AllocError>
+    requires { tail.old.items ≡ [] }
+    ensures cuts { OnOk result (Cuts library.now clients bytes.now asked.old.items asked.new.items tail.new.items) }
+    ensures unended { OnOk result (has_feed tail.new.items ≡ false) }
+{
+    let mut rest = bytes;
+    'lines: while let Some((line, more)) = first_line(rest) {
+        push(asked, line_asked(alloc, library, clients, line)?)?;
+        rest = more;
+    }
+    tail.extend_from_slice(rest)
+}
+
+// What a line asks for, whatever its length.
+pub(crate) fn line_asked(
+    alloc: Global,
+    library: &Library,
+    clients: u32,
+    line: &[u8],
+) -> Result<Asked, AllocError>
+    ensures { IfOk result (IsLine library.now clients line.now) }
+{
+    if line.len() > MOST_LINE {
+        return Ok(Asked {
+            id: None,
+            call: Err(LineFault::Long),
+        });
+    }
+    read_line(alloc, library, clients, line)
+}
+
+// Appends to a list.
+pub(crate) fn push(asked: &mut Vec<Asked>, one: Asked) -> Result<(), AllocError>
+    ensures { OnOk result (asked.new.items ≡ asked.old.items ++ one ∷ []) }
+{
+    asked.push(one)?;
+    Ok(())
+}

@@ -1,0 +1,25 @@
+//! Calls as lines of text: what a service reads from a pipe, and what it answers. A line of JSON asks for a call of one
+//! client, and its answer is a line of JSON too. Proved: which call or which fault a line is, as the kit's JSON reader
+//! reads it; the text of each answer; and that bytes are cut into lines at line feeds. Start at `read_round`,
+//! `read_line` and `answers`.
+//!
+//! ```rattle
+//! let round = read_round(wait, alloc, &library, clients, &mut source, &mut tail)?;
+//! let text = answers(alloc, round.asked.as_slice(), lines, number)?;
+//! ```
+#![tactic(auto)]
+
+mod answering;
+mod asked;
+mod cutting;
+mod limits;
+mod reading;
+mod replying;
+mod round;
+
+pub use answering::{answers, are_theirs, count_calls};
+pub use asked::{Asked, ClientCall, Id, LineFault};
+pub use limits::{MOST_ID, MOST_LINE, MOST_ROUND};
+pub use reading::read_line;
+pub use replying::{push_end, push_fault, push_reply};
+pub use round::{Round, RoundFault, read_round};

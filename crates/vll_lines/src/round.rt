@@ -1,0 +1,148 @@
+//! A round: the lines that are complete when a read has ended one.
+ghost use Rattle.std.specs.Prelude.{◌≡◌, ◌↔◌, ℕ, List, [], ◌++◌, All, IfOk, OnOk, false, true, Ok, Err};
+ghost use Rattle.vll_check.specs.Calls.{Fits};
+ghost use Rattle.vll_lines.specs.Asked.{AreAsked};
+ghost use Rattle.vll_lines.specs.Lines.{IsRound, has_feed, lines_in};
+ghost use Rattle.vll_lines.specs.Theirs.{calls_of};
+ghost use Rattle.vll_lines.specs.Private.Cutting.{Cuts, StandsFor};
+ghost use Rattle.vll_lines.specs.declared.round.RoundFault.TheVariants as round_fault;
+
+use crate::asked::Asked;
+use crate::cutting::{cut, first_line, line_asked, push};
+use crate::limits::{MOST_LINE, MOST_ROUND};
+use std::alloc::{AllocError, Global};
+use std::sync::Wait;
+use thiserror::Error;
+use vll_check::Library;
+use vll_scenario::Source;
+
+/// Lines that come at a time: at most `MOST_ROUND`.
+#[derive(Drop)]
+pub struct Round {
+    /// What each of them asks for, in order.
+    pub asked: Vec<Asked>,
+    /// Whether the input has ended with them.
+    pub is_last: bool,
+}
+
+/// Why a round was not read.
+#[derive(Clone, Copy, PartialEq, Eq, Debug, Error)]
+pub enum RoundFault {
+    /// The source failed.
+    #[error("read")]
+    Read,
+    #[error("no memory")]
+    NoMemory,
+}
+
+impl From<AllocError> for RoundFault {
+    ghost use Rattle.std.specs.Prelude.{◌≡◌};
+    ghost use Rattle.vll_lines.specs.declared.round.RoundFault.TheVariants.{NoMemory};
+
+    ghost from_gives = { λ _ e. e ≡ NoMemory };
+
+    fn from(_: AllocError) -> RoundFault {
+        RoundFault::NoMemory
+    }
+}
+
+/// Reads on until a line is complete or the input ends, and returns what the lines ask for that are complete then, of
+/// clients below `clients`. A last line without a line feed counts as a line. `tail` keeps the bytes of the line that
+/// has begun from one round to the next: it is empty at first.
+///
+/// It asks for no more bytes once a line is complete. A line that is too long is read over, and not kept. `Read` is
+/// returned exactly if the source has failed.
+pub fn read_round<S: Source>(
+    wait: &impl Wait,
+    alloc: Global,
+    library: &Library,
+    clients: u32,
+    source: &mut S,
+    tail: &mut Vec<u8>,
+) -> Result<Round, RoundFault>
+    requires source { S.failed source.old ≡ false }
+    requires tail { has_feed tail.old.items ≡ false }
+    ensures round { IfOk result (IsRound library.now clients (S.remaining source.old) (S.remaining source.new) tail.old.items tail.new.items) }
+    ensures fits { IfOk result (λ round. All (λ c. Fits library.now c.call) (calls_of round.asked.items)) }
+    ensures tail { OnOk result (has_feed tail.new.items ≡ false) }
+    ensures failed { (result ≡ Err round_fault.Read) ↔ (S.failed source.new ≡ true) }
+{
+    let mut asked = Vec::new(alloc);
+    let mut piece = [0; MOST_ROUND];
+    for _ in wait.forever() {
+        let Ok(count) = source.read(&mut piece) else {
+            return Err(RoundFault::Read);
+        };
+        if count == 0 {
+            end_line(alloc, library, clients, tail, &mut asked)?;
+            return Ok(Round {
+                asked,
+                is_last: true,
+            });
+        }
+        if take_piece(alloc, library, clients, &piece[..count], tail, &mut asked)? {
+            return Ok(Round {
+                asked,
+                is_last: false,
+            });
+        }
+    }
+    unreachable!()
+}
+
+// Reads the line at the end of the input, if one has begun.
+fn end_line(
+    alloc: Global,
+    library: &Library,
+    clients: u32,
+    tail: &mut Vec<u8>,
+    asked: &mut Vec<Asked>,
+) -> Result<(), AllocError>
+    requires asked { asked.old.items ≡ [] }
+    ensures asked { OnOk result ((line : List ℕ) → StandsFor tail.old.items line → has_feed line ≡ false
+        → AreAsked library.now clients (lines_in line) asked.new.items) }
+    ensures tail { OnOk result (tail.new.items ≡ []) }
+{
+    if !tail.is_empty() {
+        push(asked, line_asked(alloc, library, clients, tail.as_slice())?)?;
+        tail.clear();
+    }
+    Ok(())
+}
+
+// Takes the bytes that came after the tail, reads the lines that are complete with them, and returns whether one is.
+fn take_piece(
+    alloc: Global,
+    library: &Library,
+    clients: u32,
+    bytes: &[u8],
+    tail: &mut Vec<u8>,
+    asked: &mut Vec<Asked>,
+) -> Result<bool, AllocError>
+    ensures none { result ≡ Ok false → (asked.new.items ≡ asked.old.items) × (has_feed bytes.now ≡ false)
+        × ((line : List ℕ) → StandsFor tail.old.items line → StandsFor tail.new.items (line ++ bytes.now)) }
+    ensures some { result ≡ Ok true → (line : List ℕ) → StandsFor tail.old.items line → has_feed line ≡ false
+        → Cuts library.now clients (line ++ bytes.now) asked.old.items asked.new.items tail.new.items }
+    ensures unended { result ≡ Ok true → has_feed tail.new.items ≡ false }
+{
+    let Some((end, rest)) = first_line(bytes) else {
+        grow(tail, bytes)?;
+        return Ok(false);
+    };
+    grow(tail, end)?;
+    push(asked, line_asked(alloc, library, clients, tail.as_slice())?)?;
+    tail.clear();
+    cut(alloc, library, clients, rest, tail, asked)?;
+    Ok(true)
+}
+
+// Appends bytes to a line, unless it is too long already.
+fn grow(line: &mut Vec<u8>, bytes: &[u8]) -> Result<(), AllocError>
+    ensures { OnOk result ((whole : List ℕ) → StandsFor line.old.items whole
+        → StandsFor line.new.items (whole ++ bytes.now)) }
+{
+    if line.len() <= MOST_LINE {
+        line.extend_from_slice(bytes)?;
+    }
+    Ok(())
+}

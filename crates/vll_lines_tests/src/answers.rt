@@ -1,0 +1,118 @@
+//! Tests of the answers to lines, as text.
+use crate::asserts::equal;
+use std::alloc::{AllocError, Global};
+use std::test::Fail;
+use vll_check::Library;
+use vll_lines::{push_end, push_fault, push_reply, read_line};
+use vll_proc::{Reason, Reply};
+use vll_test_procedures::library;
+
+// The answer to a line of one of two clients, where a call has the number 12 and is aborted.
+fn answer(alloc: Global, library: &Library, line: &str) -> Result<Vec<u8>, AllocError> {
+    let asked = read_line(alloc, library, 2, line.as_bytes())?;
+    let out = Vec::new(alloc);
+    match &asked.call {
+        Ok(_) => push_reply(out, &asked.id, 12, &Reply::Aborted(Reason::Underflow)),
+        Err(why) => push_fault(alloc, out, &asked.id, why),
+    }
+}
+
+#[test]
+fn line_has_its_call(rt: HostRuntime) -> Result<(), Fail> {
+    let library = library(rt.alloc(), 8)?;
+    for (line, wanted) in [
+        (
+            r#"{"client":0,"proc":"transfer","args":[0,1,30]}"#,
+            r#"{"call":12,"aborted":"underflow"}"#,
+        ),
+        (
+            r#" { "args" : [ 7 ] , "id" : 7 , "proc" : "bump" , "client" : 1 } "#,
+            r#"{"id":7,"call":12,"aborted":"underflow"}"#,
+        ),
+        (
+            r#"{"id":"a\"\u00e9","client":0,"proc":"seven","args":[]}"#,
+            r#"{"id":"a\"é","call":12,"aborted":"underflow"}"#,
+        ),
+        (
+            r#"{"id":18446744073709551615,"client":0,"proc":"seven","args":[]}"#,
+            r#"{"id":18446744073709551615,"call":12,"aborted":"underflow"}"#,
+        ),
+    ] {
+        let found = answer(rt.alloc(), &library, line)?;
+        equal(
+            &rt,
+            std::str::from_utf8(found.as_slice())?.trim_end(),
+            wanted,
+        );
+    }
+    Ok(())
+}
+
+#[test]
+fn line_has_its_fault(rt: HostRuntime) -> Result<(), Fail> {
+    let library = library(rt.alloc(), 8)?;
+    for (line, wanted) in [
+        ("", r#"{"fault":"no JSON text: column 0"}"#),
+        (r#"{"client":0,}"#, r#"{"fault":"no JSON text: column 13"}"#),
+        (
+            "[]",
+            r#"{"fault":"the line has to be an object with client, proc, args and perhaps id"}"#,
+        ),
+        (
+            r#"{"id":-1,"client":0,"proc":"seven","args":[]}"#,
+            r#"{"fault":"id has to be a whole number or a text of at most 64 bytes"}"#,
+        ),
+        (
+            r#"{"id":5,"client":0,"proc":"seven","args":[],"more":1}"#,
+            r#"{"id":5,"fault":"the line has to be an object with client, proc, args and perhaps id"}"#,
+        ),
+        (
+            r#"{"id":5,"client":4294967296,"proc":"seven","args":[]}"#,
+            r#"{"id":5,"fault":"client has to be the number of a client"}"#,
+        ),
+        (
+            r#"{"id":5,"client":2,"proc":"seven","args":[]}"#,
+            r#"{"id":5,"fault":"there is no client 2"}"#,
+        ),
+        (
+            r#"{"id":5,"client":1,"proc":7,"args":[]}"#,
+            r#"{"id":5,"fault":"proc has to be the name of a procedure"}"#,
+        ),
+        (
+            r#"{"id":5,"client":1,"proc":"seven","args":[1.0]}"#,
+            r#"{"id":5,"fault":"args has to be a list of whole numbers"}"#,
+        ),
+        (
+            r#"{"id":5,"client":1,"proc":"eight\n","args":[]}"#,
+            r#"{"id":5,"fault":"no procedure has the name eight\n"}"#,
+        ),
+        (
+            r#"{"id":5,"client":1,"proc":"bump","args":[]}"#,
+            r#"{"id":5,"fault":"the procedure takes another number of arguments"}"#,
+        ),
+        (
+            r#"{"id":5,"client":1,"proc":"bump","args":[8]}"#,
+            r#"{"id":5,"fault":"an argument that names a record is not below the number of records"}"#,
+        ),
+    ] {
+        let found = answer(rt.alloc(), &library, line)?;
+        equal(
+            &rt,
+            std::str::from_utf8(found.as_slice())?.trim_end(),
+            wanted,
+        );
+    }
+    Ok(())
+}
+
+#[test]
+fn end_has_the_records(rt: HostRuntime) -> Result<(), Fail> {
+    for (records, wanted) in [
+        ([].as_slice(), "{\"calls\":5,\"records\":[]}\n"),
+        ([70, 0].as_slice(), "{\"calls\":5,\"records\":[70,0]}\n"),
+    ] {
+        let found = push_end(Vec::new(rt.alloc()), 5, records)?;
+        equal(&rt, std::str::from_utf8(found.as_slice())?, wanted);
+    }
+    Ok(())
+}
