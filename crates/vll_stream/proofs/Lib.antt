@@ -1,0 +1,5 @@
+pub mod Answered
+pub mod Parts
+pub mod Rounds
+pub mod Found
+pub mod Epochs

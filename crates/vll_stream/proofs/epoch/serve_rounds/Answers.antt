@@ -1,0 +1,47 @@
+use Rattle.std.proofs.Common.{◌≡◌, ℕ, Bool, List, length, refl, ◌∙◌, subst}
+use Rattle.vll_stream.specs.Private.Parts.{Place}
+use Rattle.vll_stream.specs.Private.Told.{AreRounds, IsRoundAfter}
+use Rattle.vll_stream.proofs.Rounds.{no_rounds, rounds_more}
+use Rattle.vll_stream.proofs.epoch.serve_rounds.Goals as goal
+
+pub loop-init : goal.loop-init
+loop-init g c =
+    let at : Place = record { input = g.S.Source.remaining c.args.reader.now; tail = c.args.tail.now.items; output = g.W.Sink.contents c.args.writer.now; number = c.args.number } in
+    (tt, tt, refl, c.requires.reader, c.requires.writer, c.requires.tail, no_rounds g.N.Name.engine (length c.args.callers.now.items) c.args.observer.now.session.seen at)
+
+pub returns-then-round-clause-rounds : goal.returns-then-round-clause-rounds
+returns-then-round-clause-rounds g c =
+    let e = g.N.Name.engine in
+    let known = g.S.Source.remaining in
+    let contents = g.W.Sink.contents in
+    let l = c.loop.invariant in
+    let round = c.in_ok-round.round in
+    let now = c.serve_round.new.observer.session.seen in
+    let old : Place = record { input = known c.args.reader.now; tail = c.args.tail.now.items; output = contents c.args.writer.now; number = c.args.number } in
+    let mid : Place = record { input = known c.loop.reader; tail = c.loop.tail.items; output = contents c.loop.writer; number = c.loop.number } in
+    let new : Place = record { input = known c.serve_round.new.reader; tail = c.serve_round.new.tail.items; output = contents c.serve_round.new.writer; number = round.number } in
+    rounds_more e (length c.args.callers.now.items) c.loop.observer.session.seen now c.loop.calls round.calls round.is_last old mid new l.6
+    (λ told are. subst (λ (k : ℕ). IsRoundAfter e k told now round.calls round.is_last mid new) l.2 (c.in_ok-round.ensures.round told are))
+
+pub loop-preserved : goal.loop-preserved
+loop-preserved g c =
+    let e = g.N.Name.engine in
+    let known = g.S.Source.remaining in
+    let contents = g.W.Sink.contents in
+    let l = c.loop.invariant in
+    let round = c.in_ok-round.round in
+    let now = c.serve_round.new.observer.session.seen in
+    let old : Place = record { input = known c.args.reader.now; tail = c.args.tail.now.items; output = contents c.args.writer.now; number = c.args.number } in
+    let mid : Place = record { input = known c.loop.reader; tail = c.loop.tail.items; output = contents c.loop.writer; number = c.loop.number } in
+    let new : Place = record { input = known c.serve_round.new.reader; tail = c.serve_round.new.tail.items; output = contents c.serve_round.new.writer; number = round.number } in
+    let more =
+    rounds_more e (length c.args.callers.now.items) c.loop.observer.session.seen now c.loop.calls round.calls round.is_last old mid new l.6
+    (λ told are. subst (λ (k : ℕ). IsRoundAfter e k told now round.calls round.is_last mid new) l.2 (c.in_ok-round.ensures.round told are)) in (
+      tt,
+      tt,
+      c.in_ok-round.ensures.callers ∙ l.2,
+      c.in_ok-round.ensures.reader,
+      c.in_ok-round.ensures.writer,
+      c.in_ok-round.ensures.tail,
+      subst (λ (b : Bool). AreRounds e (length c.args.callers.now.items) now round.calls b old new) c.if-round.false more,
+    )

@@ -1,0 +1,102 @@
+//! A service: epoch after epoch over the same records, until the input ends.
+ghost use Rattle.std.specs.Prelude.{◌≡◌, ◌+◌, IfOk, OnOk, false, length};
+ghost use Rattle.std.specs.Io.KnownBytes.{Appends};
+ghost use Rattle.vll_scenario.specs.Headline.Setup.{catalog_of};
+ghost use Rattle.vll_stream.specs.Served.{ServesLines};
+
+use crate::epoch::{Ended, Then, run_epoch};
+use crate::fault::StreamFault;
+use std::alloc::Global;
+use std::marker::Brand;
+use std::sync::Wait;
+use vll_core::{Config, MOST_CALLS, OpenFault};
+use vll_lines::push_end;
+use vll_proc::Call;
+use vll_queue::Opening;
+use vll_sca::Placing;
+use vll_scenario::{Scenario, ScenarioParts, Sink, Source, write_text};
+
+/// Serves the calls that the lines of the input ask for, one after the other, and writes the answer to each line, in
+/// their order. Once the input has ended, writes a last line with the number of calls and the records.
+///
+/// The records, procedures, cap, bits, hash and the number of clients are those of the scenario; its scripts have to be
+/// empty, or it returns `Calls`; its limit and its schedule are not read. No more input is asked for while a line that
+/// is complete lacks its answer, and the answers are flushed before. Any other fault ends the service before its input
+/// ends: what was written by then stands.
+pub fn serve_stream<S: Source, W: Sink>(
+    wait: &impl Wait,
+    alloc: Global,
+    scenario: Scenario,
+    reader: &mut S,
+    writer: &mut W,
+) -> Result<(), StreamFault>
+    requires reader { S.failed reader.old ≡ false }
+    requires writer { W.failed writer.old ≡ false }
+    ensures ok { OnOk result (ServesLines scenario (S.remaining reader.old) (S.remaining reader.new)
+        (Appends (W.contents writer.old) (W.contents writer.new))) }
+{
+    let mut opening = opening_of(alloc, scenario)?;
+    let mut room = Vec::with_capacity(alloc, MOST_CALLS as usize)?;
+    let mut tail = Vec::new(alloc);
+    let mut number = 0;
+    for _ in wait.forever() {
+        let ended = run_epoch::<Brand, S, W>(
+            wait, alloc, opening, reader, writer, &mut tail, number, room,
+        )?;
+        let Ended {
+            number: reached,
+            then,
+        } = ended;
+        match then {
+            Then::Over(records) => {
+                let text = push_end(Vec::new(alloc), reached, records.as_slice())?;
+                write_text(writer, text.as_slice())?;
+                return Ok(());
+            }
+            Then::On(next, journal) => {
+                opening = next;
+                room = journal;
+                number = reached;
+            }
+        }
+    }
+    unreachable!()
+}
+
+// An engine over a scenario's records, with one client more than the scenario.
+fn opening_of(alloc: Global, scenario: Scenario) -> Result<Opening<Placing>, StreamFault>
+    ensures library { IfOk result (λ o. o.library ≡ catalog_of scenario) }
+    ensures records { IfOk result (λ o. o.records ≡ scenario.records) }
+    ensures clients { IfOk result (λ o. o.clients ≡ length scenario.scripts + 1) }
+    ensures limit { IfOk result (λ o. o.config.limit ≡ MOST_CALLS) }
+{
+    let ScenarioParts {
+        records,
+        library,
+        scripts,
+        config,
+        placing,
+        ..
+    } = scenario.into_parts();
+    if !are_empty(scripts.as_slice()) {
+        return Err(StreamFault::Calls);
+    }
+    let config = Config {
+        cap: config.cap,
+        limit: MOST_CALLS,
+        bits: config.bits,
+    };
+    let clients = scripts.len() as u32 + 1;
+    match Opening::new(alloc, records, library, config, placing, clients) {
+        Ok(opening) => Ok(opening),
+        Err(OpenFault::NoMemory) => Err(StreamFault::NoMemory),
+        // A scenario has the sizes that an engine can be opened with.
+        Err(OpenFault::Records | OpenFault::Limit | OpenFault::Cap | OpenFault::Bits) => {
+            unreachable!()
+        }
+    }
+}
+
+fn are_empty(scripts: &[Vec<Call>]) -> bool {
+    scripts.iter().all(|script| script.is_empty())
+}

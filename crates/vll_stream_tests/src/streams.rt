@@ -1,0 +1,153 @@
+//! Tests of whole services over bytes in memory.
+use crate::asserts::equal;
+use std::alloc::Global;
+use std::fmt::Write;
+use std::io;
+use std::sync::Wait;
+use std::test::Fail;
+use vll_scenario::{Plain, read_scenario};
+use vll_stream::{StreamFault, serve_stream};
+
+// A bank of two clients.
+const BANK: &str = r#"{"version":1,"records":[100,50],"procs":[
+ {"name":"transfer","args":3,"keys":[["write","arg",0],["write","arg",1]],
+  "body":[["set",0,["sub",["key",0],["arg",2]]],
+          ["set",1,["add",["key",1],["arg",2]]],["reply",["key",0]]]}],
+ "clients":[[],[]]}"#;
+
+// What a service of the bank writes for an input.
+fn served(rt: &impl Wait, alloc: Global, input: &str) -> Result<Vec<u8>, Fail> {
+    let scenario = read_scenario(alloc, &mut Plain::new(BANK.as_bytes()))?;
+    let mut output = Vec::new(alloc);
+    let mut writer = Plain::new(&mut output);
+    let mut reader = Plain::new(input.as_bytes());
+    serve_stream(rt, alloc, scenario, &mut reader, &mut writer)?;
+    Ok(output)
+}
+
+#[test]
+fn each_line_is_answered(rt: HostRuntime) -> Result<(), Fail> {
+    let input = r#"{"id":7,"client":0,"proc":"transfer","args":[0,1,30]}
+{"id":"b","client":1,"proc":"transfer","args":[1,0,90]}
+
+{"client":2,"proc":"transfer","args":[1,0,1]}
+{"client":1,"proc":"transfer","args":[1,0,1]}"#;
+    let wanted = r#"{"id":7,"call":0,"committed":[70]}
+{"id":"b","call":1,"aborted":"underflow"}
+{"fault":"no JSON text: column 0"}
+{"fault":"there is no client 2"}
+{"call":2,"committed":[79]}
+{"calls":3,"records":[71,79]}
+"#;
+    let found = served(&rt, rt.alloc(), input)?;
+    equal(&rt, std::str::from_utf8(found.as_slice())?, wanted);
+    Ok(())
+}
+
+#[test]
+fn empty_input_has_the_first_records(rt: HostRuntime) -> Result<(), Fail> {
+    let found = served(&rt, rt.alloc(), "")?;
+    let wanted = "{\"calls\":0,\"records\":[100,50]}\n";
+    equal(&rt, std::str::from_utf8(found.as_slice())?, wanted);
+    Ok(())
+}
+
+// Lines that ask for `count` transfers of 1 from the first account to the second, or from the second to the first.
+fn transfers(alloc: Global, count: u32) -> Result<String, Fail> {
+    let mut input = String::new(alloc);
+    for i in 0..count {
+        let (client, from) = (i % 2, i / 2 % 2);
+        let to = 1 - from;
+        write!(
+            input,
+            "{{\"client\":{client},\"proc\":\"transfer\",\"args\":[{from},{to},1]}}\n"
+        )?;
+    }
+    Ok(input)
+}
+
+// The last of its lines.
+fn last_line(text: &[u8]) -> Result<&str, Fail> {
+    let text = std::str::from_utf8(text)?;
+    Ok(text.trim_end().rsplit('\n').next().unwrap_or(""))
+}
+
+#[test]
+fn epochs_go_on_over_the_records(rt: HostRuntime) -> Result<(), Fail> {
+    let input = transfers(rt.alloc(), 60_002)?;
+    let found = served(&rt, rt.alloc(), input.as_str())?;
+    let last = last_line(found.as_slice())?;
+    equal(&rt, last, "{\"calls\":60002,\"records\":[98,52]}");
+    Ok(())
+}
+
+// A reader that supplies its text a byte at a time.
+#[derive(Drop)]
+struct Slow<'a>(&'a [u8]);
+
+impl io::Read for Slow<'_> {
+    fn read(&mut self, buf: &mut [u8]) -> io::Result<usize> {
+        match (self.0.split_first(), buf.first_mut()) {
+            (Some((byte, rest)), Some(place)) => {
+                *place = *byte;
+                self.0 = rest;
+                Ok(1)
+            }
+            _ => Ok(0),
+        }
+    }
+}
+
+#[test]
+fn input_may_come_byte_by_byte(rt: HostRuntime) -> Result<(), Fail> {
+    let input = transfers(rt.alloc(), 10)?;
+    let wanted = served(&rt, rt.alloc(), input.as_str())?;
+    let scenario = read_scenario(rt.alloc(), &mut Plain::new(BANK.as_bytes()))?;
+    let mut output = Vec::new(rt.alloc());
+    let mut writer = Plain::new(&mut output);
+    let mut reader = Plain::new(Slow(input.as_bytes()));
+    serve_stream(&rt, rt.alloc(), scenario, &mut reader, &mut writer)?;
+    equal(&rt, output.as_slice(), wanted.as_slice());
+    Ok(())
+}
+
+#[test]
+fn line_that_is_too_long_is_read_over(rt: HostRuntime) -> Result<(), Fail> {
+    for (length, wanted) in [
+        (
+            65_536,
+            "{\"fault\":\"no JSON text: column 1\"}\n{\"calls\":0,\"records\":[100,50]}\n",
+        ),
+        (
+            65_537,
+            "{\"fault\":\"the line has more than 65536 bytes\"}\n{\"calls\":0,\"records\":[100,50]}\n",
+        ),
+        (
+            200_000,
+            "{\"fault\":\"the line has more than 65536 bytes\"}\n{\"calls\":0,\"records\":[100,50]}\n",
+        ),
+    ] {
+        let mut input = String::new(rt.alloc());
+        for _ in 0..length {
+            input.push('x')?;
+        }
+        let found = served(&rt, rt.alloc(), input.as_str())?;
+        equal(&rt, std::str::from_utf8(found.as_slice())?, wanted);
+    }
+    Ok(())
+}
+
+#[test]
+fn scenario_with_calls_is_refused(rt: HostRuntime) -> Result<(), Fail> {
+    let text =
+        "{\"version\":1,\"records\":[7],\"procs\":[{\"name\":\"p\",\"args\":0,\"keys\":[],\"body\":[]}],
+        \"clients\":[[{\"proc\":\"p\",\"args\":[]}]]}";
+    let scenario = read_scenario(rt.alloc(), &mut Plain::new(text.as_bytes()))?;
+    let mut output = Vec::new(rt.alloc());
+    let mut writer = Plain::new(&mut output);
+    let mut reader = Plain::new("".as_bytes());
+    let refused = serve_stream(&rt, rt.alloc(), scenario, &mut reader, &mut writer);
+    equal(&rt, refused, Err(StreamFault::Calls));
+    equal(&rt, output.len(), 0);
+    Ok(())
+}
