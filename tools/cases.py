@@ -10,6 +10,8 @@ from typing import List, NamedTuple, Union
 
 TOP = Path(__file__).resolve().parent.parent
 FOLDERS = ('scenarios', 'examples')
+# What `vll serve` is tried with, by tools/trials.
+SERVICE = 'examples/serve'
 # The name of a file that is part of a case: that of the case, which part it is, and whether a script prints it.
 PART = re.compile(r'(.+)\.(?:(json|out)(\.sh)?|judge|args)')
 # In a file of several cases, the line that begins one and names it, and the line behind its scenario.
@@ -93,7 +95,8 @@ class Reader:
         self.faults = []
         # the files that rows name, and by which rows
         self.named = {}
-        files = [path for folder in FOLDERS for path in sorted((top / folder).rglob('*')) if path.is_file()]
+        files = [path for folder in FOLDERS for path in sorted((top / folder).rglob('*'))
+                 if path.is_file() and top / SERVICE not in path.parents]
         parts = {}
         for path in files:
             part = PART.fullmatch(path.name)

@@ -15,26 +15,31 @@ ghost use Rattle.vll_server.specs.declared.fault.ServeFault.TheVariants as serve
 ghost use Rattle.vll_workers.specs.declared.fault.RunFault.TheVariants as run_fault;
 ghost use Rattle.vll_explain.specs.Explained.{Explains};
 ghost use Rattle.vll_scenario.specs.declared.writing.WriteFault.TheVariants as write_fault;
-ghost use Rattle.vll.specs.Private.Acting.{Does, Runs};
+ghost use Rattle.vll.specs.Private.Acting.{Does, Runs, ServesFile, with_limits};
 ghost use Rattle.vll.specs.declared.fault.Fault.TheVariants as fault;
 
-use crate::command::Action;
+use crate::command::{Action, ServeOptions};
 use crate::fault::Fault;
 use std::alloc::Global;
+use std::fs;
+use std::rt::Files;
 use std::sync::Wait;
 use std::thread::Threads;
 use vll_draw::{EventRange, draw};
 use vll_explain::explain;
-use vll_server::{RunOptions, Sink, Source, read_scenario, replay, serve_as};
+use vll_server::{
+    Bits, Cap, Plain, RunOptions, Scenario, ScenarioFault, Sink, Source, read_scenario, replay,
+    serve_as,
+};
+use vll_stream::serve_stream;
 use vll_workers::OpenGate;
 
 // Performs `action`. The text of a `Tell` is printed, and neither `reader` nor `writer` is used.
-pub(crate) fn act<R: Print + Eprint + AllocGlobal + Threads + Wait + Sync, S: Source, W: Sink>(
-    rt: &R,
-    action: Action,
-    reader: &mut S,
-    writer: &mut W,
-) -> Result<(), Fault>
+pub(crate) fn act<
+    R: Print + Eprint + AllocGlobal + Threads + Wait + Files + Sync,
+    S: Source,
+    W: Sink,
+>(rt: &R, action: Action, reader: &mut S, writer: &mut W) -> Result<(), Fault>
     requires reader { S.failed reader.old ≡ false }
     requires writer { W.failed writer.old ≡ false }
     ensures ok { OnOk result (Does action (S.remaining reader.old) (S.remaining reader.new)
@@ -47,6 +52,7 @@ pub(crate) fn act<R: Print + Eprint + AllocGlobal + Threads + Wait + Sync, S: So
         // A text that cannot be printed has no line of its own.
         Action::Tell(text) => text.print(rt).map_err(|_| Fault::CommandLine),
         Action::Run(options) => run(rt, rt.alloc(), options, reader, writer),
+        Action::Serve(options) => serve(rt, rt.alloc(), options, reader, writer),
         Action::Replay => replay_schedule(rt.alloc(), reader, writer),
         Action::Explain => explain_fault(rt.alloc(), reader, writer),
         Action::Draw(window) => draw_schedule(rt.alloc(), reader, writer, window),
@@ -83,6 +89,54 @@ fn run<R: Threads + Wait + Sync, S: Source, W: Sink>(
     match serve_as(rt, alloc, scenario, options, &OpenGate, writer) {
         Ok(()) => Ok(()),
         Err(why) => Err(Fault::Run(why)),
+    }
+}
+
+// Reads a scenario from a file, and serves the calls that the reader's lines ask for.
+fn serve<R: Wait + Files, S: Source, W: Sink>(
+    rt: &R,
+    alloc: Global,
+    options: ServeOptions,
+    reader: &mut S,
+    writer: &mut W,
+) -> Result<(), Fault>
+    requires reader { S.failed reader.old ≡ false }
+    requires writer { W.failed writer.old ≡ false }
+    ensures ok { OnOk result (ServesFile options (S.remaining reader.old) (S.remaining reader.new)
+        (Appends (W.contents writer.old) (W.contents writer.new))) }
+    ensures file { (why : ScenarioFault) → result ≡ Err (fault.File why) → (reader.new ≡ reader.old) × (writer.new ≡ writer.old) }
+    ensures unexplained { (why : ScenarioFault) → ¬ (result ≡ Err (fault.Explained why)) }
+{
+    let ServeOptions { file, cap, bits } = options;
+    let scenario = match scenario_in(rt, alloc, file.as_str()) {
+        Ok(scenario) => limited(scenario, cap, bits),
+        Err(why) => return Err(Fault::File(why)),
+    };
+    match serve_stream(rt, alloc, scenario, reader, writer) {
+        Ok(()) => Ok(()),
+        Err(why) => Err(Fault::Serve(why)),
+    }
+}
+
+// The scenario in a file. `Read` is also returned if the file cannot be opened.
+fn scenario_in<R: Files>(rt: &R, alloc: Global, path: &str) -> Result<Scenario, ScenarioFault> {
+    match fs::open(rt, path) {
+        Ok(file) => read_scenario(alloc, &mut Plain::new(file)),
+        Err(_) => Err(ScenarioFault::Read),
+    }
+}
+
+// The scenario with the cap and the number of bits that are given.
+fn limited(scenario: Scenario, cap: Option<Cap>, bits: Option<Bits>) -> Scenario
+    ensures { result ≡ with_limits cap bits scenario }
+{
+    let scenario = match cap {
+        Some(cap) => scenario.with_cap(cap.get()),
+        None => scenario,
+    };
+    match bits {
+        Some(bits) => scenario.with_bits(bits.get()),
+        None => scenario,
     }
 }
 

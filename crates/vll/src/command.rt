@@ -10,7 +10,7 @@ use std::alloc::{AllocError, Global};
 use vll_core::MOST_WAITING;
 use vll_draw::{EventRange, MOST_COLUMNS};
 use vll_sca::MOST_BITS;
-use vll_server::{MOST_EVENTS, RunOptions, UpTo};
+use vll_server::{Bits, Cap, MOST_EVENTS, RunOptions, UpTo};
 use vll_workers::MOST_WORKERS;
 
 /// What the command line asks for.
@@ -20,6 +20,8 @@ pub(crate) enum Action {
     Tell(Error),
     /// To run the scenario on standard input with these options.
     Run(RunOptions),
+    /// To serve the calls on standard input, over the scenario of a file.
+    Serve(ServeOptions),
     /// To replay the schedule of the scenario on standard input.
     Replay,
     /// To explain why the scenario on standard input is refused, or to report what it has.
@@ -28,12 +30,24 @@ pub(crate) enum Action {
     Draw(EventRange),
 }
 
+/// How calls are served.
+#[derive(Debug, Drop)]
+pub(crate) struct ServeOptions {
+    /// The path of the scenario's file.
+    pub(crate) file: String,
+    /// How many calls may wait at a time. None: the scenario's cap.
+    pub(crate) cap: Option<Cap>,
+    /// How many places the contention analysis has for the records. None: the scenario's number.
+    pub(crate) bits: Option<Bits>,
+}
+
 // CHANGELOG.md lists what is new in it.
 const VERSION: &str = "0.9.0";
 
 const EXAMPLES: &str = "Examples:
   vll run < scenario.json
   vll run --workers 8 --cap 64 < scenario.json
+  vll serve scenario.json < calls
   vll replay < scenario.json
   vll explain < scenario.json
   vll draw < scenario.json > page.html
@@ -50,6 +64,18 @@ which holds later calls back. The price is that a call that finds the cap reache
 is tried again later. No option changes which outcomes are lawful.
 
 docs/SCENARIO.md describes the format of a scenario, and what is printed.";
+
+const SERVE_EXAMPLE: &str = "Example:
+  vll serve scenario.json < calls
+
+Each line of standard input asks for a call, and each line of standard output answers one:
+  {\"id\":7,\"client\":0,\"proc\":\"transfer\",\"args\":[0,1,30]}
+  {\"id\":7,\"call\":0,\"committed\":[70]}
+
+docs/SERVICE.md describes the lines, and docs/SCENARIO.md the scenario.";
+
+const FILE: &str =
+    "The scenario: its records, its procedures, and as many clients as it has scripts, all of which are empty";
 
 const REPLAY_EXAMPLE: &str = "Example:
   vll replay < scenario.json
@@ -80,13 +106,14 @@ const CAP: &str = "Calls that may wait at a time, 1 to 65536 [default: the scena
 
 const BITS: &str = "Places of the contention analysis, 1 to 1048576 [default: the scenario's bits]";
 
-/// Reads the command line, whose first word is the program's name. The other words have to be `run` with its options,
-/// `replay`, `explain`, or `draw` with its options, or ask for help or the version; any others are
+/// Reads the command line, whose first word is the program's name. The other words have to be `run` or `serve` with
+/// its options, `replay`, `explain`, or `draw` with its options, or ask for help or the version; any others are
 /// `Fault::CommandLine`, and so is running out of memory.
 pub(crate) fn action_of(alloc: Global, words: &[String]) -> Result<Action, Fault> {
     match matches_of(alloc, words) {
         Ok(matches) => match matches.subcommand() {
             Some(("run", options)) => Ok(Action::Run(options_of(options)?)),
+            Some(("serve", options)) => Ok(Action::Serve(serve_options_of(alloc, options)?)),
             Some(("replay", _)) => Ok(Action::Replay),
             Some(("explain", _)) => Ok(Action::Explain),
             Some(("draw", options)) => Ok(Action::Draw(range_of(options)?)),
@@ -106,6 +133,7 @@ fn matches_of<'a>(alloc: Global, words: &'a [String]) -> Result<ArgMatches<'a>, 
         .after_help(EXAMPLES)
         .subcommand_required(true)
         .subcommand(run_command(alloc)?)?
+        .subcommand(serve_command(alloc)?)?
         .subcommand(replay_command(alloc))?
         .subcommand(explain_command(alloc))?
         .subcommand(draw_command(alloc)?)?
@@ -117,6 +145,15 @@ fn run_command<'a>(alloc: Global) -> Result<Command<'a>, AllocError> {
         .about("Runs the scenario on standard input and prints its outcome")
         .after_help(RUN_EXAMPLES)
         .arg(number::<MOST_WORKERS>(alloc, "workers", WORKERS).default_value("4"))?
+        .arg(number::<MOST_WAITING>(alloc, "cap", CAP))?
+        .arg(number::<MOST_BITS>(alloc, "bits", BITS))
+}
+
+fn serve_command<'a>(alloc: Global) -> Result<Command<'a>, AllocError> {
+    Command::new(alloc, "serve")
+        .about("Serves calls: one on each line of standard input, until it ends")
+        .after_help(SERVE_EXAMPLE)
+        .arg(Arg::new(alloc, "FILE").required(true).help(FILE))?
         .arg(number::<MOST_WAITING>(alloc, "cap", CAP))?
         .arg(number::<MOST_BITS>(alloc, "bits", BITS))
 }
@@ -174,6 +211,18 @@ fn options_of(matches: &ArgMatches<'_>) -> Result<RunOptions, Fault>
     let cap = number_of(matches, "cap")?;
     let bits = number_of(matches, "bits")?;
     Ok(RunOptions { workers, cap, bits })
+}
+
+// The values of the options of `serve`.
+fn serve_options_of(alloc: Global, matches: &ArgMatches<'_>) -> Result<ServeOptions, Fault>
+    ensures cap { IfOk result (λ o. Gives (one_text (found_of matches.now) (codes "cap")) o.cap) }
+    ensures bits { IfOk result (λ o. Gives (one_text (found_of matches.now) (codes "bits")) o.bits) }
+{
+    let path = matches.get_str("FILE").ok_or(Fault::CommandLine)?;
+    let file = String::from_str(alloc, path).map_err(|_| Fault::CommandLine)?;
+    let cap = number_of(matches, "cap")?;
+    let bits = number_of(matches, "bits")?;
+    Ok(ServeOptions { file, cap, bits })
 }
 
 // The values of the options of `draw`.

@@ -4,6 +4,7 @@ ghost use Rattle.std.specs.Prelude.{◌<◌};
 use thiserror::Error;
 use vll_draw::DrawFault;
 use vll_server::{ReplayFault, ScenarioFault, ServeFault, WriteFault};
+use vll_stream::StreamFault;
 
 /// Why the program ended without an outcome. Its text is the line that is printed.
 #[derive(Clone, Copy, Debug, PartialEq, Eq, Error)]
@@ -15,6 +16,11 @@ pub(crate) enum Fault {
     Scenario(ScenarioFault),
     #[error("vll: run: {0}")]
     Run(ServeFault),
+    /// The file of a service's scenario could not be read, or the scenario is refused.
+    #[error("vll: scenario: {0}")]
+    File(ScenarioFault),
+    #[error("vll: serve: {0}")]
+    Serve(StreamFault),
     #[error("vll: {0}")]
     Replay(ReplayFault),
     #[error("vll: explain: {0}")]
@@ -34,10 +40,16 @@ impl Fault {
         match self {
             Fault::CommandLine
             | Fault::Scenario(_)
+            | Fault::File(_)
+            | Fault::Serve(StreamFault::Calls)
             | Fault::Replay(ReplayFault::Scenario(_))
             | Fault::Draw(DrawFault::Scenario(_))
             | Fault::Explained(_) => 2,
-            Fault::Run(_) | Fault::Replay(_) | Fault::Draw(_) | Fault::Explain(_) => 1,
+            Fault::Run(_)
+            | Fault::Serve(_)
+            | Fault::Replay(_)
+            | Fault::Draw(_)
+            | Fault::Explain(_) => 1,
         }
     }
 }

@@ -1,5 +1,5 @@
 //! The program `vll`: reads a scenario from standard input, runs it, replays its schedule, draws the replay or explains
-//! its fault, and writes the result.
+//! its fault, and writes the result; or serves calls over the scenario of a file.
 #![tactic(auto)]
 
 ghost use Rattle.std.specs.Prelude.{◌≡◌, ◌↔◌, false, IsOk, OnOk};
@@ -15,7 +15,7 @@ use crate::acting::act;
 use crate::command::{Action, action_of};
 use crate::fault::Fault;
 use std::process::ExitCode;
-use std::rt::Env;
+use std::rt::{Env, Files};
 use std::sync::Wait;
 use std::thread::Threads;
 use std::{env, io};
@@ -42,7 +42,7 @@ fn words_of(rt: &(impl Env + AllocGlobal)) -> io::Result<Vec<String>> {
 
 // Performs the action that was asked for, and prints the line of a fault. The exit status is 0 only if the action was
 // performed.
-fn work<R: Print + Eprint + AllocGlobal + Threads + Wait + Sync, S: Source, W: Sink>(
+fn work<R: Print + Eprint + AllocGlobal + Threads + Wait + Files + Sync, S: Source, W: Sink>(
     rt: &R,
     asked: Result<Action, Fault>,
     reader: &mut S,
@@ -54,17 +54,28 @@ fn work<R: Print + Eprint + AllocGlobal + Threads + Wait + Sync, S: Source, W: S
         (Appends (W.contents writer.old) (W.contents writer.new)) }
 {
     let done = perform(rt, asked, reader, writer);
-    if let Err(fault) = &done
-        && !matches!(fault, Fault::Explained(_))
-    {
-        // If standard output itself has failed, only the status reports the fault.
-        let _ = println!(rt; "{fault}");
+    if let Err(fault) = &done {
+        tell(rt, fault);
     }
     exit_code(&done)
 }
 
+// Prints the line of a fault, unless it was printed. A service's goes to standard error, since standard output has its
+// answers. If that fails, only the status reports the fault.
+fn tell(rt: &(impl Print + Eprint), fault: &Fault) {
+    match fault {
+        Fault::Explained(_) => {}
+        Fault::File(_) | Fault::Serve(_) => {
+            let _ = eprintln!(rt; "{fault}");
+        }
+        _ => {
+            let _ = println!(rt; "{fault}");
+        }
+    }
+}
+
 // Performs the action, if the command line asks for one.
-fn perform<R: Print + Eprint + AllocGlobal + Threads + Wait + Sync, S: Source, W: Sink>(
+fn perform<R: Print + Eprint + AllocGlobal + Threads + Wait + Files + Sync, S: Source, W: Sink>(
     rt: &R,
     asked: Result<Action, Fault>,
     reader: &mut S,

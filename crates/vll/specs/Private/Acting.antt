@@ -1,5 +1,5 @@
 -- The meaning of the actions of the command line.
-use Rattle.std.specs.Prelude.{◌≡◌, ℕ, List, [], Option, None, Result, Ok}
+use Rattle.std.specs.Prelude.{◌≡◌, ℕ, List, [], Option, None, Result, Ok, unwrap_or}
 use Rattle.vll_draw.specs.Page.{Draws}
 use Rattle.vll_explain.specs.Explained.{Explains}
 use Rattle.vll_scenario.specs.Headline.Setup.{Setup}
@@ -10,6 +10,8 @@ use Rattle.vll_server.specs.Headline.Serve.{Serves}
 use Rattle.vll_replay.specs.Headline.Text.{Text}
 use Rattle.vll_server.specs.declared.options.RunOptions.{RunOptions}
 use Rattle.vll.specs.declared.command.Action.{Action}
+use Rattle.vll.specs.declared.command.ServeOptions.{ServeOptions}
+use Rattle.vll_stream.specs.Served.{ServesLines}
 use Rattle.vll.specs.declared.fault.Fault.{Fault}
 use Rattle.vll.specs.declared.command.Action.TheVariants as action
 
@@ -17,10 +19,19 @@ use Rattle.vll.specs.declared.command.Action.TheVariants as action
 abbrev pub Runs : RunOptions → Option (List ℕ) → Option (List ℕ) → (Text → Type 0) → Type 0
 Runs options old new Holds = (setup : Setup) × IsRead old new (Ok setup) × Serves (with_options options setup) Holds
 
--- a run serves what was read, a replay replays it, an explanation reports what it has, a drawing lists its replay, and
+-- a scenario with the cap and the number of bits that are given, and the same in all else
+abbrev pub with_limits : Option ℕ → Option ℕ → Setup → Setup
+with_limits cap bits s = record s { config = record s.config { cap = unwrap_or cap s.config.cap; bits = unwrap_or bits s.config.bits } }
+
+-- the calls that were asked for were served over some scenario with these options, and this holds of the text
+abbrev pub ServesFile : ServeOptions → Option (List ℕ) → Option (List ℕ) → (Text → Type 0) → Type 0
+ServesFile options old new Holds = (setup : Setup) × ServesLines (with_limits options.cap options.bits setup) old new Holds
+
+-- a run serves what was read, a service answers it line by line, a replay replays it, an explanation reports what it has, a drawing lists its replay, and
 -- this holds of the text. `Tell` reads and writes nothing here
 abbrev pub Does : Action → Option (List ℕ) → Option (List ℕ) → (Text → Type 0) → Type 0
 Does (action.Run options) old new Holds = Runs options old new Holds
+Does (action.Serve options) old new Holds = ServesFile options old new Holds
 Does action.Replay old new Holds = Replays old new Holds
 Does action.Explain old new Holds = Explains old new None Holds
 Does (action.Draw window) old new Holds = Draws old new Holds

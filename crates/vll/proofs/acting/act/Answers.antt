@@ -23,6 +23,9 @@ returns-in-Tell-clause-ok g c =
 pub returns-in-Run-clause-explained : goal.returns-in-Run-clause-explained
 returns-in-Run-clause-explained g c why is = absurd (c.run.ensures.unexplained why is)
 
+pub returns-in-Serve-clause-explained : goal.returns-in-Serve-clause-explained
+returns-in-Serve-clause-explained g c why is = absurd (c.serve.ensures.unexplained why is)
+
 pub returns-in-Replay-clause-explained : goal.returns-in-Replay-clause-explained
 returns-in-Replay-clause-explained g c why is = absurd (c.replay_schedule.ensures.unexplained why is)
 
