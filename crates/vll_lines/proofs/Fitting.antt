@@ -6,7 +6,6 @@ use Rattle.vll_proc.specs.declared.call.Call.{Call}
 use Rattle.vll_check.specs.Calls.{Fits, call_made}
 use Rattle.vll_check.specs.Headline.Catalog.{Catalog}
 use Rattle.vll_check.specs.declared.fault.CallFault.{CallFault}
-use Rattle.vll_check.specs.declared.fault.CallFault.TheVariants as call
 use Rattle.vll_scenario.specs.Shape.{◌>>=◌}
 use Rattle.vll_lines.specs.Asked.{AreAsked, IsAsked, IsLine, args_of, asked_of, asked_with, call_asked, client_of, has_no_other, id_of, made_by, name_of}
 use Rattle.vll_lines.specs.Theirs.{calls_of, with_call}
@@ -30,14 +29,12 @@ module _ (library : Catalog) where
   fits_then (Ok a) go each = each a
   fits_then (Err why) go each = tt
 
-  fits_made : (client : ℕ) (name args : List ℕ) → FitsIn (made_by client name (call_made library name args))
+  fits_made : (client : ℕ) (name args : List ℕ) → FitsIn (made_by library client name args (call_made library name args))
   fits_made client name args = by_result (call_made library name args) refl
     where
-      by_result : (r : Result Call CallFault) → call_made library name args ≡ r → FitsIn (made_by client name r)
+      by_result : (r : Result Call CallFault) → call_made library name args ≡ r → FitsIn (made_by library client name args r)
       by_result (Ok c) is = (name, args, is)
-      by_result (Err call.UnknownProc) is = tt
-      by_result (Err call.ArgCount) is = tt
-      by_result (Err call.RecordRange) is = tt
+      by_result (Err why) is = tt
 
   fits_asked : (clients : ℕ) (d : Data) → FitsIn (call_asked library clients d)
   fits_asked clients d =

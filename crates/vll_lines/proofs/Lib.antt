@@ -3,3 +3,4 @@ pub mod Cuts
 pub mod Fitting
 pub mod Theirs
 pub mod Written
+pub mod Named

@@ -25,8 +25,8 @@ fault_words fault.Proc = codes "proc has to be the name of a procedure"
 fault_words fault.Args = codes "args has to be a list of whole numbers"
 fault_words (fault.NoClient client) = codes "there is no client " ++ decimal client
 fault_words (fault.NoProc name) = codes "no procedure has the name " ++ name
-fault_words fault.ArgCount = codes "the procedure takes another number of arguments"
-fault_words fault.NoRecord = codes "an argument that names a record is not below the number of records"
+fault_words (fault.ArgCount count) = codes "the number of arguments has to be " ++ decimal count
+fault_words (fault.NoRecord index) = codes "argument " ++ decimal index ++ codes " has to be the number of a record"
 
 -- tokens as a line: their text without spaces, and a line feed
 abbrev pub line_of : List Token → List ℕ

@@ -1,9 +1,14 @@
 -- The call that a line asks for, or why it asks for none.
 use Rattle.std.specs.Prelude.{◌≡◌, ◌⊎◌, ◌<◌, ◌≤◌, ℕ, Bool, false, List, [], ◌∷◌, length, nat_le, nat_lt, Option, Some, None, Result, Ok, Err, if◌then◌else◌, codes}
+use Rattle.std.specs.Str.{bytes_eq}
 use Rattle.serde_json.specs.Data.{Data, null, boolean, number, string, array, object}
 use Rattle.serde_json.specs.Find.{as_str, get}
 use Rattle.vll_proc.specs.declared.call.Call.{Call}
-use Rattle.vll_check.specs.Calls.{call_made}
+use Rattle.vll_proc.specs.declared.syntax.KeyAt.{KeyAt}
+use Rattle.vll_proc.specs.declared.syntax.KeyAt.TheVariants as at
+use Rattle.vll_proc.specs.declared.syntax.KeyDecl.{KeyDecl}
+use Rattle.vll_proc.specs.declared.syntax.Proc.{Proc}
+use Rattle.vll_check.specs.Calls.{call_made, place_is_there}
 use Rattle.vll_check.specs.Headline.Catalog.{Catalog}
 use Rattle.vll_check.specs.declared.fault.CallFault.{CallFault}
 use Rattle.vll_check.specs.declared.fault.CallFault.TheVariants as call
@@ -73,12 +78,42 @@ name_of d = or_fault fault.Proc (as_str (member_at (codes "proc") d))
 abbrev pub args_of : Data → Result (List ℕ) LineFault
 args_of d = or_fault fault.Args (whole (list_at number_at (member_at (codes "args") d)))
 
+-- the first procedure with a name
+abbrev pub proc_named : List ℕ → List Proc → Option Proc
+proc_named name [] = None
+proc_named name (p ∷ ps) = if bytes_eq p.name name then Some p else proc_named name ps
+
+-- the number of its arguments
+abbrev pub declared_args : Option Proc → ℕ
+declared_args None = 0
+declared_args (Some p) = p.args
+
+-- its keys
+abbrev pub declared_keys : Option Proc → List KeyDecl
+declared_keys None = []
+declared_keys (Some p) = p.keys
+
+-- the argument that names a key's record, if one does
+abbrev pub arg_of : KeyAt → ℕ
+arg_of (at.Fixed r) = 0
+arg_of (at.Arg i) = i
+arg_of (at.Through i) = 0
+
+-- the argument by which the first of these keys names no record
+abbrev pub no_record : ℕ → List ℕ → List KeyDecl → ℕ
+no_record records args [] = 0
+no_record records args (k ∷ ks) = if place_is_there records args k then no_record records args ks else arg_of k.at
+
+-- what is told if the library does not make a call with a name and arguments
+abbrev pub refusal : Catalog → List ℕ → List ℕ → CallFault → LineFault
+refusal library name args call.UnknownProc = fault.NoProc name
+refusal library name args call.ArgCount = fault.ArgCount (declared_args (proc_named name library.procs))
+refusal library name args call.RecordRange = fault.NoRecord (no_record library.records args (declared_keys (proc_named name library.procs)))
+
 -- a client's call, or why the library does not make it
-abbrev pub made_by : ℕ → List ℕ → Result Call CallFault → Result ClientCall LineFault
-made_by client name (Ok made) = Ok (record { client = client; call = made })
-made_by client name (Err call.UnknownProc) = Err (fault.NoProc name)
-made_by client name (Err call.ArgCount) = Err fault.ArgCount
-made_by client name (Err call.RecordRange) = Err fault.NoRecord
+abbrev pub made_by : Catalog → ℕ → List ℕ → List ℕ → Result Call CallFault → Result ClientCall LineFault
+made_by library client name args (Ok made) = Ok (record { client = client; call = made })
+made_by library client name args (Err why) = Err (refusal library name args why)
 
 -- the call that a JSON tree asks for, of a client below a number, or the first fault
 abbrev pub call_asked : Catalog → ℕ → Data → Result ClientCall LineFault
@@ -88,7 +123,7 @@ call_asked library clients d =
       client ← client_of d
       name ← name_of d
       args ← args_of d
-      if nat_lt client clients then made_by client name (call_made library name args) else Err (fault.NoClient client))
+      if nat_lt client clients then made_by library client name args (call_made library name args) else Err (fault.NoClient client))
     else Err fault.Object
 
 -- a line with this id, or with a fault in its place, and what it asks for otherwise

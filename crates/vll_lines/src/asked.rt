@@ -38,10 +38,11 @@ pub enum LineFault {
     NoClient(u32),
     /// No procedure has this name.
     NoProc(Text),
-    /// Not the number of arguments that the procedure declares.
-    ArgCount,
-    /// An argument that names a key's record is not below the number of records.
-    NoRecord,
+    /// Not the number of arguments that the procedure declares, which is this one.
+    ArgCount(u8),
+    /// The argument at this index names a key's record, and is not below the number of records. Of several it is that
+    /// of the first key.
+    NoRecord(u8),
 }
 
 /// The words that are told of it.
@@ -66,12 +67,11 @@ impl fmt::Display for LineFault {
             LineFault::Args => f.write_str("args has to be a list of whole numbers"),
             LineFault::NoClient(client) => write!(f, "there is no client {client}"),
             LineFault::NoProc(name) => { write!(f, "no procedure has the name {}", name.as_str()) }
-            LineFault::ArgCount => {
-                f.write_str("the procedure takes another number of arguments")
-            }
-            LineFault::NoRecord => {
-                f.write_str("an argument that names a record is not below the number of records")
-            }
+            LineFault::ArgCount(count) => write!(f, "the number of arguments has to be {count}"),
+            LineFault::NoRecord(index) => write!(
+                f,
+                "argument {index} has to be the number of a record"
+            ),
         }
     }
 }

@@ -1,11 +1,11 @@
 //! Reading the call of a line.
-ghost use Rattle.std.specs.Prelude.{◌≡◌, IfOk};
+ghost use Rattle.std.specs.Prelude.{◌≡◌, IfOk, option_map};
 ghost use Rattle.std.specs.List.{list_any};
 ghost use Rattle.std.specs.Str.{bytes_eq};
 ghost use Rattle.serde_json.specs.View.{items_view, members_view, view};
 ghost use Rattle.vll_scenario.specs.Syntax.{has_only};
 ghost use Rattle.vll_scenario.specs.Tree.{each, number_at, whole};
-ghost use Rattle.vll_lines.specs.Asked.{IsAsked, args_of, asked_of, call_asked, client_of, has_no_other, id_in, id_of, may_names, name_of, or_fault};
+ghost use Rattle.vll_lines.specs.Asked.{IsAsked, args_of, asked_of, call_asked, client_of, has_no_other, id_in, id_of, may_names, name_of, no_record, or_fault, declared_args, declared_keys, proc_named, refusal};
 ghost use Rattle.vll_lines.specs.Private.Reading.{Gives, GivesArgs, Names, Settles};
 ghost use Rattle.vll_lines.specs.declared.asked.LineFault.TheVariants as fault;
 
@@ -14,7 +14,7 @@ use crate::limits::MOST_ID;
 use serde_json::{Map, Value};
 use std::alloc::{AllocError, AllocFailed, Global};
 use vll_check::{CallFault, Library};
-use vll_proc::Text;
+use vll_proc::{KeyAt, KeyDecl, Proc, Text};
 
 // Why something of a line was not read.
 #[derive(Drop)]
@@ -152,13 +152,79 @@ fn call_asked(
     }
     match library.call(name, args.as_slice()) {
         Ok(call) => Ok(ClientCall { client, call }),
-        Err(CallFault::UnknownProc) => {
-            let name = Text::new(String::from_str(alloc, name)?);
-            Err(Misread::Faulty(LineFault::NoProc(name)))
+        Err(why) => {
+            let why = refusal(alloc, library, name, args.as_slice(), why)?;
+            Err(Misread::Faulty(why))
         }
-        Err(CallFault::ArgCount) => Err(Misread::Faulty(LineFault::ArgCount)),
-        Err(CallFault::RecordRange) => Err(Misread::Faulty(LineFault::NoRecord)),
     }
+}
+
+// What is told if the library does not make a call with this name and these arguments.
+fn refusal(
+    alloc: Global,
+    library: &Library,
+    name: &str,
+    args: &[u64],
+    why: CallFault,
+) -> Result<LineFault, AllocError>
+    ensures { IfOk result (λ told. told ≡ refusal library.now name.now args.now why) }
+{
+    match why {
+        CallFault::UnknownProc => {
+            let name = Text::new(String::from_str(alloc, name)?);
+            Ok(LineFault::NoProc(name))
+        }
+        CallFault::ArgCount => Ok(LineFault::ArgCount(args_of_proc(library, name))),
+        CallFault::RecordRange => Ok(LineFault::NoRecord(faulty_arg(library, name, args))),
+    }
+}
+
+// The number of arguments of the procedure with a name.
+fn args_of_proc(library: &Library, name: &str) -> u8
+    ensures { result ≡ declared_args (proc_named name.now library.now.procs) }
+{
+    match proc_named(library, name) {
+        Some(procedure) => procedure.args,
+        None => 0,
+    }
+}
+
+// Which argument names a record that is not there.
+fn faulty_arg(library: &Library, name: &str, args: &[u64]) -> u8
+    ensures { result ≡ no_record library.now.records args.now (declared_keys (proc_named name.now library.now.procs)) }
+{
+    match proc_named(library, name) {
+        Some(procedure) => no_record(library.records(), args, procedure.keys.as_slice()),
+        None => 0,
+    }
+}
+
+// The procedure with a name.
+fn proc_named<'l>(library: &'l Library, name: &str) -> Option<&'l Proc>
+    ensures { option_map (λ p. p.now) result ≡ proc_named name.now library.now.procs }
+{
+    let mut number = 0;
+    'procs: while let Some(procedure) = library.proc(number) {
+        if procedure.name.as_str() == name {
+            return Some(procedure);
+        }
+        number += 1;
+    }
+    None
+}
+
+// The argument by which the first of these keys names no record.
+fn no_record(records: u32, args: &[u64], keys: &[KeyDecl]) -> u8
+    ensures { result ≡ no_record records args.now keys.now }
+{
+    for key in keys {
+        if let KeyAt::Arg(index) = key.at
+            && args.get(index as usize).copied().unwrap_or(0) >= u64::from(records)
+        {
+            return index;
+        }
+    }
+    0
 }
 
 // Whether it is an object with no other members than a line may have.

@@ -88,11 +88,19 @@ fn line_has_its_fault(rt: HostRuntime) -> Result<(), Fail> {
         ),
         (
             r#"{"id":5,"client":1,"proc":"bump","args":[]}"#,
-            r#"{"id":5,"fault":"the procedure takes another number of arguments"}"#,
+            r#"{"id":5,"fault":"the number of arguments has to be 1"}"#,
+        ),
+        (
+            r#"{"id":5,"client":1,"proc":"transfer","args":[0,7]}"#,
+            r#"{"id":5,"fault":"the number of arguments has to be 3"}"#,
+        ),
+        (
+            r#"{"id":5,"client":1,"proc":"transfer","args":[0,9,30]}"#,
+            r#"{"id":5,"fault":"argument 1 has to be the number of a record"}"#,
         ),
         (
             r#"{"id":5,"client":1,"proc":"bump","args":[8]}"#,
-            r#"{"id":5,"fault":"an argument that names a record is not below the number of records"}"#,
+            r#"{"id":5,"fault":"argument 0 has to be the number of a record"}"#,
         ),
     ] {
         let found = answer(rt.alloc(), &library, line)?;
