@@ -88,8 +88,8 @@ def unlike(what, ran, status, printed, said=b''):
 
 
 def random_streams(program):
-    """Each of 100 streams is answered as the bank does, in pieces too."""
-    for seed in range(100):
+    """Each of 300 streams is answered as the bank does."""
+    for seed in range(300):
         rng, bank = random.Random(seed), Bank()
         lines, answers = zip(*[line_and_answer(rng, bank) for _ in range(rng.choice([1, 30, 300]))])
         text = '\n'.join(lines).encode() + rng.choice([b'', b'\n'] if lines[-1] else [b'\n'])
