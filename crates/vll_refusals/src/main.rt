@@ -18,7 +18,7 @@ use std::thread::Threads;
 use std::{env, io};
 
 const USAGE: &str = "usage: vll_refusals CALL
-the calls: bits queue core words opening reopen run run_limited read_scenario write_outcome serve replay";
+the calls: bits queue core words opening reopen run run_limited read_scenario write_outcome serve replay serve_stream";
 
 fn main(rt: HostRuntime) -> ExitCode {
     match answer_of(&rt) {
@@ -62,6 +62,7 @@ fn of_call<R: Print + AllocGlobal + Threads + Wait + Sync>(
         "write_outcome" => texts::write(rt)?,
         "serve" => texts::served(rt)?,
         "replay" => texts::replayed(rt)?,
+        "serve_stream" => texts::streamed(rt)?,
         _ => return usage(rt),
     };
     Ok(Some(answer))

@@ -9,6 +9,7 @@ use vll_server::{
     Closed, Plain, ReplayFault, ScenarioFault, ServeFault, Sink, Source, WriteFault, read_scenario,
     replay, serve, write_outcome,
 };
+use vll_stream::{StreamFault, serve_stream};
 use vll_workers::{OpenGate, RunFault};
 
 // A transfer, and then a read of both records. A procedure that is not called has nested lists.
@@ -31,6 +32,22 @@ const REPLAYED: &str =
     "0 opened\n1 claimed 0 granted\n2 refused turn open\nrecord 0 value 100 pair 4294967296\nrecord 1 value 50 pair 0\n";
 
 const WRITTEN: &str = "record 0 value 100 pair 0\nrecord 1 value 50 pair 0\n";
+
+// The same bank for a service, with one client.
+const BANK: &str = r#"{"version":1,"records":[100,50],
+ "procs":[
+  {"name":"transfer","args":3,"keys":[["write","arg",0],["write","arg",1]],
+   "body":[["set",0,["sub",["key",0],["arg",2]]],
+           ["set",1,["add",["key",1],["arg",2]]],["reply",["key",0]]]}],
+ "clients":[[]]}"#;
+
+const ASKED: &str = r#"{"id":"a","client":0,"proc":"transfer","args":[0,1,30]}
+{"client":0,"proc":"sum","args":[]}"#;
+
+const STREAMED: &str = r#"{"id":"a","call":0,"committed":[70]}
+{"fault":"no procedure has the name sum"}
+{"calls":1,"records":[70,80]}
+"#;
 
 pub(crate) fn read(rt: &(impl Print + AllocGlobal)) -> Result<Answer, Unready> {
     let mut reader = Plain::new(TRANSFER.as_bytes());
@@ -109,6 +126,36 @@ pub(crate) fn replayed<R: Print + AllocGlobal>(rt: &R) -> Result<Answer, Unready
     };
     let left = free.len();
     Ok(of_text(answer, taken.as_slice(), left, REPLAYED))
+}
+
+pub(crate) fn streamed<R: Print + AllocGlobal + Wait>(rt: &R) -> Result<Answer, Unready> {
+    let alloc = rt.alloc();
+    let scenario = read_scenario(alloc, &mut Plain::new(BANK.as_bytes()))?;
+    let mut taken = vec![in alloc; 0; STREAMED.len()]?;
+    let mut free = taken.as_mut_slice();
+    let mut reader = Plain::new(ASKED.as_bytes());
+    let mut writer = Plain::new(&mut free);
+    begin(rt)?;
+    let served = serve_stream(rt, alloc, scenario, &mut reader, &mut writer);
+    end(rt)?;
+    let answer = match served {
+        Ok(()) => Answer::Ample,
+        Err(StreamFault::NoMemory) => Answer::NoMemory,
+        Err(_) => Answer::Wrong,
+    };
+    let left = free.len();
+    Ok(of_beginning(answer, taken.as_slice(), left, STREAMED))
+}
+
+// Returns this answer if the whole text was written with ample memory, or a beginning of it without.
+fn of_beginning(answer: Answer, taken: &[u8], left: usize, text: &str) -> Answer {
+    let written = taken.len().saturating_sub(left);
+    let begins = taken
+        .iter()
+        .zip(text.as_bytes())
+        .take(written)
+        .all(|(byte, wanted)| byte == wanted);
+    answer.only_if(begins && (left == 0 || answer != Answer::Ample))
 }
 
 // Returns this answer if the whole text was written with ample memory, or nothing without.
