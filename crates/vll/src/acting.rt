@@ -15,7 +15,9 @@ ghost use Rattle.vll_server.specs.declared.fault.ServeFault.TheVariants as serve
 ghost use Rattle.vll_workers.specs.declared.fault.RunFault.TheVariants as run_fault;
 ghost use Rattle.vll_explain.specs.Explained.{Explains};
 ghost use Rattle.vll_scenario.specs.declared.writing.WriteFault.TheVariants as write_fault;
-ghost use Rattle.vll.specs.Private.Acting.{Does, Runs, ServesFile, with_limits};
+ghost use Rattle.vll_stream.specs.declared.fault.StreamFault.{StreamFault};
+ghost use Rattle.vll_stream.specs.declared.fault.StreamFault.TheVariants as stream_fault;
+ghost use Rattle.vll.specs.Private.Acting.{Does, Runs, ServesFile, StopsFile, with_limits};
 ghost use Rattle.vll.specs.declared.fault.Fault.TheVariants as fault;
 
 use crate::command::{Action, ServeOptions};
@@ -93,7 +95,7 @@ fn run<R: Threads + Wait + Sync, S: Source, W: Sink>(
 }
 
 // Reads a scenario from a file, and serves the calls that the reader's lines ask for.
-fn serve<R: Wait + Files, S: Source, W: Sink>(
+fn serve<R: Threads + Wait + Files + Sync, S: Source, W: Sink>(
     rt: &R,
     alloc: Global,
     options: ServeOptions,
@@ -104,15 +106,24 @@ fn serve<R: Wait + Files, S: Source, W: Sink>(
     requires writer { W.failed writer.old ≡ false }
     ensures ok { OnOk result (ServesFile options (S.remaining reader.old) (S.remaining reader.new)
         (Appends (W.contents writer.old) (W.contents writer.new))) }
+    ensures early { (why : StreamFault) → result ≡ Err (fault.Serve why) → StopsFile options why (S.remaining reader.old) (S.remaining reader.new)
+        (W.contents writer.old) (W.contents writer.new) }
+    ensures read { (result ≡ Err (fault.Serve stream_fault.Read)) ↔ (S.failed reader.new ≡ true) }
+    ensures write { (result ≡ Err (fault.Serve stream_fault.Write)) ↔ (W.failed writer.new ≡ true) }
     ensures file { (why : ScenarioFault) → result ≡ Err (fault.File why) → (reader.new ≡ reader.old) × (writer.new ≡ writer.old) }
     ensures unexplained { (why : ScenarioFault) → ¬ (result ≡ Err (fault.Explained why)) }
 {
-    let ServeOptions { file, cap, bits } = options;
+    let ServeOptions {
+        file,
+        workers,
+        cap,
+        bits,
+    } = options;
     let scenario = match scenario_in(rt, alloc, file.as_str()) {
         Ok(scenario) => limited(scenario, cap, bits),
         Err(why) => return Err(Fault::File(why)),
     };
-    match serve_stream(rt, alloc, scenario, reader, writer) {
+    match serve_stream(rt, alloc, scenario, workers.get(), reader, writer) {
         Ok(()) => Ok(()),
         Err(why) => Err(Fault::Serve(why)),
     }

@@ -10,7 +10,7 @@ use std::alloc::{AllocError, Global};
 use vll_core::MOST_WAITING;
 use vll_draw::{EventRange, MOST_COLUMNS};
 use vll_sca::MOST_BITS;
-use vll_server::{Bits, Cap, MOST_EVENTS, RunOptions, UpTo};
+use vll_server::{Bits, Cap, MOST_EVENTS, RunOptions, UpTo, Workers};
 use vll_workers::MOST_WORKERS;
 
 /// What the command line asks for.
@@ -35,6 +35,8 @@ pub(crate) enum Action {
 pub(crate) struct ServeOptions {
     /// The path of the scenario's file.
     pub(crate) file: String,
+    /// How many worker threads make the calls of a large round.
+    pub(crate) workers: Workers,
     /// How many calls may wait at a time. None: the scenario's cap.
     pub(crate) cap: Option<Cap>,
     /// How many places the contention analysis has for the records. None: the scenario's number.
@@ -65,12 +67,16 @@ is tried again later. No option changes which outcomes are lawful.
 
 docs/SCENARIO.md describes the format of a scenario, and what is printed.";
 
-const SERVE_EXAMPLE: &str = "Example:
+const SERVE_EXAMPLES: &str = "Examples:
   vll serve scenario.json < calls
+  vll serve --workers 4 scenario.json < calls
 
 Each line of standard input asks for a call, and each line of standard output answers one:
   {\"id\":7,\"client\":0,\"proc\":\"transfer\",\"args\":[0,1,30]}
   {\"id\":7,\"call\":0,\"committed\":[70]}
+
+If many lines come at a time, several --workers may make the calls of different clients in another order than that of
+the lines, which is the order of the answers all the same. Those of one client are made in the order of its lines.
 
 docs/SERVICE.md describes the lines, and docs/SCENARIO.md the scenario.";
 
@@ -152,8 +158,9 @@ fn run_command<'a>(alloc: Global) -> Result<Command<'a>, AllocError> {
 fn serve_command<'a>(alloc: Global) -> Result<Command<'a>, AllocError> {
     Command::new(alloc, "serve")
         .about("Serves calls: one on each line of standard input, until it ends")
-        .after_help(SERVE_EXAMPLE)
+        .after_help(SERVE_EXAMPLES)
         .arg(Arg::new(alloc, "FILE").required(true).help(FILE))?
+        .arg(number::<MOST_WORKERS>(alloc, "workers", WORKERS).default_value("1"))?
         .arg(number::<MOST_WAITING>(alloc, "cap", CAP))?
         .arg(number::<MOST_BITS>(alloc, "bits", BITS))
 }
@@ -215,14 +222,21 @@ fn options_of(matches: &ArgMatches<'_>) -> Result<RunOptions, Fault>
 
 // The values of the options of `serve`.
 fn serve_options_of(alloc: Global, matches: &ArgMatches<'_>) -> Result<ServeOptions, Fault>
+    ensures workers { IfOk result (λ o. Gives (one_text (found_of matches.now) (codes "workers")) (Some o.workers)) }
     ensures cap { IfOk result (λ o. Gives (one_text (found_of matches.now) (codes "cap")) o.cap) }
     ensures bits { IfOk result (λ o. Gives (one_text (found_of matches.now) (codes "bits")) o.bits) }
 {
     let path = matches.get_str("FILE").ok_or(Fault::CommandLine)?;
     let file = String::from_str(alloc, path).map_err(|_| Fault::CommandLine)?;
+    let workers = number_of(matches, "workers")?.ok_or(Fault::CommandLine)?;
     let cap = number_of(matches, "cap")?;
     let bits = number_of(matches, "bits")?;
-    Ok(ServeOptions { file, cap, bits })
+    Ok(ServeOptions {
+        file,
+        workers,
+        cap,
+        bits,
+    })
 }
 
 // The values of the options of `draw`.

@@ -1,13 +1,14 @@
 -- Bytes are cut into lines, one after the other.
-use Rattle.std.proofs.Common.{◌≡◌, ◌⊎◌, inl, inr, ℕ, ◌<◌, ◌≤◌, Bool, true, false, List, [], ◌∷◌, ◌++◌, refl, sym, ap, ◌∙◌, subst, length, arith, rules, Option, Some, None, append_assoc, append-nil, length-append}
+use Rattle.std.proofs.Common.{◌≡◌, inl, inr, ℕ, ◌<◌, Bool, true, false, List, [], ◌∷◌, ◌++◌, refl, sym, ap, ◌∙◌, subst, length, arith, rules, Option, append_assoc, append-nil, length-append}
 use Rattle.std.specs.Io.KnownBytes.{Consumes, IsAtEnd}
 use Rattle.std.proofs.KnownBytes.{Consumes-nil, Consumes-trans}
 use Rattle.vll_check.specs.Headline.Catalog.{Catalog}
 use Rattle.vll_lines.specs.Asked.{AreAsked, IsLine}
-use Rattle.vll_lines.specs.Lines.{CutsInto, IsRound, has_feed, lines_in}
+use Rattle.vll_lines.specs.Lines.{CutsInto, IsBroken, IsRound, has_feed, lines_in}
 use Rattle.vll_lines.specs.Private.Cutting.{Cuts, StandsFor}
 use Rattle.vll_lines.specs.declared.asked.Asked.{Asked}
 use Rattle.vll_lines.specs.declared.round.Round.{Round}
+use Rattle.vll_lines.specs.declared.round.RoundFault.TheVariants as fault
 use Rattle.vll_lines.specs.declared.limits.TheConstants.{MOST_LINE}
 use Rattle.vll_lines.proofs.Lines.{lines_ended, lines_last, no_feed_after}
 
@@ -125,3 +126,11 @@ module _ (library : Catalog) (clients : ℕ) (old mid new : Option (List ℕ)) (
         (subst (λ (l : List ℕ). CutsInto false l cuts.lines next) (append_assoc tail begun.bytes piece) cuts.cut);
     asked = subst (AreAsked library clients cuts.lines) (sym cuts.appended) cuts.asked;
   }
+
+-- there was no memory for the lines of a piece
+pub broken_memory : (old mid new : Option (List ℕ)) (tail after piece : List ℕ) → IsBegun old mid tail after → Consumes mid new piece → IsBroken old new fault.NoMemory
+broken_memory old mid new tail after piece begun read = record {
+  bytes = begun.bytes ++ piece;
+  read = Consumes-trans old mid new begun.bytes piece begun.read read;
+  unended = λ is. absurd (let e : fault.NoMemory ≡ fault.Read = is in search rules);
+}

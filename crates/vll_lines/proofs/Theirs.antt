@@ -1,5 +1,5 @@
 -- A line of the input, and the line of the journal that is its call's.
-use Rattle.std.proofs.Common.{◌≡◌, ℕ, suc, ◌+◌, ◌<◌, List, [], ◌∷◌, ◌++◌, length, map, drop, drop-cons, get_or, refl, sym, ap, ◌∙◌, subst, arith, Option, Some, None, Result, Ok, Err, All, IsSome, append_assoc}
+use Rattle.std.proofs.Common.{◌≡◌, ℕ, suc, ◌+◌, ◌<◌, List, [], ◌∷◌, ◌++◌, length, map, drop, drop-cons, get_or, refl, sym, ap, ◌∙◌, subst, arith, Option, Some, None, Result, Ok, Err, IsSome, append_assoc}
 use Rattle.std.proofs.lemmas.List.Elements.{All-cons, All-head, All-nil, All-tail}
 use Rattle.std.proofs.lemmas.Option.{same_Some}
 use Rattle.vll_proc.specs.declared.call.Call.{Call}
@@ -10,8 +10,16 @@ use Rattle.vll_lines.specs.Private.Replied.{IsReplied, Replies}
 use Rattle.vll_lines.specs.Theirs.{AreTheirs, call_of_line, call_shown, calls_of, with_call}
 use Rattle.vll_lines.specs.declared.asked.Asked.{Asked}
 use Rattle.vll_lines.specs.declared.asked.ClientCall.{ClientCall}
-use Rattle.vll_lines.specs.declared.asked.Id.{Id}
 use Rattle.vll_lines.specs.declared.asked.LineFault.{LineFault}
+
+one_call : (call : Result ClientCall LineFault) (all cs ds : List ClientCall) → all ≡ cs ++ ds → with_call call all ≡ with_call call cs ++ ds
+one_call (Ok c) all cs ds same = ap (λ (l : List ClientCall). c ∷ l) same
+one_call (Err why) all cs ds same = same
+
+-- the calls of both lists
+pub calls_of_both : (xs ys : List Asked) → calls_of (xs ++ ys) ≡ calls_of xs ++ calls_of ys
+calls_of_both [] ys = refl
+calls_of_both (a ∷ xs) ys = one_call a.call (calls_of (xs ++ ys)) (calls_of xs) (calls_of ys) (calls_of_both xs ys)
 
 -- no lines
 pub theirs_none : AreTheirs [] []

@@ -1,5 +1,6 @@
 pub mod Asked
 pub mod Lines
 pub mod Theirs
+pub mod Placed
 pub mod Answers
 pub mod Private

@@ -5,6 +5,8 @@ use Rattle.std.specs.List.{list_any}
 use Rattle.vll_check.specs.Headline.Catalog.{Catalog}
 use Rattle.vll_lines.specs.Asked.{AreAsked}
 use Rattle.vll_lines.specs.declared.round.Round.{Round}
+use Rattle.vll_lines.specs.declared.round.RoundFault.{RoundFault}
+use Rattle.vll_lines.specs.declared.round.RoundFault.TheVariants as fault
 
 -- whether a line feed is among these bytes
 abbrev pub has_feed : List ℕ → Bool
@@ -35,3 +37,9 @@ pub record IsRound (library : Catalog) (clients : ℕ) (old new : Option (List �
   pub lines : List (List ℕ)
   pub cut : CutsInto r.is_last (tail ++ bytes) lines after
   pub asked : AreAsked library clients lines r.asked.items
+
+-- bytes were read, but not to the end of a round: no line ends in them, if a read has failed
+pub record IsBroken (old new : Option (List ℕ)) (why : RoundFault) : Type 0 where
+  pub bytes : List ℕ
+  pub read : Consumes old new bytes
+  pub unended : why ≡ fault.Read → has_feed bytes ≡ false

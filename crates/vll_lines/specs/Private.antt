@@ -2,3 +2,4 @@ pub mod Reading
 pub mod Cutting
 pub mod Writing
 pub mod Replied
+pub mod Unplaced

@@ -1,8 +1,9 @@
 //! The answers to the lines of a round.
-ghost use Rattle.std.specs.Prelude.{◌≡◌, ◌+◌, ◌<◌, ◌^◌, List, IfOk, IsSome, IsTrue, Some, count_by, is_ok, length, map};
+ghost use Rattle.std.specs.Prelude.{◌≡◌, ◌+◌, ◌<◌, ◌^◌, ◌∷◌, List, IfOk, IsSome, IsTrue, Some, count_by, is_ok, length, map};
 ghost use Rattle.vll_proc.specs.declared.call.Reply.{Reply as SpecReply};
-ghost use Rattle.vll_lines.specs.Answers.{answers};
-ghost use Rattle.vll_lines.specs.Private.Replied.{IsReplied, Replies};
+ghost use Rattle.vll_lines.specs.Answers.{answers, answers_by, told_at};
+ghost use Rattle.vll_lines.specs.Placed.{AreTheirsAt};
+ghost use Rattle.vll_lines.specs.Private.Replied.{IsReplied, IsRepliedAt, Replies, RepliesAt};
 ghost use Rattle.vll_lines.specs.Theirs.{AreTheirs, call_of_line, call_shown};
 
 use crate::asked::{Asked, ClientCall};
@@ -33,7 +34,7 @@ pub fn are_theirs(asked: &[Asked], lines: &[Line]) -> bool
 }
 
 // Whether a line is of this call of this client, whatever it found, and has a reply.
-fn is_of(line: &Line, asked: &ClientCall) -> bool
+pub(crate) fn is_of(line: &Line, asked: &ClientCall) -> bool
     ensures call { IsTrue result → call_shown asked.now ≡ call_of_line line.now }
     ensures reply { IsTrue result → IsSome line.now.reply }
     ensures all { call_shown asked.now ≡ call_of_line line.now → IsSome line.now.reply → IsTrue result }
@@ -91,6 +92,57 @@ fn first_reply(lines: &[Line]) -> (&Reply, &[Line])
             Some(reply) => (reply, more),
             None => unreachable!(),
         },
+        None => unreachable!(),
+    }
+}
+
+/// Returns the text of the answers to lines, in order. The calls that they ask for have the journal lines at these places,
+/// in order, and the journal lines are numbered from `number` on. Fails only for want of memory.
+pub fn answers_at(
+    alloc: Global,
+    asked: &[Asked],
+    lines: &[Line],
+    places: &[u32],
+    number: u64,
+) -> Result<Vec<u8>, AllocError>
+    requires lines { AreTheirsAt asked.now lines.now places.now }
+    requires number { number + length lines.now < 2 ^ 64 }
+    ensures { IfOk result (λ text. (replies : List SpecReply) → map (λ l. l.reply) lines.now ≡ map Some replies → text.items ≡ answers_by asked.now (told_at number replies places.now)) }
+{
+    let mut text = Vec::new(alloc);
+    let mut places = places;
+    for one in asked {
+        match &one.call {
+            Err(why) => text = push_fault(alloc, text, &one.id, why)?,
+            Ok(_) => {
+                let (place, more) = first_place(places);
+                let reply = reply_at(lines, place);
+                text = push_reply(text, &one.id, number + u64::from(place), reply)?;
+                places = more;
+            }
+        }
+    }
+    Ok(text)
+}
+
+// The first place, and those behind it.
+fn first_place(places: &[u32]) -> (u32, &[u32])
+    requires { 0 < length places.now }
+    ensures { places.now ≡ result.0 ∷ result.1.now }
+{
+    match places.split_first() {
+        Some((place, more)) => (*place, more),
+        None => unreachable!(),
+    }
+}
+
+// The reply of the line at a place.
+fn reply_at(lines: &[Line], place: u32) -> &Reply
+    requires { IsRepliedAt lines.now place }
+    ensures { RepliesAt lines.now place result.now }
+{
+    match &lines[place as usize].reply {
+        Some(reply) => reply,
         None => unreachable!(),
     }
 }

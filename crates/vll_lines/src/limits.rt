@@ -8,7 +8,7 @@ pub const MOST_LINE: usize = 65_536;
 pub const MOST_ID: usize = 64;
 
 /// The most lines of a round, and the most bytes that are asked for at a time: each line ends in the last of them.
-pub const MOST_ROUND: usize = 16_384;
+pub const MOST_ROUND: usize = 32_768;
 
 // As docs/SERVICE.md says.
 const _: () = prove!(MOST_LINE == 65_536);

@@ -1,8 +1,8 @@
 //! A round: the lines that are complete when a read has ended one.
-ghost use Rattle.std.specs.Prelude.{◌≡◌, ◌↔◌, ℕ, List, [], ◌++◌, All, IfOk, OnOk, false, true, Ok, Err};
+ghost use Rattle.std.specs.Prelude.{◌≡◌, ◌↔◌, ℕ, List, [], ◌++◌, All, IfErr, IfOk, OnOk, false, true, Ok, Err};
 ghost use Rattle.vll_check.specs.Calls.{Fits};
 ghost use Rattle.vll_lines.specs.Asked.{AreAsked};
-ghost use Rattle.vll_lines.specs.Lines.{IsRound, has_feed, lines_in};
+ghost use Rattle.vll_lines.specs.Lines.{IsBroken, IsRound, has_feed, lines_in};
 ghost use Rattle.vll_lines.specs.Theirs.{calls_of};
 ghost use Rattle.vll_lines.specs.Private.Cutting.{Cuts, StandsFor};
 ghost use Rattle.vll_lines.specs.declared.round.RoundFault.TheVariants as round_fault;
@@ -65,6 +65,7 @@ pub fn read_round<S: Source>(
     ensures round { IfOk result (IsRound library.now clients (S.remaining source.old) (S.remaining source.new) tail.old.items tail.new.items) }
     ensures fits { IfOk result (λ round. All (λ c. Fits library.now c.call) (calls_of round.asked.items)) }
     ensures tail { OnOk result (has_feed tail.new.items ≡ false) }
+    ensures err { IfErr result (IsBroken (S.remaining source.old) (S.remaining source.new)) }
     ensures failed { (result ≡ Err round_fault.Read) ↔ (S.failed source.new ≡ true) }
 {
     let mut asked = Vec::new(alloc);

@@ -5,3 +5,5 @@
 mod answers;
 #[cfg(test)]
 mod asserts;
+#[cfg(test)]
+mod places;

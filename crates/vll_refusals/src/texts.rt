@@ -128,7 +128,9 @@ pub(crate) fn replayed<R: Print + AllocGlobal>(rt: &R) -> Result<Answer, Unready
     Ok(of_text(answer, taken.as_slice(), left, REPLAYED))
 }
 
-pub(crate) fn streamed<R: Print + AllocGlobal + Wait>(rt: &R) -> Result<Answer, Unready> {
+pub(crate) fn streamed<R: Print + AllocGlobal + Threads + Wait + Sync>(
+    rt: &R,
+) -> Result<Answer, Unready> {
     let alloc = rt.alloc();
     let scenario = read_scenario(alloc, &mut Plain::new(BANK.as_bytes()))?;
     let mut taken = vec![in alloc; 0; STREAMED.len()]?;
@@ -136,7 +138,7 @@ pub(crate) fn streamed<R: Print + AllocGlobal + Wait>(rt: &R) -> Result<Answer, 
     let mut reader = Plain::new(ASKED.as_bytes());
     let mut writer = Plain::new(&mut free);
     begin(rt)?;
-    let served = serve_stream(rt, alloc, scenario, &mut reader, &mut writer);
+    let served = serve_stream(rt, alloc, scenario, 1, &mut reader, &mut writer);
     end(rt)?;
     let answer = match served {
         Ok(()) => Answer::Ample,

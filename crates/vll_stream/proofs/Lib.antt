@@ -2,4 +2,8 @@ pub mod Answered
 pub mod Parts
 pub mod Rounds
 pub mod Found
+pub mod Stops
 pub mod Epochs
+pub mod Empty
+pub mod Ordered
+pub mod Batches

@@ -1,9 +1,9 @@
 -- The lines of a round are answered by the calls that were made for them.
-use Rattle.std.proofs.Common.{◌≡◌, ℕ, zero, suc, ◌+◌, ◌<◌, ◌≤◌, Bool, false, List, [], ◌∷◌, ◌++◌, length, map, take, drop, refl, sym, ap, ◌∙◌, subst, arith, rules, Result, Ok, Err, Some, None, All, slice_get, append_assoc, length-append, length-take, take_all, take-add, take-append-drop}
+use Rattle.std.proofs.Common.{◌≡◌, ℕ, zero, suc, ◌+◌, ◌≤◌, Bool, false, List, [], ◌∷◌, ◌++◌, length, map, take, drop, refl, sym, ap, ◌∙◌, subst, arith, rules, Result, Ok, Err, Some, None, All, slice_get, Option, append_assoc, length-append, length-take, append-nil, take_all, take-add, take-append-drop}
 use Rattle.std.proofs.lemmas.List.{length-map, take-append-le}
 use Rattle.std.proofs.lemmas.List.Elements.{All-head, All-tail}
 use Rattle.std.proofs.lemmas.Option.{same_Some, slice_get_within}
-use Rattle.std.specs.Io.KnownBytes.{Appends}
+use Rattle.std.specs.Io.KnownBytes.{Appends, append_known}
 use Rattle.vll_proc.specs.declared.call.Call.{Call}
 use Rattle.vll_proc.specs.declared.call.Reply.{Reply}
 use Rattle.vll_proc.specs.declared.syntax.Proc.{Proc}
@@ -16,16 +16,35 @@ use Rattle.vll_counters.specs.declared.views.SessionView.{SessionView}
 use Rattle.vll_queue.specs.Sessions.{HasItsCalls}
 use Rattle.vll_queue.specs.Finished.{AreFinished}
 use Rattle.vll_queue.specs.Shown.{Named, library_of}
-use Rattle.vll_lines.specs.Answers.{answers}
-use Rattle.vll_lines.specs.Lines.{IsRound}
-use Rattle.vll_lines.specs.Theirs.{AreTheirs, call_of_line, calls_of, with_call}
+use Rattle.vll_lines.specs.Answers.{answers, answers_by, told_at}
+use Rattle.vll_lines.specs.Lines.{IsBroken, IsRound, has_feed}
+use Rattle.vll_lines.specs.Placed.{ArePlaced, AreTheirsAt}
+use Rattle.vll_lines.specs.Theirs.{AreTheirs, call_of_line, call_shown, calls_of, with_call}
+use Rattle.vll_lines.specs.declared.limits.TheConstants.{MOST_ROUND}
+use Rattle.vll_lines.proofs.Placed.{theirs_in_order}
+use Rattle.vll_lines.proofs.Told.{answers_in_order}
+use Rattle.std.specs.List.{range_with_len}
+use Rattle.std.proofs.lemmas.List.FromFn.{length-range_with_len}
+use Rattle.vll_stream.proofs.Ordered.{ordered_round}
 use Rattle.vll_lines.specs.declared.asked.Asked.{Asked}
 use Rattle.vll_lines.specs.declared.asked.ClientCall.{ClientCall}
 use Rattle.vll_lines.specs.declared.asked.LineFault.{LineFault}
 use Rattle.vll_lines.specs.declared.round.Round.{Round}
+use Rattle.vll_lines.specs.declared.round.RoundFault.{RoundFault}
+use Rattle.vll_lines.specs.declared.round.RoundFault.TheVariants as round_fault
+use Rattle.vll_lines.proofs.Lines.{no_feed_after}
+use Rattle.vll_scenario.specs.Streams.{AppendsBeginning}
+use Rattle.vll_queue.specs.Headline.Found.{AreFoundThere}
+use Rattle.vll_stream.specs.declared.fault.StreamFault.{StreamFault}
+use Rattle.vll_stream.specs.declared.fault.StreamFault.TheVariants as fault
+use Rattle.vll_stream.specs.Private.Faults.{fault_of_round}
+use Rattle.vll_stream.specs.Private.Stopped.{IsOwn, StopsAfter}
+use Rattle.vll_stream.specs.Served.{Stopped}
+use Rattle.vll_stream.proofs.Stops.{own_stopped, own_uncalled, part_then_stops, stops_unanswered}
 use Rattle.vll_stream.specs.Private.Parts.{IsPart, Place}
 use Rattle.vll_stream.specs.Served.{made_shown}
-use Rattle.vll_stream.specs.Private.Told.{AreRounds, AreTold, IsRoundAfter}
+use Rattle.vll_stream.specs.Private.Told.{AnswersLines, AreRounds, AreTold, IsRoundAfter}
+use Rattle.vll_stream.proofs.Found.{found_first, none_found}
 use Rattle.vll_stream.proofs.Parts.{no_part, part_then}
 
 -- lines that have the answers of their calls have the replies of a serial run
@@ -71,49 +90,134 @@ module _ (e : Named) (seen now : List Made) (calls others : List Made) (n : ℕ)
       ∙ (answer_of_second procs calls (calls_in lines ++ after) records t
       ∙ answer_of_first procs (calls_in lines) after (end procs calls records) t (let low = slice_get_within lines t l at in omega (arith, low, long))))))
 
+Appends-known : (known : Option (List ℕ)) (text : List ℕ) → Appends known (append_known known text) text
+Appends-known None text = tt
+Appends-known (Some xs) text = refl
+
 shown_lines : (lines : List Line) → map call_of_line lines ≡ map made_shown (calls_in lines)
 shown_lines [] = refl
 shown_lines (l ∷ lines) = ap (λ (xs : List (ℕ × Call)). call_of_line l ∷ xs) (shown_lines lines)
 
--- a round that was read, whose calls were made, and which was answered
-pub round_after : (e : Named) (clients : ℕ) (seen now calls others : List Made) (n : ℕ) (lines : List Line) (round : Round) (text : List ℕ) (old new : Place) → AreTold seen n calls → now ≡ seen ++ others
-    → AreFinished e now n lines → AreTheirs round.asked.items lines → IsRound (library_of e) clients old.input new.input old.tail new.tail round → Appends old.output new.output text
-    → ((rs : List Reply) → map (λ (l : Line). l.reply) lines ≡ map Some rs → text ≡ answers round.asked.items old.number rs) → new.number ≡ old.number + length lines
-    → IsRoundAfter e clients calls now (n + length lines) round.is_last old new
-round_after e clients seen now calls others n lines round text old new told grown finished theirs read wrote answered number =
+-- lines whose calls were made are answered by the replies of these, which stand at these places
+pub lines_answered : (e : Named) (workers : ℕ) (seen now calls others : List Made) (n : ℕ) (lines : List Line) (places : List ℕ) (asked : List Asked) (from : ℕ) (text : List ℕ) (next : ℕ) → AreTold seen n calls → now ≡ seen ++ others
+    → AreFinished e now n lines → AreTheirsAt asked lines places → length lines ≤ MOST_ROUND → (workers ≤ 1 → places ≡ range_with_len 0 (length places))
+    → ((rs : List Reply) → map (λ (l : Line). l.reply) lines ≡ map Some rs → text ≡ answers_by asked (told_at from rs places)) → next ≡ from + length lines
+    → AnswersLines e workers calls now asked from text (n + length lines) next
+lines_answered e workers seen now calls others n lines places asked from text next told grown finished theirs few in_order answered number =
     let long : length (calls_in lines) ≡ length lines = length-map lines (λ (l : Line). (l.client, l.call)) in
     let rs : List Reply = replies e.base.procs (calls_in lines) (end e.base.procs calls e.base.records) in
+    let more = told_more e seen now calls others n lines told grown finished in
     record {
       more = calls_in lines;
-      part = record {
-        bytes = read.bytes;
-        read = read.read;
-        ended = read.ended;
-        lines = read.lines;
-        cut = read.cut;
-        asked = round.asked.items;
-        are = read.asked;
-        these = theirs.calls ∙ shown_lines lines;
-        written = subst (Appends old.output new.output) (answered rs (replies_told e seen now calls others n lines told grown finished)) wrote;
-        number = number ∙ ap (λ (k : ℕ). old.number + k) (sym long);
-      };
-      told = told_more e seen now calls others n lines told grown finished;
+      rounds = places ∷ [];
+      ordered =
+          ordered_round workers asked (calls_in lines) places (subst (λ (l : List (ℕ × Call)). ArePlaced (map call_shown (calls_of asked)) l places) (shown_lines lines) theirs.placed) (omega (arith, long, few)) in_order;
+      answered =
+          answered rs (replies_told e seen now calls others n lines told grown finished) ∙ ap (λ (l : List ℕ). answers_by asked (told_at from rs l)) (sym (append-nil places));
+      number = number ∙ ap (λ (k : ℕ). from + k) (sym long);
+      told = more;
+      found = found_first e.base now (n + length lines) (calls ++ calls_in lines) more.first finished.found;
     }
 
+-- the same, of calls that were made in the order of their lines
+pub lines_answered_in_order : (e : Named) (workers : ℕ) (seen now calls others : List Made) (n : ℕ) (lines : List Line) (asked : List Asked) (from : ℕ) (text : List ℕ) (next : ℕ) → AreTold seen n calls
+    → now ≡ seen ++ others → AreFinished e now n lines → AreTheirs asked lines → length lines ≤ MOST_ROUND
+    → ((rs : List Reply) → map (λ (l : Line). l.reply) lines ≡ map Some rs → text ≡ answers asked from rs) → next ≡ from + length lines
+    → AnswersLines e workers calls now asked from text (n + length lines) next
+lines_answered_in_order e workers seen now calls others n lines asked from text next told grown finished theirs few answered number =
+    let places : List ℕ = range_with_len 0 (length lines) in
+    lines_answered e workers seen now calls others n lines places asked from text next told grown finished (theirs_in_order asked lines theirs) few
+    (λ one. ap (range_with_len 0) (sym (length-range_with_len 0 (length lines))))
+    (λ rs same.
+    let count : length rs ≡ length lines = sym (length-map rs Some) ∙ (ap length (sym same) ∙ length-map lines (λ (l : Line). l.reply)) in
+    answered rs same ∙ (answers_in_order asked from rs ∙ ap (λ (k : ℕ). answers_by asked (told_at from rs (range_with_len 0 k))) count))
+    number
+
+module _ (e : Named) (clients workers : ℕ) (calls : List Made) (round : Round) (old : Place) (input : Option (List ℕ)) (tail : List ℕ) (read : IsRound (library_of e) clients old.input input old.tail tail round) (now : List Made) (n next : ℕ)
+    (text : List ℕ) (answered : AnswersLines e workers calls now round.asked.items old.number text n next) where
+  part_of : (output : Option (List ℕ)) → Appends old.output output text
+      → IsPart (library_of e) clients workers (end e.base.procs calls e.base.records) answered.more round.is_last old (record { input = input; tail = tail; output = output; number = next })
+  part_of output wrote = record {
+    bytes = read.bytes;
+    read = read.read;
+    ended = read.ended;
+    lines = read.lines;
+    cut = read.cut;
+    asked = round.asked.items;
+    are = read.asked;
+    rounds = answered.rounds;
+    ordered = answered.ordered;
+    text = text;
+    answered = answered.answered;
+    written = wrote;
+    number = answered.number;
+  }
+
+  -- a round that was read and answered
+  pub round_after : (output : Option (List ℕ)) → Appends old.output output text → IsRoundAfter e clients workers calls now n round.is_last old (record { input = input; tail = tail; output = output; number = next })
+  round_after output wrote = record { more = answered.more; part = part_of output wrote; told = answered.told; found = answered.found }
+
+  -- a round that was read, and not answered in full
+  pub round_breaks_off : (output : Option (List ℕ)) → has_feed tail ≡ false → AppendsBeginning old.output output text → StopsAfter e.base clients workers calls fault.Write old input output
+  unfolding part_of
+  round_breaks_off output unended wrote = record {
+    more = answered.more;
+    is_last = round.is_last;
+    tail = tail;
+    whole = append_known old.output text;
+    number = next;
+    part = part_of (append_known old.output text) (Appends-known old.output text);
+    found = answered.found;
+    uncalled = λ is. absurd (let e : fault.Write ≡ fault.Calls = is in search rules);
+    stopped = unended;
+    wrote = wrote;
+  }
+
+-- a round that was not read
+pub round_broken : (e : Named) (clients workers : ℕ) (calls : List Made) (why : RoundFault) (old : Place) (input : Option (List ℕ)) → AreFoundThere e.base calls → has_feed old.tail ≡ false → IsBroken old.input input why
+    → StopsAfter e.base clients workers calls (fault_of_round why) old input old.output
+round_broken e clients workers calls why old input found unended broken = stops_unanswered e.base clients workers calls (fault_of_round why) old found input broken.bytes broken.read (uncalled why) (stopped_at why broken.unended)
+  where
+    uncalled : (w : RoundFault) → ¬ (fault_of_round w ≡ fault.Calls)
+    uncalled round_fault.Read is = absurd (let e : fault.Read ≡ fault.Calls = is in search rules)
+    uncalled round_fault.NoMemory is = absurd (let e : fault.NoMemory ≡ fault.Calls = is in search rules)
+
+    stopped_at : (w : RoundFault) → (w ≡ round_fault.Read → has_feed broken.bytes ≡ false) → Stopped (fault_of_round w) false (old.tail ++ broken.bytes)
+    stopped_at round_fault.Read none = (refl, no_feed_after old.tail broken.bytes unended (none refl))
+    stopped_at round_fault.NoMemory none = tt
+
+-- a round that was read, and not answered
+pub round_unanswered : (e : Named) (clients workers : ℕ) (calls : List Made) (why : StreamFault) (round : Round) (old : Place) (input : Option (List ℕ)) (tail : List ℕ) → IsRound (library_of e) clients old.input input old.tail tail round
+    → AreFoundThere e.base calls → IsOwn why → StopsAfter e.base clients workers calls why old input old.output
+round_unanswered e clients workers calls why round old input tail read found own =
+    stops_unanswered e.base clients workers calls why old found input read.bytes read.read (own_uncalled why own) (own_stopped why own false (old.tail ++ read.bytes))
+
 -- one round more
-pub rounds_more : (e : Named) (clients : ℕ) (seen now : List Made) (n m : ℕ) (is_last : Bool) (old mid new : Place) → AreRounds e clients seen n false old mid
-    → ((calls : List Made) → AreTold seen n calls → IsRoundAfter e clients calls now m is_last mid new) → AreRounds e clients now m is_last old new
-rounds_more e clients seen now n m is_last old mid new rounds round =
+pub rounds_more : (e : Named) (clients workers : ℕ) (seen now : List Made) (n m : ℕ) (is_last : Bool) (old mid new : Place) → AreRounds e clients workers seen n false old mid
+    → ((calls : List Made) → AreTold seen n calls → IsRoundAfter e clients workers calls now m is_last mid new) → AreRounds e clients workers now m is_last old new
+rounds_more e clients workers seen now n m is_last old mid new rounds round =
     let next = round rounds.calls rounds.told in
     record {
       calls = rounds.calls ++ next.more;
-      part = part_then (library_of e) clients e.base.records is_last old mid new rounds.calls next.more rounds.part next.part;
+      part = part_then (library_of e) clients workers e.base.records is_last old mid new rounds.calls next.more rounds.part next.part;
       told = next.told;
+      found = next.found;
     }
 
+-- a round more, which has stopped
+pub rounds_stop : (e : Named) (clients workers : ℕ) (seen : List Made) (n : ℕ) (why : StreamFault) (old mid : Place) (input output : Option (List ℕ)) → AreRounds e clients workers seen n false old mid
+    → ((calls : List Made) → AreTold seen n calls → AreFoundThere e.base calls → StopsAfter e.base clients workers calls why mid input output) → StopsAfter e.base clients workers [] why old input output
+rounds_stop e clients workers seen n why old mid input output rounds stops =
+    part_then_stops e.base clients workers rounds.calls why old mid input output rounds.part (stops rounds.calls rounds.told rounds.found)
+
 -- no round yet
-pub no_rounds : (e : Named) (clients : ℕ) (seen : List Made) (at : Place) → AreRounds e clients seen 0 false at at
-no_rounds e clients seen at = record { calls = []; part = no_part (library_of e) clients e.base.records at; told = record { first = refl; many = refl } }
+pub no_rounds : (e : Named) (clients workers : ℕ) (seen : List Made) (at : Place) → AreRounds e clients workers seen 0 false at at
+no_rounds e clients workers seen at = record {
+  calls = [];
+  part = no_part (library_of e) clients workers e.base.records at;
+  told = record { first = refl; many = refl };
+  found = none_found e.base;
+}
 
 -- ---- the calls that are asked for
 

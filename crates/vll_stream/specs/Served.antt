@@ -1,6 +1,7 @@
 -- What a service writes for its input.
-use Rattle.std.specs.Prelude.{◌≡◌, ℕ, List, ◌++◌, length, map, Option}
-use Rattle.std.specs.Io.KnownBytes.{Consumes, IsAtEnd}
+use Rattle.std.specs.Prelude.{◌≡◌, ◌<◌, ◌≤◌, ℕ, ◌+◌, Bool, true, false, List, [], ◌∷◌, ◌++◌, All, length, map, nat_eq, not, Option, ⊤}
+use Rattle.std.specs.Io.KnownBytes.{Appends, Consumes, IsAtEnd}
+use Rattle.std.specs.List.{concat, list_all, range_with_len}
 use Rattle.vll_proc.specs.declared.call.Call.{Call}
 use Rattle.vll_proc.specs.Headline.Serial.{Made, end}
 use Rattle.vll_proc.specs.Serial.{replies}
@@ -8,37 +9,107 @@ use Rattle.vll_check.specs.Calls.{bare}
 use Rattle.vll_core.specs.Headline.State.{Base}
 use Rattle.vll_queue.specs.Headline.Found.{AreFoundThere}
 use Rattle.vll_scenario.specs.Headline.Setup.{Setup, catalog_of}
-use Rattle.vll_lines.specs.Answers.{answers, end_line}
+use Rattle.vll_scenario.specs.Streams.{AppendsBeginning}
+use Rattle.vll_lines.specs.Answers.{answers_by, end_line, told_at}
 use Rattle.vll_lines.specs.Asked.{AreAsked}
-use Rattle.vll_lines.specs.Lines.{lines_in}
+use Rattle.vll_lines.specs.Lines.{CutsInto, has_feed, lines_in}
+use Rattle.vll_lines.specs.Placed.{ArePlaced}
 use Rattle.vll_lines.specs.Theirs.{call_shown, calls_of}
+use Rattle.vll_lines.specs.declared.limits.TheConstants.{MOST_ROUND}
 use Rattle.vll_lines.specs.declared.asked.Asked.{Asked}
+use Rattle.vll_stream.specs.declared.fault.StreamFault.{StreamFault}
+use Rattle.vll_stream.specs.declared.fault.StreamFault.TheVariants as fault
 
 -- the procedures and the records of a scenario
 abbrev pub base_of : Setup → Base
 base_of s = record { procs = s.procs; records = s.records }
 
+-- whether a script has no call
+abbrev pub is_none : List Call → Bool
+is_none script = nat_eq (length script) 0
+
+-- whether a scenario has calls of its own
+abbrev pub has_calls : Setup → Bool
+has_calls s = not (list_all is_none s.scripts)
+
 -- a client and its call, without what the call has found
 abbrev pub made_shown : Made → ℕ × Call
 made_shown m = (m.0, bare m.1)
 
--- a service of a scenario has answered an input: there is one list of the calls that the lines of the input ask for, in
--- their order, each with what it has found, and the text that was written has for each line its answer, which is the
--- reply of its call if the calls run one at a time in this order from the scenario's records, or its fault; and then the
--- number of calls and the records as these calls leave them. Each value found was in its source
-pub record IsServed (s : Setup) (input output : List ℕ) : Type 0 where
+-- calls were made round by round, these being the places of the calls of each round in the order of its lines, from a first
+-- one on: all calls of a round come before those of the next, and they are few
+abbrev pub AreInRounds : ℕ → List (List ℕ) → Type 0
+AreInRounds first [] = ⊤
+AreInRounds first (places ∷ rounds) = (length places ≤ MOST_ROUND) × All (λ p. (first ≤ p) × (p < first + length places)) places × AreInRounds (first + length places) rounds
+
+-- these are the calls that lines ask for, made round by round in places of their own: each once, each client's in the order
+-- of its lines, and all in the order of their lines if there is one worker
+pub record AreOrdered (workers : ℕ) (asked : List Asked) (calls : List Made) (rounds : List (List ℕ)) : Type 0 where
+  pub placed : ArePlaced (map call_shown (calls_of asked)) (map made_shown calls) (concat rounds)
+  pub in_rounds : AreInRounds 0 rounds
+  pub in_order : workers ≤ 1 → concat rounds ≡ range_with_len 0 (length (concat rounds))
+
+-- a text answers lines by these calls: they are the calls that the lines ask for, each with what it has found, and the text
+-- has for each line its answer, which is the number and the reply of its call if the calls run one at a time in this order
+-- from the scenario's records, or its fault. Each value found was in its source
+pub record AreAnswered (s : Setup) (workers : ℕ) (lines : List (List ℕ)) (calls : List Made) (text : List ℕ) : Type 0 where
   pub asked : List Asked
-  pub read : AreAsked (catalog_of s) (length s.scripts) (lines_in input) asked
-  pub calls : List Made
-  pub these : map call_shown (calls_of asked) ≡ map made_shown calls
+  pub read : AreAsked (catalog_of s) (length s.scripts) lines asked
+  pub rounds : List (List ℕ)
+  pub ordered : AreOrdered workers asked calls rounds
   pub found : AreFoundThere (base_of s) calls
-  pub written : output ≡ answers asked 0 (replies s.procs calls s.records) ++ end_line (length calls) (end s.procs calls s.records)
+  pub written : text ≡ answers_by asked (told_at 0 (replies s.procs calls s.records) (concat rounds))
+
+-- the last line of a service that has made these calls: their number, and the records as they leave them
+abbrev pub last_line : Setup → List Made → List ℕ
+last_line s calls = end_line (length calls) (end s.procs calls s.records)
+
+-- a service of a scenario has answered an input: all its lines, by one list of calls, and then its last line
+pub record IsServed (s : Setup) (workers : ℕ) (input output : List ℕ) : Type 0 where
+  pub calls : List Made
+  pub text : List ℕ
+  pub answered : AreAnswered s workers (lines_in input) calls text
+  pub written : output ≡ text ++ last_line s calls
 
 -- the input was read to its end, and this holds of the text that answers it
-pub record ServesLines (s : Setup) (old new : Option (List ℕ)) (Holds : List ℕ → Type 0) : Type 0 where
+pub record ServesLines (s : Setup) (workers : ℕ) (old new : Option (List ℕ)) (Holds : List ℕ → Type 0) : Type 0 where
   pub input : List ℕ
   pub read : Consumes old new input
   pub ended : IsAtEnd new
   pub output : List ℕ
-  pub served : IsServed s input output
+  pub served : IsServed s workers input output
   pub holds : Holds output
+
+-- what was written if a service has ended early, for this reason, over these answers, which go up to the end of the input
+-- or not, and this last line: if the output failed, a beginning, and otherwise the answers, and nothing else
+abbrev pub Wrote : StreamFault → Bool → Option (List ℕ) → Option (List ℕ) → List ℕ → List ℕ → Type 0
+Wrote fault.Write true old new text last = AppendsBeginning old new (text ++ last)
+Wrote fault.Write false old new text last = AppendsBeginning old new text
+Wrote fault.Calls is_last old new text last = Appends old new text
+Wrote fault.Read is_last old new text last = Appends old new text
+Wrote fault.NoMemory is_last old new text last = Appends old new text
+Wrote fault.Unfinished is_last old new text last = Appends old new text
+
+-- where a service has ended early: before the end of the input and with no line that is complete and lacks its answer,
+-- if the input failed, and with no such line if the output did
+abbrev pub Stopped : StreamFault → Bool → List ℕ → Type 0
+Stopped fault.Read is_last tail = (is_last ≡ false) × (has_feed tail ≡ false)
+Stopped fault.Write is_last tail = has_feed tail ≡ false
+Stopped fault.Calls is_last tail = ⊤
+Stopped fault.NoMemory is_last tail = ⊤
+Stopped fault.Unfinished is_last tail = ⊤
+
+-- a service of a scenario has ended early, for this reason: the first lines of the input that was read, or all of them at
+-- its end, are answered by one list of calls as if nothing had come after them, and the rest of it is a tail
+pub record EndsEarly (s : Setup) (workers : ℕ) (why : StreamFault) (old new from to : Option (List ℕ)) : Type 0 where
+  pub input : List ℕ
+  pub read : Consumes old new input
+  pub is_last : Bool
+  pub lines : List (List ℕ)
+  pub tail : List ℕ
+  pub cut : CutsInto is_last input lines tail
+  pub calls : List Made
+  pub text : List ℕ
+  pub answered : AreAnswered s workers lines calls text
+  pub stopped : Stopped why is_last tail
+  pub wrote : Wrote why is_last from to text (last_line s calls)

@@ -1,12 +1,16 @@
 //! Tests of whole services over bytes in memory.
+ghost use Rattle.std.specs.Prelude.{◌≤◌};
+
 use crate::asserts::equal;
 use std::alloc::Global;
 use std::fmt::Write;
 use std::io;
 use std::sync::Wait;
 use std::test::Fail;
+use std::thread::Threads;
 use vll_scenario::{Plain, read_scenario};
 use vll_stream::{StreamFault, serve_stream};
+use vll_workers::MOST_WORKERS;
 
 // A bank of two clients.
 const BANK: &str = r#"{"version":1,"records":[100,50],"procs":[
@@ -15,14 +19,26 @@ const BANK: &str = r#"{"version":1,"records":[100,50],"procs":[
           ["set",1,["add",["key",1],["arg",2]]],["reply",["key",0]]]}],
  "clients":[[],[]]}"#;
 
-// What a service of the bank writes for an input.
-fn served(rt: &impl Wait, alloc: Global, input: &str) -> Result<Vec<u8>, Fail> {
+// What a service of the bank with so many workers writes for an input.
+fn served_by<R: Threads + Wait + Sync>(
+    rt: &R,
+    alloc: Global,
+    workers: u32,
+    input: &str,
+) -> Result<Vec<u8>, Fail>
+    requires { (1 ≤ workers) × (workers ≤ MOST_WORKERS) }
+{
     let scenario = read_scenario(alloc, &mut Plain::new(BANK.as_bytes()))?;
     let mut output = Vec::new(alloc);
     let mut writer = Plain::new(&mut output);
     let mut reader = Plain::new(input.as_bytes());
-    serve_stream(rt, alloc, scenario, &mut reader, &mut writer)?;
+    serve_stream(rt, alloc, scenario, workers, &mut reader, &mut writer)?;
     Ok(output)
+}
+
+// The same, with one worker.
+fn served<R: Threads + Wait + Sync>(rt: &R, alloc: Global, input: &str) -> Result<Vec<u8>, Fail> {
+    served_by(rt, alloc, 1, input)
 }
 
 #[test]
@@ -81,6 +97,17 @@ fn epochs_go_on_over_the_records(rt: HostRuntime) -> Result<(), Fail> {
     Ok(())
 }
 
+#[test]
+fn several_workers_leave_the_same_records(rt: HostRuntime) -> Result<(), Fail> {
+    let input = transfers(rt.alloc(), 10_002)?;
+    for workers in [2, 4, 64] {
+        let found = served_by(&rt, rt.alloc(), workers, input.as_str())?;
+        let last = last_line(found.as_slice())?;
+        equal(&rt, last, "{\"calls\":10002,\"records\":[98,52]}");
+    }
+    Ok(())
+}
+
 // A reader that supplies its text a byte at a time.
 #[derive(Drop)]
 struct Slow<'a>(&'a [u8]);
@@ -106,7 +133,7 @@ fn input_may_come_byte_by_byte(rt: HostRuntime) -> Result<(), Fail> {
     let mut output = Vec::new(rt.alloc());
     let mut writer = Plain::new(&mut output);
     let mut reader = Plain::new(Slow(input.as_bytes()));
-    serve_stream(&rt, rt.alloc(), scenario, &mut reader, &mut writer)?;
+    serve_stream(&rt, rt.alloc(), scenario, 1, &mut reader, &mut writer)?;
     equal(&rt, output.as_slice(), wanted.as_slice());
     Ok(())
 }
@@ -146,8 +173,88 @@ fn scenario_with_calls_is_refused(rt: HostRuntime) -> Result<(), Fail> {
     let mut output = Vec::new(rt.alloc());
     let mut writer = Plain::new(&mut output);
     let mut reader = Plain::new("".as_bytes());
-    let refused = serve_stream(&rt, rt.alloc(), scenario, &mut reader, &mut writer);
+    let refused = serve_stream(&rt, rt.alloc(), scenario, 1, &mut reader, &mut writer);
     equal(&rt, refused, Err(StreamFault::Calls));
     equal(&rt, output.len(), 0);
+    Ok(())
+}
+
+// A reader that supplies its text in one piece, and fails then.
+#[derive(Drop)]
+struct Broken<'a>(&'a [u8]);
+
+impl io::Read for Broken<'_> {
+    fn read(&mut self, buf: &mut [u8]) -> io::Result<usize> {
+        let count = self.0.len().min(buf.len());
+        if count == 0 {
+            return Err(closed());
+        }
+        buf[..count].copy_from_slice(&self.0[..count]);
+        self.0 = &self.0[count..];
+        Ok(count)
+    }
+}
+
+fn closed() -> io::Error {
+    io::Error::from(io::ErrorKind::BrokenPipe)
+}
+
+#[test]
+fn lines_before_a_failed_read_are_answered(rt: HostRuntime) -> Result<(), Fail> {
+    let input = r#"{"client":0,"proc":"transfer","args":[0,1,30]}
+{"client":1,"proc":"transfer","args":[1,0,90]}
+{"client":0,"proc""#;
+    let wanted = r#"{"call":0,"committed":[70]}
+{"call":1,"aborted":"underflow"}
+"#;
+    let scenario = read_scenario(rt.alloc(), &mut Plain::new(BANK.as_bytes()))?;
+    let mut output = Vec::new(rt.alloc());
+    let mut writer = Plain::new(&mut output);
+    let mut reader = Plain::new(Broken(input.as_bytes()));
+    let ended = serve_stream(&rt, rt.alloc(), scenario, 1, &mut reader, &mut writer);
+    equal(&rt, ended, Err(StreamFault::Read));
+    equal(&rt, std::str::from_utf8(output.as_slice())?, wanted);
+    Ok(())
+}
+
+// A writer that takes as many bytes as it has room for, and fails then.
+#[derive(Drop)]
+struct Narrow {
+    taken: Vec<u8>,
+    room: usize,
+}
+
+impl io::Write for Narrow {
+    fn write(&mut self, buf: &[u8]) -> io::Result<usize> {
+        let count = self.room.min(buf.len());
+        if count == 0 || self.taken.extend_from_slice(&buf[..count]).is_err() {
+            return Err(closed());
+        }
+        self.room -= count;
+        Ok(count)
+    }
+
+    fn flush(&mut self) -> io::Result<()> {
+        Ok(())
+    }
+}
+
+#[test]
+fn output_that_fails_has_a_beginning(rt: HostRuntime) -> Result<(), Fail> {
+    let input = transfers(rt.alloc(), 10)?;
+    let whole = served(&rt, rt.alloc(), input.as_str())?;
+    for room in [0, 1, 60, whole.len().saturating_sub(1)] {
+        let scenario = read_scenario(rt.alloc(), &mut Plain::new(BANK.as_bytes()))?;
+        let mut narrow = Narrow {
+            taken: Vec::new(rt.alloc()),
+            room,
+        };
+        let mut writer = Plain::new(&mut narrow);
+        let mut reader = Plain::new(Slow(input.as_bytes()));
+        let ended = serve_stream(&rt, rt.alloc(), scenario, 1, &mut reader, &mut writer);
+        equal(&rt, ended, Err(StreamFault::Write));
+        equal(&rt, narrow.taken.len(), room);
+        equal(&rt, whole.starts_with(narrow.taken.as_slice()), true);
+    }
     Ok(())
 }

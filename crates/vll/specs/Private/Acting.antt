@@ -11,7 +11,8 @@ use Rattle.vll_replay.specs.Headline.Text.{Text}
 use Rattle.vll_server.specs.declared.options.RunOptions.{RunOptions}
 use Rattle.vll.specs.declared.command.Action.{Action}
 use Rattle.vll.specs.declared.command.ServeOptions.{ServeOptions}
-use Rattle.vll_stream.specs.Served.{ServesLines}
+use Rattle.vll_stream.specs.Served.{EndsEarly, ServesLines}
+use Rattle.vll_stream.specs.declared.fault.StreamFault.{StreamFault}
 use Rattle.vll.specs.declared.fault.Fault.{Fault}
 use Rattle.vll.specs.declared.command.Action.TheVariants as action
 
@@ -25,7 +26,11 @@ with_limits cap bits s = record s { config = record s.config { cap = unwrap_or c
 
 -- the calls that were asked for were served over some scenario with these options, and this holds of the text
 abbrev pub ServesFile : ServeOptions → Option (List ℕ) → Option (List ℕ) → (Text → Type 0) → Type 0
-ServesFile options old new Holds = (setup : Setup) × ServesLines (with_limits options.cap options.bits setup) old new Holds
+ServesFile options old new Holds = (setup : Setup) × ServesLines (with_limits options.cap options.bits setup) options.workers old new Holds
+
+-- such a service has ended early, for this reason
+abbrev pub StopsFile : ServeOptions → StreamFault → Option (List ℕ) → Option (List ℕ) → Option (List ℕ) → Option (List ℕ) → Type 0
+StopsFile options why old new from to = (setup : Setup) × EndsEarly (with_limits options.cap options.bits setup) options.workers why old new from to
 
 -- a run serves what was read, a service answers it line by line, a replay replays it, an explanation reports what it has, a drawing lists its replay, and
 -- this holds of the text. `Tell` reads and writes nothing here

@@ -1,16 +1,15 @@
 -- A part of a service: some rounds, one after the other.
-use Rattle.std.specs.Prelude.{◌≡◌, ℕ, ◌+◌, Bool, true, List, ◌++◌, length, map, Option}
+use Rattle.std.specs.Prelude.{◌≡◌, ℕ, ◌+◌, Bool, true, List, ◌++◌, length, Option}
+use Rattle.std.specs.List.{concat}
 use Rattle.std.specs.Io.KnownBytes.{Appends, Consumes, IsAtEnd}
-use Rattle.vll_proc.specs.declared.syntax.Proc.{Proc}
 use Rattle.vll_proc.specs.Headline.Serial.{Made}
 use Rattle.vll_proc.specs.Serial.{replies}
 use Rattle.vll_check.specs.Headline.Catalog.{Catalog}
-use Rattle.vll_lines.specs.Answers.{answers}
+use Rattle.vll_lines.specs.Answers.{answers_by, told_at}
 use Rattle.vll_lines.specs.Asked.{AreAsked}
 use Rattle.vll_lines.specs.Lines.{CutsInto}
-use Rattle.vll_lines.specs.Theirs.{call_shown, calls_of}
 use Rattle.vll_lines.specs.declared.asked.Asked.{Asked}
-use Rattle.vll_stream.specs.Served.{made_shown}
+use Rattle.vll_stream.specs.Served.{AreOrdered}
 
 -- where a service stands: what is left of the input, the bytes of the line that has begun, what was written, and the
 -- number of calls made
@@ -21,8 +20,8 @@ pub record Place : Type 0 where
   pub number : ℕ
 
 -- from one place to another, lines were cut off the input, up to its end if this is the last part, and answered by
--- these calls, made one at a time from these records
-pub record IsPart (library : Catalog) (clients : ℕ) (records : List ℕ) (calls : List Made) (is_last : Bool) (old new : Place) : Type 0 where
+-- these calls, as if they were made one at a time from these records
+pub record IsPart (library : Catalog) (clients workers : ℕ) (records : List ℕ) (calls : List Made) (is_last : Bool) (old new : Place) : Type 0 where
   pub bytes : List ℕ
   pub read : Consumes old.input new.input bytes
   pub ended : is_last ≡ true → IsAtEnd new.input
@@ -30,6 +29,9 @@ pub record IsPart (library : Catalog) (clients : ℕ) (records : List ℕ) (call
   pub cut : CutsInto is_last (old.tail ++ bytes) lines new.tail
   pub asked : List Asked
   pub are : AreAsked library clients lines asked
-  pub these : map call_shown (calls_of asked) ≡ map made_shown calls
-  pub written : Appends old.output new.output (answers asked old.number (replies library.procs calls records))
+  pub rounds : List (List ℕ)
+  pub ordered : AreOrdered workers asked calls rounds
+  pub text : List ℕ
+  pub answered : text ≡ answers_by asked (told_at old.number (replies library.procs calls records) (concat rounds))
+  pub written : Appends old.output new.output text
   pub number : new.number ≡ old.number + length calls

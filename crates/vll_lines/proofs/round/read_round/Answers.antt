@@ -1,8 +1,11 @@
-use Rattle.std.proofs.Common.{◌≡◌, ℕ, List, [], ◌++◌, take, sym, ap, ◌∙◌, subst, refl, Ok}
-use Rattle.vll_lines.specs.Lines.{IsRound}
+use Rattle.std.proofs.Common.{◌≡◌, List, ◌++◌, take, sym, ap, ◌∙◌, subst, refl, rules, IfErr, Result, Ok, Err}
+use Rattle.vll_lines.specs.Lines.{IsBroken}
 use Rattle.vll_lines.specs.Private.Cutting.{Cuts}
 use Rattle.vll_lines.specs.declared.asked.Asked.{Asked}
-use Rattle.vll_lines.proofs.Cuts.{begun_more, begun_none, round_last, round_more}
+use Rattle.vll_lines.specs.declared.round.Round.{Round}
+use Rattle.vll_lines.specs.declared.round.RoundFault.{RoundFault}
+use Rattle.vll_lines.specs.declared.round.RoundFault.TheVariants as fault
+use Rattle.vll_lines.proofs.Cuts.{begun_more, begun_none, broken_memory, round_more}
 use Rattle.vll_lines.proofs.Fitting.{asked_fit}
 use Rattle.vll_lines.proofs.round.read_round.Goals as goal
 
@@ -42,3 +45,11 @@ pub returns-then-count-eq0-clause-fits : goal.returns-then-count-eq0-clause-fits
 returns-then-count-eq0-clause-fits g c =
     let begun = c.loop.invariant.4 in
     asked_fit c.args.library.now c.args.clients _ c.end_line.new.asked.items (c.in_ok-end_line.ensures.asked (c.args.tail.now.items ++ begun.bytes) begun.stands begun.unended)
+
+pub returns-in_err-take_piece-clause-err : goal.returns-in_err-take_piece-clause-err
+returns-in_err-take_piece-clause-err g c =
+    let known = g.S.Source.remaining in
+    let broken =
+    broken_memory (known c.args.source.now) (known c.loop.source) (known c.read.new.self) c.args.tail.now.items c.loop.tail.items (take c.in-Ok.count c.read.new.buf) c.loop.invariant.4 c.in-Ok.ensures.bytes.0 in
+    let is : c.from_residual-in_err-take_piece.result ≡ Err fault.NoMemory = search rules in
+    subst (λ (r : Result Round RoundFault). IfErr r (IsBroken (known c.args.source.now) (known c.read.new.self))) (sym is) broken

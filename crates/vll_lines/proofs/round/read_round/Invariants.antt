@@ -1,8 +1,5 @@
 -- No line has ended yet, and the tail stands for the bytes of the line that has begun.
-use Rattle.std.proofs.Common.{◌≡◌, ◌++◌, ℕ, List, [], false}
-use Rattle.std.specs.Io.KnownBytes.{Consumes}
-use Rattle.vll_lines.specs.Lines.{has_feed}
-use Rattle.vll_lines.specs.Private.Cutting.{StandsFor}
+use Rattle.std.proofs.Common.{◌≡◌, [], false}
 use Rattle.vll_lines.proofs.Cuts.{IsBegun}
 use Rattle.vll_lines.proofs.round.read_round.Given as goal
 

@@ -1,5 +1,6 @@
-use Rattle.std.proofs.Common.{◌≡◌, length}
+-- The sessions stay the engine's.
+use Rattle.vll_stream.specs.Private.Told.{AreStill}
 use Rattle.vll_stream.proofs.epoch.make_calls.Given as goal
 
 abbrev pub invariant-loop-one : goal.invariant-loop-one
-invariant-loop-one g l = length l.callers.items ≡ length l.fn.callers.items
+invariant-loop-one g l = AreStill g.N.Name.engine l.fn.callers.items l.callers.items

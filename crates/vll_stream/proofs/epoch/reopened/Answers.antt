@@ -1,10 +1,8 @@
-use Rattle.std.proofs.Common.{◌≡◌, List, All, length, sym, ◌∙◌, subst}
+use Rattle.std.proofs.Common.{◌≡◌, List, length, sym, ◌∙◌}
 use Rattle.std.proofs.lemmas.List.{length-map}
 use Rattle.vll_core.specs.declared.line.Line.{Line}
 use Rattle.vll_counters.specs.Headline.Views.{calls_in}
-use Rattle.vll_counters.specs.Shown.{SessionShown}
 use Rattle.vll_proc.specs.Headline.Serial.{Made}
-use Rattle.vll_queue.specs.Sessions.{HasItsCalls}
 use Rattle.vll_stream.proofs.epoch.reopened.Goals as goal
 
 pub returns-clause-opening : goal.returns-clause-opening
@@ -14,7 +12,6 @@ returns-clause-opening g c =
     let long : length made ≡ length lines = length-map lines (λ (l : Line). (l.client, l.call)) in (
       made,
       long ∙ (sym c.in-Ok.next.journal.ok.0 ∙ (sym c.len.ensures ∙ c.if-len-calls.false)),
-      c.in-Ok.ensures.serial.found,
-      subst (λ (ss : List SessionShown). All (λ (s : SessionShown). HasItsCalls made s.session) ss) c.into_sessions.ensures.sessions c.in-Ok.ensures.sessions,
+      c.in-Ok.ensures.sessions,
       c.in-Ok.ensures.opening,
     )

@@ -1,16 +1,19 @@
-use Rattle.std.proofs.Common.{◌≡◌, ◌+◌, ◌-◌, ℕ, Bool, List, [], ◌∷◌, ◌++◌, All, length, length-append, refl, sym, ap, ◌∙◌, subst, arith}
+use Rattle.std.proofs.Common.{◌≡◌, ◌-◌, ℕ, Bool, List, [], ◌∷◌, Some, All, length-append, Result, Err, IfErr, length, refl, sym, ap, subst, arith, rules}
+use Rattle.std.proofs.lemmas.List.Elements.{All-pop, All-push}
 use Rattle.vll_counters.specs.Shown.{SessionShown}
-use Rattle.vll_proc.specs.Headline.Serial.{Made, end}
-use Rattle.vll_queue.specs.Closed.{GoesOn}
-use Rattle.vll_queue.specs.Headline.Found.{AreFoundThere}
+use Rattle.vll_proc.specs.Headline.Serial.{Made}
 use Rattle.vll_queue.specs.Sessions.{HasItsCalls}
 use Rattle.vll_queue.specs.Shown.{library_of}
-use Rattle.vll_sca.specs.Placing.{placing}
+use Rattle.vll_stream.specs.declared.epoch.Ended.{Ended}
+use Rattle.vll_stream.specs.declared.fault.StreamFault.{StreamFault}
+use Rattle.vll_stream.specs.declared.fault.StreamFault.TheVariants as fault
 use Rattle.vll_stream.specs.Private.Parts.{IsPart, Place}
-use Rattle.vll_stream.specs.Private.Told.{IsEpoch}
+use Rattle.vll_stream.specs.Private.Stopped.{StopsAfter}
+use Rattle.vll_stream.specs.Private.Told.{Follows}
+use Rattle.vll_stream.proofs.Batches.{new_are_own}
 use Rattle.vll_stream.proofs.Rounds.{all_told, last_of}
+use Rattle.vll_stream.proofs.Stops.{stops_at_once, stops_behind_part}
 use Rattle.vll_stream.proofs.epoch.run_epoch.Goals as goal
-use Rattle.vll_stream.proofs.epoch.run_epoch.Goals.{then-rounds+in_ok-closed, else-rounds+in_ok-next}
 
 pub returns-clause-epoch : goal.returns-clause-epoch
 returns-clause-epoch g c =
@@ -20,37 +23,97 @@ returns-clause-epoch g c =
     let old : Place = record { input = known c.args.reader.now; tail = c.args.tail.now.items; output = contents c.args.writer.now; number = c.args.number } in
     let new : Place = record { input = known c.serve_rounds.new.reader; tail = c.serve_rounds.new.tail.items; output = contents c.serve_rounds.new.writer; number = c.in_ok-rounds.rounds.number } in
     let rounds = c.in_ok-rounds.ensures.rounds in
-    let calls : List Made = rounds.calls in
-    let is_last = c.in_ok-rounds.rounds.is_last in
-    let seen = c.serve_rounds.new.observer.session.seen in
+    let count : length c.pop.new.self.items ≡ e.clients - 1 = omega (arith, ap length c.in-Some.ensures.items, length-append c.pop.new.self.items (c.in-Some.observer ∷ []), c.start-engine.ensures.sessions.0) in
+    let part = subst (λ (k : ℕ). IsPart (library_of e) k c.args.workers e.base.records rounds.calls c.in_ok-rounds.rounds.is_last old new) count rounds.part in
     let observer : SessionShown = c.serve_rounds.new.observer in
-    let last = c.in_ok-clients.ensures.observer in
-    let told : (made : List Made) → length made ≡ c.in_ok-rounds.rounds.calls → All (λ (s : SessionShown). HasItsCalls made s.session) c.in_ok-clients.clients → made ≡ calls =
-    λ made many has.
-    all_told seen calls made c.in_ok-rounds.rounds.calls observer.session refl rounds.told many
-    (last_of (λ (s : SessionShown). HasItsCalls made s.session) last.0 observer (subst (λ (ss : List SessionShown). All (λ (s : SessionShown). HasItsCalls made s.session) ss) last.1 has)) in
-    let count : length c.in_ok-callers.callers.items ≡ e.clients - 1 =
-    omega (arith, c.in_ok-callers.ensures.callers, ap length c.in-Some.ensures.last, length-append c.pop.new.self (c.in-Some.observer ∷ []), c.start_clients-engine.ensures.clients.0) in
-    let part : IsPart (library_of e) (e.clients - 1) e.base.records calls is_last old new = subst (λ (k : ℕ). IsPart (library_of e) k e.base.records calls is_last old new) count rounds.part in
-    elim c.if-rounds.branch [
-      | then-rounds+in_ok-closed w ↦
-          let it = w.in_ok-closed.ensures in
-          let same = told it.0 it.1 it.3 in
-          subst (IsEpoch e (e.clients - 1) old new) (sym w.then-is)
-          (record {
-            calls = calls;
-            part = subst (λ (b : Bool). IsPart (library_of e) (e.clients - 1) e.base.records calls b old new) w.if-rounds.true part;
-            found = subst (AreFoundThere e.base) same it.2;
-            follows = it.4 ∙ ap (λ (cs : List Made). end e.base.procs cs e.base.records) same;
-          })
-      | else-rounds+in_ok-next w ↦
-          let it = w.in_ok-next.ensures.opening in
-          let same = told it.0 it.1 it.3 in
-          subst (IsEpoch e (e.clients - 1) old new) (sym w.then-is)
-          (record {
-            calls = calls;
-            part = subst (λ (b : Bool). IsPart (library_of e) (e.clients - 1) e.base.records calls b old new) w.if-rounds.false part;
-            found = subst (AreFoundThere e.base) same it.2;
-            follows = (subst (λ (cs : List Made). GoesOn placing e cs w.in_ok-next.next.opening) same it.4, w.in_ok-next.ensures.room);
-          })
-    ]
+    let it = c.in_ok-end_epoch.ensures.follows in
+    let made : List Made = it.0 in
+    let same : made ≡ rounds.calls =
+    all_told observer.session.seen rounds.calls made c.in_ok-rounds.rounds.calls observer.session refl rounds.told it.1
+    (last_of (λ (s : SessionShown). HasItsCalls made s.session) c.serve_rounds.new.callers.items observer
+    (subst (λ (ss : List SessionShown). All (λ (s : SessionShown). HasItsCalls made s.session) ss) c.in_ok-push.ensures.items it.2)) in
+    record {
+      calls = rounds.calls;
+      part = subst (λ (b : Bool). IsPart (library_of e) (e.clients - 1) c.args.workers e.base.records rounds.calls b old new) (sym c.in_ok-end_epoch.ensures.last) part;
+      found = rounds.found;
+      follows = subst (λ (cs : List Made). Follows e cs c.in_ok-end_epoch.field-0) same it.3;
+    }
+
+pub returns-in_err-rounds-clause-err : goal.returns-in_err-rounds-clause-err
+returns-in_err-rounds-clause-err g c =
+    let e = g.N.Name.engine in
+    let known = g.S.Source.remaining in
+    let contents = g.W.Sink.contents in
+    let old : Place = record { input = known c.args.reader.now; tail = c.args.tail.now.items; output = contents c.args.writer.now; number = c.args.number } in
+    let count : length c.pop.new.self.items ≡ e.clients - 1 = omega (arith, ap length c.in-Some.ensures.items, length-append c.pop.new.self.items (c.in-Some.observer ∷ []), c.start-engine.ensures.sessions.0) in
+    let why = c.in_err-rounds.field-0.0 in
+    let left = known c.serve_rounds.new.reader in
+    let written = contents c.serve_rounds.new.writer in
+    let is : c.from_residual.result ≡ Err why = search rules in
+    subst (λ (r : Result Ended StreamFault). IfErr r (λ w. StopsAfter e.base (e.clients - 1) c.args.workers [] w old left written)) (sym is)
+    (subst (λ (k : ℕ). StopsAfter e.base k c.args.workers [] why old left written) count c.in_err-rounds.ensures.err)
+
+pub returns-in_err-end_epoch-clause-err : goal.returns-in_err-end_epoch-clause-err
+returns-in_err-end_epoch-clause-err g c =
+    let e = g.N.Name.engine in
+    let known = g.S.Source.remaining in
+    let contents = g.W.Sink.contents in
+    let old : Place = record { input = known c.args.reader.now; tail = c.args.tail.now.items; output = contents c.args.writer.now; number = c.args.number } in
+    let new : Place = record { input = known c.serve_rounds.new.reader; tail = c.serve_rounds.new.tail.items; output = contents c.serve_rounds.new.writer; number = c.in_ok-rounds.rounds.number } in
+    let rounds = c.in_ok-rounds.ensures.rounds in
+    let count : length c.pop.new.self.items ≡ e.clients - 1 = omega (arith, ap length c.in-Some.ensures.items, length-append c.pop.new.self.items (c.in-Some.observer ∷ []), c.start-engine.ensures.sessions.0) in
+    let part = subst (λ (k : ℕ). IsPart (library_of e) k c.args.workers e.base.records rounds.calls c.in_ok-rounds.rounds.is_last old new) count rounds.part in
+    let why = c.in_err-end_epoch.field-0.0 in
+    let is : c.from_residual-in_err-end_epoch.result ≡ Err why = search rules in
+    subst (λ (r : Result Ended StreamFault). IfErr r (λ w. StopsAfter e.base (e.clients - 1) c.args.workers [] w old new.input new.output)) (sym is)
+    (stops_behind_part e.base (e.clients - 1) c.args.workers rounds.calls why c.in_ok-rounds.rounds.is_last old new c.in_err-end_epoch.ensures.own part rounds.found)
+
+pub returns-in_default-clause-err : goal.returns-in_default-clause-err
+returns-in_default-clause-err g c =
+    let e = g.N.Name.engine in
+    let known = g.S.Source.remaining in
+    let contents = g.W.Sink.contents in
+    let old : Place = record { input = known c.args.reader.now; tail = c.args.tail.now.items; output = contents c.args.writer.now; number = c.args.number } in
+    stops_at_once e.base (e.clients - 1) c.args.workers fault.Unfinished old tt
+
+pub returns-then-len-gt-MOST_CLIENTS-clause-err : goal.returns-then-len-gt-MOST_CLIENTS-clause-err
+returns-then-len-gt-MOST_CLIENTS-clause-err g c =
+    let e = g.N.Name.engine in
+    let known = g.S.Source.remaining in
+    let contents = g.W.Sink.contents in
+    let old : Place = record { input = known c.args.reader.now; tail = c.args.tail.now.items; output = contents c.args.writer.now; number = c.args.number } in
+    stops_at_once e.base (e.clients - 1) c.args.workers fault.Unfinished old tt
+
+pub serve_rounds-requires-clause-callers : goal.serve_rounds-requires-clause-callers
+serve_rounds-requires-clause-callers g c =
+    let table = g.N.Name.engine.table in
+    let sessions = new_are_own table g.N.Name.engine.clients c.start-engine.result.1.items c.start-engine.ensures.sessions in
+    let parts = All-pop (λ (s : SessionShown). s.table ≡ table) c.start-engine.result.1.items c.pop.new.self.items (Some c.in-Some.observer) c.in-Some.ensures.items sessions in
+    λ κs out. parts.0
+
+pub serve_rounds-requires-clause-observer : goal.serve_rounds-requires-clause-observer
+serve_rounds-requires-clause-observer g c =
+    let table = g.N.Name.engine.table in
+    let sessions = new_are_own table g.N.Name.engine.clients c.start-engine.result.1.items c.start-engine.ensures.sessions in
+    let parts = All-pop (λ (s : SessionShown). s.table ≡ table) c.start-engine.result.1.items c.pop.new.self.items (Some c.in-Some.observer) c.in-Some.ensures.items sessions in
+    λ κs out. parts.1
+
+pub returns-in_err-push-clause-err : goal.returns-in_err-push-clause-err
+returns-in_err-push-clause-err g c =
+    let e = g.N.Name.engine in
+    let known = g.S.Source.remaining in
+    let contents = g.W.Sink.contents in
+    let old : Place = record { input = known c.args.reader.now; tail = c.args.tail.now.items; output = contents c.args.writer.now; number = c.args.number } in
+    let new : Place = record { input = known c.serve_rounds.new.reader; tail = c.serve_rounds.new.tail.items; output = contents c.serve_rounds.new.writer; number = c.in_ok-rounds.rounds.number } in
+    let rounds = c.in_ok-rounds.ensures.rounds in
+    let count : length c.pop.new.self.items ≡ e.clients - 1 = omega (arith, ap length c.in-Some.ensures.items, length-append c.pop.new.self.items (c.in-Some.observer ∷ []), c.start-engine.ensures.sessions.0) in
+    let part = subst (λ (k : ℕ). IsPart (library_of e) k c.args.workers e.base.records rounds.calls c.in_ok-rounds.rounds.is_last old new) count rounds.part in
+    let is : c.from_residual-in_err-push.result ≡ Err fault.NoMemory = search rules in
+    subst (λ (r : Result Ended StreamFault). IfErr r (λ w. StopsAfter e.base (e.clients - 1) c.args.workers [] w old new.input new.output)) (sym is)
+    (stops_behind_part e.base (e.clients - 1) c.args.workers rounds.calls fault.NoMemory c.in_ok-rounds.rounds.is_last old new tt part rounds.found)
+
+pub end_epoch-requires-clause-sessions : goal.end_epoch-requires-clause-sessions
+end_epoch-requires-clause-sessions g c =
+    let Own = λ (s : SessionShown). s.table ≡ g.N.Name.engine.table in
+    subst (All Own) (sym c.in_ok-push.ensures.items)
+    (All-push Own c.serve_rounds.new.callers.items c.serve_rounds.new.observer c.in_ok-rounds.ensures.callers.1 c.in_ok-rounds.ensures.observer)

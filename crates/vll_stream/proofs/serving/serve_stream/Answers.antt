@@ -1,4 +1,4 @@
-use Rattle.std.proofs.Common.{◌≡◌, ◌≤◌, ◌-◌, ℕ, List, [], ◌++◌, length, refl, sym, ap, ◌∙◌, subst, arith, vec_capacity}
+use Rattle.std.proofs.Common.{◌≡◌, ◌≤◌, ◌-◌, ℕ, List, [], ◌++◌, length, refl, sym, ap, ◌∙◌, subst, rules, Result, Err, IfErr, vec_capacity}
 use Rattle.std.specs.Io.KnownBytes.{Appends}
 use Rattle.vll_core.specs.Headline.State.{Base}
 use Rattle.vll_queue.specs.Shown.{name_of}
@@ -7,8 +7,12 @@ use Rattle.vll_lines.specs.Answers.{end_line}
 use Rattle.vll_lines.specs.Lines.{has_feed}
 use Rattle.vll_stream.specs.Private.Parts.{Place}
 use Rattle.vll_stream.specs.Private.Told.{IsEpoch, IsSoFar}
-use Rattle.vll_stream.specs.Served.{base_of}
-use Rattle.vll_stream.proofs.Epochs.{none_so_far, one_more, serves_all, the_last}
+use Rattle.vll_stream.specs.Served.{EndsEarly, base_of}
+use Rattle.vll_stream.specs.declared.fault.StreamFault.{StreamFault}
+use Rattle.vll_stream.specs.declared.fault.StreamFault.TheVariants as fault
+use Rattle.vll_scenario.specs.Streams.{AppendsBeginning}
+use Rattle.vll_stream.proofs.Epochs.{breaks_off, epoch_stops, lacks_memory, none_so_far, one_more, serves_all, the_last}
+use Rattle.vll_stream.proofs.Stops.{ends_at_once, ends_early}
 use Rattle.vll_stream.proofs.serving.serve_stream.Goals as goal
 
 pub loop-init : goal.loop-init
@@ -17,14 +21,14 @@ loop-init g c =
     let clients : ℕ = length c.args.scenario.scripts in
     let at : Place = record { input = g.S.Source.remaining c.args.reader.now; tail = []; output = g.W.Sink.contents c.args.writer.now; number = 0 } in
     let o = c.in_ok-opening.ensures in
-    let none = none_so_far base clients at c.in_ok-opening.opening o.library o.records o.clients o.limit in (
+    let none = none_so_far base clients c.args.workers at c.in_ok-opening.opening o.library o.records o.clients o.limit in (
       tt,
       tt,
       c.in_ok-room.ensures.capacity,
       c.requires.reader,
       c.requires.writer,
       ap has_feed c.new-tail.ensures.items,
-      subst (λ (t : List ℕ). IsSoFar base clients at (record at { tail = t }) c.in_ok-opening.opening) (sym c.new-tail.ensures.items) none,
+      subst (λ (t : List ℕ). IsSoFar base clients c.args.workers at (record at { tail = t }) c.in_ok-opening.opening) (sym c.new-tail.ensures.items) none,
     )
 
 pub loop-preserved : goal.loop-preserved
@@ -39,7 +43,7 @@ loop-preserved g c =
     let old : Place = record { input = known c.args.reader.now; tail = []; output = contents c.args.writer.now; number = 0 } in
     let mid : Place = record { input = known l.reader; tail = l.tail.items; output = contents l.writer; number = l.number } in
     let new : Place = record { input = known c.run_epoch.new.reader; tail = c.run_epoch.new.tail.items; output = contents c.run_epoch.new.writer; number = c.in_ok-ended.ended.number } in
-    let epoch = subst (IsEpoch e (e.clients - 1) mid new) c.in-On.is c.in_ok-ended.ensures.epoch in
+    let epoch = subst (IsEpoch e (e.clients - 1) c.args.workers mid new) c.in-On.is c.in_ok-ended.ensures.epoch in
     let few = epoch.follows.1 in (
       tt,
       tt,
@@ -47,11 +51,11 @@ loop-preserved g c =
       c.in_ok-ended.ensures.reader,
       c.in_ok-ended.ensures.writer,
       c.in_ok-ended.ensures.tail,
-      one_more base clients old mid new l.opening so_far epoch.calls _ epoch.part epoch.found c.in-On.next epoch.follows.0 refl,
+      one_more base clients c.args.workers old mid new l.opening so_far epoch.calls _ epoch.part epoch.found c.in-On.next epoch.follows.0 refl,
     )
 
-pub returns-in-Over : goal.returns-in-Over
-returns-in-Over g c =
+pub returns-in-Over-clause-ok : goal.returns-in-Over-clause-ok
+returns-in-Over-clause-ok g c =
     let base : Base = base_of c.args.scenario in
     let clients : ℕ = length c.args.scenario.scripts in
     let known = g.S.Source.remaining in
@@ -62,13 +66,103 @@ returns-in-Over g c =
     let mid : Place = record { input = known l.reader; tail = l.tail.items; output = contents l.writer; number = l.number } in
     let n : ℕ = c.in_ok-ended.ended.number in
     let new : Place = record { input = known c.run_epoch.new.reader; tail = c.run_epoch.new.tail.items; output = contents c.run_epoch.new.writer; number = n } in
-    let epoch = subst (IsEpoch e (e.clients - 1) mid new) c.in-Over.is c.in_ok-ended.ensures.epoch in
+    let epoch = subst (IsEpoch e (e.clients - 1) c.args.workers mid new) c.in-Over.is c.in_ok-ended.ensures.epoch in
     let left : List ℕ = c.in-Over.records.items in
-    let all = the_last base clients old mid new l.opening l.invariant.6 epoch.calls _ epoch.part epoch.found left epoch.follows refl in
+    let all = the_last base clients c.args.workers old mid new l.opening l.invariant.6 epoch.calls _ epoch.part epoch.found left epoch.follows refl in
     let text : c.as_slice-in-Over.result.now ≡ end_line n left =
     c.as_slice-in-Over.ensures.value
     ∙ (c.in_ok-text-in-Over.ensures ∙ (ap (λ (l : List ℕ). l ++ end_line n c.as_slice.result.now) c.new.ensures.items ∙ ap (end_line n) c.as_slice.ensures.value)) in
-    let serves =
-    serves_all c.args.scenario (known c.args.reader.now) (known c.run_epoch.new.reader) (contents c.args.writer.now) (contents c.run_epoch.new.writer) (contents c.write_text.new.writer)
-    c.run_epoch.new.tail.items left n all (subst (Appends (contents c.run_epoch.new.writer) (contents c.write_text.new.writer)) text c.in_ok-write_text-in-Over.ensures.ok) in
-    record { ok = serves }
+    serves_all c.args.scenario c.args.workers (known c.args.reader.now) (known c.run_epoch.new.reader) (contents c.args.writer.now) (contents c.run_epoch.new.writer)
+    c.run_epoch.new.tail.items left n all (contents c.write_text.new.writer) (subst (Appends (contents c.run_epoch.new.writer) (contents c.write_text.new.writer)) text c.in_ok-write_text-in-Over.ensures.ok)
+
+pub returns-in_err-opening-clause-err : goal.returns-in_err-opening-clause-err
+returns-in_err-opening-clause-err g c =
+    let known = g.S.Source.remaining c.args.reader.now in
+    let contents = g.W.Sink.contents c.args.writer.now in
+    let why = c.in_err-opening.field-0.0 in
+    let is : c.from_residual.result ≡ Err why = search rules in
+    subst (λ (r : Result (Unit {0}) StreamFault). IfErr r (λ w. EndsEarly c.args.scenario c.args.workers w known known contents contents)) (sym is) (ends_at_once c.args.scenario c.args.workers why known contents)
+
+pub returns-in_err-room-clause-err : goal.returns-in_err-room-clause-err
+returns-in_err-room-clause-err g c =
+    let known = g.S.Source.remaining c.args.reader.now in
+    let contents = g.W.Sink.contents c.args.writer.now in
+    let is : c.from_residual-in_err-room.result ≡ Err fault.NoMemory = search rules in
+    subst (λ (r : Result (Unit {0}) StreamFault). IfErr r (λ w. EndsEarly c.args.scenario c.args.workers w known known contents contents)) (sym is) (ends_at_once c.args.scenario c.args.workers fault.NoMemory known contents)
+
+pub returns-in_err-ended-clause-err : goal.returns-in_err-ended-clause-err
+returns-in_err-ended-clause-err g c =
+    let base : Base = base_of c.args.scenario in
+    let clients : ℕ = length c.args.scenario.scripts in
+    let known = g.S.Source.remaining in
+    let contents = g.W.Sink.contents in
+    let l = c.loop in
+    let old : Place = record { input = known c.args.reader.now; tail = []; output = contents c.args.writer.now; number = 0 } in
+    let mid : Place = record { input = known l.reader; tail = l.tail.items; output = contents l.writer; number = l.number } in
+    let left = known c.run_epoch.new.reader in
+    let written = contents c.run_epoch.new.writer in
+    let why = c.in_err-ended.field-0.0 in
+    let is : c.from_residual-in_err-ended.result ≡ Err why = search rules in
+    subst (λ (r : Result (Unit {0}) StreamFault). IfErr r (λ w. EndsEarly c.args.scenario c.args.workers w old.input left old.output written)) (sym is)
+    (ends_early c.args.scenario c.args.workers why old.input left old.output written (epoch_stops base clients c.args.workers old mid l.opening why left written l.invariant.6 c.in_err-ended.ensures.err))
+
+-- no epoch ends for the scenario's calls
+uncalled : (r : Result (Unit {0}) StreamFault) (why : StreamFault) → r ≡ Err why → ¬ (why ≡ fault.Calls) → ¬ (r ≡ Err fault.Calls)
+uncalled r why is isnt called = isnt (let e : Err why ≡ Err fault.Calls = sym is ∙ called in search rules)
+
+pub returns-in_err-ended-clause-calls : goal.returns-in_err-ended-clause-calls
+returns-in_err-ended-clause-calls g c =
+    let why = c.in_err-ended.field-0.0 in
+    let is : c.from_residual-in_err-ended.result ≡ Err why = search rules in (
+      λ called. absurd (uncalled c.from_residual-in_err-ended.result why is c.in_err-ended.ensures.err.uncalled called),
+      λ has. absurd (let e = c.in_ok-opening.ensures.calls.1 has in search rules),
+    )
+
+pub returns-in_err-ended-clause-untouched : goal.returns-in_err-ended-clause-untouched
+returns-in_err-ended-clause-untouched g c = λ called.
+    let why = c.in_err-ended.field-0.0 in
+    let is : c.from_residual-in_err-ended.result ≡ Err why = search rules in
+    absurd (uncalled c.from_residual-in_err-ended.result why is c.in_err-ended.ensures.err.uncalled called)
+
+pub returns-in_err-text-in-Over-clause-err : goal.returns-in_err-text-in-Over-clause-err
+returns-in_err-text-in-Over-clause-err g c =
+    let base : Base = base_of c.args.scenario in
+    let clients : ℕ = length c.args.scenario.scripts in
+    let known = g.S.Source.remaining in
+    let contents = g.W.Sink.contents in
+    let l = c.loop in
+    let e = name_of placing l.opening in
+    let old : Place = record { input = known c.args.reader.now; tail = []; output = contents c.args.writer.now; number = 0 } in
+    let mid : Place = record { input = known l.reader; tail = l.tail.items; output = contents l.writer; number = l.number } in
+    let n : ℕ = c.in_ok-ended.ended.number in
+    let new : Place = record { input = known c.run_epoch.new.reader; tail = c.run_epoch.new.tail.items; output = contents c.run_epoch.new.writer; number = n } in
+    let epoch = subst (IsEpoch e (e.clients - 1) c.args.workers mid new) c.in-Over.is c.in_ok-ended.ensures.epoch in
+    let left : List ℕ = c.in-Over.records.items in
+    let all = the_last base clients c.args.workers old mid new l.opening l.invariant.6 epoch.calls _ epoch.part epoch.found left epoch.follows refl in
+    let final = contents c.run_epoch.new.writer in
+    let is : c.from_residual-in_err-text-in-Over.result ≡ Err fault.NoMemory = search rules in
+    subst (λ (r : Result (Unit {0}) StreamFault). IfErr r (λ w. EndsEarly c.args.scenario c.args.workers w old.input new.input old.output final)) (sym is)
+    (lacks_memory c.args.scenario c.args.workers old.input new.input old.output final c.run_epoch.new.tail.items left n all)
+
+pub returns-in_err-write_text-in-Over-clause-err : goal.returns-in_err-write_text-in-Over-clause-err
+returns-in_err-write_text-in-Over-clause-err g c =
+    let base : Base = base_of c.args.scenario in
+    let clients : ℕ = length c.args.scenario.scripts in
+    let known = g.S.Source.remaining in
+    let contents = g.W.Sink.contents in
+    let l = c.loop in
+    let e = name_of placing l.opening in
+    let old : Place = record { input = known c.args.reader.now; tail = []; output = contents c.args.writer.now; number = 0 } in
+    let mid : Place = record { input = known l.reader; tail = l.tail.items; output = contents l.writer; number = l.number } in
+    let n : ℕ = c.in_ok-ended.ended.number in
+    let new : Place = record { input = known c.run_epoch.new.reader; tail = c.run_epoch.new.tail.items; output = contents c.run_epoch.new.writer; number = n } in
+    let epoch = subst (IsEpoch e (e.clients - 1) c.args.workers mid new) c.in-Over.is c.in_ok-ended.ensures.epoch in
+    let left : List ℕ = c.in-Over.records.items in
+    let all = the_last base clients c.args.workers old mid new l.opening l.invariant.6 epoch.calls _ epoch.part epoch.found left epoch.follows refl in
+    let final = contents c.write_text.new.writer in
+    let text : c.as_slice-in-Over.result.now ≡ end_line n left =
+    c.as_slice-in-Over.ensures.value
+    ∙ (c.in_ok-text-in-Over.ensures ∙ (ap (λ (l : List ℕ). l ++ end_line n c.as_slice.result.now) c.new.ensures.items ∙ ap (end_line n) c.as_slice.ensures.value)) in
+    let is : c.from_residual-in_err-write_text-in-Over.result ≡ Err fault.Write = search rules in
+    subst (λ (r : Result (Unit {0}) StreamFault). IfErr r (λ w. EndsEarly c.args.scenario c.args.workers w old.input new.input old.output final)) (sym is)
+    (breaks_off c.args.scenario c.args.workers old.input new.input old.output new.output c.run_epoch.new.tail.items left n all final (subst (AppendsBeginning new.output final) text c.in_err-write_text-in-Over.ensures.err))

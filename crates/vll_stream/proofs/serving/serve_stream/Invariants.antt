@@ -15,6 +15,6 @@ abbrev pub invariant-loop : goal.invariant-loop
 invariant-loop g l =
     (goal.iterator-loop g).can_next l.iterator' × (goal.iterator-loop g).is_finite l.iterator'
     × (MOST_CALLS ≤ vec_capacity l.room) × (g.S.Source.failed l.reader ≡ false) × (g.W.Sink.failed l.writer ≡ false) × (has_feed l.tail.items ≡ false)
-    × IsSoFar (base_of l.fn.scenario) (length l.fn.scenario.scripts)
+    × IsSoFar (base_of l.fn.scenario) (length l.fn.scenario.scripts) l.fn.workers
     (record { input = g.S.Source.remaining l.fn.reader; tail = []; output = g.W.Sink.contents l.fn.writer; number = 0 })
     (record { input = g.S.Source.remaining l.reader; tail = l.tail.items; output = g.W.Sink.contents l.writer; number = l.number }) l.opening

@@ -1,0 +1,25 @@
+use Rattle.std.proofs.Common.{◌≡◌, ◌+◌, ℕ, List, Some, length, map, ap, ◌∙◌, subst, arith}
+use Rattle.vll_core.specs.declared.line.Line.{Line}
+use Rattle.vll_proc.specs.declared.call.Reply.{Reply}
+use Rattle.vll_lines.specs.Answers.{answers}
+use Rattle.vll_lines.specs.Theirs.{AreTheirs}
+use Rattle.vll_lines.specs.declared.asked.Asked.{Asked}
+use Rattle.vll_stream.specs.Private.Told.{AnswersLines}
+use Rattle.vll_stream.proofs.Rounds.{lines_answered_in_order}
+use Rattle.vll_stream.proofs.epoch.answer_in_order.Goals as goal
+
+pub returns-clause-answers : goal.returns-clause-answers
+returns-clause-answers g c = λ workers told are.
+    let e = g.N.Name.engine in
+    let lines : List Line = c.in_ok-lines.lines.items in
+    let asked : List Asked = c.args.asked.now in
+    let text : List ℕ = c.in_ok-answers.field-0.items in
+    let now = c.lines_of.new.observer.session.seen in
+    let theirs : AreTheirs asked lines = subst (AreTheirs asked) c.as_slice.ensures.value (c.are_theirs.ensures.theirs c.if-not-are_theirs.false) in
+    let answered : (rs : List Reply) → map (λ (l : Line). l.reply) lines ≡ map Some rs → text ≡ answers asked c.args.number rs =
+    λ rs same. c.in_ok-answers.ensures rs (ap (map (λ (l : Line). l.reply)) c.as_slice-2.ensures.value ∙ same) in
+    let number : c.in-Some.next ≡ c.args.number + length lines = let s = c.in-Some.ensures in let l = c.len.ensures in let k = c.in_ok-lines.lines.ok.0 in omega (arith, s, l, k) in
+    let calls : c.args.calls + length lines ≡ c.in_ok-added.field-0 = let s = c.in_ok-added.ensures.sum in let l = c.len-2.ensures in let k = c.in_ok-lines.lines.ok.0 in omega (arith, s, l, k) in
+    subst (λ (n : ℕ). AnswersLines e workers told now asked c.args.number text n c.in-Some.next) calls
+    (lines_answered_in_order e workers c.args.observer.now.session.seen now told c.in_ok-lines.ensures.others.others c.args.calls lines asked c.args.number text c.in-Some.next are
+    c.in_ok-lines.ensures.others.seen c.in_ok-lines.ensures.finished theirs c.in_ok-lines.ensures.few answered number)
