@@ -1,15 +1,22 @@
 """The trials of `vll serve`: random streams of lines, judged by a model of the bank of examples/serve, and what no
-stream shows: pauses, closed pipes, a very long line, and a client of another language."""
+stream shows: pauses, closed pipes, a very long line, and clients in other languages."""
+import contextlib
 import json
 import random
+import re
+import shutil
 import subprocess
 import sys
+import tempfile
+import threading
+from pathlib import Path
 
 from cases import TOP
 
 BANK = TOP / 'examples/serve/bank.json'
 CLIENT = TOP / 'examples/serve/transfers.py'
-ACCOUNTS, CLIENTS, SECONDS = 8, 10, 300
+SOCKET = TOP / 'examples/serve/socat.sh'
+ACCOUNTS, CLIENTS, MOST_CLIENTS, SECONDS = 8, 10, 1024, 300
 
 # Lines that ask for no call, and what is said of each.
 FAULTY = [
@@ -33,6 +40,26 @@ WORDS = {
     'ID': 'id has to be a whole number or a text of at most 64 bytes',
 }
 
+# Lines that are cut at each byte, one after the other.
+TO_CUT = [line.encode() for line in (
+    '{"client":0,"proc":"transfer","args":[0,1,30]}',
+    ' {"id":"a\\"\\u00e9é","client":9,"proc":"balance","args":[0]}', '',
+    '{"args":[1,0,99],"proc":"transfer","client":1,"id":18446744073709551615}')]
+# Lines with bytes that are no UTF-8: alone, within a text, before, between and behind what is JSON; half a character,
+# one in too many bytes, one of a pair, and one above the last.
+NO_UTF8 = [line.encode('latin-1') for line in (
+    '\xff', '{"id":7,"client":0,"proc":"balance\x80","args":[0]}', '\xff{"client":0,"proc":"balance","args":[0]}',
+    '{"client":0,\xfe"proc":"balance","args":[0]}', '{"client":0,"proc":"balance","args":[0]}\xbf',
+    *(f'{{"id":"{text}","client":0,"proc":"balance","args":[0]}}'
+      for text in ('\xc3', '\xc0\x80', '\xed\xa0\x80', '\xf4\x90\x80\x80')))]
+BALANCE = b'{"client":0,"proc":"balance","args":[0]}'
+NO_JSON = 'no JSON text: column'
+CANNOT_WRITE = b'vll: serve: write\n'
+
+
+class Skipped(Exception):
+    """What cannot be tried on this machine; the message says why."""
+
 
 class Bank:
     """The bank, as docs/SERVICE.md and its procedures have it."""
@@ -51,6 +78,14 @@ class Bank:
         self.accounts[source] -= amount
         self.accounts[target] += amount
         return {'call': number, 'committed': [self.accounts[source]]}
+
+    def answer(self, line):
+        """The answer to a line that asks for a call, or that is no JSON text: at which column is left open."""
+        try:
+            asked = json.loads(line.decode())
+        except ValueError:
+            return {'fault': NO_JSON}
+        return {**{name: asked[name] for name in asked if name == 'id'}, **self.call(asked['proc'], asked['args'])}
 
     def last(self):
         return {'calls': self.calls, 'records': self.accounts}
@@ -72,12 +107,58 @@ def line_and_answer(rng, bank):
     return json.dumps(dict(members), separators=spaces, ensure_ascii=rng.random() < 0.5), {**named, **bank.call(proc, args)}
 
 
+def stream(seed, count):
+    """Random lines, none of them very long, and what is written for them."""
+    rng, bank = random.Random(seed), Bank()
+    drawn = [line_and_answer(rng, bank) for _ in range(count)]
+    lines, answers = zip(*[(line, answer) for line, answer in drawn if len(line) < 1000])
+    return [f'{line}\n'.encode() for line in lines], text_of([*answers, bank.last()])
+
+
 def text_of(answers):
     return ''.join(json.dumps(answer, separators=(',', ':'), ensure_ascii=False) + '\n' for answer in answers).encode()
 
 
-def served(program, text, *words):
-    return subprocess.run([program, 'serve', BANK, *words], input=text, capture_output=True, timeout=SECONDS, check=False)
+def served(program, text, *words, file=BANK):
+    return subprocess.run([program, 'serve', file, *words], input=text, capture_output=True, timeout=SECONDS, check=False)
+
+
+@contextlib.contextmanager
+def at_work(program):
+    """The service, over pipes without a buffer of ours. It is killed if it is not done in time, or left before."""
+    with subprocess.Popen([program, 'serve', BANK], stdin=subprocess.PIPE, stdout=subprocess.PIPE,
+                          stderr=subprocess.PIPE, bufsize=0) as running:
+        late = threading.Timer(SECONDS, running.kill)
+        late.start()
+        try:
+            yield running
+        finally:
+            late.cancel()
+            running.kill()
+
+
+def write(running, text):
+    """Writes a text as far as it is read."""
+    with contextlib.suppress(BrokenPipeError):
+        running.stdin.write(text)
+
+
+def answers_of(running, count):
+    return b''.join(running.stdout.readline() for _ in range(count))
+
+
+def one_by_one(running, pieces):
+    """Writes each piece once the lines before it are answered, and gives the answers."""
+    found = []
+    for piece in pieces:
+        running.stdin.write(piece)
+        found.append(answers_of(running, piece.count(b'\n')))
+    return b''.join(found)
+
+
+def ended(running, found):
+    """How a service ends, of which this was read."""
+    return subprocess.CompletedProcess((), running.wait(SECONDS), found, running.stderr.read())
 
 
 def unlike(what, ran, status, printed, said=b''):
@@ -99,42 +180,86 @@ def random_streams(program):
 
 def epochs(program):
     """More calls than an engine takes are answered as one list."""
-    rng, bank = random.Random(1), Bank()
-    lines, answers = zip(*[line_and_answer(rng, bank) for _ in range(150000)])
-    lines, answers = zip(*[(line, answer) for line, answer in zip(lines, answers) if len(line) < 1000])
-    yield from unlike('150,000 lines', served(program, '\n'.join(lines).encode() + b'\n'), 0, text_of([*answers, bank.last()]))
+    lines, wanted = stream(1, 150000)
+    yield from unlike('150,000 lines', served(program, b''.join(lines)), 0, wanted)
 
 
 def pauses(program):
-    """A line that comes in two parts is answered at once when its second part has come, and those before it earlier."""
-    with subprocess.Popen([program, 'serve', BANK], stdin=subprocess.PIPE, stdout=subprocess.PIPE) as running:
-        for text, answer in ((b'{"client":0,"proc":"balance","args":[0]}\n{"id":5,"client"', b'{"call":0,"committed":[100]}\n'),
-                             (b':1,"proc":"balance","args":[1]}\n', b'{"id":5,"call":1,"committed":[100]}\n')):
-            running.stdin.write(text)
-            running.stdin.flush()
-            found = running.stdout.readline()
-            if found != answer:
-                yield f'{found!r}, and not {answer!r}'
-        running.stdin.close()
-        if json.loads(running.stdout.read()) != {'calls': 2, 'records': [100] * ACCOUNTS}:
-            yield 'another last line'
+    """What comes in one piece, line by line or in pieces that end anywhere is answered alike, and each line once it is
+    complete."""
+    for seed in range(8):
+        lines, wanted = stream(seed, 300)
+        text = b''.join(lines)
+        cuts = [0, *sorted(random.Random(seed).choices(range(len(text)), k=300)), len(text)]
+        yield from unlike(f'seed {seed} in one piece', served(program, text), 0, wanted)
+        for what, pieces in ('line by line', lines), ('in pieces', [text[i:j] for i, j in zip(cuts, cuts[1:])]):
+            with at_work(program) as running:
+                found = one_by_one(running, pieces)
+                running.stdin.close()
+                yield from unlike(f'seed {seed} {what}', ended(running, found + running.stdout.read()), 0, wanted)
+
+
+def closed_input(program):
+    """The input ends after each byte of some lines: the last line counts without its end, as far as it goes."""
+    text = b'\n'.join(TO_CUT)
+    for count in range(len(text) + 1):
+        *lines, last = text[:count].split(b'\n')
+        yield from without_columns(f'{count} bytes', program, text[:count], [*lines, last] if last else lines)
+
+
+def no_utf8(program):
+    """A line that is no UTF-8 is no JSON text, and the lines around it are answered."""
+    lines = [line for other in NO_UTF8 for line in (BALANCE, other)]
+    yield from without_columns('all of them', program, b'\n'.join([*lines, BALANCE]), [*lines, BALANCE])
+    for line in NO_UTF8:
+        yield from without_columns(f'{line!r}', program, line, [line])
+
+
+def without_columns(what, program, text, lines):
+    """Each line of a text is answered as the bank does; at which column one is no JSON text is left open."""
+    bank, ran = Bank(), served(program, text)
+    ran.stdout = re.sub(rf'({NO_JSON}) [0-9]+'.encode(), rb'\1', ran.stdout)
+    yield from unlike(what, ran, 0, text_of([*map(bank.answer, lines), bank.last()]))
+
+
+def many_clients(program):
+    """As many clients as there may be have one bank. The next number is that of no client."""
+    rng, bank, lines, answers = random.Random(1), Bank(), [], []
+    numbers = [*range(MOST_CLIENTS + 1)] * 3
+    rng.shuffle(numbers)
+    for client in numbers:
+        args = [rng.randrange(ACCOUNTS), rng.randrange(ACCOUNTS), rng.randrange(50)]
+        lines.append(json.dumps({'id': client, 'client': client, 'proc': 'transfer', 'args': args}).encode())
+        there = client < MOST_CLIENTS
+        answers.append(bank.answer(lines[-1]) if there else {'id': client, 'fault': f'there is no client {client}'})
+    with tempfile.TemporaryDirectory() as room:
+        file = Path(room) / 'bank.json'
+        file.write_text(json.dumps({**json.loads(BANK.read_text()), 'clients': [[]] * MOST_CLIENTS}))
+        yield from unlike('the clients', served(program, b'\n'.join(lines), file=file), 0, text_of([*answers, bank.last()]))
 
 
 def closed_output(program):
-    """Nobody reads the answers."""
-    line = b'{"client":0,"proc":"balance","args":[0]}\n'
-    with subprocess.Popen([program, 'serve', BANK], stdin=subprocess.PIPE, stdout=subprocess.PIPE,
-                          stderr=subprocess.PIPE) as running:
-        running.stdout.close()
-        said = b''
-        try:
-            running.stdin.write(line * 1000)
-            running.stdin.close()
-        except BrokenPipeError:
-            pass
-        said = running.stderr.read()
-        if (running.wait(SECONDS), said) != (1, b'vll: serve: write\n'):
-            yield f'status {running.returncode}, {said!r}'
+    """The output is closed behind some answers: with many lines in flight, before one more line, and before the end of
+    the input. Those answers are right, and the service says that it cannot write."""
+    lines, wanted = stream(2, 8000)
+    for count in 0, 1, 2, 100, 2000:
+        begin = b''.join(wanted.splitlines(True)[:count])
+        with at_work(program) as running:
+            writer = threading.Thread(target=write, args=[running, b''.join(lines)])
+            writer.start()
+            found = answers_of(running, count)
+            running.stdout.close()
+            writer.join()
+            yield from unlike(f'{count} answers of many', ended(running, found), 1, begin, CANNOT_WRITE)
+        for more in lines[count], b'':
+            with at_work(program) as running:
+                found = one_by_one(running, lines[:count])
+                running.stdout.close()
+                if more:
+                    write(running, more)
+                else:
+                    running.stdin.close()
+                yield from unlike(f'{count} answers, and {more!r}', ended(running, found), 1, begin, CANNOT_WRITE)
 
 
 def long_line(program):
@@ -160,6 +285,16 @@ def other_language(program):
     yield from unlike('the client', ran, 0, b'1000 transfers, 800 in all accounts\n')
 
 
+def socket(program):
+    """The call of a shell through a unix socket."""
+    if not shutil.which('socat'):
+        raise Skipped('there is no socat')
+    bank = Bank()
+    ran = subprocess.run([SOCKET, program], capture_output=True, timeout=SECONDS, check=False)
+    yield from unlike('the script', ran, 0, text_of([bank.call('transfer', [0, 1, 30]), bank.last()]))
+
+
 def service(words, _):
-    for trial in random_streams, epochs, pauses, closed_output, long_line, refused_files, other_language:
+    for trial in (random_streams, epochs, pauses, closed_input, no_utf8, many_clients, closed_output, long_line,
+                  refused_files, other_language, socket):
         yield trial.__name__.replace('_', ' '), trial(words.program)
