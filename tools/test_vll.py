@@ -17,11 +17,16 @@ TOP = Path(__file__).resolve().parent.parent
 TRANSFER = TOP / 'scenarios/transfer.json'
 OUTCOME = b'call 0 client 0 committed 70\nrecord 0 value 70 pair 0\n'
 
-# In place of rt: it notes how it was called, and prints as `rt try`, `rt run` and `rt lib` do.
+# In place of rt: it notes how it was called, and prints as `rt try`, `rt run` and `rt lib` do. Where something is proved
+# beside, what is proved here ends once that has been noted, or after a minute.
 RT = '''#!/usr/bin/env bash
 if [[ $1 == lib ]]; then
   pwd >>"$ROOM/libraries"
-  [[ $PWD == "$ROOM"/* ]] || { ls >"$ROOM/copied"; cp ../../crates.txt "$ROOM/listed"; }
+  if [[ $PWD != "$ROOM"/* ]]; then
+    ls >"$ROOM/copied"; cp ../../crates.txt "$ROOM/half"; mv "$ROOM/half" "$ROOM/listed"
+  elif [[ -e $ROOM/beside ]]; then
+    for ((i = 0; i < 600; i++)); do [[ ! -e $ROOM/listed ]] || break; sleep 0.1; done
+  fi
   printf 'so far: 3 of 9 functions checked; the verdict comes last\\n'
   [[ ! -e $ROOM/unproved ]]; exit
 fi
@@ -198,6 +203,7 @@ class WithStandIn(unittest.TestCase):
     def test_what_stands_beside_the_engine_is_proved_in_a_copy_meanwhile(self):
         """If the machine holds two checks at a time, and the program is made from vll_draw."""
         self.write('tools/room.py', 'print(2)\n')
+        self.write('beside', '')
         for part in 'src', 'must-fail', 'out':
             self.write(f'crates/vll_draw/{part}/file', '')
         self.list_crates(['vll_draw:', 'vll_deep:', 'vll: vll_draw vll_deep', 'vll_other: vll_draw'])
