@@ -172,7 +172,7 @@ fn script_of(
     requires { length script.now ≤ MOST_CALLS }
     ensures { GivesUnlessMemory (made_list result) (script_made library.now client script.now) }
 {
-    let mut calls = Vec::new(alloc);
+    let mut calls = Vec::with_capacity(alloc, script.len())?;
     for (index, asked) in script.iter().enumerate() {
         match library.call(asked.name.as_str(), asked.args.as_slice()) {
             Ok(call) => calls.push(call)?,
