@@ -69,7 +69,7 @@ impl<N: Name, H: Place + Drop> Engine<N, H> {
         ensures session { session.new.table ≡ session.old.table }
     {
         let source = self.library.source(call);
-        let hold = self.hold(wait);
+        let hold = self.hold_of_a_caller(wait);
         match source {
             None => self.try_ready(wait, hold, session, call, rest),
             Some(source) => self.find_and_try(wait, hold, session, call, source, rest),
@@ -158,7 +158,7 @@ impl<N: Name, H: Place + Drop> Engine<N, H> {
             ticket,
             reply,
         };
-        self.hold(wait).finish_own(session, released)
+        self.hold_of_a_caller(wait).finish_own(session, released)
     }
 
     // Returns the reply of a ticket, once it is there.
@@ -205,7 +205,7 @@ impl<N: Name, H: Place + Drop> Engine<N, H> {
             }
             None => {
                 rest.pause();
-                self.hold(wait)
+                self.hold_of_a_caller(wait)
             }
         }
     }
@@ -215,7 +215,7 @@ impl<N: Name, H: Place + Drop> Engine<N, H> {
         requires { IsFresh N.engine pass }
     {
         let released = self.run(pass);
-        let mut hold = self.hold(wait);
+        let mut hold = self.hold_of_a_caller(wait);
         hold.finish(released);
         hold
     }

@@ -17,7 +17,7 @@ use crate::closed::{Closed, NotClosed, NotReopened, Reopened};
 use crate::execution;
 use crate::finding::find;
 use crate::hold::Hold;
-use crate::latch::Latch;
+use crate::latch::{Latch, Visitor};
 use crate::locked::Locked;
 use crate::name::Name;
 use crate::pass::{Done, Pass, Released};
@@ -84,8 +84,19 @@ impl<N: Name, H: Place + Drop> Engine<N, H> {
     /// Takes the lock and keeps it until the hold is dropped: functions of the hold take no lock of their own, and
     /// nothing that another thread does under the lock comes between them.
     pub fn hold(&self, wait: &impl Wait) -> Hold<'_, N, H> {
+        self.hold_of(wait, Visitor::Holder)
+    }
+
+    // As `hold`, for a thread that makes one call.
+    pub(crate) fn hold_of_a_caller(&self, wait: &impl Wait) -> Hold<'_, N, H> {
+        self.hold_of(wait, Visitor::Caller)
+    }
+
+    // Takes the lock, and the latch before it if it can.
+    #[inline(always)]
+    fn hold_of(&self, wait: &impl Wait, visitor: Visitor) -> Hold<'_, N, H> {
         let latch: &Latch = &self.latch;
-        let latch = latch.enter().then_some(latch);
+        let latch = latch.enter(visitor).then_some(latch);
         Hold::new(self.locked.lock(wait), &self.words, &self.library, latch)
     }
 
