@@ -69,6 +69,8 @@ impl<N: Name, H: Place + Drop> Engine<N, H> {
         ensures session { session.new.table ≡ session.old.table }
     {
         let source = self.library.source(call);
+        // what the claims load under the lock is then in the cache
+        let _ = self.look(call);
         let hold = self.hold_of_a_caller(wait);
         match source {
             None => self.try_ready(wait, hold, session, call, rest),
