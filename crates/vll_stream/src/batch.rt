@@ -8,7 +8,7 @@ ghost use Rattle.vll_stream.specs.Private.Stopped.{IsOwn};
 ghost use Rattle.vll_stream.specs.Private.Told.{AreStill};
 ghost use Rattle.vll_workers.specs.Tokens.{AreFit, clients_of};
 
-use crate::epoch::make_calls;
+use crate::answering::make_calls;
 use crate::fault::StreamFault;
 use std::alloc::{AllocError, Global};
 use std::sync::Wait;

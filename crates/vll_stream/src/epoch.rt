@@ -1,29 +1,23 @@
 //! An epoch: the rounds that one engine serves.
-ghost use Rattle.std.specs.Prelude.{◌≡◌, ◌↔◌, ◌<◌, ◌≤◌, ◌+◌, ◌-◌, ℕ, ◌++◌, ◌∷◌, [], List, IfErr, IfOk, OnOk, All, Err, false, length, map, true, vec_capacity};
-ghost use Rattle.vll_check.specs.Calls.{Fits};
+ghost use Rattle.std.specs.Prelude.{◌≡◌, ◌↔◌, ◌≤◌, ◌-◌, [], List, IfErr, IfOk, OnOk, All, Err, false, length, true, vec_capacity};
 ghost use Rattle.vll_lines.specs.Lines.{has_feed};
-ghost use Rattle.vll_lines.specs.Theirs.{calls_of};
 ghost use Rattle.vll_proc.specs.Headline.Serial.{Made, end};
 ghost use Rattle.vll_queue.specs.Closed.{GoesOn};
-ghost use Rattle.vll_queue.specs.Finished.{AreFinished};
-ghost use Rattle.vll_queue.specs.Sessions.{HasItsCalls, SawOthers};
-ghost use Rattle.vll_queue.specs.Shown.{library_of, name_of};
+ghost use Rattle.vll_queue.specs.Sessions.{HasItsCalls};
+ghost use Rattle.vll_queue.specs.Shown.{name_of};
 ghost use Rattle.vll_sca.specs.Placing.{placing};
 ghost use Rattle.vll_stream.specs.declared.fault.StreamFault.TheVariants as fault;
 ghost use Rattle.vll_stream.specs.Private.Stopped.{IsOwn, StopsAfter};
-ghost use Rattle.vll_stream.specs.Private.Told.{AnswersLines, AreRounds, AreStill, AreTold, Follows, IsEpoch, IsRoundAfter, StopsRound, is_over};
+ghost use Rattle.vll_stream.specs.Private.Told.{AreRounds, AreStill, AreTold, Follows, IsEpoch, IsRoundAfter, StopsRound, is_over};
 
-use crate::batch::run_calls;
+use crate::answering::answer_lines;
 use crate::fault::StreamFault;
 use std::alloc::Global;
 use std::sync::Wait;
 use std::thread::Threads;
-use vll_core::{Line, MOST_CALLS, Ticket};
-use vll_lines::{
-    Asked, MOST_ROUND, answers, answers_at, are_theirs, count_calls, places_of, read_round,
-};
-use vll_proc::Call;
-use vll_queue::{Begun, Engine, Name, Opening, Reopened, Session};
+use vll_core::{Line, MOST_CALLS};
+use vll_lines::{MOST_ROUND, read_round};
+use vll_queue::{Engine, Name, Opening, Reopened, Session};
 use vll_sca::Placing;
 use vll_scenario::{MOST_CLIENTS, Sink, Source, write_text};
 use vll_workers::MOST_WORKERS;
@@ -33,9 +27,6 @@ const ROUND_CALLS: u32 = MOST_ROUND as u32 / 32;
 
 // With fewer calls left for an engine, the next one serves the next round.
 const LAST_ROUND: u32 = MOST_CALLS - ROUND_CALLS;
-
-// The calling thread makes the calls of a round of fewer: starting others would take longer.
-const MANY_CALLS: usize = 500;
 
 /// An epoch that has ended.
 #[derive(Drop)]
@@ -165,19 +156,6 @@ fn serve_rounds<N: Name + Send + Sync, R: Threads + Wait + Sync, S: Source, W: S
     unreachable!()
 }
 
-// The sum of two numbers of an engine's calls.
-fn added(calls: u32, more: usize) -> Result<u32, StreamFault>
-    ensures sum { IfOk result (λ sum. sum ≡ calls + more) }
-    ensures own { IfErr result IsOwn }
-{
-    if more > MOST_CALLS as usize {
-        return Err(StreamFault::Unfinished);
-    }
-    calls
-        .checked_add(more as u32)
-        .ok_or(StreamFault::Unfinished)
-}
-
 // Rounds that were served.
 #[derive(Drop)]
 struct Answered {
@@ -238,192 +216,6 @@ fn serve_round<N: Name + Send + Sync, R: Threads + Wait + Sync, S: Source, W: Si
         number: answers.number,
         is_last: round.is_last,
     })
-}
-
-// The answers to the lines of a round.
-#[derive(Drop)]
-struct Answers {
-    text: Vec<u8>,
-    // The number of the engine's calls by then.
-    calls: u32,
-    // The number of all calls by then.
-    number: u64,
-}
-
-// Makes the calls that lines ask for, and answers the lines: by the workers if the calls are many. `calls` calls of this
-// engine have been told to the observer, and `number` in all.
-fn answer_lines<N: Name + Send + Sync, R: Threads + Wait + Sync>(
-    rt: &R,
-    alloc: Global,
-    engine: &Engine<N, Placing>,
-    callers: &mut Vec<Session>,
-    observer: &mut Session,
-    workers: u32,
-    asked: &[Asked],
-    calls: u32,
-    number: u64,
-) -> Result<Answers, StreamFault>
-    requires workers { (1 ≤ workers) × (workers ≤ MOST_WORKERS) }
-    requires few { length callers.old.items ≤ MOST_CLIENTS }
-    requires callers { All (λ s. s.table ≡ N.engine.table) callers.old.items }
-    requires observer { observer.old.table ≡ N.engine.table }
-    requires fits { All (λ c. Fits (library_of N.engine) c.call) (calls_of asked.now) }
-    ensures answers { IfOk result (λ it. (told : List Made) → AreTold observer.old.session.seen calls told
-        → AnswersLines N.engine workers told observer.new.session.seen asked.now number it.text.items it.calls it.number) }
-    ensures callers { OnOk result (AreStill N.engine callers.old.items callers.new.items) }
-    ensures observer { OnOk result (observer.new.table ≡ N.engine.table) }
-    ensures own { IfErr result IsOwn }
-{
-    if workers > 1 && count_calls(asked) >= MANY_CALLS {
-        answer_by_workers(
-            rt, alloc, engine, callers, observer, workers, asked, calls, number,
-        )
-    } else {
-        answer_in_order(rt, alloc, engine, callers, observer, asked, calls, number)
-    }
-}
-
-// Makes the calls that lines ask for in the order of the lines, and answers these. `calls` calls of this engine have been
-// told to the observer, and `number` in all.
-fn answer_in_order<N: Name>(
-    wait: &impl Wait,
-    alloc: Global,
-    engine: &Engine<N, Placing>,
-    callers: &mut Vec<Session>,
-    observer: &mut Session,
-    asked: &[Asked],
-    calls: u32,
-    number: u64,
-) -> Result<Answers, StreamFault>
-    requires callers { All (λ s. s.table ≡ N.engine.table) callers.old.items }
-    requires observer { observer.old.table ≡ N.engine.table }
-    requires fits { All (λ c. Fits (library_of N.engine) c.call) (calls_of asked.now) }
-    ensures answers { IfOk result (λ it. (workers : ℕ) (told : List Made) → AreTold observer.old.session.seen calls told
-        → AnswersLines N.engine workers told observer.new.session.seen asked.now number it.text.items it.calls it.number) }
-    ensures callers { OnOk result (AreStill N.engine callers.old.items callers.new.items) }
-    ensures observer { OnOk result (observer.new.table ≡ N.engine.table) }
-    ensures own { IfErr result IsOwn }
-{
-    make_calls(wait, engine, callers, asked)?;
-    let lines = lines_of(wait, alloc, engine, observer, calls, asked)?;
-    if !are_theirs(asked, lines.as_slice()) {
-        return Err(StreamFault::Unfinished);
-    }
-    let Some(next) = number.checked_add(lines.len() as u64) else {
-        return Err(StreamFault::Unfinished);
-    };
-    Ok(Answers {
-        text: answers(alloc, asked, lines.as_slice(), number)?,
-        calls: added(calls, lines.len())?,
-        number: next,
-    })
-}
-
-// As `answer_in_order`, but several workers make the calls, each client's in the order of the lines.
-fn answer_by_workers<N: Name + Send + Sync, R: Threads + Wait + Sync>(
-    rt: &R,
-    alloc: Global,
-    engine: &Engine<N, Placing>,
-    callers: &mut Vec<Session>,
-    observer: &mut Session,
-    workers: u32,
-    asked: &[Asked],
-    calls: u32,
-    number: u64,
-) -> Result<Answers, StreamFault>
-    requires workers { (1 < workers) × (workers ≤ MOST_WORKERS) }
-    requires few { length callers.old.items ≤ MOST_CLIENTS }
-    requires callers { All (λ s. s.table ≡ N.engine.table) callers.old.items }
-    requires observer { observer.old.table ≡ N.engine.table }
-    requires fits { All (λ c. Fits (library_of N.engine) c.call) (calls_of asked.now) }
-    ensures answers { IfOk result (λ it. (told : List Made) → AreTold observer.old.session.seen calls told
-        → AnswersLines N.engine workers told observer.new.session.seen asked.now number it.text.items it.calls it.number) }
-    ensures callers { OnOk result (AreStill N.engine callers.old.items callers.new.items) }
-    ensures observer { OnOk result (observer.new.table ≡ N.engine.table) }
-    ensures own { IfErr result IsOwn }
-{
-    let clients = callers.len() as u32;
-    run_calls(rt, alloc, engine, callers, asked, workers)?;
-    let lines = lines_of(rt, alloc, engine, observer, calls, asked)?;
-    let Some(places) = places_of(alloc, asked, lines.as_slice(), clients)? else {
-        return Err(StreamFault::Unfinished);
-    };
-    let Some(next) = number.checked_add(lines.len() as u64) else {
-        return Err(StreamFault::Unfinished);
-    };
-    Ok(Answers {
-        text: answers_at(alloc, asked, lines.as_slice(), places.as_slice(), number)?,
-        calls: added(calls, lines.len())?,
-        number: next,
-    })
-}
-
-// Makes the calls that lines ask for, one after the other.
-pub(crate) fn make_calls<N: Name>(
-    wait: &impl Wait,
-    engine: &Engine<N, Placing>,
-    callers: &mut Vec<Session>,
-    asked: &[Asked],
-) -> Result<(), StreamFault>
-    requires callers { All (λ s. s.table ≡ N.engine.table) callers.old.items }
-    requires fits { All (λ c. Fits (library_of N.engine) c.call) (calls_of asked.now) }
-    ensures callers { AreStill N.engine callers.old.items callers.new.items }
-    ensures own { IfErr result IsOwn }
-{
-    for one in asked {
-        if let Ok(call) = &one.call {
-            let Some(caller) = callers.get_mut(call.client as usize) else {
-                return Err(StreamFault::Unfinished);
-            };
-            make_call(wait, engine, caller, &call.call)?;
-        }
-    }
-    Ok(())
-}
-
-// Makes a call while no other one is in the engine, so that it waits for none.
-fn make_call<N: Name>(
-    wait: &impl Wait,
-    engine: &Engine<N, Placing>,
-    caller: &mut Session,
-    call: &Call,
-) -> Result<(), StreamFault>
-    requires caller { caller.old.table ≡ N.engine.table }
-    requires fits { Fits (library_of N.engine) call.now }
-    ensures caller { caller.new.table ≡ caller.old.table }
-    ensures own { IfErr result IsOwn }
-{
-    match engine.begin(wait, caller, call) {
-        Begun::Free(pass) => {
-            engine.finish(wait, engine.release(engine.execute(pass)));
-            Ok(())
-        }
-        Begun::Blocked(_) | Begun::Refused(_) => Err(StreamFault::Unfinished),
-    }
-}
-
-// The journal's lines from a ticket on, as many as lines ask for calls.
-fn lines_of<N: Name>(
-    wait: &impl Wait,
-    alloc: Global,
-    engine: &Engine<N, Placing>,
-    observer: &mut Session,
-    first: u32,
-    asked: &[Asked],
-) -> Result<Vec<Line>, StreamFault>
-    requires observer { observer.old.table ≡ N.engine.table }
-    ensures finished { IfOk result (λ lines. AreFinished N.engine observer.new.session.seen first lines.items) }
-    ensures few { IfOk result (λ lines. length lines.items ≤ MOST_ROUND) }
-    ensures others { OnOk result (SawOthers observer.old.session observer.new.session) }
-    ensures observer { OnOk result (observer.new.table ≡ N.engine.table) }
-    ensures own { IfErr result IsOwn }
-{
-    let mut lines = Vec::with_capacity(alloc, count_calls(asked))?;
-    engine.lines_from(wait, observer, Ticket(first), &mut lines);
-    if lines.len() > MOST_ROUND {
-        return Err(StreamFault::Unfinished);
-    }
-    Ok(lines)
 }
 
 // What follows the rounds of an engine, which have made so many calls: the next engine, or nothing after the last one.

@@ -11,6 +11,7 @@
 //! ```
 #![tactic(auto)]
 
+mod answering;
 mod batch;
 mod epoch;
 mod fault;

@@ -7,7 +7,7 @@ use Rattle.vll_lines.specs.Placed.{AreTheirsAt}
 use Rattle.vll_lines.specs.declared.asked.Asked.{Asked}
 use Rattle.vll_stream.specs.Private.Told.{AnswersLines}
 use Rattle.vll_stream.proofs.Rounds.{lines_answered}
-use Rattle.vll_stream.proofs.epoch.answer_by_workers.Goals as goal
+use Rattle.vll_stream.proofs.answering.answer_by_workers.Goals as goal
 
 pub returns-clause-answers : goal.returns-clause-answers
 returns-clause-answers g c = λ told are.

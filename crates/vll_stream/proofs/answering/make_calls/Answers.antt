@@ -4,7 +4,7 @@ use Rattle.vll_check.specs.Calls.{Fits}
 use Rattle.vll_queue.specs.Shown.{library_of}
 use Rattle.vll_lines.specs.declared.asked.ClientCall.{ClientCall}
 use Rattle.vll_stream.proofs.Rounds.{call_at}
-use Rattle.vll_stream.proofs.epoch.make_calls.Goals as goal
+use Rattle.vll_stream.proofs.answering.make_calls.Goals as goal
 
 pub make_call-requires-clause-fits : goal.make_call-requires-clause-fits
 make_call-requires-clause-fits g c =

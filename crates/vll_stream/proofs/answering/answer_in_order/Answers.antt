@@ -6,7 +6,7 @@ use Rattle.vll_lines.specs.Theirs.{AreTheirs}
 use Rattle.vll_lines.specs.declared.asked.Asked.{Asked}
 use Rattle.vll_stream.specs.Private.Told.{AnswersLines}
 use Rattle.vll_stream.proofs.Rounds.{lines_answered_in_order}
-use Rattle.vll_stream.proofs.epoch.answer_in_order.Goals as goal
+use Rattle.vll_stream.proofs.answering.answer_in_order.Goals as goal
 
 pub returns-clause-answers : goal.returns-clause-answers
 returns-clause-answers g c = λ workers told are.
