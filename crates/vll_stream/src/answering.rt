@@ -1,5 +1,5 @@
 //! The answers to the lines of a round, by the calls that they ask for.
-ghost use Rattle.std.specs.Prelude.{◌≡◌, ◌<◌, ◌≤◌, ◌+◌, ℕ, List, IfErr, IfOk, OnOk, All, length};
+ghost use Rattle.std.specs.Prelude.{◌≡◌, ◌<◌, ◌≤◌, ◌+◌, ◌^◌, ℕ, List, IfErr, IfOk, OnOk, All, length};
 ghost use Rattle.vll_check.specs.Calls.{Fits};
 ghost use Rattle.vll_lines.specs.Theirs.{calls_of};
 ghost use Rattle.vll_proc.specs.Headline.Serial.{Made};
@@ -94,13 +94,11 @@ fn answer_in_order<N: Name>(
     if !are_theirs(asked, lines.as_slice()) {
         return Err(StreamFault::Unfinished);
     }
-    let Some(next) = number.checked_add(lines.len() as u64) else {
-        return Err(StreamFault::Unfinished);
-    };
+    let sums = counted(calls, number, lines.len())?;
     Ok(Answers {
         text: answers(alloc, asked, lines.as_slice(), number)?,
-        calls: added(calls, lines.len())?,
-        number: next,
+        calls: sums.0,
+        number: sums.1,
     })
 }
 
@@ -133,14 +131,25 @@ fn answer_by_workers<N: Name + Send + Sync, R: Threads + Wait + Sync>(
     let Some(places) = places_of(alloc, asked, lines.as_slice(), clients)? else {
         return Err(StreamFault::Unfinished);
     };
-    let Some(next) = number.checked_add(lines.len() as u64) else {
-        return Err(StreamFault::Unfinished);
-    };
+    let sums = counted(calls, number, lines.len())?;
     Ok(Answers {
         text: answers_at(alloc, asked, lines.as_slice(), places.as_slice(), number)?,
-        calls: added(calls, lines.len())?,
-        number: next,
+        calls: sums.0,
+        number: sums.1,
     })
+}
+
+// The number of the engine's calls and that of all calls, after so many more.
+fn counted(calls: u32, number: u64, more: usize) -> Result<(u32, u64), StreamFault>
+    ensures calls { IfOk result (λ sums. sums.0 ≡ calls + more) }
+    ensures number { IfOk result (λ sums. sums.1 ≡ number + more) }
+    ensures fits { IfOk result (λ sums. number + more < 2 ^ 64) }
+    ensures own { IfErr result IsOwn }
+{
+    let Some(next) = number.checked_add(more as u64) else {
+        return Err(StreamFault::Unfinished);
+    };
+    Ok((added(calls, more)?, next))
 }
 
 // The sum of two numbers of an engine's calls.

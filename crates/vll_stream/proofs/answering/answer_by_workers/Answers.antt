@@ -15,6 +15,8 @@ returns-clause-answers g c = λ told are.
     let lines : List Line = c.in_ok-lines.lines.items in
     let asked : List Asked = c.args.asked.now in
     let text : List ℕ = c.in_ok-answers_at.field-0.items in
+    let sums = c.in_ok-sums.sums in
+    let counted = c.in_ok-sums.ensures in
     let now = c.lines_of.new.observer.session.seen in
     let places : List ℕ = c.in-Some.places.items in
     let theirs : AreTheirsAt asked lines places =
@@ -22,8 +24,7 @@ returns-clause-answers g c = λ told are.
     (subst (λ (o : Option (Vec ℕ)). IfSome o (λ (ps : Vec ℕ). AreTheirsAt asked c.as_slice.result.now ps.items)) c.in-Some.is c.in_ok-places.ensures.theirs) in
     let answered : (rs : List Reply) → map (λ (l : Line). l.reply) lines ≡ map Some rs → text ≡ answers_by asked (told_at c.args.number rs places) =
     λ rs same. c.in_ok-answers_at.ensures rs (ap (map (λ (l : Line). l.reply)) c.as_slice-2.ensures.value ∙ same) ∙ ap (λ (ps : List ℕ). answers_by asked (told_at c.args.number rs ps)) c.as_slice-3.ensures.value in
-    let number : c.in-Some-checked_add.next ≡ c.args.number + length lines = let s = c.in-Some-checked_add.ensures in let l = c.len.ensures in let k = c.in_ok-lines.lines.ok.0 in omega (arith, s, l, k) in
-    let calls : c.args.calls + length lines ≡ c.in_ok-added.field-0 = let s = c.in_ok-added.ensures.sum in let l = c.len-2.ensures in let k = c.in_ok-lines.lines.ok.0 in omega (arith, s, l, k) in
-    subst (λ (n : ℕ). AnswersLines e c.args.workers told now asked c.args.number text n c.in-Some-checked_add.next) calls
-    (lines_answered e c.args.workers c.args.observer.now.session.seen now told c.in_ok-lines.ensures.others.others c.args.calls lines places asked c.args.number text c.in-Some-checked_add.next are
-    c.in_ok-lines.ensures.others.seen c.in_ok-lines.ensures.finished theirs c.in_ok-lines.ensures.few (λ one. absurd (let many = c.requires.workers.0 in omega (arith, one, many))) answered number)
+    let made : c.len.result ≡ length lines = c.len.ensures ∙ c.in_ok-lines.lines.ok.0 in
+    subst (λ (n : ℕ). AnswersLines e c.args.workers told now asked c.args.number text n sums.1) (let s = counted.calls in let e : c.args.calls + length lines ≡ sums.0 = omega (arith, s, made) in e)
+    (lines_answered e c.args.workers c.args.observer.now.session.seen now told c.in_ok-lines.ensures.others.others c.args.calls lines places asked c.args.number text sums.1 are
+    c.in_ok-lines.ensures.others.seen c.in_ok-lines.ensures.finished theirs c.in_ok-lines.ensures.few (λ one. absurd (let many = c.requires.workers.0 in omega (arith, one, many))) answered (omega (arith, counted.number, made)))

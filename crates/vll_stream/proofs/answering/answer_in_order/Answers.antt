@@ -14,12 +14,13 @@ returns-clause-answers g c = λ workers told are.
     let lines : List Line = c.in_ok-lines.lines.items in
     let asked : List Asked = c.args.asked.now in
     let text : List ℕ = c.in_ok-answers.field-0.items in
+    let sums = c.in_ok-sums.sums in
+    let counted = c.in_ok-sums.ensures in
     let now = c.lines_of.new.observer.session.seen in
     let theirs : AreTheirs asked lines = subst (AreTheirs asked) c.as_slice.ensures.value (c.are_theirs.ensures.theirs c.if-not-are_theirs.false) in
     let answered : (rs : List Reply) → map (λ (l : Line). l.reply) lines ≡ map Some rs → text ≡ answers asked c.args.number rs =
     λ rs same. c.in_ok-answers.ensures rs (ap (map (λ (l : Line). l.reply)) c.as_slice-2.ensures.value ∙ same) in
-    let number : c.in-Some.next ≡ c.args.number + length lines = let s = c.in-Some.ensures in let l = c.len.ensures in let k = c.in_ok-lines.lines.ok.0 in omega (arith, s, l, k) in
-    let calls : c.args.calls + length lines ≡ c.in_ok-added.field-0 = let s = c.in_ok-added.ensures.sum in let l = c.len-2.ensures in let k = c.in_ok-lines.lines.ok.0 in omega (arith, s, l, k) in
-    subst (λ (n : ℕ). AnswersLines e workers told now asked c.args.number text n c.in-Some.next) calls
-    (lines_answered_in_order e workers c.args.observer.now.session.seen now told c.in_ok-lines.ensures.others.others c.args.calls lines asked c.args.number text c.in-Some.next are
-    c.in_ok-lines.ensures.others.seen c.in_ok-lines.ensures.finished theirs c.in_ok-lines.ensures.few answered number)
+    let made : c.len.result ≡ length lines = c.len.ensures ∙ c.in_ok-lines.lines.ok.0 in
+    subst (λ (n : ℕ). AnswersLines e workers told now asked c.args.number text n sums.1) (let s = counted.calls in let e : c.args.calls + length lines ≡ sums.0 = omega (arith, s, made) in e)
+    (lines_answered_in_order e workers c.args.observer.now.session.seen now told c.in_ok-lines.ensures.others.others c.args.calls lines asked c.args.number text sums.1 are
+    c.in_ok-lines.ensures.others.seen c.in_ok-lines.ensures.finished theirs c.in_ok-lines.ensures.few answered (omega (arith, counted.number, made)))
