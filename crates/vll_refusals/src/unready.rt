@@ -1,6 +1,6 @@
 //! The failure to make what a function needs before it is called.
 use std::alloc::{AllocError, AllocFailed};
-use std::io;
+use std::{fmt, io};
 use vll_check::CallFault;
 use vll_core::OpenFault;
 use vll_queue::EngineFault;
@@ -24,6 +24,12 @@ impl<T: Drop> From<AllocFailed<T>> for Unready {
 
 impl From<io::Error> for Unready {
     fn from(_: io::Error) -> Unready {
+        Unready
+    }
+}
+
+impl From<fmt::Error> for Unready {
+    fn from(_: fmt::Error) -> Unready {
         Unready
     }
 }

@@ -22,8 +22,8 @@ use vll_sca::Placing;
 use vll_scenario::MOST_CLIENTS;
 use vll_workers::MOST_WORKERS;
 
-// The calling thread makes the calls of a round of fewer: starting others would take longer.
-const MANY_CALLS: usize = 500;
+/// The calling thread makes the calls of a round of fewer: starting others would take longer.
+pub const MANY_CALLS: usize = 500;
 
 /// The answers to the lines of a round.
 #[derive(Drop)]

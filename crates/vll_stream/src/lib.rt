@@ -17,5 +17,6 @@ mod epoch;
 mod fault;
 mod serving;
 
+pub use answering::MANY_CALLS;
 pub use fault::StreamFault;
 pub use serving::serve_stream;

@@ -26,7 +26,8 @@ use vll_workers::MOST_WORKERS;
 ///
 /// It reads what has come, makes these calls, writes their answers, and reads again. With one worker (of 1 to
 /// `MOST_WORKERS`) the calls are made one after the other in the order of their lines. With several, they make the calls
-/// of a large round, and only each client's are made in the order of its lines; a round comes wholly before the next.
+/// of a round of `MANY_CALLS` or more, and only each client's are made in the order of its lines; a round comes wholly
+/// before the next.
 ///
 /// The records, procedures, cap, bits, hash and the number of clients are those of the scenario; its scripts have to be
 /// empty, or it returns `Calls`; its limit and its schedule are not read. No more input is asked for while a line that
