@@ -11,7 +11,7 @@ use Rattle.vll_lines.specs.Lines.{lines_in}
 use Rattle.vll_stream.specs.declared.fault.StreamFault.{StreamFault}
 use Rattle.vll_stream.specs.declared.fault.StreamFault.TheVariants as fault
 use Rattle.vll_stream.specs.Served.{AreAnswered, EndsEarly, ServesLines, Stopped, Wrote, base_of, last_line}
-use Rattle.vll_stream.proofs.Stops.{begins_then, part_then_stops}
+use Rattle.vll_stream.proofs.Stops.{begins_then, part_answers, part_then_stops}
 use Rattle.vll_proc.specs.Headline.Serial.{Made, end}
 use Rattle.vll_proc.specs.Serial.{replies}
 use Rattle.vll_proc.proofs.Joined.{end_joined}
@@ -134,15 +134,8 @@ module _ (s : Setup) (workers : ℕ) (old new before written : Option (List ℕ)
 
   all_answered : AreAnswered s workers (lines_in all.part.bytes) all.calls all.part.text
   all_answered =
-      let part = all.part in
-      record {
-        asked = part.asked;
-        read = subst (λ (ls : List (List ℕ)). AreAsked (catalog_of (base_of s)) (length s.scripts) ls part.asked) (sym part.cut.1) part.are;
-        rounds = part.rounds;
-        ordered = part.ordered;
-        found = all.found;
-        written = part.answered;
-      }
+      subst (λ (ls : List (List ℕ)). AreAnswered s workers ls all.calls all.part.text) (sym all.part.cut.1)
+      (part_answers s workers old before (record { input = new; tail = tail; output = written; number = n }) true all.calls all.part all.found)
 
   -- all epochs, and then the last line
   pub serves_all : (final : Option (List ℕ)) → Appends written final (end_line n left) → ServesLines s workers old new (Appends before final)

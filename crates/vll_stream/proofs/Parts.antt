@@ -1,6 +1,7 @@
 -- Two parts of a service, one after the other.
-use Rattle.std.proofs.Common.{◌≡◌, ℕ, Bool, true, false, List, [], ◌++◌, length, map, refl, sym, ap, ◌∙◌, arith, rules, append_assoc, append-nil, length-append}
+use Rattle.std.proofs.Common.{◌≡◌, ℕ, Bool, true, false, List, Option, [], ◌++◌, length, map, refl, sym, ap, ◌∙◌, arith, rules, append_assoc, append-nil, length-append}
 use Rattle.std.proofs.KnownBytes.{Appends-nil, Appends-trans, Consumes-nil, Consumes-trans}
+use Rattle.std.specs.Io.KnownBytes.{Consumes}
 use Rattle.std.specs.List.{concat}
 use Rattle.vll_proc.specs.Headline.Serial.{Made, end}
 use Rattle.vll_proc.specs.Serial.{replies}
@@ -24,14 +25,15 @@ cut_further false tail first mid second after one two front back = λ rest.
     ∙ (ap (λ (ls : List (List ℕ)). one ++ ls) (back rest) ∙ sym (append_assoc one two (lines_in (after ++ rest))))))
 
 module _ (library : Catalog) (clients workers : ℕ) (records : List ℕ) where
-  -- no round yet
-  pub no_part : (at : Place) → IsPart library clients workers records [] false at at
-  no_part at = record {
-    bytes = [];
-    read = Consumes-nil at.input;
+  -- bytes were read, and no line is answered yet
+  pub part_unanswered : (at : Place) (left : Option (List ℕ)) (tail bytes : List ℕ) → Consumes at.input left bytes → at.tail ++ bytes ≡ tail
+      → IsPart library clients workers records [] false at (record { input = left; tail = tail; output = at.output; number = at.number })
+  part_unanswered at left tail bytes read is = record {
+    bytes = bytes;
+    read = read;
     ended = λ last. absurd (search rules);
     lines = [];
-    cut = λ rest. ap (λ (l : List ℕ). lines_in (l ++ rest)) (append-nil at.tail);
+    cut = λ rest. ap (λ (l : List ℕ). lines_in (l ++ rest)) is;
     asked = [];
     are = tt;
     rounds = [];
@@ -41,6 +43,14 @@ module _ (library : Catalog) (clients workers : ℕ) (records : List ℕ) where
     written = Appends-nil at.output;
     number = omega arith;
   }
+
+  pub part_unanswered_text : (at : Place) (left : Option (List ℕ)) (tail bytes : List ℕ) (read : Consumes at.input left bytes) (is : at.tail ++ bytes ≡ tail) → [] ≡ (part_unanswered at left tail bytes read is).text
+  unfolding part_unanswered
+  part_unanswered_text at left tail bytes read is = refl
+
+  -- no round yet
+  pub no_part : (at : Place) → IsPart library clients workers records [] false at at
+  no_part at = part_unanswered at at.input at.tail [] (Consumes-nil at.input) (append-nil at.tail)
 
   -- a part after another one, which was not the last
   pub part_then : (is_last : Bool) (old mid new : Place) (calls more : List Made) → IsPart library clients workers records calls false old mid

@@ -25,6 +25,7 @@ use Rattle.vll_lines.proofs.Placed.{theirs_in_order}
 use Rattle.vll_lines.proofs.Told.{answers_in_order}
 use Rattle.std.specs.List.{range_with_len}
 use Rattle.std.proofs.lemmas.List.FromFn.{length-range_with_len}
+use Rattle.vll_stream.proofs.Answered.{length-calls_in}
 use Rattle.vll_stream.proofs.Ordered.{ordered_round}
 use Rattle.vll_lines.specs.declared.asked.Asked.{Asked}
 use Rattle.vll_lines.specs.declared.asked.ClientCall.{ClientCall}
@@ -68,7 +69,7 @@ module _ (e : Named) (seen now : List Made) (calls others : List Made) (n : ℕ)
   pub told_more : AreTold seen n calls → now ≡ seen ++ others → AreFinished e now n lines → AreTold now (n + length lines) (calls ++ calls_in lines)
   told_more told grown finished = record {
     first = ap (λ (l : List Made). l ++ calls_in lines) (first_still told grown) ∙ (ap (λ (l : List Made). take n now ++ l) finished.calls ∙ sym (take-add n (length lines) now));
-    many = let long : length (calls_in lines) ≡ length lines = length-map lines (λ (l : Line). (l.client, l.call)) in omega (arith, length-append calls (calls_in lines), told.many, long);
+    many = let long = length-calls_in lines in omega (arith, length-append calls (calls_in lines), told.many, long);
   }
 
   -- their replies are those of a serial run after the calls before
@@ -81,7 +82,7 @@ module _ (e : Named) (seen now : List Made) (calls others : List Made) (n : ℕ)
       let more = told_more told grown finished in
       let whole : now ≡ calls ++ (calls_in lines ++ after) =
       sym (take-append-drop (n + length lines) now) ∙ (ap (λ (l : List Made). l ++ after) (sym more.first) ∙ append_assoc calls (calls_in lines) after) in
-      let long : length (calls_in lines) ≡ length lines = length-map lines (λ (l : Line). (l.client, l.call)) in
+      let long = length-calls_in lines in
       replies_of procs lines (end procs calls records)
       (λ t l at.
       finished.answered t l at
@@ -104,7 +105,7 @@ pub lines_answered : (e : Named) (workers : ℕ) (seen now calls others : List M
     → ((rs : List Reply) → map (λ (l : Line). l.reply) lines ≡ map Some rs → text ≡ answers_by asked (told_at from rs places)) → next ≡ from + length lines
     → AnswersLines e workers calls now asked from text (n + length lines) next
 lines_answered e workers seen now calls others n lines places asked from text next told grown finished theirs few in_order answered number =
-    let long : length (calls_in lines) ≡ length lines = length-map lines (λ (l : Line). (l.client, l.call)) in
+    let long = length-calls_in lines in
     let rs : List Reply = replies e.base.procs (calls_in lines) (end e.base.procs calls e.base.records) in
     let more = told_more e seen now calls others n lines told grown finished in
     record {

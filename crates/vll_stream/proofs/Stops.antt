@@ -1,20 +1,20 @@
 -- A service that stops before its input ends.
-use Rattle.std.proofs.Common.{◌≡◌, ℕ, Bool, true, false, List, [], ◌++◌, length, refl, sym, ap, ◌∙◌, subst, arith, rules, Option, append_assoc, append-nil}
+use Rattle.std.proofs.Common.{◌≡◌, ℕ, Bool, true, false, List, [], ◌++◌, length, refl, sym, ap, ◌∙◌, subst, Option, append_assoc, append-nil}
 use Rattle.std.proofs.KnownBytes.{Appends-nil, Appends-trans, Consumes-nil}
 use Rattle.std.specs.Io.KnownBytes.{Appends, Consumes}
-use Rattle.vll_proc.specs.Headline.Serial.{Made}
+use Rattle.vll_proc.specs.Headline.Serial.{Made, end}
 use Rattle.vll_core.specs.Headline.State.{Base, catalog_of}
 use Rattle.vll_scenario.specs.Headline.Setup.{Setup}
 use Rattle.vll_scenario.specs.Streams.{AppendsBeginning}
 use Rattle.vll_queue.specs.Headline.Found.{AreFoundThere}
 use Rattle.vll_stream.specs.declared.fault.StreamFault.{StreamFault}
 use Rattle.vll_stream.specs.declared.fault.StreamFault.TheVariants as fault
-use Rattle.vll_stream.specs.Served.{EndsEarly, Stopped, Wrote, base_of, last_line}
+use Rattle.vll_stream.specs.Served.{AreAnswered, EndsEarly, Stopped, Wrote, base_of, last_line}
 use Rattle.vll_stream.specs.Private.Parts.{IsPart, Place}
 use Rattle.vll_stream.specs.Private.Stopped.{IsOwn, StopsAfter}
 use Rattle.vll_stream.proofs.Found.{none_found}
 use Rattle.vll_stream.proofs.Ordered.{ordered_none}
-use Rattle.vll_stream.proofs.Parts.{part_then, part_then_text}
+use Rattle.vll_stream.proofs.Parts.{part_then, part_then_text, part_unanswered, part_unanswered_text}
 
 -- a text was appended, and then a beginning of another one
 pub begins_then : (a b c : Option (List ℕ)) (xs ys : List ℕ) → Appends a b xs → AppendsBeginning b c ys → AppendsBeginning a c (xs ++ ys)
@@ -83,25 +83,13 @@ module _ (base : Base) (clients workers : ℕ) (calls : List Made) (why : Stream
     tail = old.tail ++ bytes;
     whole = old.output;
     number = old.number;
-    part = record {
-      bytes = bytes;
-      read = read;
-      ended = λ last. absurd (search rules);
-      lines = [];
-      cut = λ rest. refl;
-      asked = [];
-      are = tt;
-      rounds = [];
-      ordered = ordered_none workers;
-      text = [];
-      answered = refl;
-      written = Appends-nil old.output;
-      number = omega arith;
-    };
+    part = part_unanswered (catalog_of base) clients workers (end base.procs calls base.records) old left (old.tail ++ bytes) bytes read refl;
     found = subst (AreFoundThere base) (sym (append-nil calls)) found;
     uncalled = uncalled;
     stopped = stopped;
-    wrote = nothing_wrote why old.output;
+    wrote =
+        subst (λ (text : List ℕ). Wrote why false old.output old.output text [])
+        (part_unanswered_text (catalog_of base) clients workers (end base.procs calls base.records) old left (old.tail ++ bytes) bytes read refl) (nothing_wrote why old.output);
   }
 
 -- nothing was read or written
@@ -145,6 +133,19 @@ part_then_stops base clients workers calls why old mid left written part stops =
           (wrote_then why old.output mid.output written part.text stops.part.text part.written stops.wrote);
     }
 
+-- a part from the opening records on answers its lines
+pub part_answers : (s : Setup) (workers : ℕ) (old before : Option (List ℕ)) (new : Place) (is_last : Bool) (calls : List Made)
+    (part : IsPart (catalog_of (base_of s)) (length s.scripts) workers s.records calls is_last (record { input = old; tail = []; output = before; number = 0 }) new) → AreFoundThere (base_of s) calls
+    → AreAnswered s workers part.lines calls part.text
+part_answers s workers old before new is_last calls part found = record {
+  asked = part.asked;
+  read = part.are;
+  rounds = part.rounds;
+  ordered = part.ordered;
+  found = found;
+  written = part.answered;
+}
+
 -- from the opening records on
 pub ends_early : (s : Setup) (workers : ℕ) (why : StreamFault) (old left before written : Option (List ℕ))
     → StopsAfter (base_of s) (length s.scripts) workers [] why (record { input = old; tail = []; output = before; number = 0 }) left written → EndsEarly s workers why old left before written
@@ -159,14 +160,7 @@ ends_early s workers why old left before written stops =
       cut = part.cut;
       calls = stops.more;
       text = part.text;
-      answered = record {
-        asked = part.asked;
-        read = part.are;
-        rounds = part.rounds;
-        ordered = part.ordered;
-        found = stops.found;
-        written = part.answered;
-      };
+      answered = part_answers s workers old before (record { input = left; tail = stops.tail; output = stops.whole; number = stops.number }) stops.is_last stops.more part stops.found;
       stopped = stops.stopped;
       wrote = wrote_longer why stops.is_last before written part.text (last_line s stops.more) stops.wrote;
     }

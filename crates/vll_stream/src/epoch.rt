@@ -7,6 +7,7 @@ ghost use Rattle.vll_queue.specs.Sessions.{HasItsCalls};
 ghost use Rattle.vll_queue.specs.Shown.{name_of};
 ghost use Rattle.vll_sca.specs.Placing.{placing};
 ghost use Rattle.vll_stream.specs.declared.fault.StreamFault.TheVariants as fault;
+ghost use Rattle.vll_stream.specs.Private.Parts.{place_of};
 ghost use Rattle.vll_stream.specs.Private.Stopped.{IsOwn, StopsAfter};
 ghost use Rattle.vll_stream.specs.Private.Told.{AreRounds, AreStill, AreTold, Follows, IsEpoch, IsRoundAfter, StopsRound, is_over};
 
@@ -66,14 +67,14 @@ pub(crate) fn run_epoch<N: Name + Send + Sync, R: Threads + Wait + Sync, S: Sour
     requires writer { W.failed writer.old ≡ false }
     requires tail { has_feed tail.old.items ≡ false }
     ensures epoch { IfOk result (λ ended. IsEpoch N.engine (N.engine.clients - 1) workers
-        (record { input = S.remaining reader.old; tail = tail.old.items; output = W.contents writer.old; number = number })
-        (record { input = S.remaining reader.new; tail = tail.new.items; output = W.contents writer.new; number = ended.number })
+        (place_of S.remaining W.contents reader.old tail.old.items writer.old number)
+        (place_of S.remaining W.contents reader.new tail.new.items writer.new ended.number)
         ended.then) }
     ensures reader { OnOk result (S.failed reader.new ≡ false) }
     ensures writer { OnOk result (W.failed writer.new ≡ false) }
     ensures tail { OnOk result (has_feed tail.new.items ≡ false) }
     ensures err { IfErr result (λ why. StopsAfter N.engine.base (N.engine.clients - 1) workers [] why
-        (record { input = S.remaining reader.old; tail = tail.old.items; output = W.contents writer.old; number = number }) (S.remaining reader.new) (W.contents writer.new)) }
+        (place_of S.remaining W.contents reader.old tail.old.items writer.old number) (S.remaining reader.new) (W.contents writer.new)) }
     ensures read { (result ≡ Err fault.Read) ↔ (S.failed reader.new ≡ true) }
     ensures write { (result ≡ Err fault.Write) ↔ (W.failed writer.new ≡ true) }
 {
@@ -125,15 +126,15 @@ fn serve_rounds<N: Name + Send + Sync, R: Threads + Wait + Sync, S: Source, W: S
     requires writer { W.failed writer.old ≡ false }
     requires tail { has_feed tail.old.items ≡ false }
     ensures rounds { IfOk result (λ rounds. AreRounds N.engine (length callers.old.items) workers observer.new.session.seen rounds.calls rounds.is_last
-        (record { input = S.remaining reader.old; tail = tail.old.items; output = W.contents writer.old; number = number })
-        (record { input = S.remaining reader.new; tail = tail.new.items; output = W.contents writer.new; number = rounds.number })) }
+        (place_of S.remaining W.contents reader.old tail.old.items writer.old number)
+        (place_of S.remaining W.contents reader.new tail.new.items writer.new rounds.number)) }
     ensures callers { OnOk result (AreStill N.engine callers.old.items callers.new.items) }
     ensures observer { OnOk result (observer.new.table ≡ N.engine.table) }
     ensures reader { OnOk result (S.failed reader.new ≡ false) }
     ensures writer { OnOk result (W.failed writer.new ≡ false) }
     ensures tail { OnOk result (has_feed tail.new.items ≡ false) }
     ensures err { IfErr result (λ why. StopsAfter N.engine.base (length callers.old.items) workers [] why
-        (record { input = S.remaining reader.old; tail = tail.old.items; output = W.contents writer.old; number = number }) (S.remaining reader.new) (W.contents writer.new)) }
+        (place_of S.remaining W.contents reader.old tail.old.items writer.old number) (S.remaining reader.new) (W.contents writer.new)) }
     ensures read { (result ≡ Err fault.Read) ↔ (S.failed reader.new ≡ true) }
     ensures write { (result ≡ Err fault.Write) ↔ (W.failed writer.new ≡ true) }
 {
@@ -191,15 +192,15 @@ fn serve_round<N: Name + Send + Sync, R: Threads + Wait + Sync, S: Source, W: Si
     requires tail { has_feed tail.old.items ≡ false }
     ensures round { IfOk result (λ round. (told : List Made) → AreTold observer.old.session.seen calls told
         → IsRoundAfter N.engine (length callers.old.items) workers told observer.new.session.seen round.calls round.is_last
-        (record { input = S.remaining reader.old; tail = tail.old.items; output = W.contents writer.old; number = number })
-        (record { input = S.remaining reader.new; tail = tail.new.items; output = W.contents writer.new; number = round.number })) }
+        (place_of S.remaining W.contents reader.old tail.old.items writer.old number)
+        (place_of S.remaining W.contents reader.new tail.new.items writer.new round.number)) }
     ensures callers { OnOk result (AreStill N.engine callers.old.items callers.new.items) }
     ensures observer { OnOk result (observer.new.table ≡ N.engine.table) }
     ensures reader { OnOk result (S.failed reader.new ≡ false) }
     ensures writer { OnOk result (W.failed writer.new ≡ false) }
     ensures tail { OnOk result (has_feed tail.new.items ≡ false) }
     ensures err { IfErr result (StopsRound N.engine (length callers.old.items) workers observer.old.session.seen calls
-        (record { input = S.remaining reader.old; tail = tail.old.items; output = W.contents writer.old; number = number })
+        (place_of S.remaining W.contents reader.old tail.old.items writer.old number)
         (S.remaining reader.new) (W.contents writer.new)) }
     ensures read { (result ≡ Err fault.Read) ↔ (S.failed reader.new ≡ true) }
     ensures write { (result ≡ Err fault.Write) ↔ (W.failed writer.new ≡ true) }

@@ -19,6 +19,10 @@ pub record Place : Type 0 where
   pub output : Option (List ℕ)
   pub number : ℕ
 
+-- where a service stands with this reader, these bytes of a line, this writer and this number of calls
+abbrev pub place_of : {S W : Type 0} → (S → Option (List ℕ)) → (W → Option (List ℕ)) → S → List ℕ → W → ℕ → Place
+place_of remaining contents reader tail writer number = record { input = remaining reader; tail = tail; output = contents writer; number = number }
+
 -- from one place to another, lines were cut off the input, up to its end if this is the last part, and answered by
 -- these calls, as if they were made one at a time from these records
 pub record IsPart (library : Catalog) (clients workers : ℕ) (records : List ℕ) (calls : List Made) (is_last : Bool) (old new : Place) : Type 0 where

@@ -5,21 +5,23 @@ use Rattle.vll_queue.specs.Shown.{name_of}
 use Rattle.vll_sca.specs.Placing.{placing}
 use Rattle.vll_lines.specs.Answers.{end_line}
 use Rattle.vll_lines.specs.Lines.{has_feed}
-use Rattle.vll_stream.specs.Private.Parts.{Place}
-use Rattle.vll_stream.specs.Private.Told.{IsEpoch, IsSoFar}
+use Rattle.vll_stream.specs.Private.Parts.{Place, place_of}
+use Rattle.vll_stream.specs.Private.Told.{AreAll, IsEpoch, IsSoFar}
 use Rattle.vll_stream.specs.Served.{EndsEarly, base_of}
 use Rattle.vll_stream.specs.declared.fault.StreamFault.{StreamFault}
 use Rattle.vll_stream.specs.declared.fault.StreamFault.TheVariants as fault
 use Rattle.vll_scenario.specs.Streams.{AppendsBeginning}
 use Rattle.vll_stream.proofs.Epochs.{breaks_off, epoch_stops, lacks_memory, none_so_far, one_more, serves_all, the_last}
 use Rattle.vll_stream.proofs.Stops.{ends_at_once, ends_early}
+use Rattle.vll_stream.proofs.serving.serve_stream.Given.{Over}
+use Rattle.vll_stream.proofs.serving.serve_stream.Goals.{After-as_slice-in-Over, In-Over}
 use Rattle.vll_stream.proofs.serving.serve_stream.Goals as goal
 
 pub loop-init : goal.loop-init
 loop-init g c =
     let base : Base = base_of c.args.scenario in
     let clients : ℕ = length c.args.scenario.scripts in
-    let at : Place = record { input = g.S.Source.remaining c.args.reader.now; tail = []; output = g.W.Sink.contents c.args.writer.now; number = 0 } in
+    let at : Place = place_of g.S.Source.remaining g.W.Sink.contents c.args.reader.now [] c.args.writer.now 0 in
     let o = c.in_ok-opening.ensures in
     let none = none_so_far base clients c.args.workers at c.in_ok-opening.opening o.library o.records o.clients o.limit in (
       tt,
@@ -40,9 +42,9 @@ loop-preserved g c =
     let l = c.loop in
     let e = name_of placing l.opening in
     let so_far = l.invariant.6 in
-    let old : Place = record { input = known c.args.reader.now; tail = []; output = contents c.args.writer.now; number = 0 } in
-    let mid : Place = record { input = known l.reader; tail = l.tail.items; output = contents l.writer; number = l.number } in
-    let new : Place = record { input = known c.run_epoch.new.reader; tail = c.run_epoch.new.tail.items; output = contents c.run_epoch.new.writer; number = c.in_ok-ended.ended.number } in
+    let old : Place = place_of known contents c.args.reader.now [] c.args.writer.now 0 in
+    let mid : Place = place_of known contents l.reader l.tail.items l.writer l.number in
+    let new : Place = place_of known contents c.run_epoch.new.reader c.run_epoch.new.tail.items c.run_epoch.new.writer c.in_ok-ended.ended.number in
     let epoch = subst (IsEpoch e (e.clients - 1) c.args.workers mid new) c.in-On.is c.in_ok-ended.ensures.epoch in
     let few = epoch.follows.1 in (
       tt,
@@ -54,26 +56,35 @@ loop-preserved g c =
       one_more base clients c.args.workers old mid new l.opening so_far epoch.calls _ epoch.part epoch.found c.in-On.next epoch.follows.0 refl,
     )
 
-pub returns-in-Over-clause-ok : goal.returns-in-Over-clause-ok
-returns-in-Over-clause-ok g c =
-    let base : Base = base_of c.args.scenario in
-    let clients : ℕ = length c.args.scenario.scripts in
+-- all epochs, once the last one has ended
+all_of : (g : Over) (c : In-Over g) → AreAll (base_of c.args.scenario) (length c.args.scenario.scripts) c.args.workers (place_of g.S.Source.remaining g.W.Sink.contents c.args.reader.now [] c.args.writer.now 0)
+    (place_of g.S.Source.remaining g.W.Sink.contents c.run_epoch.new.reader c.run_epoch.new.tail.items c.run_epoch.new.writer c.in_ok-ended.ended.number) c.in-Over.records.items
+all_of g c =
     let known = g.S.Source.remaining in
     let contents = g.W.Sink.contents in
     let l = c.loop in
     let e = name_of placing l.opening in
-    let old : Place = record { input = known c.args.reader.now; tail = []; output = contents c.args.writer.now; number = 0 } in
-    let mid : Place = record { input = known l.reader; tail = l.tail.items; output = contents l.writer; number = l.number } in
-    let n : ℕ = c.in_ok-ended.ended.number in
-    let new : Place = record { input = known c.run_epoch.new.reader; tail = c.run_epoch.new.tail.items; output = contents c.run_epoch.new.writer; number = n } in
+    let old : Place = place_of known contents c.args.reader.now [] c.args.writer.now 0 in
+    let mid : Place = place_of known contents l.reader l.tail.items l.writer l.number in
+    let new : Place = place_of known contents c.run_epoch.new.reader c.run_epoch.new.tail.items c.run_epoch.new.writer c.in_ok-ended.ended.number in
     let epoch = subst (IsEpoch e (e.clients - 1) c.args.workers mid new) c.in-Over.is c.in_ok-ended.ensures.epoch in
-    let left : List ℕ = c.in-Over.records.items in
-    let all = the_last base clients c.args.workers old mid new l.opening l.invariant.6 epoch.calls _ epoch.part epoch.found left epoch.follows refl in
-    let text : c.as_slice-in-Over.result.now ≡ end_line n left =
+    the_last (base_of c.args.scenario) (length c.args.scenario.scripts) c.args.workers old mid new l.opening l.invariant.6 epoch.calls _ epoch.part epoch.found c.in-Over.records.items epoch.follows refl
+
+-- the last line is written then
+text_of : (g : Over) (c : After-as_slice-in-Over g) → c.as_slice-in-Over.result.now ≡ end_line c.in_ok-ended.ended.number c.in-Over.records.items
+text_of g c =
+    let n : ℕ = c.in_ok-ended.ended.number in
     c.as_slice-in-Over.ensures.value
-    ∙ (c.in_ok-text-in-Over.ensures ∙ (ap (λ (l : List ℕ). l ++ end_line n c.as_slice.result.now) c.new.ensures.items ∙ ap (end_line n) c.as_slice.ensures.value)) in
-    serves_all c.args.scenario c.args.workers (known c.args.reader.now) (known c.run_epoch.new.reader) (contents c.args.writer.now) (contents c.run_epoch.new.writer)
-    c.run_epoch.new.tail.items left n all (contents c.write_text.new.writer) (subst (Appends (contents c.run_epoch.new.writer) (contents c.write_text.new.writer)) text c.in_ok-write_text-in-Over.ensures.ok)
+    ∙ (c.in_ok-text-in-Over.ensures ∙ (ap (λ (l : List ℕ). l ++ end_line n c.as_slice.result.now) c.new.ensures.items ∙ ap (end_line n) c.as_slice.ensures.value))
+
+pub returns-in-Over-clause-ok : goal.returns-in-Over-clause-ok
+returns-in-Over-clause-ok g c =
+    let at = goal.at.returns-in-Over-clause-ok g c in
+    let known = g.S.Source.remaining in
+    let contents = g.W.Sink.contents in
+    let final = contents c.write_text.new.writer in
+    serves_all c.args.scenario c.args.workers (known c.args.reader.now) (known c.run_epoch.new.reader) (contents c.args.writer.now) (contents c.run_epoch.new.writer) c.run_epoch.new.tail.items c.in-Over.records.items
+    c.in_ok-ended.ended.number (all_of g at.In-Over) final (subst (Appends (contents c.run_epoch.new.writer) final) (text_of g at.After-as_slice-in-Over) c.in_ok-write_text-in-Over.ensures.ok)
 
 pub returns-in_err-opening-clause-err : goal.returns-in_err-opening-clause-err
 returns-in_err-opening-clause-err g c =
@@ -97,8 +108,8 @@ returns-in_err-ended-clause-err g c =
     let known = g.S.Source.remaining in
     let contents = g.W.Sink.contents in
     let l = c.loop in
-    let old : Place = record { input = known c.args.reader.now; tail = []; output = contents c.args.writer.now; number = 0 } in
-    let mid : Place = record { input = known l.reader; tail = l.tail.items; output = contents l.writer; number = l.number } in
+    let old : Place = place_of known contents c.args.reader.now [] c.args.writer.now 0 in
+    let mid : Place = place_of known contents l.reader l.tail.items l.writer l.number in
     let left = known c.run_epoch.new.reader in
     let written = contents c.run_epoch.new.writer in
     let why = c.in_err-ended.field-0.0 in
@@ -126,43 +137,24 @@ returns-in_err-ended-clause-untouched g c = λ called.
 
 pub returns-in_err-text-in-Over-clause-err : goal.returns-in_err-text-in-Over-clause-err
 returns-in_err-text-in-Over-clause-err g c =
-    let base : Base = base_of c.args.scenario in
-    let clients : ℕ = length c.args.scenario.scripts in
-    let known = g.S.Source.remaining in
-    let contents = g.W.Sink.contents in
-    let l = c.loop in
-    let e = name_of placing l.opening in
-    let old : Place = record { input = known c.args.reader.now; tail = []; output = contents c.args.writer.now; number = 0 } in
-    let mid : Place = record { input = known l.reader; tail = l.tail.items; output = contents l.writer; number = l.number } in
-    let n : ℕ = c.in_ok-ended.ended.number in
-    let new : Place = record { input = known c.run_epoch.new.reader; tail = c.run_epoch.new.tail.items; output = contents c.run_epoch.new.writer; number = n } in
-    let epoch = subst (IsEpoch e (e.clients - 1) c.args.workers mid new) c.in-Over.is c.in_ok-ended.ensures.epoch in
-    let left : List ℕ = c.in-Over.records.items in
-    let all = the_last base clients c.args.workers old mid new l.opening l.invariant.6 epoch.calls _ epoch.part epoch.found left epoch.follows refl in
-    let final = contents c.run_epoch.new.writer in
+    let old = g.S.Source.remaining c.args.reader.now in
+    let left = g.S.Source.remaining c.run_epoch.new.reader in
+    let before = g.W.Sink.contents c.args.writer.now in
+    let written = g.W.Sink.contents c.run_epoch.new.writer in
     let is : c.from_residual-in_err-text-in-Over.result ≡ Err fault.NoMemory = search rules in
-    subst (λ (r : Result (Unit {0}) StreamFault). IfErr r (λ w. EndsEarly c.args.scenario c.args.workers w old.input new.input old.output final)) (sym is)
-    (lacks_memory c.args.scenario c.args.workers old.input new.input old.output final c.run_epoch.new.tail.items left n all)
+    subst (λ (r : Result (Unit {0}) StreamFault). IfErr r (λ w. EndsEarly c.args.scenario c.args.workers w old left before written)) (sym is)
+    (lacks_memory c.args.scenario c.args.workers old left before written c.run_epoch.new.tail.items c.in-Over.records.items c.in_ok-ended.ended.number
+    (all_of g (goal.at.returns-in_err-text-in-Over-clause-err g c).In-Over))
 
 pub returns-in_err-write_text-in-Over-clause-err : goal.returns-in_err-write_text-in-Over-clause-err
 returns-in_err-write_text-in-Over-clause-err g c =
-    let base : Base = base_of c.args.scenario in
-    let clients : ℕ = length c.args.scenario.scripts in
-    let known = g.S.Source.remaining in
-    let contents = g.W.Sink.contents in
-    let l = c.loop in
-    let e = name_of placing l.opening in
-    let old : Place = record { input = known c.args.reader.now; tail = []; output = contents c.args.writer.now; number = 0 } in
-    let mid : Place = record { input = known l.reader; tail = l.tail.items; output = contents l.writer; number = l.number } in
-    let n : ℕ = c.in_ok-ended.ended.number in
-    let new : Place = record { input = known c.run_epoch.new.reader; tail = c.run_epoch.new.tail.items; output = contents c.run_epoch.new.writer; number = n } in
-    let epoch = subst (IsEpoch e (e.clients - 1) c.args.workers mid new) c.in-Over.is c.in_ok-ended.ensures.epoch in
-    let left : List ℕ = c.in-Over.records.items in
-    let all = the_last base clients c.args.workers old mid new l.opening l.invariant.6 epoch.calls _ epoch.part epoch.found left epoch.follows refl in
-    let final = contents c.write_text.new.writer in
-    let text : c.as_slice-in-Over.result.now ≡ end_line n left =
-    c.as_slice-in-Over.ensures.value
-    ∙ (c.in_ok-text-in-Over.ensures ∙ (ap (λ (l : List ℕ). l ++ end_line n c.as_slice.result.now) c.new.ensures.items ∙ ap (end_line n) c.as_slice.ensures.value)) in
+    let at = goal.at.returns-in_err-write_text-in-Over-clause-err g c in
+    let old = g.S.Source.remaining c.args.reader.now in
+    let left = g.S.Source.remaining c.run_epoch.new.reader in
+    let before = g.W.Sink.contents c.args.writer.now in
+    let written = g.W.Sink.contents c.run_epoch.new.writer in
+    let final = g.W.Sink.contents c.write_text.new.writer in
     let is : c.from_residual-in_err-write_text-in-Over.result ≡ Err fault.Write = search rules in
-    subst (λ (r : Result (Unit {0}) StreamFault). IfErr r (λ w. EndsEarly c.args.scenario c.args.workers w old.input new.input old.output final)) (sym is)
-    (breaks_off c.args.scenario c.args.workers old.input new.input old.output new.output c.run_epoch.new.tail.items left n all final (subst (AppendsBeginning new.output final) text c.in_err-write_text-in-Over.ensures.err))
+    subst (λ (r : Result (Unit {0}) StreamFault). IfErr r (λ w. EndsEarly c.args.scenario c.args.workers w old left before final)) (sym is)
+    (breaks_off c.args.scenario c.args.workers old left before written c.run_epoch.new.tail.items c.in-Over.records.items c.in_ok-ended.ended.number (all_of g at.In-Over) final
+    (subst (AppendsBeginning written final) (text_of g at.After-as_slice-in-Over) c.in_err-write_text-in-Over.ensures.err))

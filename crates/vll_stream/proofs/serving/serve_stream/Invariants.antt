@@ -4,6 +4,7 @@ use Rattle.vll_core.specs.declared.config.TheConstants.{MOST_CALLS}
 use Rattle.vll_queue.specs.Shown.{name_of}
 use Rattle.vll_sca.specs.Placing.{placing}
 use Rattle.vll_lines.specs.Lines.{has_feed}
+use Rattle.vll_stream.specs.Private.Parts.{place_of}
 use Rattle.vll_stream.specs.Private.Told.{IsSoFar}
 use Rattle.vll_stream.specs.Served.{base_of}
 use Rattle.vll_stream.proofs.serving.serve_stream.Given as goal
@@ -16,5 +17,5 @@ invariant-loop g l =
     (goal.iterator-loop g).can_next l.iterator' × (goal.iterator-loop g).is_finite l.iterator'
     × (MOST_CALLS ≤ vec_capacity l.room) × (g.S.Source.failed l.reader ≡ false) × (g.W.Sink.failed l.writer ≡ false) × (has_feed l.tail.items ≡ false)
     × IsSoFar (base_of l.fn.scenario) (length l.fn.scenario.scripts) l.fn.workers
-    (record { input = g.S.Source.remaining l.fn.reader; tail = []; output = g.W.Sink.contents l.fn.writer; number = 0 })
-    (record { input = g.S.Source.remaining l.reader; tail = l.tail.items; output = g.W.Sink.contents l.writer; number = l.number }) l.opening
+    (place_of g.S.Source.remaining g.W.Sink.contents l.fn.reader [] l.fn.writer 0)
+    (place_of g.S.Source.remaining g.W.Sink.contents l.reader l.tail.items l.writer l.number) l.opening
