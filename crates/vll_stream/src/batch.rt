@@ -13,12 +13,12 @@ use crate::fault::StreamFault;
 use std::alloc::{AllocError, Global};
 use std::sync::Wait;
 use std::thread::Threads;
-use vll_core::MOST_CALLS;
+use vll_core::{MOST_CALLS, Ticket};
 use vll_lines::Asked;
 use vll_proc::Call;
 use vll_queue::{Engine, Name, Session};
 use vll_sca::Placing;
-use vll_workers::{MOST_WORKERS, OpenGate, RunError, RunFault, Token};
+use vll_workers::{Gate, MOST_WORKERS, RunError, RunFault, Token};
 
 /// Makes the calls that lines ask for by `workers` worker threads: each client's in the order of its lines. If no thread
 /// can be started, the calling one makes them.
@@ -38,7 +38,7 @@ pub(crate) fn run_calls<N: Name + Send + Sync, R: Threads + Wait + Sync>(
 {
     let scripts = scripts_of::<N>(alloc, callers.len(), asked)?;
     let tokens = tokens_of::<N>(alloc, callers, scripts)?;
-    match vll_workers::run(rt, rt, alloc, engine, tokens, workers, &OpenGate) {
+    match vll_workers::run(rt, rt, alloc, engine, tokens, workers, &OneByOne) {
         Ok(tokens) => Ok(put_back::<N>(callers, tokens)?),
         Err(
             RunError {
@@ -62,6 +62,16 @@ pub(crate) fn run_calls<N: Name + Send + Sync, R: Threads + Wait + Sync>(
             },
         ) => Err(StreamFault::Unfinished),
     }
+}
+
+// A gate that might wait, for the pace: calls begin one by one, and a worker that finds no more of them leaves at once. A
+// worker that takes several ahead stays for some time, in case another one gives some back: most of a short round.
+struct OneByOne;
+
+impl Gate for OneByOne {
+    fn before(&self, _ticket: Ticket) {}
+
+    fn after(&self, _ticket: Ticket) {}
 }
 
 // The calls that lines ask for, as a script for each client.
