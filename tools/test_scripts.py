@@ -119,7 +119,7 @@ SPOILED = [
     ('docs/ARCHITECTURE.md', r'(`[A-Z]\w+::)[a-z]\w*`', r'\1unheard_of`', 'has no function unheard_of'),
     ('docs/ARCHITECTURE.md', r'(\]\([A-Z]+\.md#)[\w-]+', r'\1nowhere', 'there is no heading'),
     ('README.md', r'committed 70', 'committed 71', 'transfer.out is not what is quoted here'),
-    ('README.md', r'\| 2,449 \|', '| 2,448 |', 'these are not the figures of docs/speed.csv'),
+    ('README.md', r'(\| bodies of 500 nodes.*?\| )[\d,]+', r'\g<1>1', 'these are not the figures of docs/speed.csv'),
     ('examples/README.md', r'0 opened', '0 closed', 'this is not what is printed'),
 ]
 
