@@ -1,3 +1,6 @@
+pub mod Grammar
+pub mod ReadTokens
+pub mod Says
 pub mod Lines
 pub mod Cuts
 pub mod Fitting

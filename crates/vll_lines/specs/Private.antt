@@ -1,4 +1,5 @@
 pub mod Reading
+pub mod Tokens
 pub mod Cutting
 pub mod Writing
 pub mod Replied

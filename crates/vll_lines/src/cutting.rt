@@ -6,9 +6,9 @@ ghost use Rattle.vll_lines.specs.Private.Cutting.{Cuts};
 
 use crate::asked::{Asked, LineFault};
 use crate::limits::MOST_LINE;
-use crate::reading::read_line;
+use crate::tokens::LineReader;
 use memchr::memchr;
-use std::alloc::{AllocError, Global};
+use std::alloc::AllocError;
 use vll_check::Library;
 
 // The byte that ends a line.
@@ -25,7 +25,7 @@ pub(crate) fn first_line(bytes: &[u8]) -> Option<(&[u8], &[u8])>
 
 // Appends what each complete line asks for, in order, and to `tail` the bytes that follow the last one.
 pub(crate) fn cut(
-    alloc: Global,
+    lines: &mut LineReader,
     library: &Library,
     clients: u32,
     bytes: &[u8],
@@ -38,7 +38,7 @@ pub(crate) fn cut(
 {
     let mut rest = bytes;
     'lines: while let Some((line, more)) = first_line(rest) {
-        push(asked, line_asked(alloc, library, clients, line)?)?;
+        push(asked, line_asked(lines, library, clients, line)?)?;
         rest = more;
     }
     tail.extend_from_slice(rest)
@@ -46,7 +46,7 @@ pub(crate) fn cut(
 
 // What a line asks for, whatever its length.
 pub(crate) fn line_asked(
-    alloc: Global,
+    lines: &mut LineReader,
     library: &Library,
     clients: u32,
     line: &[u8],
@@ -59,7 +59,7 @@ pub(crate) fn line_asked(
             call: Err(LineFault::Long),
         });
     }
-    read_line(alloc, library, clients, line)
+    lines.read(library, clients, line)
 }
 
 // Appends to a list.

@@ -1,4 +1,4 @@
-//! Reading the call of a line.
+//! Reading a line as a JSON tree: the call that it asks for, or why it asks for none.
 ghost use Rattle.std.specs.Prelude.{◌≡◌, IfOk, option_map};
 ghost use Rattle.std.specs.List.{list_any};
 ghost use Rattle.std.specs.Str.{bytes_eq};
@@ -56,9 +56,8 @@ impl From<LineFault> for Misread {
     }
 }
 
-/// Reads the call that a line asks for, without its line feed, of a client below `clients`. A line of more than
-/// `MOST_LINE` bytes is not to be read: it is `LineFault::Long`. Fails only for want of memory.
-pub fn read_line(
+/// Reads what a line asks for as a JSON tree. Fails only for want of memory.
+pub(crate) fn read_tree(
     alloc: Global,
     library: &Library,
     clients: u32,

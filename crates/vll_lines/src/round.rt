@@ -10,6 +10,7 @@ ghost use Rattle.vll_lines.specs.declared.round.RoundFault.TheVariants as round_
 use crate::asked::Asked;
 use crate::cutting::{cut, first_line, line_asked, push};
 use crate::limits::{MOST_LINE, MOST_ROUND};
+use crate::tokens::LineReader;
 use std::alloc::{AllocError, Global};
 use std::sync::Wait;
 use thiserror::Error;
@@ -68,6 +69,7 @@ pub fn read_round<S: Source>(
     ensures err { IfErr result (IsBroken (S.remaining source.old) (S.remaining source.new)) }
     ensures failed { (result ≡ Err round_fault.Read) ↔ (S.failed source.new ≡ true) }
 {
+    let mut lines = LineReader::new(alloc);
     let mut asked = Vec::new(alloc);
     let mut piece = [0; MOST_ROUND];
     for _ in wait.forever() {
@@ -75,13 +77,14 @@ pub fn read_round<S: Source>(
             return Err(RoundFault::Read);
         };
         if count == 0 {
-            end_line(alloc, library, clients, tail, &mut asked)?;
+            end_line(&mut lines, library, clients, tail, &mut asked)?;
             return Ok(Round {
                 asked,
                 is_last: true,
             });
         }
-        if take_piece(alloc, library, clients, &piece[..count], tail, &mut asked)? {
+        let bytes = &piece[..count];
+        if take_piece(&mut lines, library, clients, bytes, tail, &mut asked)? {
             return Ok(Round {
                 asked,
                 is_last: false,
@@ -93,7 +96,7 @@ pub fn read_round<S: Source>(
 
 // Reads the line at the end of the input, if one has begun.
 fn end_line(
-    alloc: Global,
+    lines: &mut LineReader,
     library: &Library,
     clients: u32,
     tail: &mut Vec<u8>,
@@ -105,7 +108,7 @@ fn end_line(
     ensures tail { OnOk result (tail.new.items ≡ []) }
 {
     if !tail.is_empty() {
-        push(asked, line_asked(alloc, library, clients, tail.as_slice())?)?;
+        push(asked, line_asked(lines, library, clients, tail.as_slice())?)?;
         tail.clear();
     }
     Ok(())
@@ -113,7 +116,7 @@ fn end_line(
 
 // Takes the bytes that came after the tail, reads the lines that are complete with them, and returns whether one is.
 fn take_piece(
-    alloc: Global,
+    lines: &mut LineReader,
     library: &Library,
     clients: u32,
     bytes: &[u8],
@@ -131,9 +134,9 @@ fn take_piece(
         return Ok(false);
     };
     grow(tail, end)?;
-    push(asked, line_asked(alloc, library, clients, tail.as_slice())?)?;
+    push(asked, line_asked(lines, library, clients, tail.as_slice())?)?;
     tail.clear();
-    cut(alloc, library, clients, rest, tail, asked)?;
+    cut(lines, library, clients, rest, tail, asked)?;
     Ok(true)
 }
 

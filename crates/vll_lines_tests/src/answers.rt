@@ -3,13 +3,13 @@ use crate::asserts::equal;
 use std::alloc::{AllocError, Global};
 use std::test::Fail;
 use vll_check::Library;
-use vll_lines::{push_end, push_fault, push_reply, read_line};
+use vll_lines::{LineReader, push_end, push_fault, push_reply};
 use vll_proc::{Reason, Reply};
 use vll_test_procedures::library;
 
 // The answer to a line of one of two clients, where a call has the number 12 and is aborted.
 fn answer(alloc: Global, library: &Library, line: &str) -> Result<Vec<u8>, AllocError> {
-    let asked = read_line(alloc, library, 2, line.as_bytes())?;
+    let asked = LineReader::new(alloc).read(library, 2, line.as_bytes())?;
     let out = Vec::new(alloc);
     match &asked.call {
         Ok(_) => push_reply(out, &asked.id, 12, &Reply::Aborted(Reason::Underflow)),
@@ -36,6 +36,15 @@ fn line_has_its_call(rt: HostRuntime) -> Result<(), Fail> {
         (
             r#"{"id":18446744073709551615,"client":0,"proc":"seven","args":[]}"#,
             r#"{"id":18446744073709551615,"call":12,"aborted":"underflow"}"#,
+        ),
+        // the last member of a name counts, escapes in a name are read
+        (
+            r#"{"client":9,"args":[1],"cl\u0069ent":1,"proc":"seven","args":[]}"#,
+            r#"{"call":12,"aborted":"underflow"}"#,
+        ),
+        (
+            r#"{"client":"a","client":1,"proc":[1e3],"proc":"seven","args":[]}"#,
+            r#"{"call":12,"aborted":"underflow"}"#,
         ),
     ] {
         let found = answer(rt.alloc(), &library, line)?;
@@ -81,6 +90,18 @@ fn line_has_its_fault(rt: HostRuntime) -> Result<(), Fail> {
         (
             r#"{"id":5,"client":1,"proc":"seven","args":[1.0]}"#,
             r#"{"id":5,"fault":"args has to be a list of whole numbers"}"#,
+        ),
+        (
+            r#"{"id":5,"client":1,"proc":"bump","args":[-0]}"#,
+            r#"{"id":5,"fault":"args has to be a list of whole numbers"}"#,
+        ),
+        (
+            r#"{"id":5,"client":1,"proc":"bump","args":[18446744073709551616]}"#,
+            r#"{"id":5,"fault":"args has to be a list of whole numbers"}"#,
+        ),
+        (
+            r#"{"id":5,"client":1,"proc":"bump","args":[0]}]"#,
+            r#"{"fault":"no JSON text: column 45"}"#,
         ),
         (
             r#"{"id":5,"client":1,"proc":"eight\n","args":[]}"#,

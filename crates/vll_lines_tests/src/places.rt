@@ -4,7 +4,7 @@ use std::alloc::{AllocError, Global};
 use std::test::Fail;
 use vll_check::Library;
 use vll_core::Line;
-use vll_lines::{Asked, answers_at, places_of, read_line};
+use vll_lines::{Asked, LineReader, answers_at, places_of};
 use vll_proc::{Reason, Reply};
 use vll_test_procedures::library;
 
@@ -21,7 +21,7 @@ const LINES: [&str; 6] = [
 fn asked_of(alloc: Global, library: &Library) -> Result<Vec<Asked>, AllocError> {
     let mut asked = Vec::new(alloc);
     for line in LINES {
-        asked.push(read_line(alloc, library, 2, line.as_bytes())?)?;
+        asked.push(LineReader::new(alloc).read(library, 2, line.as_bytes())?)?;
     }
     Ok(asked)
 }
