@@ -30,9 +30,9 @@ use vll_sca::Place;
 pub struct EngineSpent;
 
 impl<N: Name, H: Place + Drop> Engine<N, H> {
-    // Makes a call of the session's client, from its entry to its reply, as `Client::make` says. A call that may run at
-    // entry takes the lock twice.
-    pub(crate) fn call(
+    /// Makes a call of the session's client, from its entry to its reply, as `Client::make` says. A call that may run at
+    /// entry takes the lock twice.
+    pub fn call(
         &self,
         wait: &impl Wait,
         session: &mut Session,
@@ -69,7 +69,7 @@ impl<N: Name, H: Place + Drop> Engine<N, H> {
         ensures session { session.new.table ≡ session.old.table }
     {
         let source = self.library.source(call);
-        // what the claims load under the lock is then in the cache
+        // the claims' pair words are then in the cache when the lock is taken
         let _ = self.look(call);
         let hold = self.hold_of_a_caller(wait);
         match source {

@@ -17,13 +17,16 @@ use std::thread::Threads;
 use vll_core::{Line, MOST_CALLS, Ticket};
 use vll_lines::{Asked, MOST_ROUND, answers, answers_at, are_theirs, count_calls, places_of};
 use vll_proc::Call;
-use vll_queue::{Begun, Engine, Name, Session};
+use vll_queue::{Engine, EngineSpent, Name, Session};
 use vll_sca::Placing;
 use vll_scenario::MOST_CLIENTS;
 use vll_workers::MOST_WORKERS;
 
 /// The calling thread makes the calls of a round of fewer: starting others would take longer.
 pub const MANY_CALLS: usize = 500;
+
+// As docs/SERVICE.md says.
+const _: () = prove!(MANY_CALLS == 500);
 
 /// The answers to the lines of a round.
 #[derive(Drop)]
@@ -188,7 +191,7 @@ pub(crate) fn make_calls<N: Name>(
     Ok(())
 }
 
-// Makes a call while no other one is in the engine, so that it waits for none.
+// Makes a call.
 fn make_call<N: Name>(
     wait: &impl Wait,
     engine: &Engine<N, Placing>,
@@ -200,12 +203,9 @@ fn make_call<N: Name>(
     ensures caller { caller.new.table ≡ caller.old.table }
     ensures own { IfErr result IsOwn }
 {
-    match engine.begin(wait, caller, call) {
-        Begun::Free(pass) => {
-            engine.finish(wait, engine.release(engine.execute(pass)));
-            Ok(())
-        }
-        Begun::Blocked(_) | Begun::Refused(_) => Err(StreamFault::Unfinished),
+    match engine.call(wait, caller, call) {
+        Ok(_) => Ok(()),
+        Err(EngineSpent) => Err(StreamFault::Unfinished),
     }
 }
 
