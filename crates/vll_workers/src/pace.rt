@@ -1,8 +1,8 @@
 //! A worker's pace: how many tokens it takes and calls it begins, how long it rests, and when it leaves.
+use crate::rest::rest_for;
+use crate::solo::{Conflicts, Solo};
 use crate::stack::MOST_BATCH;
 use crate::tally::Tally;
-use std::hint::spin_loop;
-use std::thread::yield_now;
 
 // The longest pause of few workers, in spins of a loop.
 const LONGEST_OF_FEW: u32 = 1_024;
@@ -15,9 +15,6 @@ const SPINS_A_WORKER: u32 = 256;
 
 // The first pause, in spins.
 const FIRST_PAUSE: u32 = 32;
-
-// A pause lets another thread run once in this many spins.
-const SPINS_A_YIELD: u32 = 64;
 
 // The most calls that are to be ready before a hold: the capacity of a batch.
 const MOST_CALLS: u32 = MOST_BATCH as u32;
@@ -61,6 +58,7 @@ pub(crate) struct Pace {
     rounds: u32,
     // In this many more rounds that begin calls, each is looked at once more under the hold.
     heat: u32,
+    conflicts: Conflicts,
     tally: Tally,
 }
 
@@ -78,6 +76,7 @@ impl Pace {
             keeps: false,
             rounds: ROUNDS_IN_HAND,
             heat: 0,
+            conflicts: Conflicts::new(),
             tally: Tally::none(),
         }
     }
@@ -140,6 +139,7 @@ impl Pace {
 
     // Notes that `free` calls that may run began, and whether another one was held back.
     pub(crate) fn began(&mut self, free: u32, was_held: bool) {
+        self.conflicts.began(free, was_held);
         if free > 0 {
             self.heat = self.heat.saturating_sub(1);
         }
@@ -170,10 +170,23 @@ impl Pace {
         self.keeps
     }
 
-    // Notes that a call that may run was found.
-    pub(crate) fn went_well(&mut self) {
+    // Notes that a call that may run was found. A worker that keeps tokens in hand may go on alone from now on.
+    pub(crate) fn went_well(&mut self, solo: &Solo) {
         self.pause = 0;
         self.idle = 0;
+        if self.keeps {
+            self.conflicts.judge(solo);
+        }
+    }
+
+    // Notes that the worker has nothing to do.
+    pub(crate) fn ends(&mut self, solo: &Solo) {
+        self.conflicts.end(solo);
+    }
+
+    // Whether the worker is to stand aside, since another one goes on alone.
+    pub(crate) fn stands_aside(&self, solo: &Solo) -> bool {
+        self.keeps && self.conflicts.are_left_to_another(solo)
     }
 
     // Whether the worker leaves after a round that finds no call that may run.
@@ -196,13 +209,7 @@ impl Pace {
             self.idle = self.idle.saturating_add(1);
         }
         self.pause = longest.min(self.pause.saturating_mul(2).saturating_add(FIRST_PAUSE));
-        for spin in 0..self.pause {
-            if spin % SPINS_A_YIELD == SPINS_A_YIELD - 1 {
-                yield_now();
-            } else {
-                spin_loop();
-            }
-        }
+        rest_for(self.pause);
         true
     }
 }

@@ -11,6 +11,7 @@ use crate::gate::Gate;
 use crate::pace::Pace;
 use crate::pool::Pool;
 use crate::roster::Roster;
+use crate::solo::Solo;
 use crate::stack::MOST_BATCH;
 use crate::taken::Taken;
 use crate::worker::Worker;
@@ -26,6 +27,7 @@ pub(crate) struct Work<'a, N: Name, H: Place + Send + Drop, T: Roster, W: Wait, 
     pub(crate) pool: &'a Pool<T>,
     // Locked until the tokens are in the pool.
     pub(crate) door: &'a Mutex<()>,
+    pub(crate) solo: &'a Solo,
     pub(crate) gate: &'a G,
 }
 
@@ -109,11 +111,14 @@ impl<'a, N: Name, H: Place + Send + Drop, T: Roster, W: Wait, G: Gate> Work<'a, 
         for _ in self.wait.forever() {
             let had_token = self.round(worker, batch);
             if batch.passes.len() > 0 {
-                batch.pace.went_well();
+                batch.pace.went_well(self.solo);
                 self.execute_all(&mut batch.passes, &mut batch.released);
             } else if !batch.pace.rest(had_token) {
+                batch.pace.ends(self.solo);
                 self.put_back(worker, &mut batch.taken);
                 return;
+            } else if batch.pace.stands_aside(self.solo) {
+                self.stand_aside(worker, &mut batch.taken);
             }
         }
         unreachable!()
@@ -155,6 +160,18 @@ impl<'a, N: Name, H: Place + Send + Drop, T: Roster, W: Wait, G: Gate> Work<'a, 
         self.settle(worker, &mut batch.taken, &mut batch.pace);
         self.tell_all(&mut batch.finished);
         had_token
+    }
+
+    // Puts the tokens back into the pool, and rests while another worker goes on alone.
+    fn stand_aside(self, worker: &mut Worker<T>, taken: &mut Taken)
+        requires old { IsAtWork T.tokens self.pool.now worker.old (taken.old.untried ++ taken.old.tried) }
+        ensures new { IsAtWork T.tokens self.entry.pool.now worker.new [] }
+        ensures parts { (view worker.new.pass).parts ≡ (view worker.old.pass).parts }
+        ensures untried { taken.new.untried ≡ [] }
+        ensures tried { taken.new.tried ≡ [] }
+    {
+        self.put_back(worker, taken);
+        self.solo.stand_aside();
     }
 
     // Puts the tokens back into the pool, or keeps them in hand for the next round.

@@ -1,5 +1,6 @@
-//! Tests of a run of the maximum number of workers and as many clients, which all use one record.
-ghost use Rattle.std.specs.Prelude.{◌≡◌};
+//! Tests of runs whose clients all use one record.
+ghost use Rattle.std.specs.Prelude.{◌≡◌, ◌≤◌};
+ghost use Rattle.vll_workers.specs.declared.running.TheConstants.{MOST_WORKERS};
 ghost use Rattle.vll_queue.specs.Shown.{name_of};
 ghost use Rattle.vll_sca.specs.Placing.{placing};
 
@@ -22,17 +23,19 @@ const CLIENTS: u32 = 64;
 // How many bumps each client makes.
 const CALLS: u32 = 100;
 
-// All clients bump one record, which ends at the number of their calls.
+// All clients bump one record, by so many workers, and it ends at the number of their calls.
 fn all_bump_one_record<N: Name + Send + Sync, R: Wait + Threads + Abort + Sync>(
     rt: &R,
     alloc: Global,
     opening: Opening<Placing>,
+    workers: u32,
 ) -> Result<(), Fail>
-    requires { N.engine ≡ name_of placing opening }
+    requires named { N.engine ≡ name_of placing opening }
+    requires workers { (1 ≤ workers) × (workers ≤ MOST_WORKERS) }
 {
     let (engine, sessions) = opening.start::<N>();
     let tokens = all_bumping::<N>(rt, alloc, engine.library(), sessions, 1, CALLS)?;
-    match run(rt, rt, alloc, &engine, tokens, MOST_WORKERS, &OpenGate) {
+    match run(rt, rt, alloc, &engine, tokens, workers, &OpenGate) {
         Ok(tokens) => are_home(rt, tokens.as_slice(), CLIENTS as usize, CALLS),
         Err(_) => fail(rt, "the run has a fault"),
     }
@@ -60,5 +63,17 @@ fn most_workers_lose_no_bump_of_as_many_clients(rt: HostRuntime) -> Result<(), F
         bits: 1,
     };
     let opening = opening_of(rt.alloc(), 1, config, CLIENTS)?;
-    all_bump_one_record::<Brand, HostRuntime>(&rt, rt.alloc(), opening)
+    all_bump_one_record::<Brand, HostRuntime>(&rt, rt.alloc(), opening, MOST_WORKERS)
+}
+
+// Each worker has several tokens in hand, and one may go on alone for a while.
+#[test]
+fn few_workers_lose_no_bump_of_many_clients(rt: HostRuntime) -> Result<(), Fail> {
+    let config = Config {
+        cap: 8,
+        limit: CLIENTS * CALLS,
+        bits: 64,
+    };
+    let opening = opening_of(rt.alloc(), 1, config, CLIENTS)?;
+    all_bump_one_record::<Brand, HostRuntime>(&rt, rt.alloc(), opening, 4)
 }

@@ -16,6 +16,7 @@ use crate::fault::{RunError, RunFault};
 use crate::gate::Gate;
 use crate::roster::Roster;
 use crate::shared::Shared;
+use crate::solo::Solo;
 use crate::token::Token;
 use crate::worker::Worker;
 use std::alloc::{AllocError, Global};
@@ -69,11 +70,13 @@ pub(super) fn run_named<
         desks,
     } = room;
     let door = Mutex::new(());
+    let solo = Solo::new();
     let workplace = Workplace {
         wait,
         shared,
         pool: &pool,
         door: &door,
+        solo: &solo,
         gate,
     };
     let ready = Ready {

@@ -5,6 +5,7 @@ use crate::gate::Gate;
 use crate::pool::Pool;
 use crate::roster::Roster;
 use crate::shared::Shared;
+use crate::solo::Solo;
 use crate::work::Work;
 use std::sync::{Mutex, Wait};
 use vll_queue::Name;
@@ -18,6 +19,7 @@ pub(super) struct Workplace<'a, X, T: Roster, W, G> {
     pub(super) pool: &'a Pool<T>,
     // Locked until the tokens are in the pool.
     pub(super) door: &'a Mutex<()>,
+    pub(super) solo: &'a Solo,
     pub(super) gate: &'a G,
 }
 
@@ -38,6 +40,7 @@ pub(super) fn work_at<
         shared,
         pool,
         door,
+        solo,
         gate,
     } = workplace;
     Work {
@@ -45,6 +48,7 @@ pub(super) fn work_at<
         engine: shared.engine(),
         pool,
         door,
+        solo,
         gate,
     }
 }
