@@ -20,9 +20,10 @@ mod reply;
 // methods say exactly what they return for that queue.
 #[derive(Drop)]
 pub(crate) struct Locked<N: Name, H: Place> {
+    // It comes before the fields of the queue that each call changes, so that a hold changes two cache lines of these.
+    patience: Patience,
     queue: Queue<H>,
     seat: QueueSeat,
-    patience: Patience,
     of: PhantomData<N>,
 }
 
