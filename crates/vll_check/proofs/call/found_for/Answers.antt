@@ -14,3 +14,6 @@ call_of-requires-clause-placed c =
     let p = c.args.procedure.now in
     let some = is_there (source_of p.keys) (search rules) in
     (placed_found c.args.records p c.args.call.now c.args.value some.0 c.ranges.records.fits c.requires.checked c.requires.made some.1).1
+
+pub returns : goal.returns
+returns c = search rules

@@ -18,3 +18,8 @@ pub turns_are_few-returns-then-may_repeat : goal.turns_are_few-returns-then-may_
 turns_are_few-returns-then-may_repeat t c =
     let all = ap (turns_are_few c.args.edition) c.in-Repeat.is ∙ turns_are_few_repeat c.args.edition c.in-Repeat.turns c.in-Repeat.list in
     grind (arith, common_steps)
+
+pub turns_are_few-returns-else-may_repeat : goal.turns_are_few-returns-else-may_repeat
+turns_are_few-returns-else-may_repeat t c =
+    let all = ap (turns_are_few c.args.edition) c.in-Repeat.is ∙ turns_are_few_repeat c.args.edition c.in-Repeat.turns c.in-Repeat.list in
+    grind (arith, common_steps)
