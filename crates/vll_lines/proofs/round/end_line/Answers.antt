@@ -1,4 +1,5 @@
 use Rattle.std.proofs.Common.{ℕ, ◌<◌, List, [], ◌∷◌, ◌++◌, length, sym, ap, ◌∙◌, subst, arith}
+use Rattle.std.proofs.lemmas.Grind.{common_steps}
 use Rattle.vll_lines.specs.Asked.{AreAsked, IsLine}
 use Rattle.vll_lines.specs.Lines.{lines_in}
 use Rattle.vll_lines.specs.declared.asked.Asked.{Asked}
@@ -13,3 +14,6 @@ returns-in_ok-push-clause-asked c = λ line stands none.
     let some : 0 < length tail = let e = c.is_empty.ensures in let t = c.if-not-is_empty.true in grind arith in
     subst (AreAsked c.args.library.now c.args.clients (lines_in line)) (sym (c.in_ok-push.ensures ∙ ap (λ (xs : List Asked). xs ++ one ∷ []) c.requires.asked))
     (asked_last c.args.library.now c.args.clients tail line one stands none some is)
+
+pub returns-else-not-is_empty-clause-tail : goal.returns-else-not-is_empty-clause-tail
+returns-else-not-is_empty-clause-tail c = grind (arith, common_steps)

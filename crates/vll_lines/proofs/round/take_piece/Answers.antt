@@ -1,4 +1,4 @@
-use Rattle.std.proofs.Common.{◌≡◌, ℕ, List, ◌∷◌, ◌++◌, [], sym, ap, ◌∙◌, subst, append_assoc}
+use Rattle.std.proofs.Common.{◌≡◌, ℕ, List, ◌∷◌, ◌++◌, [], sym, ap, ◌∙◌, subst, append_assoc, rules}
 use Rattle.vll_lines.specs.Asked.{IsLine}
 use Rattle.vll_lines.specs.Private.Cutting.{Cuts}
 use Rattle.vll_lines.specs.declared.asked.Asked.{Asked}
@@ -24,3 +24,6 @@ returns-clause-some c = λ ok line stands none.
     (subst (λ (b : List ℕ). Cuts library clients b old c.push.new.asked.items rest) (sym cut_bytes)
     (subst (λ (n : List Asked). Cuts library clients (whole ++ 10 ∷ rest) old n rest) (sym c.in_ok-push.ensures) first))
     c.in_ok-cut.ensures.cuts
+
+pub returns-clause-none : goal.returns-clause-none
+returns-clause-none c = search rules
