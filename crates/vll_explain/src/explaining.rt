@@ -11,15 +11,15 @@ ghost use Rattle.serde_json.specs.View.{view};
 ghost use Rattle.vll_explain.specs.Explained.{Explains, IsBegun, IsLocated, IsTold, fault_in};
 ghost use Rattle.vll_explain.specs.Private.{IsToldOf};
 
-use crate::reason::{reason_of, unread_explanation};
-use crate::summary::summary_of;
 use crate::way::{push_way, shown_name};
 use serde_json::Value;
 use std::alloc::{AllocError, Global};
+use vll_reasons::{reason_of, summary_of, unread_explanation};
 use vll_scenario::{
-    MOST_BYTES, Reading, Scenario, ScenarioFault, Sink, Source, Way, WriteFault, read_bytes,
-    reading_of, way_to_fault, write_text,
+    MOST_BYTES, Reading, Scenario, ScenarioFault, Sink, Source, WriteFault, read_bytes, reading_of,
+    write_text,
 };
+use vll_way::{Way, way_to_fault};
 
 /// Reads a scenario as `read_scenario` does, and writes a report: if it is refused, the line of its fault, followed by
 /// an explanation that begins with `at: `; if not, `ok`, followed by what the scenario has. docs/SCENARIO.md describes

@@ -1,13 +1,12 @@
 //! The way to a piece, in words.
 ghost use Rattle.std.specs.Prelude.{◌≡◌, ◌++◌, IfOk, OnOk, string_bytes};
 ghost use Rattle.vll_explain.specs.Explained.{IsShown, way_words};
-ghost use Rattle.vll_scenario.specs.Ways.{words_of};
+ghost use Rattle.vll_way.specs.Ways.{words_of};
 
-use crate::asked::items_of;
-use crate::shown::Quoted;
 use serde_json::Value;
 use std::alloc::{AllocError, Global};
-use vll_scenario::Step;
+use vll_reasons::procedure_name;
+use vll_way::Step;
 
 // Appends the words of the steps from a scenario; `shown`, the name of the item, follows the second step.
 pub(crate) fn push_way(text: &mut String, steps: &[Step], shown: &str) -> Result<(), AllocError>
@@ -39,17 +38,9 @@ pub(crate) fn shown_name(alloc: Global, tree: &Value, steps: &[Step]) -> Result<
     ensures { IfOk result (λ shown. IsShown steps.now (string_bytes shown)) }
 {
     if let [Step::Procs, Step::Item(index), ..] = steps
-        && let Some(procedure) = items_of(tree.get("procs")).get(*index)
-        && let Some(name) = procedure.get("name").and_then(Value::as_str)
+        && let Some(name) = procedure_name(alloc, tree, *index)?
     {
-        let name = quoted(alloc, name)?;
         return format!(in alloc; " ({name})");
     }
     Ok(String::new(alloc))
-}
-
-// A name as it is shown.
-fn quoted(alloc: Global, name: &str) -> Result<String, AllocError> {
-    let name = Quoted(name);
-    format!(in alloc; "{name}")
 }

@@ -10,5 +10,3 @@ pub mod Answering
 pub mod Written
 pub mod Results
 mod Rows
-pub mod Ways
-mod Refused

@@ -4,9 +4,6 @@ pub mod Syntax
 pub mod Schedule
 pub mod Shape
 pub mod Setup
-pub mod Pieces
-pub mod PieceTests
-pub mod Ways
 pub mod Scenario
 pub mod Reading
 pub mod Line

@@ -1,7 +1,9 @@
 -- What a JSON tree is read as.
-use Rattle.std.specs.Prelude.{ℕ, suc, ◌^◌, List, [], ◌∷◌, Option, Some, None, option_and_then, Result, Ok, Err, nat_lt, if◌then◌else◌}
+use Rattle.std.specs.Prelude.{◌≡◌, ℕ, suc, ◌^◌, List, [], ◌∷◌, Option, Some, None, option_and_then, Result, Ok, Err, nat_lt, if◌then◌else◌}
 use Rattle.serde_json.specs.Data.{Data, Items, no_items, item}
 use Rattle.serde_json.specs.Find.{as_number, as_u64, as_array}
+use Rattle.vll_scenario.specs.declared.reading.tree.Misread.{Misread}
+use Rattle.vll_scenario.specs.declared.reading.tree.Misread.TheVariants as misread
 
 -- a whole number of 64 bits without a sign
 abbrev pub number_at : Data → Option ℕ
@@ -39,3 +41,9 @@ list_at f d = each_of f (as_array d)
 abbrev pub whole : {A : Type 0} → Result A ℕ → Option A
 whole (Ok a) = Some a
 whole (Err i) = None
+
+-- the result is the reading, unless memory ran out
+abbrev pub Gives : {A : Type 0} → Result A Misread → Option A → Type 0
+Gives (Ok a) reading = reading ≡ Some a
+Gives (Err misread.NoMemory) reading = Unit {0}
+Gives (Err misread.Faulty) reading = reading ≡ None

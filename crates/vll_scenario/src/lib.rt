@@ -1,6 +1,6 @@
 //! Scenarios: the JSON texts that say what the records hold, which procedures there are, which calls each client makes,
 //! and which events a replay takes. The crate reads a scenario from a `Source`, checks it, and writes texts to a
-//! `Sink`; it also finds the piece of a refused scenario that is at fault. It proves that each scenario or fault that
+//! `Sink`. It proves that each scenario or fault that
 //! reading returns, other than `Read` and `NoMemory`, is the one that the specification gives for the bytes read, and
 //! that the library of a scenario makes each of its calls. Start at `read_scenario`, `Scenario` and `ScenarioFault`.
 //!
@@ -13,9 +13,7 @@
 #![tactic(auto)]
 
 mod fault;
-mod laws;
 mod limits;
-mod piece;
 mod plain;
 mod reading;
 mod scenario;
@@ -23,12 +21,16 @@ mod stream;
 mod writing;
 
 pub use fault::{Part, ScenarioFault, Spot};
-pub use laws::refused_procedures_have_a_part_at_fault;
 pub use limits::{MOST_BYTES, MOST_CLIENTS, MOST_EVENTS, MOST_PROCS};
-pub use piece::{Kind, Step};
 pub use plain::Plain;
+pub use reading::asked::Asked;
 pub use reading::bytes::{ReadFault, read_bytes};
-pub use reading::way::{Found, Way, way_to_fault};
+pub use reading::members::{has_exactly, has_members};
+pub use reading::shape::{MAY_NAMES, MUST_NAMES};
+pub use reading::syntax::expression::expr_of;
+pub use reading::syntax::statement::{code_of, stmt_of, stmts_of};
+pub use reading::syntax::{index_of, key_of, mode_of};
+pub use reading::tree::{Misread, Reads, u32_of};
 pub use reading::{Reading, read_scenario, reading_of};
 pub use scenario::{Scenario, ScenarioParts};
 pub use stream::{Sink, Source};

@@ -7,17 +7,15 @@ ghost use Rattle.vll_scenario.specs.Reading.{IsScenarioOf, Reads, Tells};
 ghost use Rattle.vll_scenario.specs.Private.Reading.{data_of};
 ghost use Rattle.vll_scenario.specs.declared.fault.ScenarioFault.TheVariants as ScenarioFault;
 
-mod asked;
+pub(crate) mod asked;
 pub(crate) mod bytes;
-mod members;
+pub(crate) mod members;
 mod options;
-pub(crate) mod piece_test;
 mod schedule;
 mod setup;
-mod shape;
-mod syntax;
-mod tree;
-pub(crate) mod way;
+pub(crate) mod shape;
+pub(crate) mod syntax;
+pub(crate) mod tree;
 
 use crate::fault::ScenarioFault;
 use crate::limits::MOST_BYTES;

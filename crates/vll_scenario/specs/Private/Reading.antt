@@ -1,5 +1,5 @@
 -- The results of the functions that read a scenario.
-use Rattle.std.specs.Prelude.{◌≡◌, ℕ, List, Option, Some, None, Result, Ok, Err}
+use Rattle.std.specs.Prelude.{◌≡◌, ℕ, List, Result, Ok, Err}
 use Rattle.std.specs.Global.{Vec}
 use Rattle.serde_json.specs.Data.{Data}
 use Rattle.serde_json.specs.View.{view}
@@ -7,17 +7,9 @@ use Rattle.serde_json.specs.declared.value.Value.{Value}
 use Rattle.vll_proc.specs.declared.call.Call.{Call}
 use Rattle.vll_scenario.specs.declared.fault.ScenarioFault.{ScenarioFault}
 use Rattle.vll_scenario.specs.declared.fault.ScenarioFault.TheVariants.{NoMemory}
-use Rattle.vll_scenario.specs.declared.reading.tree.Misread.{Misread}
-use Rattle.vll_scenario.specs.declared.reading.tree.Misread.TheVariants as misread
 use Rattle.vll_scenario.specs.declared.reading.tree.FirstFault.{FirstFault}
 use Rattle.vll_scenario.specs.declared.reading.tree.FirstFault.TheVariants as first_fault
 use Rattle.vll_scenario.specs.Setup.{lists_of}
-
--- the result is the reading, unless memory ran out
-abbrev pub Gives : {A : Type 0} → Result A Misread → Option A → Type 0
-Gives (Ok a) reading = reading ≡ Some a
-Gives (Err misread.NoMemory) reading = Unit {0}
-Gives (Err misread.Faulty) reading = reading ≡ None
 
 -- `Gives` for a list
 abbrev pub GivesList : {A : Type 0} → Result (List A) FirstFault → Result (List A) ℕ → Type 0

@@ -10,14 +10,14 @@ ghost use Rattle.vll_scenario.specs.declared.reading.tree.Misread.TheVariants as
 use crate::reading::tree::Misread;
 use serde_json::{Map, Value};
 
-// Whether a value is an object with these members and no others.
+/// Whether a value is an object with these members and no others.
 pub fn has_exactly(value: &Value, names: &[&str]) -> bool
     ensures { result ≡ has_exactly (map (λ s. s.now) names.now) (view value.now) }
 {
     has_members(value, names, names)
 }
 
-// Whether a value is an object that has all members in `must`, and none outside `may`.
+/// Whether a value is an object that has all members in `must`, and none outside `may`.
 pub fn has_members<'n>(value: &Value, must: &[&'n str], may: &[&'n str]) -> bool
     ensures { result ≡ has_members (map (λ s. s.now) must.now) (map (λ s. s.now) may.now) (view value.now) }
 {

@@ -1,7 +1,8 @@
 //! The members of a scenario that may be absent.
 ghost use Rattle.serde_json.specs.View.{view};
 ghost use Rattle.vll_scenario.specs.Shape.{option_at, placing_at};
-ghost use Rattle.vll_scenario.specs.Private.Reading.{GivesUnlessMemory, Gives};
+ghost use Rattle.vll_scenario.specs.Private.Reading.{GivesUnlessMemory};
+ghost use Rattle.vll_scenario.specs.Tree.{Gives};
 
 use crate::fault::{Part, ScenarioFault};
 use crate::reading::shape::fault_at;

@@ -5,9 +5,9 @@ ghost use Rattle.serde_json.specs.View.{view};
 ghost use Rattle.vll_scenario.specs.Private.Longest.{longest_list};
 ghost use Rattle.vll_scenario.specs.Schedule.{event_at, event_with, words_alone};
 ghost use Rattle.vll_scenario.specs.Shape.{in_part, list_if_there};
-ghost use Rattle.vll_scenario.specs.Private.Reading.{GivesUnlessMemory, Gives};
+ghost use Rattle.vll_scenario.specs.Private.Reading.{GivesUnlessMemory};
 ghost use Rattle.vll_scenario.specs.Syntax.{find_word};
-ghost use Rattle.vll_scenario.specs.Tree.{u32_at};
+ghost use Rattle.vll_scenario.specs.Tree.{Gives, u32_at};
 ghost use Rattle.vll_scenario.specs.declared.fault.Part.TheVariants as Part;
 
 use crate::fault::{Part, ScenarioFault};

@@ -3,8 +3,8 @@ ghost use Rattle.std.specs.Prelude.{◌≡◌, ◌≤◌};
 ghost use Rattle.serde_json.specs.View.{view};
 ghost use Rattle.vll_scenario.specs.Private.Longest.{longest_list};
 ghost use Rattle.vll_scenario.specs.Shape.{asked_at, edition_at, in_part, part_at, shape_fault, shape_of};
-ghost use Rattle.vll_scenario.specs.Private.Reading.{GivesUnlessMemory, Gives};
-ghost use Rattle.vll_scenario.specs.Tree.{list_at};
+ghost use Rattle.vll_scenario.specs.Private.Reading.{GivesUnlessMemory};
+ghost use Rattle.vll_scenario.specs.Tree.{Gives, list_at};
 
 use crate::fault::{Part, ScenarioFault, Spot};
 use crate::limits::MOST_BYTES;
@@ -20,11 +20,11 @@ use vll_core::Event;
 use vll_proc::{Edition, Proc, Text};
 use vll_sca::Placing;
 
-// The members that a scenario must have.
-pub(crate) const MUST_NAMES: [&str; 4] = ["version", "records", "procs", "clients"];
+/// The members that a scenario must have.
+pub const MUST_NAMES: [&str; 4] = ["version", "records", "procs", "clients"];
 
-// The members that it may have.
-pub(crate) const MAY_NAMES: [&str; 9] = [
+/// The members that a scenario may have.
+pub const MAY_NAMES: [&str; 9] = [
     "version", "records", "procs", "clients", "cap", "bits", "limit", "hash", "schedule",
 ];
 

@@ -3,7 +3,7 @@ ghost use Rattle.std.specs.Prelude.{◌≡◌, ◌^◌, IfOk, IfErr, Some, None}
 ghost use Rattle.serde_json.specs.Find.{as_str};
 ghost use Rattle.serde_json.specs.View.{view};
 ghost use Rattle.vll_scenario.specs.Syntax.{both_of, index_at, key_at, key_of, mode_at, place_at, proc_at};
-ghost use Rattle.vll_scenario.specs.Private.Reading.{Gives};
+ghost use Rattle.vll_scenario.specs.Tree.{Gives};
 ghost use Rattle.vll_scenario.specs.declared.reading.tree.Misread.TheVariants as Misread;
 
 pub(crate) mod expression;
@@ -53,7 +53,8 @@ fn proc_of(alloc: Global, edition: Edition, value: &Value) -> Result<Proc, Misre
     })
 }
 
-pub(crate) fn key_of(value: &Value) -> Result<KeyDecl, Misread>
+/// Reads a key position: its mode, its place, and an index or a record. `Faulty` means that the value is not one.
+pub fn key_of(value: &Value) -> Result<KeyDecl, Misread>
     ensures { Gives result (key_at (view value.now)) }
 {
     match value {
@@ -74,6 +75,7 @@ fn declared(mode: &str, place: &str, value: &Value) -> Result<KeyDecl, Misread>
     Ok(KeyDecl { mode, at })
 }
 
+/// Reads the word of a key's mode, "read" or "write". `Faulty` means that it is another word.
 pub fn mode_of(word: &str) -> Result<Mode, Misread>
     ensures { Gives result (mode_at word.now) }
 {
@@ -96,7 +98,8 @@ fn place_of(word: &str, value: &Value) -> Result<KeyAt, Misread>
     }
 }
 
-// The index of an argument, a key or a local, or a count of arguments or of turns.
+/// Reads the index of an argument, a key or a local, or a count of arguments or of turns: a whole number below 256.
+/// `Faulty` means that the value is not one.
 pub fn index_of(value: &Value) -> Result<u8, Misread>
     ensures { Gives result (index_at (view value.now)) }
 {

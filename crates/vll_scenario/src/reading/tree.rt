@@ -2,8 +2,8 @@
 ghost use Rattle.std.specs.Prelude.{◌≡◌};
 ghost use Rattle.serde_json.specs.Find.{as_str};
 ghost use Rattle.serde_json.specs.View.{view, items_view};
-ghost use Rattle.vll_scenario.specs.Tree.{each, list_at, number_at, u32_at, whole};
-ghost use Rattle.vll_scenario.specs.Private.Reading.{Gives, GivesList};
+ghost use Rattle.vll_scenario.specs.Tree.{Gives, each, list_at, number_at, u32_at, whole};
+ghost use Rattle.vll_scenario.specs.Private.Reading.{GivesList};
 
 use serde_json::Value;
 use sqlite_items::Items;
@@ -43,6 +43,7 @@ pub trait Reads: Sized + Drop {
 
     ghost reads: { Edition → Data → Option Self };
 
+    /// Reads a value of an edition. `Faulty` means that it has another form, `NoMemory` that memory ran out.
     fn read(alloc: Global, edition: Edition, value: &Value) -> Result<Self, Misread>
         ensures { Gives result (reads edition (view value.now)) };
 }
@@ -84,6 +85,7 @@ impl Reads for Text {
     }
 }
 
+/// Reads a whole number of 32 bits. `Faulty` means that the value is not one.
 pub fn u32_of(value: &Value) -> Result<u32, Misread>
     ensures { Gives result (u32_at (view value.now)) }
 {

@@ -2,7 +2,7 @@
 ghost use Rattle.std.specs.Prelude.{Some};
 ghost use Rattle.serde_json.specs.View.{view};
 ghost use Rattle.vll_scenario.specs.Syntax.{expr_at, index_at, leaf, operation};
-ghost use Rattle.vll_scenario.specs.Private.Reading.{Gives};
+ghost use Rattle.vll_scenario.specs.Tree.{Gives};
 
 use super::{index_of, word_of};
 use crate::reading::tree::Misread;
@@ -11,6 +11,7 @@ use sqlite_items::Boxed;
 use std::alloc::Global;
 use vll_proc::Expr;
 
+/// Reads an expression. `Faulty` means that the value is not one, `NoMemory` that memory ran out.
 #[cycle(expressions)]
 pub fn expr_of(alloc: Global, value: &Value) -> Result<Expr, Misread>
     ensures { Gives result (expr_at (view value.now)) }

@@ -2,7 +2,7 @@
 ghost use Rattle.std.specs.Prelude.{Some};
 ghost use Rattle.serde_json.specs.View.{items_view, view};
 ghost use Rattle.vll_scenario.specs.Syntax.{abort_or_reply, branch, code_at, each_stmt, expr_at, let_or_set, repeat, stmt_at, stmts_at};
-ghost use Rattle.vll_scenario.specs.Private.Reading.{Gives};
+ghost use Rattle.vll_scenario.specs.Tree.{Gives};
 
 use super::expression::expr_of;
 use super::{index_of, word_of};
@@ -12,7 +12,7 @@ use sqlite_items::Items;
 use std::alloc::Global;
 use vll_proc::{Edition, Stmt};
 
-// The statements of a list.
+/// Reads a list of statements of an edition. `Faulty` means that the value is not one, `NoMemory` that memory ran out.
 #[cycle(statements)]
 pub fn stmts_of(alloc: Global, edition: Edition, value: &Value) -> Result<Items<Stmt>, Misread>
     ensures { Gives result (stmts_at edition (view value.now)) }
@@ -34,6 +34,7 @@ fn each_stmt_of(alloc: Global, edition: Edition, list: &[Value]) -> Result<Items
     Ok(stmts)
 }
 
+/// Reads a statement of an edition. `Faulty` means that the value is not one, `NoMemory` that memory ran out.
 #[cycle(statements)]
 pub fn stmt_of(alloc: Global, edition: Edition, value: &Value) -> Result<Stmt, Misread>
     ensures { Gives result (stmt_at edition (view value.now)) }
@@ -108,7 +109,7 @@ fn let_or_set(alloc: Global, word: &str, index: &Value, value: &Value) -> Result
     }
 }
 
-// The code of an abort.
+/// Reads the code of an abort: a whole number below 65,536. `Faulty` means that the value is not one.
 pub fn code_of(value: &Value) -> Result<u16, Misread>
     ensures { Gives result (code_at (view value.now)) }
 {

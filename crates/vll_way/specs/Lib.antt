@@ -1,0 +1,4 @@
+pub mod Pieces
+pub mod PieceTests
+pub mod Ways
+pub mod Private

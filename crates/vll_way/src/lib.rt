@@ -1,0 +1,20 @@
+//! The way to the piece of a refused scenario that is at fault: step by step through its JSON tree, always into the first
+//! piece that does not pass the test of the fault. The crate proves that the way leads so, to a piece in which no other
+//! one is at fault. Start at `way_to_fault`.
+//!
+//! ```rattle
+//! let Reading { tree, scenario } = reading_of(alloc, text.as_bytes())?;
+//! if let Err(why) = scenario {
+//!     let Way { steps, piece } = way_to_fault(alloc, &tree, why)?;
+//! }
+//! ```
+#![tactic(auto)]
+
+mod laws;
+mod piece;
+mod piece_test;
+mod way;
+
+pub use laws::refused_procedures_have_a_part_at_fault;
+pub use piece::{Kind, Step};
+pub use way::{Found, Way, way_to_fault};
