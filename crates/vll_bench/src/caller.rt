@@ -5,8 +5,8 @@ ghost use Rattle.vll_queue.specs.Shown.{library_of};
 
 use std::alloc::{AllocError, Global};
 use std::marker::Model;
+use vll_engine::{Client, Clients, Name};
 use vll_proc::Call;
-use vll_queue::{Client, Clients, Name};
 
 /// A client of the engine, with the calls that it makes. Contracts see the client.
 #[derive(Drop)]

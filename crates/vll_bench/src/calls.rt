@@ -12,8 +12,8 @@ use std::alloc::Global;
 use std::sync::{Mutex, Wait};
 use std::thread::{Threads, map_indices};
 use std::time::{Clock, Duration, Instant};
+use vll_engine::{Engine, EngineSpent, Name, Opening};
 use vll_proc::Call;
-use vll_queue::{Engine, EngineSpent, Name, Opening};
 use vll_sca::Placing;
 
 /// Times the calls made by `threads` threads in an engine of this name, with `Client::make`.

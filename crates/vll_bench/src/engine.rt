@@ -11,8 +11,8 @@ use std::sync::Wait;
 use std::time::{CpuClock, Duration};
 use vll_check::{CallFault, Library};
 use vll_core::MOST_CALLS;
+use vll_engine::{Begun, Client, Engine, EngineSpent, Name, Opening};
 use vll_proc::Call;
-use vll_queue::{Begun, Client, Engine, EngineSpent, Name, Opening};
 use vll_sca::Placing;
 
 // How many calls are made, one after the other.

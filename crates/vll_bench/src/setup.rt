@@ -7,8 +7,8 @@ ghost use Rattle.vll_sca.specs.Placing.{placing};
 use crate::fault::Fault;
 use std::alloc::{AllocError, Global};
 use vll_core::Core;
+use vll_engine::Opening;
 use vll_proc::Call;
-use vll_queue::Opening;
 use vll_sca::Placing;
 use vll_server::{
     MOST_CLIENTS, Plain, Scenario, ScenarioFault, ScenarioParts, opening_of, read_scenario,

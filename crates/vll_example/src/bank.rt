@@ -9,8 +9,8 @@ use std::alloc::Global;
 use std::marker::Brand;
 use std::sync::Wait;
 use vll_core::{Config, Ticket};
+use vll_engine::{Begun, Client, Clients, Engine, EngineFault, Name, Opening, Pass, Service};
 use vll_proc::{Reply, invariants_carry_over};
-use vll_queue::{Begun, Client, Clients, Engine, EngineFault, Name, Opening, Pass, Service};
 use vll_sca::Placing;
 
 /// Opens the engine over two accounts, for two clients, and serves them. All memory is allocated here.

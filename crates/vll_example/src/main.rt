@@ -5,7 +5,7 @@ mod bank;
 mod procedures;
 mod relay;
 
-use vll_queue::EngineFault;
+use vll_engine::EngineFault;
 
 fn main(rt: HostRuntime) -> Result<(), EngineFault> {
     bank::open(&rt, rt.alloc())

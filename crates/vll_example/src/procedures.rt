@@ -8,8 +8,8 @@ ghost use Rattle.vll_example.specs.Bank.{procedures, sum_of_two, transfer, trans
 
 use std::alloc::{AllocError, Global};
 use vll_check::{Library, check};
+use vll_engine::EngineFault;
 use vll_proc::{Boxed, Edition, Expr, Items, KeyAt, KeyDecl, Proc, Stmt, Text};
-use vll_queue::EngineFault;
 use vll_record::Mode;
 
 /// The code with which a transfer aborts if the first account holds less than the amount.

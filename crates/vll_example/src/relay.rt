@@ -3,7 +3,7 @@ ghost use Rattle.std.specs.Prelude.{◌≡◌, ◌<◌, ◌++◌, ◌∷◌, [],
 
 use std::sync::Wait;
 use vll_core::Ticket;
-use vll_queue::{Client, Engine, EngineFault, Name, news_orders_calls};
+use vll_engine::{Client, Engine, EngineFault, Name, news_orders_calls};
 use vll_sca::Placing;
 
 /// Makes a transfer of the first client, passes news of it to the other one, and then makes that one's transfer.

@@ -21,7 +21,7 @@ use Rattle.vll_counters.specs.Told.{KnowsSession, AreReplied}
 use Rattle.vll_queue.specs.Finished.{AppendsFinished, AreFinished}
 use Rattle.vll_queue.specs.Private.Finished.{finished, finished_from}
 use Rattle.vll_queue.specs.Private.Kept.{AreOwn, IsKept}
-use Rattle.vll_queue.specs.Private.Replied.{reply_in}
+use Rattle.vll_queue.specs.Replied.{reply_in}
 use Rattle.vll_queue.specs.Shown.{Named, library_of}
 use Rattle.vll_queue.proofs.Learning.{gone_at, gone_is, replied_at}
 

@@ -32,10 +32,10 @@ use Rattle.vll_queue.specs.declared.begun.BeginRefusal.TheVariants.{Spent, Busy}
 use Rattle.vll_queue.specs.Begin.{IsPassFor, IsRefused, refusal}
 use Rattle.vll_queue.specs.Headline.Sessions.{SawOwn}
 use Rattle.vll_queue.specs.Shown.{Named, library_of, words_of}
-use Rattle.vll_queue.specs.Private.Begun.{asked_turn}
+use Rattle.vll_queue.specs.Admission.{asked_turn}
 use Rattle.vll_queue.specs.Headline.Found.{FoundThere, AreFoundThere}
 use Rattle.vll_queue.specs.Private.Kept.{AreOwn, IsKept}
-use Rattle.vll_queue.specs.Private.Looked.{IsLookedUp}
+use Rattle.vll_queue.specs.Looked.{IsLookedUp}
 use Rattle.vll_queue.proofs.There.{found_more, looked_up_next}
 use Rattle.vll_queue.proofs.Learning.{saw_own}
 use Rattle.vll_queue.proofs.Starting.{new_pass_fresh}

@@ -21,7 +21,7 @@ use Rattle.vll_queue.specs.Shown.{Named, library_of}
 use Rattle.vll_queue.specs.Pass.{DoneShown, IsOf, IsReply}
 use Rattle.vll_queue.specs.Headline.Found.{AreFoundThere}
 use Rattle.vll_queue.specs.Private.Kept.{AreOwn, IsKept}
-use Rattle.vll_queue.specs.Private.Replied.{HasReply}
+use Rattle.vll_queue.specs.Replied.{HasReply}
 use Rattle.vll_queue.proofs.There.{calls_replied}
 
 same_some : {A : Type 0} (a b : A) → ◌≡◌ {A = Option A} (Some a) (Some b) → a ≡ b

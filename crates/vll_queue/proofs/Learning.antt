@@ -25,7 +25,7 @@ use Rattle.vll_counters.specs.Shown.{QueueShown, SessionShown, queue_view, left_
 use Rattle.vll_counters.specs.Steps.{leaving}
 use Rattle.vll_counters.specs.Told.{KnowsSession, AreReplied, IsGivenOut}
 use Rattle.vll_queue.specs.Private.Kept.{IsKept}
-use Rattle.vll_queue.specs.Private.Replied.{HasReply, reply_in}
+use Rattle.vll_queue.specs.Replied.{HasReply, reply_in}
 use Rattle.vll_queue.specs.Headline.Sessions.{SawOwn}
 use Rattle.vll_queue.specs.Sessions.{SawOthers}
 use Rattle.vll_queue.specs.Shown.{Named}

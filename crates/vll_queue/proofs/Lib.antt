@@ -1,14 +1,10 @@
-pub mod Attempts
 pub mod Collecting
-pub mod Crossing
 pub mod Ending
 pub mod Entering
 pub mod Keeps
 pub mod Learning
 pub mod Hearing
 pub mod Looking
-pub mod Onto
-pub mod Opens
 pub mod Starting
 pub mod There
 pub mod Working

@@ -19,7 +19,7 @@ use Rattle.vll_counters.proofs.Places.{get_longer}
 use Rattle.vll_queue.specs.declared.begun.Begun.{Begun}
 use Rattle.vll_queue.specs.declared.begun.Begun.TheVariants.{Free, Blocked, Refused}
 use Rattle.vll_queue.specs.Begin.{Begins, WasFound, FindsAndBegins}
-use Rattle.vll_queue.specs.Private.Looked.{HasLooked, IsLookedUp}
+use Rattle.vll_queue.specs.Looked.{HasLooked, IsLookedUp}
 use Rattle.vll_queue.specs.Headline.Sessions.{SawOwn}
 use Rattle.vll_queue.specs.Sessions.{SawOthers}
 use Rattle.vll_queue.specs.Shown.{Named, library_of, words_of}

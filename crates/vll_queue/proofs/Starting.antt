@@ -24,7 +24,7 @@ use Rattle.vll_counters.specs.Told.{MayStart}
 use Rattle.vll_counters.proofs.Between.{clear_pass}
 use Rattle.vll_queue.specs.Shown.{Named, library_of, words_of}
 use Rattle.vll_queue.specs.Pass.{IsFresh}
-use Rattle.vll_queue.specs.Private.Begun.{IsPassAt}
+use Rattle.vll_queue.specs.Admission.{IsPassAt}
 use Rattle.vll_queue.specs.Private.Kept.{AreOwn, IsKept}
 
 waits_alone : (s : Status) → is_waiting s ≡ true → s ≡ Waiting

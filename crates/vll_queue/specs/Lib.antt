@@ -3,9 +3,12 @@ pub mod Shown
 pub mod Sessions
 pub mod Pass
 pub mod Begin
-pub mod Onto
+pub mod Looked
+pub mod Admission
 pub mod Calling
 pub mod News
 pub mod Closed
+pub mod Ended
 pub mod Finished
+pub mod Replied
 pub mod Private

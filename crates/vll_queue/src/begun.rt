@@ -13,20 +13,14 @@ pub enum Begun {
     Refused(BeginRefusal),
 }
 
-/// The result of beginning a call whose pass is appended to a list.
-pub enum BegunOnto {
-    /// Each claim was granted: the call may run, by the last pass of the list.
-    Free,
-    /// A claim was denied: the call waits under this ticket, until `next_front` or `next_scan` gives a pass for it.
+/// The result of beginning a call at the lock, where a free call has only a seat: whoever has the call can make the pass
+/// of both.
+pub enum Admission {
+    /// Each claim was granted: the call may run.
+    Free(PassSeat, Ticket),
+    /// A claim was denied: the call waits.
     Blocked(Ticket),
     /// The call has not entered, and has no claim.
-    Refused(BeginRefusal),
-}
-
-// The result at the lock. A free call has a seat there; the caller, which has the call, makes the pass of it.
-pub(crate) enum Admission {
-    Free(PassSeat, Ticket),
-    Blocked(Ticket),
     Refused(BeginRefusal),
 }
 

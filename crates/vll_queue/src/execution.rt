@@ -20,8 +20,8 @@ use vll_counters::{PassSeat, Words};
 use vll_proc::{Call, Frame, Reply};
 use vll_record::{Claims, MOST_CLAIMS, Mode};
 
-// Loads the pair word of each record that the call claims. Returns whether each claim looks free.
-pub(crate) fn look<N: Name>(words: &Words, call: &Call) -> bool
+/// Loads the pair word of each record that the call claims. Returns whether each claim looks free.
+pub fn look<N: Name>(words: &Words, call: &Call) -> bool
     requires words { words.now ≡ words_of N.engine }
     requires catalog { IsCatalog (library_of N.engine) }
     requires fits { Fits (library_of N.engine) call.now }
@@ -40,9 +40,9 @@ fn look_all(words: &Words, claims: &Claims) -> bool
     are_free
 }
 
-// Makes all loads of a pass's call, runs its body, and makes all its stores unless it aborts.
+/// Makes all loads of a pass's call, runs its body, and makes all its stores unless it aborts.
 #[inline(always)]
-pub(crate) fn execute<N: Name>(words: &Words, library: &Library, pass: Pass) -> Done
+pub fn execute<N: Name>(words: &Words, library: &Library, pass: Pass) -> Done
     requires words { words.now ≡ words_of N.engine }
     requires library { library.now ≡ library_of N.engine }
     requires pass { IsFresh N.engine pass }
@@ -63,9 +63,9 @@ pub(crate) fn execute<N: Name>(words: &Words, library: &Library, pass: Pass) -> 
     }
 }
 
-// As `execute` on a borrowed pass, and then releases each of the call's claims. Returns the reply.
+/// As `execute` on a borrowed pass, and then releases each of the call's claims. Returns the reply.
 #[inline(always)]
-pub(crate) fn run_in_place<N: Name>(words: &Words, library: &Library, pass: &mut Pass) -> Reply
+pub fn run_in_place<N: Name>(words: &Words, library: &Library, pass: &mut Pass) -> Reply
     requires words { words.now ≡ words_of N.engine }
     requires library { library.now ≡ library_of N.engine }
     requires catalog { IsCatalog (library_of N.engine) }
@@ -76,14 +76,9 @@ pub(crate) fn run_in_place<N: Name>(words: &Words, library: &Library, pass: &mut
     run_at::<N>(words, library, &mut pass.seat, &pass.call)
 }
 
-// As `run_in_place` for the call whose pass has this seat.
+/// As `run_in_place` for the call whose pass has this seat.
 #[inline(always)]
-pub(crate) fn run_at<N: Name>(
-    words: &Words,
-    library: &Library,
-    seat: &mut PassSeat,
-    call: &Call,
-) -> Reply
+pub fn run_at<N: Name>(words: &Words, library: &Library, seat: &mut PassSeat, call: &Call) -> Reply
     requires words { words.now ≡ words_of N.engine }
     requires library { library.now ≡ library_of N.engine }
     requires catalog { IsCatalog (library_of N.engine) }
@@ -160,9 +155,9 @@ fn store_all(words: &Words, seat: &mut PassSeat, claims: &Claims, frame: &Frame)
     }
 }
 
-// Releases each claim of an executed call.
+/// Releases each claim of an executed call.
 #[inline(always)]
-pub(crate) fn release<N: Name>(words: &Words, done: Done) -> Released
+pub fn release<N: Name>(words: &Words, done: Done) -> Released
     requires words { words.now ≡ words_of N.engine }
     requires catalog { IsCatalog (library_of N.engine) }
     requires done { IsDone N.engine done }

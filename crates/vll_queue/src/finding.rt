@@ -3,7 +3,7 @@ ghost use Rattle.std.specs.Prelude.{◌≡◌, ◌<◌, Some};
 ghost use Rattle.vll_check.specs.Headline.Calls.{source as source_in};
 ghost use Rattle.vll_check.specs.Calls.{Fits, IsReady};
 ghost use Rattle.vll_check.specs.Catalog.{IsCatalog};
-ghost use Rattle.vll_queue.specs.Private.Looked.{HasLooked, IsLookedUp};
+ghost use Rattle.vll_queue.specs.Looked.{HasLooked, IsLookedUp};
 ghost use Rattle.vll_queue.specs.Shown.{library_of, words_of};
 
 use crate::name::Name;
@@ -13,9 +13,10 @@ use vll_counters::Words;
 use vll_proc::Call;
 use vll_record::RecordId;
 
-// The call with the value that its source has. It is not inlined, so that other calls make no room for it.
+/// The call with the value that its source has. The session has then seen what the value came from. It is not inlined,
+/// so that other calls make no room for it.
 #[inline(never)]
-pub(crate) fn find<N: Name>(
+pub fn find<N: Name>(
     words: &Words,
     library: &Library,
     session: &mut Session,

@@ -10,16 +10,17 @@ use vll_counters::QueueSeat;
 use vll_sca::Place;
 
 mod begin;
-mod close;
+pub(crate) mod close;
 mod finish;
 mod lines;
 mod next;
 mod reply;
+mod sessions;
 
-// What is behind the lock: the queue, and its seat of the words. To a contract it is the queue. The contracts of the
-// methods say exactly what they return for that queue.
+/// What is behind the lock: the queue, and its seat of the words. To a contract it is the queue. The contracts of the
+/// methods say exactly what they return for that queue.
 #[derive(Drop)]
-pub(crate) struct Locked<N: Name, H: Place> {
+pub struct Locked<N: Name, H: Place> {
     // It comes before the fields of the queue that each call changes, so that a hold changes two cache lines of these.
     patience: Patience,
     queue: Queue<H>,
@@ -42,8 +43,8 @@ impl<N: Name, H: Place> Model for Locked<N, H> {
 }
 
 impl<N: Name, H: Place> Locked<N, H> {
-    // A queue with its seat, which has no open turn and no session at it.
-    pub(crate) fn new(queue: Queue<H>, seat: QueueSeat) -> Locked<N, H>
+    /// A queue with its seat, which has no open turn and no session at it.
+    pub fn new(queue: Queue<H>, seat: QueueSeat) -> Locked<N, H>
         requires { IsKept N.engine H.place_of seat queue }
         ensures { result ≡ queue }
     {

@@ -2,14 +2,12 @@
 ghost use Rattle.std.specs.Prelude.{◌≡◌};
 ghost use Rattle.vll_queue.specs.News.{Hears};
 
-use crate::engine::Engine;
 use crate::name::Name;
 use crate::session::Session;
 use std::marker::{Model, PhantomData};
-use vll_counters::NewsSeat;
-use vll_sca::Place;
+use vll_counters::{NewsSeat, Words};
 
-/// A causality token: it stands for the calls that a client had seen when `Client::tell` made it. Each of them is
+/// A causality token: it stands for the calls that a client had seen when it was made. Each of them is
 /// ordered before every call that a client enters after hearing the news. It takes no bytes, and can reach another
 /// thread in any way, such as a channel or a lock. Contracts see the calls.
 #[derive(Drop)]
@@ -29,9 +27,10 @@ impl<N: Name> Model for News<N> {
     ghost invariant = { λ n. n.seat.table ≡ N.engine.table };
 }
 
-impl<N: Name, H: Place + Drop> Engine<N, H> {
-    // Returns news of what the session has seen, as `Client::tell` says.
-    pub(crate) fn tell(&self, session: &mut Session) -> News<N>
+impl<N: Name> News<N> {
+    /// News of what the session has seen.
+    pub fn of(words: &Words, session: &mut Session) -> News<N>
+        requires words { words.now.table ≡ N.engine.table }
         requires session { session.old.table ≡ N.engine.table }
         ensures news { result.calls ≡ session.old.session.seen }
         ensures session { session.new ≡ session.old }
@@ -40,20 +39,21 @@ impl<N: Name, H: Place + Drop> Engine<N, H> {
             unreachable!()
         };
         News {
-            seat: self.words.tell(seat),
+            seat: words.tell(seat),
             of: PhantomData,
         }
     }
 
-    // Makes the session hear news of this engine, as `Client::hear` says.
-    pub(crate) fn hear(&self, session: &mut Session, news: News<N>)
+    /// Makes the session hear the news.
+    pub fn reach(self, words: &Words, session: &mut Session)
+        requires words { words.now.table ≡ N.engine.table }
         requires session { session.old.table ≡ N.engine.table }
-        ensures heard { Hears session.old.session session.new.session news.calls }
+        ensures heard { Hears session.old.session session.new.session self.calls }
         ensures session { session.new.table ≡ session.old.table }
     {
         let Some(seat) = &mut session.seat else {
             unreachable!()
         };
-        self.words.hear(seat, news.seat);
+        words.hear(seat, self.seat);
     }
 }

@@ -76,9 +76,23 @@ impl Pass {
 }
 
 impl Pass {
-    // What is left of a pass whose call has made all its steps, with its reply.
+    /// The pass of this call, which runs by this seat.
     #[inline(always)]
-    pub(crate) fn into_released(self, reply: Reply) -> Released
+    pub fn of(call: &Call, seat: PassSeat, ticket: Ticket) -> Pass
+        requires call { seat.pass.call ≡ call.now }
+        requires ticket { seat.pass.ticket ≡ ticket }
+        ensures { result ≡ seat }
+    {
+        Pass {
+            call: *call,
+            seat,
+            ticket,
+        }
+    }
+
+    /// What is left of a pass whose call has made all its steps, with its reply.
+    #[inline(always)]
+    pub fn into_released(self, reply: Reply) -> Released
         ensures { result ≡ record { table = self.table; pass = self.pass; reply = reply } }
     {
         let Pass {
@@ -104,6 +118,27 @@ impl Done {
 }
 
 impl Released {
+    /// What is left of a call that has made all its steps by this seat, with its reply.
+    #[inline(always)]
+    pub fn of(seat: PassSeat, ticket: Ticket, reply: Reply) -> Released
+        requires ticket { seat.pass.ticket ≡ ticket }
+        ensures { result ≡ record { table = seat.table; pass = seat.pass; reply = reply } }
+    {
+        Released {
+            seat,
+            ticket,
+            reply,
+        }
+    }
+
+    /// The reply.
+    #[inline(always)]
+    pub fn reply(&self) -> Reply
+        ensures { result ≡ self.now.reply }
+    {
+        self.reply
+    }
+
     /// The call's number in the order of entry, from 0.
     pub fn ticket(&self) -> Ticket
         ensures { result ≡ self.now.pass.ticket }

@@ -4,10 +4,10 @@ ghost use Rattle.std.specs.Prelude.{◌≡◌, ◌≤◌, [], IfOk, vec_capacity
 use std::alloc::{AllocError, Global};
 use std::marker::Model;
 
-// Lists for what closing leaves, so that closing allocates nothing. Contracts see the number of records they have room
-// for.
+/// Lists for what closing leaves, so that closing allocates nothing. Contracts see the number of records they have room
+/// for.
 #[derive(Drop)]
-pub(crate) struct Room {
+pub struct Room {
     pub(crate) count: u32,
     pub(crate) records: Vec<u64>,
     pub(crate) pairs: Vec<u64>,
@@ -25,8 +25,8 @@ impl Model for Room {
 }
 
 impl Room {
-    // Room for `count` records.
-    pub(crate) fn new(alloc: Global, count: u32) -> Result<Room, AllocError>
+    /// Room for `count` records. Fails if the system has no memory for it.
+    pub fn new(alloc: Global, count: u32) -> Result<Room, AllocError>
         ensures { IfOk result (λ r. r ≡ count) }
     {
         Ok(Room {
@@ -36,8 +36,8 @@ impl Room {
         })
     }
 
-    // Room for `count` records in these lists. What they hold is dropped.
-    pub(crate) fn of(count: u32, mut records: Vec<u64>, mut pairs: Vec<u64>) -> Room
+    /// Room for `count` records in these lists. What they hold is dropped.
+    pub fn of(count: u32, mut records: Vec<u64>, mut pairs: Vec<u64>) -> Room
         requires records { count ≤ vec_capacity records }
         requires pairs { count ≤ vec_capacity pairs }
         ensures { result ≡ count }

@@ -27,6 +27,17 @@ impl Model for Session {
 }
 
 impl Session {
+    /// The session of a client's seat.
+    pub fn of(client: u32, seat: SessionSeat) -> Session
+        requires client { seat.session.client ≡ client }
+        ensures { result ≡ seat }
+    {
+        Session {
+            client,
+            seat: Some(seat),
+        }
+    }
+
     /// The number of the client whose session it is.
     pub fn client(&self) -> u32
         ensures { result ≡ self.now.session.client }

@@ -8,7 +8,7 @@ use crate::{begin, end};
 use std::alloc::Global;
 use std::sync::Wait;
 use vll_core::{Config, Line};
-use vll_queue::{Client, Clients, Closed, Engine, Name, NotReopened, Opening, Reopened, Service};
+use vll_engine::{Client, Clients, Closed, Engine, Name, NotReopened, Opening, Reopened, Service};
 use vll_sca::Placing;
 use vll_server::ScenarioParts;
 

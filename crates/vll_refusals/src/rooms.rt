@@ -9,7 +9,7 @@ use std::alloc::Global;
 use vll_check::Library;
 use vll_core::{Core, OpenFault, Queue};
 use vll_counters::{NoMemory, Words};
-use vll_queue::Opening;
+use vll_engine::Opening;
 use vll_sca::{Bits, BitsFault, MOST_BITS};
 use vll_server::ScenarioParts;
 

@@ -12,8 +12,8 @@ use std::marker::Brand;
 use std::sync::Wait;
 use std::thread::Threads;
 use vll_core::Line;
+use vll_engine::{Closed, Name, Opening};
 use vll_proc::{Call, Reply};
-use vll_queue::{Closed, Name, Opening};
 use vll_sca::Placing;
 use vll_server::{
     MOST_CLIENTS, Plain, Scenario, ScenarioFault, opening_of, read_scenario, tokens_of,

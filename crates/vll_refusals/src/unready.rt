@@ -3,7 +3,7 @@ use std::alloc::{AllocError, AllocFailed};
 use std::{fmt, io};
 use vll_check::CallFault;
 use vll_core::OpenFault;
-use vll_queue::EngineFault;
+use vll_engine::EngineFault;
 use vll_server::ScenarioFault;
 
 /// The function could not be called: what it needs could not be made.

@@ -22,8 +22,8 @@ use Rattle.vll_queue.specs.Shown.{Named, library_of}
 use Rattle.vll_queue.specs.declared.closed.Closed.{Closed}
 use Rattle.vll_workers.specs.Headline.Merge.{IsMerge}
 use Rattle.vll_workers.specs.Merge.{AreForScripts, IsAtStart, IsClosedWith}
-use Rattle.vll_workers.specs.Shown.{TokenShown, token}
-use Rattle.vll_workers.specs.Tokens.{AreBack, AreFit, IsFit, IsThrough, clients_of}
+use Rattle.vll_tokens.specs.Shown.{TokenShown, token}
+use Rattle.vll_tokens.specs.Tokens.{AreBack, AreFit, IsFit, IsThrough, clients_of}
 use Rattle.vll_workers.proofs.Merged.{merged}
 use Rattle.vll_scenario.specs.Setup.{lists_of}
 use Rattle.vll_server.specs.declared.fault.ServeFault.{ServeFault}

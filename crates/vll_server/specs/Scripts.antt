@@ -4,7 +4,7 @@ use Rattle.atomic_table.specs.Seated.{TableId}
 use Rattle.vll_proc.specs.declared.call.Call.{Call}
 use Rattle.vll_core.specs.declared.config.Config.{Config}
 use Rattle.vll_counters.specs.Steps.{new_session}
-use Rattle.vll_workers.specs.Shown.{TokenShown, token}
+use Rattle.vll_tokens.specs.Shown.{TokenShown, token}
 use Rattle.vll_scenario.specs.Headline.Setup.{Setup}
 
 -- the configuration of the engine that serves a scenario: it takes as many calls as the scripts have, at least 1

@@ -8,7 +8,7 @@ pub(crate) mod outcome;
 
 use std::alloc::{AllocError, Global};
 use vll_core::Line;
-use vll_queue::Closed;
+use vll_engine::Closed;
 use vll_replay::push_record_line;
 
 // Each of these appends one part of the outcome. After an error, a prefix of that part may have been appended.

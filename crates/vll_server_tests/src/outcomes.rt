@@ -4,8 +4,8 @@ use crate::streams::{Full, Narrow};
 use std::alloc::{AllocError, Global};
 use std::test::Fail;
 use vll_core::Line;
+use vll_engine::Closed;
 use vll_proc::{Call, Reason, Reply};
-use vll_queue::Closed;
 use vll_record::{Claims, MOST_CLAIMS};
 use vll_server::{Plain, WriteFault, write_outcome};
 

@@ -12,7 +12,7 @@ use std::alloc::Global;
 use std::sync::Wait;
 use std::thread::{Threads, map_vec};
 use vll_core::Line;
-use vll_queue::{Client, Clients, Engine, EngineFault, Name, Opening, Reopened};
+use vll_engine::{Client, Clients, Engine, EngineFault, Name, Opening, Reopened};
 use vll_sca::Placing;
 
 /// The number of clients of the bank, each on a thread of its own.

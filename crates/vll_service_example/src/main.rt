@@ -11,7 +11,7 @@ mod total;
 use crate::service::{Served, serve};
 use std::rt::Env;
 use std::{env, io};
-use vll_queue::EngineFault;
+use vll_engine::EngineFault;
 
 const USAGE: &str = "usage: vll_service_example [CALLS]
 CALLS: how many calls are made in all; 1000000 without it";

@@ -9,8 +9,8 @@ ghost use Rattle.vll_service_example.specs.Bank.{deposit, deposit_body, procedur
 
 use std::alloc::{AllocError, Global};
 use vll_check::{Library, check};
+use vll_engine::EngineFault;
 use vll_proc::{Boxed, Edition, Expr, Items, KeyAt, KeyDecl, Proc, Stmt, Text};
-use vll_queue::EngineFault;
 use vll_record::Mode;
 
 /// The number of accounts of the bank. The first one is its till.

@@ -13,7 +13,7 @@ use std::marker::Brand;
 use std::sync::Wait;
 use std::thread::Threads;
 use vll_core::Config;
-use vll_queue::{EngineFault, Opening};
+use vll_engine::{EngineFault, Opening};
 use vll_sca::Placing;
 
 /// What each account holds at first. No transfer runs short of it, since no call moves more than 100 of it.

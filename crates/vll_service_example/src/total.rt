@@ -2,7 +2,7 @@
 ghost use Rattle.std.specs.Prelude.{◌≡◌, ◌<◌, ◌^◌, IfOk, sum};
 ghost use Rattle.vll_service_example.specs.Service.{IsBank};
 
-use vll_queue::{Clients, Engine, EngineFault, Name, Service};
+use vll_engine::{Clients, Engine, EngineFault, Name, Service};
 use vll_sca::Placing;
 
 /// Adds up what the accounts of an opening hold, and makes no call.

@@ -8,8 +8,8 @@ use Rattle.vll_core.proofs.Places.{all_at}
 use Rattle.std.proofs.lemmas.Option.{same_Some, slice_get-get_or}
 use Rattle.vll_counters.specs.Shown.{AreNewSessions, SessionShown}
 use Rattle.vll_queue.specs.Shown.{Named}
-use Rattle.vll_workers.specs.Shown.{TokenShown}
-use Rattle.vll_workers.specs.Tokens.{AreBack, AreFit, IsFit, IsOf, clients_of}
+use Rattle.vll_tokens.specs.Shown.{TokenShown}
+use Rattle.vll_tokens.specs.Tokens.{AreBack, AreFit, IsFit, IsOf, clients_of}
 
 -- as many come back as were passed
 pub as_many_back : (handed back : List TokenShown) → AreBack handed back → length back ≡ length handed

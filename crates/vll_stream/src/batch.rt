@@ -6,7 +6,7 @@ ghost use Rattle.vll_lines.specs.Theirs.{calls_of};
 ghost use Rattle.vll_queue.specs.Shown.{library_of};
 ghost use Rattle.vll_stream.specs.Private.Stopped.{IsOwn};
 ghost use Rattle.vll_stream.specs.Private.Told.{AreStill};
-ghost use Rattle.vll_workers.specs.Tokens.{AreFit, clients_of};
+ghost use Rattle.vll_tokens.specs.Tokens.{AreFit, clients_of};
 
 use crate::answering::make_calls;
 use crate::fault::StreamFault;
@@ -14,9 +14,9 @@ use std::alloc::{AllocError, Global};
 use std::sync::Wait;
 use std::thread::Threads;
 use vll_core::{MOST_CALLS, Ticket};
+use vll_engine::{Engine, Name, Session};
 use vll_lines::Asked;
 use vll_proc::Call;
-use vll_queue::{Engine, Name, Session};
 use vll_sca::Placing;
 use vll_workers::{Gate, MOST_WORKERS, RunError, RunFault, Token};
 

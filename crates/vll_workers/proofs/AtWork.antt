@@ -5,12 +5,12 @@ use Rattle.std.proofs.lemmas.List.Elements.{All-cons, All-head, All-tail}
 use Rattle.std.proofs.lemmas.List.Sorted.{All-permutation, IsPermutation-append_left, IsPermutation-middle, IsPermutation-sym}
 use Rattle.atomic_table.specs.Seated.{TableId}
 use Rattle.crossbeam_queue.specs.Passes.{IsSamePass, view}
-use Rattle.vll_workers.specs.declared.pool.Hand.{Hand}
-use Rattle.vll_workers.specs.Private.Pool.{HasInHand, HoldsMore, HoldsOne, IsPut, IsTaken, Working}
+use Rattle.vll_tokens.specs.declared.pool.Hand.{Hand}
+use Rattle.vll_tokens.specs.Pool.{HasInHand, HoldsMore, HoldsOne, IsPut, IsTaken, Working}
 use Rattle.vll_workers.specs.Private.Work.{IsAtWork}
-use Rattle.vll_workers.specs.Shown.{TokenShown}
-use Rattle.vll_workers.specs.Tokens.{IsOf, clients_of}
-use Rattle.vll_workers.proofs.Hands.{given, more_held, one_held, put_by, renewed, reordered, still, taken}
+use Rattle.vll_tokens.specs.Shown.{TokenShown}
+use Rattle.vll_tokens.specs.Tokens.{IsOf, clients_of}
+use Rattle.vll_tokens.proofs.Hands.{given, more_held, one_held, put_by, renewed, reordered, still, taken}
 
 -- a token more is taken
 pub one_more : (handed : List TokenShown) (table : TableId) (old new : Working) (ts : List TokenShown) (t : TokenShown) → IsAtWork handed table old ts → new.kept ≡ old.kept → IsSamePass old.pass new.pass

@@ -1,10 +1,2 @@
-pub mod Gained
-pub mod Same
-pub mod Fair
-pub mod Hands
-pub mod Owned
 pub mod AtWork
-pub mod Distinct
-pub mod Settled
-pub mod Fit
 pub mod Merged

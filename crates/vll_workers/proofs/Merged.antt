@@ -28,8 +28,8 @@ use Rattle.vll_queue.specs.Sessions.{HasItsCalls}
 use Rattle.vll_queue.specs.Shown.{Named, library_of}
 use Rattle.vll_workers.specs.Headline.Merge.{IsMerge}
 use Rattle.vll_workers.specs.Merge.{AreForScripts, HasFound, IsAtStart, IsClosedWith}
-use Rattle.vll_workers.specs.Shown.{TokenShown}
-use Rattle.vll_workers.specs.Tokens.{AreBack, AreFit, IsFit, IsOf, IsThrough, OneIsSpent, calls_between, clients_of}
+use Rattle.vll_tokens.specs.Shown.{TokenShown}
+use Rattle.vll_tokens.specs.Tokens.{AreBack, AreFit, IsFit, IsOf, IsThrough, OneIsSpent, calls_between, clients_of}
 
 -- ---- the tokens that come back
 

@@ -9,8 +9,8 @@ use Rattle.vll_queue.specs.Closed.{IsSerial}
 use Rattle.vll_queue.specs.Sessions.{HasItsCalls}
 use Rattle.vll_queue.specs.Shown.{Named}
 use Rattle.vll_queue.specs.declared.closed.Closed.{Closed}
-use Rattle.vll_workers.specs.Shown.{TokenShown}
-use Rattle.vll_workers.specs.Tokens.{AreFit}
+use Rattle.vll_tokens.specs.Shown.{TokenShown}
+use Rattle.vll_tokens.specs.Tokens.{AreFit}
 
 -- a token with its client's script, of which no call has entered, and with its client's session, which has seen none
 pub record IsAtStart (scripts : List (List Call)) (t : TokenShown) : Type 0 where

@@ -2,11 +2,10 @@
 ghost use Rattle.std.specs.Prelude.{◌≡◌, [], IfOk};
 
 use crate::pace::Pace;
-use crate::stack::Stack;
-use crate::taken::Taken;
 use std::alloc::{AllocError, Global};
 use vll_core::Ticket;
-use vll_queue::{Name, Passes, Released};
+use vll_engine::{Name, Passes, Released};
+use vll_tokens::{Stack, Taken};
 
 // What a worker has under way: the tokens that it has taken, passes of calls that may run, calls that were executed,
 // and the tickets of those that are finished and not yet reported to the gate.

@@ -1,8 +1,8 @@
 //! Why a run failed, and its tokens then.
 ghost use Rattle.std.specs.Prelude.{◌≡◌};
 
-use crate::token::Token;
 use thiserror::Error;
+use vll_tokens::Token;
 
 /// Why a run failed.
 #[derive(Clone, Copy, PartialEq, Eq, Debug, Error)]

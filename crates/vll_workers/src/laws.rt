@@ -6,8 +6,8 @@ ghost use Rattle.vll_queue.specs.declared.closed.Closed.{Closed};
 ghost use Rattle.vll_queue.specs.Shown.{Named, library_of};
 ghost use Rattle.vll_workers.specs.Headline.Merge.{IsMerge};
 ghost use Rattle.vll_workers.specs.Merge.{AreForScripts, HasFound, IsClosedWith};
-ghost use Rattle.vll_workers.specs.Shown.{TokenShown};
-ghost use Rattle.vll_workers.specs.Tokens.{AreBack, AreFit, IsOf, IsThrough, OneIsSpent, calls_between};
+ghost use Rattle.vll_tokens.specs.Shown.{TokenShown};
+ghost use Rattle.vll_tokens.specs.Tokens.{AreBack, AreFit, IsOf, IsThrough, OneIsSpent, calls_between};
 
 /// For an engine with any hash and any number of clients: if a run was passed a token for each client's script, its
 /// tokens are back with every call entered, and the engine was closed with their sessions, then the journal merges the

@@ -18,24 +18,16 @@ mod fault;
 mod gate;
 mod laws;
 mod pace;
-mod pool;
 mod rest;
-mod roster;
 mod running;
 mod shared;
 mod solo;
-mod stack;
-mod taken;
-mod tally;
-mod token;
 mod work;
-mod worker;
 
 pub use fault::{RunError, RunFault};
 pub use gate::{Gate, OpenGate};
 pub use laws::{
     journals_merge_the_scripts, sessions_gain_found_calls, spent_engines_took_fewer_calls,
 };
-pub use running::{MOST_WORKERS, run, run_limited};
-pub use tally::Tally;
-pub use token::Token;
+pub use running::{run, run_limited};
+pub use vll_tokens::{MOST_WORKERS, Tally, Token};

@@ -1,8 +1,7 @@
 //! A worker's pace: how many tokens it takes and calls it begins, how long it rests, and when it leaves.
 use crate::rest::rest_for;
 use crate::solo::{Conflicts, Solo};
-use crate::stack::MOST_BATCH;
-use crate::tally::Tally;
+use vll_tokens::{MOST_BATCH, Tally};
 
 // The longest pause of few workers, in spins of a loop.
 const LONGEST_OF_FEW: u32 = 1_024;

@@ -1,30 +1,24 @@
 //! Runs: worker threads enter the calls of the tokens' scripts, and bring them to their replies.
 ghost use Rattle.std.specs.Prelude.{◌≡◌, ◌<◌, ◌≤◌, All, IfOk, IfErr, length, nat_eq};
 ghost use Rattle.std.specs.List.{IsDistinct};
-ghost use Rattle.vll_workers.specs.Tokens.{AreFit, AreBack, IsThrough, OneIsSpent, clients_of};
+ghost use Rattle.vll_tokens.specs.Tokens.{AreFit, AreBack, IsThrough, OneIsSpent, clients_of};
 ghost use Rattle.vll_workers.specs.declared.fault.RunFault.TheVariants as RunFault;
 
 use crate::fault::RunError;
 use crate::gate::Gate;
-use crate::token::Token;
 use std::alloc::Global;
 use std::marker::Brand;
 use std::sync::Wait;
 use std::thread::Threads;
-use vll_queue::{Engine, Name};
+use vll_engine::{Engine, Name};
 use vll_sca::Place;
+use vll_tokens::{MOST_WORKERS, Token};
 
 mod ending;
 mod memory;
 mod named;
 mod start;
 mod workplace;
-
-/// The most worker threads of a run.
-pub const MOST_WORKERS: u32 = 64;
-
-// As docs/SCENARIO.md says.
-const _: () = prove!(MOST_WORKERS == 64);
 
 /// Enters every call of the tokens' scripts in the engine, each script in order, and brings the calls to their replies,
 /// with `workers` worker threads, 1 to 64. The tokens are of distinct clients of this engine. It waits until the

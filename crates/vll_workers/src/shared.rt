@@ -1,5 +1,5 @@
 //! An engine as threads share it: a bound that lets a reference to it be passed to a thread.
-use vll_queue::{Engine, Name};
+use vll_engine::{Engine, Name};
 use vll_sca::Place;
 
 // An engine as threads share it. A bound with `Sync` lets a reference to it be passed to a thread, whatever it is made

@@ -2,22 +2,18 @@
 ghost use Rattle.std.specs.Prelude.{◌≡◌, ◌<◌, ◌≤◌, ◌+◌, ◌++◌, ◌∷◌, [], All, IfSome, length, suc};
 ghost use Rattle.crossbeam_queue.specs.Passes.{view};
 ghost use Rattle.vll_queue.specs.Pass.{IsReleased};
-ghost use Rattle.vll_workers.specs.Private.Pool.{AreSame, HasInHand, all_parts};
+ghost use Rattle.vll_tokens.specs.Pool.{AreSame, HasInHand, all_parts};
 ghost use Rattle.vll_workers.specs.Private.Work.{IsAtWork};
-ghost use Rattle.vll_workers.specs.Tokens.{AreFit, IsFit, clients_of};
+ghost use Rattle.vll_tokens.specs.Tokens.{AreFit, IsFit, clients_of};
 
 use crate::batch::{Batch, BatchRoom};
 use crate::gate::Gate;
 use crate::pace::Pace;
-use crate::pool::Pool;
-use crate::roster::Roster;
 use crate::solo::Solo;
-use crate::stack::MOST_BATCH;
-use crate::taken::Taken;
-use crate::worker::Worker;
 use std::sync::{Mutex, Wait};
-use vll_queue::{Engine, Name};
+use vll_engine::{Engine, Name};
 use vll_sca::Place;
+use vll_tokens::{MOST_BATCH, Pool, Roster, Taken, Worker};
 
 // What the workers of a run share.
 #[derive_where(Clone, Copy)]

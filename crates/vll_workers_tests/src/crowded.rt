@@ -1,6 +1,6 @@
 //! Tests of runs whose clients all use one record.
 ghost use Rattle.std.specs.Prelude.{◌≡◌, ◌≤◌};
-ghost use Rattle.vll_workers.specs.declared.running.TheConstants.{MOST_WORKERS};
+ghost use Rattle.vll_tokens.specs.declared.pool.TheConstants.{MOST_WORKERS};
 ghost use Rattle.vll_queue.specs.Shown.{name_of};
 ghost use Rattle.vll_sca.specs.Placing.{placing};
 
@@ -14,7 +14,7 @@ use std::sync::Wait;
 use std::test::*;
 use std::thread::Threads;
 use vll_core::{Config, Line};
-use vll_queue::{Name, Opening};
+use vll_engine::{Name, Opening};
 use vll_sca::Placing;
 use vll_workers::{MOST_WORKERS, OpenGate, run};
 

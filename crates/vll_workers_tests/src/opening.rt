@@ -2,7 +2,7 @@
 use std::alloc::Global;
 use std::test::Fail;
 use vll_core::Config;
-use vll_queue::Opening;
+use vll_engine::Opening;
 use vll_sca::Placing;
 use vll_test_procedures::library;
 

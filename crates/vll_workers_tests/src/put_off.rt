@@ -15,7 +15,7 @@ use std::sync::Wait;
 use std::test::*;
 use std::thread::Threads;
 use vll_core::{Config, Ticket};
-use vll_queue::{Engine, Name, Opening, Pass, Session};
+use vll_engine::{Engine, Name, Opening, Pass, Session};
 use vll_sca::Placing;
 use vll_workers::{OpenGate, run};
 

@@ -2,7 +2,7 @@
 ghost use Rattle.std.specs.Prelude.{◌≡◌, IfOk};
 ghost use Rattle.vll_queue.specs.Shown.{name_of};
 ghost use Rattle.vll_sca.specs.Placing.{placing};
-ghost use Rattle.vll_workers.specs.Tokens.{IsFit};
+ghost use Rattle.vll_tokens.specs.Tokens.{IsFit};
 
 use crate::asserts::{equal, fail};
 use crate::opening::opening;
@@ -14,7 +14,7 @@ use std::sync::Wait;
 use std::test::*;
 use std::thread::Threads;
 use vll_core::Ticket;
-use vll_queue::{Engine, Name, Opening};
+use vll_engine::{Engine, Name, Opening};
 use vll_sca::Placing;
 use vll_workers::{OpenGate, Token, run};
 

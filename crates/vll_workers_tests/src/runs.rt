@@ -18,7 +18,7 @@ use std::sync::atomic::Ordering;
 use std::test::*;
 use std::thread::Threads;
 use vll_core::Ticket;
-use vll_queue::{Begun, Engine, Name, Opening, Pass, Session};
+use vll_engine::{Begun, Engine, Name, Opening, Pass, Session};
 use vll_sca::Placing;
 use vll_workers::{MOST_WORKERS, OpenGate, RunError, RunFault, run};
 

@@ -3,7 +3,7 @@ ghost use Rattle.std.specs.Prelude.{◌≡◌, nat_eq};
 ghost use Rattle.std.specs.List.{IsDistinct};
 ghost use Rattle.vll_queue.specs.Shown.{name_of};
 ghost use Rattle.vll_sca.specs.Placing.{placing};
-ghost use Rattle.vll_workers.specs.Tokens.{AreFit, clients_of};
+ghost use Rattle.vll_tokens.specs.Tokens.{AreFit, clients_of};
 
 use crate::asserts::{equal, holds};
 use crate::gates::Halt;
@@ -18,7 +18,7 @@ use std::sync::atomic::{AtomicBool, Ordering};
 use std::test::*;
 use std::thread::{Threads, join, yield_now};
 use vll_core::Ticket;
-use vll_queue::{Engine, Name, Opening, Session};
+use vll_engine::{Engine, Name, Opening, Session};
 use vll_sca::Placing;
 use vll_workers::{Gate, Token, run};
 

@@ -3,7 +3,7 @@ ghost use Rattle.std.specs.Prelude.{◌≡◌, ◌≤◌, nat_eq};
 ghost use Rattle.std.specs.List.{IsDistinct};
 ghost use Rattle.vll_queue.specs.Shown.{name_of};
 ghost use Rattle.vll_sca.specs.Placing.{placing};
-ghost use Rattle.vll_workers.specs.Tokens.{AreFit, clients_of};
+ghost use Rattle.vll_tokens.specs.Tokens.{AreFit, clients_of};
 
 use crate::asserts::{equal, holds};
 use crate::opening::opening_of;
@@ -16,7 +16,7 @@ use std::sync::{Mutex, Wait};
 use std::test::*;
 use std::thread::Threads;
 use vll_core::{Config, Ticket};
-use vll_queue::{Engine, Name, Opening};
+use vll_engine::{Engine, Name, Opening};
 use vll_sca::Placing;
 use vll_workers::{Gate, MOST_WORKERS, Tally, Token, run};
 

@@ -4,7 +4,7 @@ ghost use Rattle.std.specs.List.{IsDistinct};
 ghost use Rattle.vll_check.specs.Calls.{Fits};
 ghost use Rattle.vll_counters.specs.Shown.{AreNewSessions};
 ghost use Rattle.vll_queue.specs.Shown.{library_of};
-ghost use Rattle.vll_workers.specs.Tokens.{AreFit, IsFit, clients_of};
+ghost use Rattle.vll_tokens.specs.Tokens.{AreFit, IsFit, clients_of};
 
 use crate::asserts::{equal, fail};
 use std::alloc::Global;
@@ -12,8 +12,8 @@ use std::process::Abort;
 use std::test::*;
 use vll_check::Library;
 use vll_core::Line;
+use vll_engine::{Closed, Engine, Name, Session};
 use vll_proc::{Call, Reply};
-use vll_queue::{Closed, Engine, Name, Session};
 use vll_sca::Placing;
 use vll_workers::Token;
 

@@ -14,7 +14,7 @@ use std::sync::Wait;
 use std::sync::atomic::Ordering;
 use std::test::*;
 use std::thread::Threads;
-use vll_queue::{Name, Opening};
+use vll_engine::{Name, Opening};
 use vll_sca::Placing;
 use vll_workers::run;
 

@@ -7,8 +7,8 @@ ghost use Rattle.vll_core.specs.Queue.{IsQueued, lines, statuses};
 ghost use Rattle.vll_sca.specs.Headline.Status.{is_waiting};
 ghost use Rattle.vll_counters.specs.Headline.Views.{calls_in};
 ghost use Rattle.vll_queue.specs.Begin.{Begins, refusal};
-ghost use Rattle.vll_queue.specs.Private.Begun.{IsRefusedBy, IsSeatOf, asked_turn, begun, begun_by, first_turn};
-ghost use Rattle.vll_queue.specs.Private.Looked.{IsLookedUp};
+ghost use Rattle.vll_queue.specs.Admission.{IsRefusedBy, IsSeatOf, asked_turn, begun, begun_by, first_turn};
+ghost use Rattle.vll_queue.specs.Looked.{IsLookedUp};
 ghost use Rattle.vll_queue.specs.Sessions.{SawOthers};
 ghost use Rattle.vll_queue.specs.Shown.{library_of, words_of};
 

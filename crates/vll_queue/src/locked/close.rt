@@ -1,18 +1,16 @@
-//! The close of an engine: what is left if no call runs or waits, else the engine, which goes on.
+//! The close of an engine: what is left if no call runs or waits, else all that it was made of.
 ghost use Rattle.std.specs.Prelude.{◌≡◌, ◌+◌, ◌*◌, ◌<◌, ◌≤◌, [], All, IfErr, IfOk, None, count_by, length, vec_capacity};
 ghost use Rattle.vll_core.specs.Queue.{lines, statuses};
 ghost use Rattle.vll_counters.specs.Headline.Views.{calls_in};
 ghost use Rattle.vll_sca.specs.Headline.Status.{is_waiting};
 ghost use Rattle.vll_sca.specs.Status.{is_running};
 ghost use Rattle.vll_queue.specs.Private.Divided.{AreDivided};
-ghost use Rattle.vll_queue.specs.Private.Ended.{IsEnded};
+ghost use Rattle.vll_queue.specs.Ended.{IsEnded};
 ghost use Rattle.vll_queue.specs.Sessions.{HasItsCalls};
 ghost use Rattle.vll_queue.specs.Shown.{library_of, words_of};
 
 use super::Locked;
-use crate::closed::NotClosed;
 use crate::ended::Ended;
-use crate::engine::Engine;
 use crate::name::Name;
 use crate::room::Room;
 use crate::session::Session;
@@ -21,16 +19,28 @@ use vll_counters::{QueueSeat, SessionSeat, Words};
 use vll_record::{RecordId, pair_word, value_word};
 use vll_sca::Place;
 
+/// An engine in which calls run or wait: all that was passed to close it, and how many these are.
+#[derive(Drop)]
+pub struct NotEnded<N: Name, H: Place + Drop> {
+    pub locked: Locked<N, H>,
+    pub library: Library,
+    pub words: Words,
+    pub room: Room,
+    pub sessions: Vec<Session>,
+    pub running: u32,
+    pub waiting: u32,
+}
+
 impl<N: Name, H: Place + Drop> Locked<N, H> {
-    // Returns what is left if no call runs or waits. If one does, returns the engine, which goes on, with the exact
-    // numbers of calls that run and that wait.
-    pub(crate) fn close(
+    /// Returns what is left if no call runs or waits. If one does, returns all that was passed, unchanged, with the exact
+    /// numbers of calls that run and that wait.
+    pub fn close(
         self,
         library: Library,
         words: Words,
         room: Room,
         mut sessions: Vec<Session>,
-    ) -> Result<Ended<H>, NotClosed<N, H>>
+    ) -> Result<Ended<H>, NotEnded<N, H>>
         requires library { library ≡ library_of N.engine }
         requires words { words ≡ words_of N.engine }
         requires room { room ≡ length N.engine.base.records }
@@ -41,6 +51,10 @@ impl<N: Name, H: Place + Drop> Locked<N, H> {
         ensures clients { IfOk result (λ x. x.clients ≡ length sessions.items) }
         ensures sessions { IfOk result (λ x. All (λ s. HasItsCalls (calls_in (lines x.queue)) s.session) sessions.items) }
         ensures back { IfErr result (λ n. n.sessions ≡ sessions) }
+        ensures library { IfErr result (λ n. n.library ≡ library) }
+        ensures words { IfErr result (λ n. n.words ≡ words) }
+        ensures room { IfErr result (λ n. n.room ≡ room) }
+        ensures locked { IfErr result (λ n. n.locked ≡ self) }
         ensures running { IfErr result (λ n. n.running ≡ count_by is_running (statuses self)) }
         ensures waiting { IfErr result (λ n. n.waiting ≡ count_by is_waiting (statuses self)) }
         ensures left { IfErr result (λ n. 0 < n.running + n.waiting) }
@@ -48,8 +62,11 @@ impl<N: Name, H: Place + Drop> Locked<N, H> {
         let running = self.queue.running();
         let waiting = self.queue.waiting();
         if running > 0 || waiting > 0 {
-            return Err(NotClosed {
-                engine: Engine::new(library, words, self, room),
+            return Err(NotEnded {
+                locked: self,
+                library,
+                words,
+                room,
                 sessions,
                 running,
                 waiting,

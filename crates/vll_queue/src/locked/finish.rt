@@ -3,7 +3,7 @@ ghost use Rattle.std.specs.Prelude.{◌≡◌, ◌++◌, ◌∷◌, [], Some};
 ghost use Rattle.vll_core.specs.Queue.{finished};
 ghost use Rattle.vll_proc.specs.Headline.Serial.{answer};
 ghost use Rattle.vll_queue.specs.Pass.{IsReleased};
-ghost use Rattle.vll_queue.specs.Private.Replied.{HasReply};
+ghost use Rattle.vll_queue.specs.Replied.{HasReply};
 ghost use Rattle.vll_queue.specs.Sessions.{SawOthers};
 ghost use Rattle.vll_queue.specs.Shown.{words_of};
 
@@ -16,9 +16,9 @@ use vll_proc::Reply;
 use vll_sca::Place;
 
 impl<N: Name, H: Place> Locked<N, H> {
-    // Finishes the call of a pass that has made all its steps: it is gone, and its line gets the reply. Returns its ticket.
+    /// Finishes the call of a pass that has made all its steps: it is gone, and its line gets the reply. Returns its ticket.
     #[inline(always)]
-    pub(crate) fn finish(&mut self, words: &Words, released: Released) -> Ticket
+    pub fn finish(&mut self, words: &Words, released: Released) -> Ticket
         requires words { words.now ≡ words_of N.engine }
         requires released { IsReleased N.engine released }
         ensures ticket { result ≡ released.pass.ticket }

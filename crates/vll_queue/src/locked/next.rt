@@ -6,7 +6,7 @@ ghost use Rattle.vll_counters.specs.Shown.{after, with_pass_given};
 ghost use Rattle.vll_counters.specs.Steps.{new_pass};
 ghost use Rattle.vll_counters.specs.Told.{MayStart};
 ghost use Rattle.vll_queue.specs.Pass.{IsFresh};
-ghost use Rattle.vll_queue.specs.Private.Begun.{IsPassAt};
+ghost use Rattle.vll_queue.specs.Admission.{IsPassAt};
 ghost use Rattle.vll_queue.specs.Shown.{words_of};
 
 use super::Locked;
@@ -18,8 +18,8 @@ use vll_counters::{PassSeat, QueueSeat, Words};
 use vll_sca::Place;
 
 impl<N: Name, H: Place> Locked<N, H> {
-    // Starts the lowest ticket that is not gone, if it waits, and returns its seat.
-    pub(crate) fn next_front(&mut self, words: &Words) -> Option<(PassSeat, Ticket)>
+    /// Starts the lowest ticket that is not gone, if it waits, and returns its seat.
+    pub fn next_front(&mut self, words: &Words) -> Option<(PassSeat, Ticket)>
         requires words { words.now ≡ words_of N.engine }
         ensures ticket { option_map (λ p. p.1) result ≡ front_among (statuses self.old) }
         ensures pass { IfSome result (λ p. IsFresh N.engine p.0) }
@@ -42,8 +42,9 @@ impl<N: Name, H: Place> Locked<N, H> {
         Some((give_pass(words, &mut self.seat, ticket), ticket))
     }
 
-    // As `next_scan`, but a scan that may be put off is made only if it is due.
-    pub(crate) fn next_scan_if_due(
+    /// Starts the ticket that the contention analysis finds, and returns its seat. A scan that may be put off is made only
+    /// if it is due.
+    pub fn next_scan_if_due(
         &mut self,
         words: &Words,
         may_be_put_off: bool,
@@ -61,8 +62,8 @@ impl<N: Name, H: Place> Locked<N, H> {
         self.next_scan(words)
     }
 
-    // Appends the pass of a seat, with the call in its ticket's line.
-    pub(crate) fn push_pass(&self, seat: PassSeat, ticket: Ticket, passes: &mut Vec<Pass>)
+    /// Appends the pass of a seat, with the call in its ticket's line.
+    pub fn push_pass(&self, seat: PassSeat, ticket: Ticket, passes: &mut Vec<Pass>)
         requires line { IsPassAt (lines self.now) seat ticket }
         requires room { length passes.old.items < vec_capacity passes.old }
         ensures more { passes.new.items ≡ passes.old.items ++ seat ∷ [] }
@@ -78,8 +79,8 @@ impl<N: Name, H: Place> Locked<N, H> {
         });
     }
 
-    // The pass of a seat, with the call in its ticket's line.
-    pub(crate) fn pass(&self, seat: PassSeat, ticket: Ticket) -> Pass
+    /// The pass of a seat, with the call in its ticket's line.
+    pub fn pass(&self, seat: PassSeat, ticket: Ticket) -> Pass
         requires line { IsPassAt (lines self.now) seat ticket }
         ensures { result ≡ seat }
     {

@@ -2,7 +2,7 @@
 ghost use Rattle.std.specs.Prelude.{◌≡◌, ◌++◌, ◌∷◌, [], IfNone, IfSome, IsSome, Some, slice_get};
 ghost use Rattle.vll_core.specs.Queue.{IsQueued, lines};
 ghost use Rattle.vll_proc.specs.Headline.Serial.{answer};
-ghost use Rattle.vll_queue.specs.Private.Replied.{reply_in};
+ghost use Rattle.vll_queue.specs.Replied.{reply_in};
 ghost use Rattle.vll_queue.specs.Sessions.{SawOthers};
 ghost use Rattle.vll_queue.specs.Shown.{words_of};
 

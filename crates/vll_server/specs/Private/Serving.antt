@@ -1,7 +1,7 @@
 -- The sessions of the tokens that come back, and what is reported of calls that are left.
 use Rattle.std.specs.Prelude.{◌<◌, ◌+◌, List, map}
 use Rattle.vll_counters.specs.Shown.{SessionShown}
-use Rattle.vll_workers.specs.Shown.{TokenShown}
+use Rattle.vll_tokens.specs.Shown.{TokenShown}
 use Rattle.vll_server.specs.declared.fault.ServeFault.{ServeFault}
 use Rattle.vll_server.specs.declared.fault.ServeFault.TheVariants as fault
 

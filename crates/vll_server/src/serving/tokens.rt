@@ -4,14 +4,14 @@ ghost use Rattle.std.specs.List.{IsDistinct};
 ghost use Rattle.vll_check.specs.Calls.{Fits};
 ghost use Rattle.vll_counters.specs.Shown.{AreNewSessions};
 ghost use Rattle.vll_queue.specs.Shown.{library_of};
-ghost use Rattle.vll_workers.specs.Tokens.{AreFit, clients_of};
+ghost use Rattle.vll_tokens.specs.Tokens.{AreFit, clients_of};
 ghost use Rattle.vll_scenario.specs.Setup.{lists_of};
 ghost use Rattle.vll_server.specs.Scripts.{tokens_from};
 ghost use Rattle.vll_server.specs.Private.Serving.{sessions_in};
 
 use std::alloc::{AllocError, Global};
+use vll_engine::{Name, Session};
 use vll_proc::Call;
-use vll_queue::{Name, Session};
 use vll_scenario::MOST_CLIENTS;
 use vll_workers::Token;
 

@@ -6,7 +6,7 @@ ghost use Rattle.vll_server.specs.Headline.Text.{closed_text};
 
 use crate::text::closed_text_of;
 use std::alloc::Global;
-use vll_queue::Closed;
+use vll_engine::Closed;
 use vll_scenario::{Sink, WriteFault, write_text};
 
 /// Writes the text of what a run leaves: a line for each call, and then one for each record, with its value and its

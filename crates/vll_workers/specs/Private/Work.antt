@@ -2,9 +2,9 @@
 use Rattle.std.specs.Prelude.{◌<◌, ◌++◌, List, All}
 use Rattle.atomic_table.specs.Seated.{TableId}
 use Rattle.crossbeam_queue.specs.Passes.{view}
-use Rattle.vll_workers.specs.Private.Pool.{HasInHand, Working}
-use Rattle.vll_workers.specs.Shown.{TokenShown}
-use Rattle.vll_workers.specs.Tokens.{IsOf}
+use Rattle.vll_tokens.specs.Pool.{HasInHand, Working}
+use Rattle.vll_tokens.specs.Shown.{TokenShown}
+use Rattle.vll_tokens.specs.Tokens.{IsOf}
 
 -- the worker has a part, and in hand just the tokens that it has taken and those that it keeps
 pub record IsAtWork (handed : List TokenShown) (table : TableId) (worker : Working) (taken : List TokenShown) : Type 0 where

@@ -1,15 +1,13 @@
 //! The outcome of a run, by the tokens that are kept at its end.
 ghost use Rattle.std.specs.Prelude.{◌≡◌, All, IfOk, IfErr, MatchBool, nat_eq};
 ghost use Rattle.std.specs.List.{IsDistinct};
-ghost use Rattle.vll_workers.specs.Private.Pool.{AreSame};
-ghost use Rattle.vll_workers.specs.Private.Settled.{OneHasLeft};
-ghost use Rattle.vll_workers.specs.Tokens.{AreBack, IsThrough, OneIsSpent, clients_of};
+ghost use Rattle.vll_tokens.specs.Pool.{AreSame};
+ghost use Rattle.vll_tokens.specs.Settled.{OneHasLeft};
+ghost use Rattle.vll_tokens.specs.Tokens.{AreBack, IsThrough, OneIsSpent, clients_of};
 ghost use Rattle.vll_workers.specs.declared.fault.RunFault.TheVariants as RunFault;
 
 use crate::fault::{RunError, RunFault};
-use crate::roster::Roster;
-use crate::token::Token;
-use crate::worker::Worker;
+use vll_tokens::{Roster, Token, Worker};
 
 // Returns the outcome of a run at whose end this worker keeps all tokens.
 pub(super) fn outcome_of<T: Roster>(worker: Worker<T>) -> Result<Vec<Token>, RunError>

@@ -1,14 +1,12 @@
 //! The memory of a run, which is allocated before its first thread is started.
 ghost use Rattle.std.specs.Prelude.{◌≡◌, ◌<◌, [], IfOk, length};
 ghost use Rattle.crossbeam_queue.specs.Passes.{view};
-ghost use Rattle.vll_workers.specs.Private.Pool.{HasInHand, all_parts};
+ghost use Rattle.vll_tokens.specs.Pool.{HasInHand, all_parts};
 
 use crate::batch::BatchRoom;
-use crate::pool::Pool;
-use crate::roster::Roster;
-use crate::worker::{Shelf, Worker};
 use std::alloc::{AllocError, Global};
-use vll_queue::Name;
+use vll_engine::Name;
+use vll_tokens::{Pool, Roster, Shelf, Worker};
 
 // What a worker needs memory for: what it keeps, and what it has under way.
 #[derive(Drop)]

@@ -2,11 +2,10 @@
 ghost use Rattle.std.specs.Prelude.{◌≡◌, ◌≤◌, ◌<◌, [], All, IfOk, IfErr, length, nat_eq};
 ghost use Rattle.std.specs.List.{IsDistinct};
 ghost use Rattle.crossbeam_queue.specs.Passes.{view};
-ghost use Rattle.vll_workers.specs.Private.Pool.{AreSame, HasInHand, all_parts};
-ghost use Rattle.vll_workers.specs.Tokens.{AreFit, AreBack, IsThrough, OneIsSpent, clients_of};
+ghost use Rattle.vll_tokens.specs.Pool.{AreSame, HasInHand, all_parts};
+ghost use Rattle.vll_tokens.specs.Tokens.{AreFit, AreBack, IsThrough, OneIsSpent, clients_of};
 ghost use Rattle.vll_workers.specs.declared.fault.RunFault.TheVariants as RunFault;
 
-use super::MOST_WORKERS;
 use super::ending::outcome_of;
 use super::memory::{RunMemory, memory_for};
 use super::start::{Ready, start};
@@ -14,17 +13,15 @@ use super::workplace::{Workplace, work_at};
 use crate::batch::BatchRoom;
 use crate::fault::{RunError, RunFault};
 use crate::gate::Gate;
-use crate::roster::Roster;
 use crate::shared::Shared;
 use crate::solo::Solo;
-use crate::token::Token;
-use crate::worker::Worker;
 use std::alloc::{AllocError, Global};
 use std::sync::{Mutex, Wait};
 use std::thread;
 use std::thread::Threads;
-use vll_queue::Name;
+use vll_engine::Name;
 use vll_sca::Place;
+use vll_tokens::{MOST_WORKERS, Roster, Token, Worker};
 
 // Runs tokens that have a name, and tries at most `starts` starts.
 pub(super) fn run_named<

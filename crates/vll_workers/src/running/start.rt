@@ -1,21 +1,18 @@
 //! Starts the workers of a run, puts the tokens into the pool once all starts were tried, and joins the workers.
 ghost use Rattle.std.specs.Prelude.{◌≡◌, ◌<◌, ◌++◌, [], false, true, IfOk, IfErr, length};
 ghost use Rattle.crossbeam_queue.specs.Passes.{view};
-ghost use Rattle.vll_workers.specs.Private.Pool.{HasInHand, new_hand};
-ghost use Rattle.vll_workers.specs.Tokens.{AreFit};
+ghost use Rattle.vll_tokens.specs.Pool.{HasInHand, new_hand};
+ghost use Rattle.vll_tokens.specs.Tokens.{AreFit};
 
 use super::memory::Desk;
 use super::workplace::{Workplace, work_at};
 use crate::gate::Gate;
-use crate::pool::Pool;
-use crate::roster::Roster;
 use crate::shared::Shared;
-use crate::token::Token;
-use crate::worker::Worker;
 use std::sync::{MutexGuard, Wait};
 use std::thread::{Promise, PromisedHandle, Scope, Threads};
-use vll_queue::Name;
+use vll_engine::Name;
 use vll_sca::Place;
+use vll_tokens::{Pool, Roster, Token, Worker};
 
 // What is ready before the workers start: what each needs, the calling thread's own worker, the tokens, and how many
 // starts may be tried.
@@ -34,7 +31,7 @@ struct ComesBack<'a, T: Roster>(&'a Pool<T>);
 impl<'a, T: Roster> Promise<Worker<T>> for ComesBack<'a, T> {
     ghost use Rattle.std.specs.Prelude.{◌≡◌};
     ghost use Rattle.crossbeam_queue.specs.Passes.{view};
-    ghost use Rattle.vll_workers.specs.Private.Pool.{HasInHand};
+    ghost use Rattle.vll_tokens.specs.Pool.{HasInHand};
 
     ghost kept_by = { λ p w. HasInHand p.0.now w.pass w.kept × ((view w.pass).parts ≡ 1) };
 }

@@ -2,14 +2,13 @@
 ghost use Rattle.std.specs.Prelude.{◌≡◌};
 
 use crate::gate::Gate;
-use crate::pool::Pool;
-use crate::roster::Roster;
 use crate::shared::Shared;
 use crate::solo::Solo;
 use crate::work::Work;
 use std::sync::{Mutex, Wait};
-use vll_queue::Name;
+use vll_engine::Name;
 use vll_sca::Place;
+use vll_tokens::{Pool, Roster};
 
 // What the workers of a run share, in the form in which it is passed to their threads.
 #[derive_where(Clone, Copy)]

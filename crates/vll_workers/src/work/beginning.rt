@@ -1,21 +1,17 @@
 //! What a worker does under a hold: it looks for calls that may run, and begins others.
 ghost use Rattle.std.specs.Prelude.{◌≡◌, ◌≤◌, ◌+◌, ◌++◌, [], All, length};
 ghost use Rattle.crossbeam_queue.specs.Passes.{view};
-ghost use Rattle.vll_workers.specs.Private.Settled.{IsSettled};
+ghost use Rattle.vll_tokens.specs.Settled.{IsSettled};
 ghost use Rattle.vll_workers.specs.Private.Work.{IsAtWork};
-ghost use Rattle.vll_workers.specs.Tokens.{AreFit, IsFit, IsOf};
+ghost use Rattle.vll_tokens.specs.Tokens.{AreFit, IsFit, IsOf};
 
 use super::Work;
 use crate::gate::Gate;
 use crate::pace::{HeldBy, Pace};
-use crate::roster::Roster;
-use crate::stack::MOST_BATCH;
-use crate::taken::Taken;
-use crate::token::Token;
-use crate::worker::Worker;
 use std::sync::Wait;
-use vll_queue::{BeginRefusal, BegunOnto, Hold, Name, Passes};
+use vll_engine::{BeginRefusal, BegunOnto, Hold, Name, Passes};
 use vll_sca::Place;
+use vll_tokens::{MOST_BATCH, Roster, Taken, Token, Worker};
 
 // What happened to a token's calls that were to begin.
 enum Course {

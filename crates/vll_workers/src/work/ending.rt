@@ -1,20 +1,17 @@
 //! What a worker does with what it has begun: it executes calls, finishes them, and puts the tokens back.
 ghost use Rattle.std.specs.Prelude.{◌≡◌, ◌≤◌, ◌+◌, ◌++◌, [], All, IfNone, IfSome, length};
 ghost use Rattle.crossbeam_queue.specs.Passes.{view};
-ghost use Rattle.vll_queue.specs.Onto.{IsOfLast};
+ghost use Rattle.vll_engine.specs.Onto.{IsOfLast};
 ghost use Rattle.vll_queue.specs.Pass.{IsReleased};
 ghost use Rattle.vll_workers.specs.Private.Work.{IsAtWork};
 
 use super::Work;
 use crate::gate::Gate;
-use crate::roster::Roster;
-use crate::stack::{MOST_BATCH, Stack};
-use crate::taken::Taken;
-use crate::worker::Worker;
 use std::sync::Wait;
 use vll_core::Ticket;
-use vll_queue::{Hold, Name, Passes, Released};
+use vll_engine::{Hold, Name, Passes, Released};
 use vll_sca::Place;
+use vll_tokens::{MOST_BATCH, Roster, Stack, Taken, Worker};
 
 impl<N: Name, H: Place + Send + Drop, T: Roster, W: Wait, G: Gate> Work<'_, N, H, T, W, G> {
     // Puts the tokens back into the pool, those that were tried after the others.

@@ -2,18 +2,14 @@
 ghost use Rattle.std.specs.Prelude.{◌≡◌, ◌<◌, ◌≤◌, ◌+◌, ◌++◌, ◌∷◌, length};
 ghost use Rattle.crossbeam_queue.specs.Passes.{view};
 ghost use Rattle.vll_workers.specs.Private.Work.{IsAtWork};
-ghost use Rattle.vll_workers.specs.Tokens.{AreFit, IsFit};
+ghost use Rattle.vll_tokens.specs.Tokens.{AreFit, IsFit};
 
 use super::Work;
 use crate::gate::Gate;
-use crate::roster::Roster;
-use crate::stack::{MOST_BATCH, Stack};
-use crate::taken::Taken;
-use crate::token::Token;
-use crate::worker::Worker;
 use std::sync::Wait;
-use vll_queue::Name;
+use vll_engine::Name;
 use vll_sca::Place;
+use vll_tokens::{MOST_BATCH, Roster, Stack, Taken, Token, Worker};
 
 impl<N: Name, H: Place + Send + Drop, T: Roster, W: Wait, G: Gate> Work<'_, N, H, T, W, G> {
     // Takes tokens, first those that were kept in hand, then those of the pool, until `calls` calls are ready to begin

@@ -1,7 +1,7 @@
 -- Every thread may see the engine and the callers.
 use denote.Param.Send.{sendable}
 use Rattle.std.proofs.Crossing.{crosses}
-use Rattle.vll_queue.proofs.Crossing.{engine}
+use Rattle.vll_engine.proofs.Crossing.{engine}
 use Rattle.vll_bench.proofs.caller.Caller.TheSendSync as caller
 use Rattle.vll_bench.proofs.calls.time_callers.Goals as goal
 

@@ -6,7 +6,7 @@ use Rattle.std.proofs.lemmas.List.Elements.{All-map}
 use Rattle.vll_proc.specs.declared.call.Call.{Call}
 use Rattle.vll_counters.specs.Shown.{SessionShown}
 use Rattle.vll_workers.specs.Merge.{AreForScripts}
-use Rattle.vll_workers.specs.Shown.{TokenShown}
+use Rattle.vll_tokens.specs.Shown.{TokenShown}
 use Rattle.vll_workers.proofs.Merged.{are_own, count_back, spent_early}
 use Rattle.vll_scenario.specs.Setup.{lists_of}
 use Rattle.vll_server.proofs.Handed.{closed_with, for_scripts, merges}

@@ -1,7 +1,7 @@
 -- Every thread may see the engine.
 use denote.Param.Send.{sendable}
 use Rattle.std.proofs.Crossing.{crosses}
-use Rattle.vll_queue.proofs.Crossing.{engine}
+use Rattle.vll_engine.proofs.Crossing.{engine}
 use Rattle.vll_service_example.proofs.epoch.make_calls.Goals as goal
 
 pub map_vec-requires-sync-F : goal.map_vec-requires-sync-F

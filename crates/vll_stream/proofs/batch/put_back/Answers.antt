@@ -1,7 +1,7 @@
 use Rattle.std.proofs.Common.{◌≡◌, ◌++◌, ◌∷◌, [], All, List, length, length-append, append_assoc, ap, sym, ◌∙◌, subst, arith}
 use Rattle.std.proofs.lemmas.List.Elements.{All-push}
 use Rattle.vll_counters.specs.Shown.{SessionShown}
-use Rattle.vll_workers.specs.Shown.{TokenShown}
+use Rattle.vll_tokens.specs.Shown.{TokenShown}
 use Rattle.vll_stream.proofs.Batches.{one_of}
 use Rattle.vll_stream.proofs.batch.put_back.Goals as goal
 

@@ -5,10 +5,10 @@ use Rattle.vll_check.specs.Calls.{Fits}
 use Rattle.vll_counters.specs.Shown.{SessionShown}
 use Rattle.vll_proc.specs.declared.call.Call.{Call}
 use Rattle.vll_queue.specs.Shown.{library_of}
-use Rattle.vll_workers.specs.Shown.{TokenShown}
-use Rattle.vll_workers.specs.Tokens.{AreFit, IsFit}
-use Rattle.vll_workers.proofs.Distinct.{above_push, distinct_none, distinct_push}
-use Rattle.vll_workers.proofs.Fit.{fit_push}
+use Rattle.vll_tokens.specs.Shown.{TokenShown}
+use Rattle.vll_tokens.specs.Tokens.{AreFit, IsFit}
+use Rattle.vll_tokens.proofs.Distinct.{above_push, distinct_none, distinct_push}
+use Rattle.vll_tokens.proofs.Fit.{fit_push}
 use Rattle.vll_stream.proofs.batch.tokens_of.Goals as goal
 
 pub loop-caller-init : goal.loop-caller-init

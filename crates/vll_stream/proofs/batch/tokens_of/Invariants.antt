@@ -3,7 +3,7 @@ use Rattle.std.proofs.Common.{◌≡◌, ◌≤◌, ◌+◌, All, length, nat_eq
 use Rattle.std.specs.List.{IsDistinct}
 use Rattle.vll_check.specs.Calls.{Fits}
 use Rattle.vll_queue.specs.Shown.{library_of}
-use Rattle.vll_workers.specs.Tokens.{AreFit, clients_of}
+use Rattle.vll_tokens.specs.Tokens.{AreFit, clients_of}
 use Rattle.vll_stream.proofs.batch.tokens_of.Given as goal
 
 abbrev pub invariant-loop-caller : goal.invariant-loop-caller

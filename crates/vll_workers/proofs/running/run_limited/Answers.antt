@@ -1,6 +1,6 @@
 use Rattle.std.proofs.Common.{rules}
 use denote.Param.Send.{sendable}
-use Rattle.vll_queue.proofs.Crossing.{engine}
+use Rattle.vll_engine.proofs.Crossing.{engine}
 use Rattle.vll_workers.proofs.running.run_limited.Goals as goal
 
 pub run_named-requires-sync-X : goal.run_named-requires-sync-X

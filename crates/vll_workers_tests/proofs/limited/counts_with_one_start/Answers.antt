@@ -1,4 +1,4 @@
-use Rattle.vll_workers.proofs.Owned.{back_fits}
+use Rattle.vll_tokens.proofs.Owned.{back_fits}
 use Rattle.vll_workers_tests.proofs.limited.counts_with_one_start.Goals as goal
 
 pub are_counted-requires : goal.are_counted-requires

@@ -1,4 +1,4 @@
-use Rattle.vll_workers.proofs.Distinct.{distinct_none}
+use Rattle.vll_tokens.proofs.Distinct.{distinct_none}
 use Rattle.vll_workers_tests.proofs.limited.has_none.Goals as goal
 
 pub run_limited-requires-clause-distinct : goal.run_limited-requires-clause-distinct

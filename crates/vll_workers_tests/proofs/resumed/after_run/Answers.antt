@@ -1,10 +1,10 @@
 use Rattle.std.proofs.Common.{◌++◌, ◌∷◌, [], ◌∙◌, List, Some, ap, refl}
 use Rattle.std.proofs.lemmas.List.Elements.{All-nil, All-pop}
-use Rattle.vll_workers.specs.Shown.{TokenShown}
-use Rattle.vll_workers.specs.Tokens.{IsOf}
-use Rattle.vll_workers.proofs.Distinct.{distinct_none, distinct_push}
-use Rattle.vll_workers.proofs.Fit.{fit_push}
-use Rattle.vll_workers.proofs.Owned.{own_fits}
+use Rattle.vll_tokens.specs.Shown.{TokenShown}
+use Rattle.vll_tokens.specs.Tokens.{IsOf}
+use Rattle.vll_tokens.proofs.Distinct.{distinct_none, distinct_push}
+use Rattle.vll_tokens.proofs.Fit.{fit_push}
+use Rattle.vll_tokens.proofs.Owned.{own_fits}
 use Rattle.vll_workers_tests.proofs.resumed.after_run.Goals as goal
 
 pub run-requires-clause-distinct : goal.run-requires-clause-distinct

@@ -5,7 +5,7 @@ use Rattle.vll_check.specs.Calls.{Fits}
 use Rattle.vll_check.specs.Headline.Catalog.{Catalog}
 use Rattle.vll_counters.specs.Shown.{SessionShown}
 use Rattle.vll_queue.specs.Shown.{library_of}
-use Rattle.vll_workers.specs.Tokens.{IsFit}
+use Rattle.vll_tokens.specs.Tokens.{IsFit}
 use Rattle.vll_workers_tests.proofs.resumed.with_one_more.Goals as goal
 
 -- the session is the engine's still, and the library makes the call that is added

@@ -1,4 +1,4 @@
-use Rattle.vll_workers.proofs.Owned.{back_fits}
+use Rattle.vll_tokens.proofs.Owned.{back_fits}
 use Rattle.vll_workers_tests.proofs.runs.counts.Goals as goal
 
 pub are_counted-requires : goal.are_counted-requires

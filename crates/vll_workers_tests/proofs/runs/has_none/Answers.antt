@@ -1,5 +1,5 @@
-use Rattle.vll_queue.proofs.Opens.{new_sessions_are_there}
-use Rattle.vll_workers.proofs.Distinct.{distinct_none}
+use Rattle.vll_engine.proofs.Opens.{new_sessions_are_there}
+use Rattle.vll_tokens.proofs.Distinct.{distinct_none}
 use Rattle.vll_workers_tests.proofs.runs.has_none.Goals as goal
 
 pub last_of-session-requires : goal.last_of-session-requires

@@ -1,4 +1,4 @@
-use Rattle.vll_queue.proofs.Opens.{new_sessions_are_there}
+use Rattle.vll_engine.proofs.Opens.{new_sessions_are_there}
 use Rattle.vll_workers_tests.proofs.runs.leaves_a_kept_pass.Goals as goal
 
 pub last_of-idle-requires : goal.last_of-idle-requires

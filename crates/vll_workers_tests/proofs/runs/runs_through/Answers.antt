@@ -1,8 +1,8 @@
 use Rattle.std.proofs.Common.{◌++◌, ◌∷◌, [], ◌∙◌, List, ap, refl}
 use Rattle.std.proofs.lemmas.List.Elements.{All-nil}
-use Rattle.vll_workers.specs.Shown.{TokenShown}
-use Rattle.vll_workers.proofs.Distinct.{distinct_none, distinct_push}
-use Rattle.vll_workers.proofs.Fit.{fit_push}
+use Rattle.vll_tokens.specs.Shown.{TokenShown}
+use Rattle.vll_tokens.proofs.Distinct.{distinct_none, distinct_push}
+use Rattle.vll_tokens.proofs.Fit.{fit_push}
 use Rattle.vll_workers_tests.proofs.runs.runs_through.Goals as goal
 
 pub run-requires-clause-fit : goal.run-requires-clause-fit

@@ -1,10 +1,10 @@
 use Rattle.std.proofs.Common.{◌≡◌, ◌≤◌, ◌∷◌, [], ℕ, List, suc, arith, ap, refl, subst, sym, ◌∙◌, length, length-append, add-one}
 use Rattle.std.proofs.lemmas.List.Elements.{All-nil, All-same}
 use Rattle.vll_counters.specs.Shown.{AreNewSessions, SessionShown}
-use Rattle.vll_workers.specs.Shown.{TokenShown}
-use Rattle.vll_workers.specs.Tokens.{AreFit}
-use Rattle.vll_workers.proofs.Distinct.{above_push, distinct_none, distinct_push}
-use Rattle.vll_workers.proofs.Fit.{fit_push}
+use Rattle.vll_tokens.specs.Shown.{TokenShown}
+use Rattle.vll_tokens.specs.Tokens.{AreFit}
+use Rattle.vll_tokens.proofs.Distinct.{above_push, distinct_none, distinct_push}
+use Rattle.vll_tokens.proofs.Fit.{fit_push}
 use Rattle.vll_workers_tests.proofs.Sessions.{last_session}
 use Rattle.vll_workers_tests.proofs.tokens.all_calling.Goals as goal
 

@@ -2,7 +2,7 @@ use Rattle.std.proofs.Common.{All, sym, subst}
 use Rattle.vll_check.specs.Calls.{Fits}
 use Rattle.vll_check.specs.Headline.Catalog.{Catalog}
 use Rattle.vll_queue.specs.Shown.{library_of}
-use Rattle.vll_workers.specs.Tokens.{IsFit}
+use Rattle.vll_tokens.specs.Tokens.{IsFit}
 use Rattle.vll_workers_tests.proofs.tokens.calling.Goals as goal
 
 pub returns-clause-fit : goal.returns-clause-fit

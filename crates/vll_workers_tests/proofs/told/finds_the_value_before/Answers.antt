@@ -1,5 +1,5 @@
 use denote.Param.Send.{sendable}
-use Rattle.vll_queue.proofs.Crossing.{engine}
+use Rattle.vll_engine.proofs.Crossing.{engine}
 use Rattle.vll_workers_tests.proofs.told.finds_the_value_before.Goals as goal
 
 pub runs_finding-asker-requires-sync-X : goal.runs_finding-asker-requires-sync-X

@@ -1,5 +1,5 @@
 use denote.Param.Send.{sendable}
-use Rattle.vll_queue.proofs.Crossing.{engine}
+use Rattle.vll_engine.proofs.Crossing.{engine}
 use Rattle.vll_workers_tests.proofs.told.is_told_once.Goals as goal
 
 pub runs_asking-notes-requires-sync-X : goal.runs_asking-notes-requires-sync-X

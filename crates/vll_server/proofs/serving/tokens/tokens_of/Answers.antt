@@ -5,10 +5,10 @@ use Rattle.std.specs.Option.{option_to_list}
 use Rattle.std.proofs.lemmas.List.Elements.{All-pop}
 use Rattle.vll_proc.specs.declared.call.Call.{Call}
 use Rattle.vll_counters.specs.Shown.{SessionShown}
-use Rattle.vll_workers.specs.Shown.{TokenShown, token}
+use Rattle.vll_tokens.specs.Shown.{TokenShown, token}
 use Rattle.vll_scenario.specs.Setup.{lists_of}
 use Rattle.vll_server.specs.Scripts.{tokens_from}
-use Rattle.vll_workers.specs.Tokens.{AreFit, clients_of}
+use Rattle.vll_tokens.specs.Tokens.{AreFit, clients_of}
 use Rattle.vll_server.proofs.Handed.{are_distinct, are_fit, last_session, session_at, tokens-next}
 use Rattle.vll_server.proofs.serving.tokens.tokens_of.Goals as goal
 

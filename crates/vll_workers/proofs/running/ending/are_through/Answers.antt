@@ -2,7 +2,7 @@ use Rattle.std.proofs.Common.{◌∙◌, sym, subst, ap, length}
 use Rattle.std.specs.Prelude.{All}
 use Rattle.std.proofs.lemmas.List.{take_all}
 use Rattle.std.proofs.lemmas.List.Elements.{All-more}
-use Rattle.vll_workers.specs.Tokens.{IsThrough}
+use Rattle.vll_tokens.specs.Tokens.{IsThrough}
 use Rattle.vll_workers.proofs.running.ending.are_through.Goals as goal
 
 pub loop-token-preserved : goal.loop-token-preserved

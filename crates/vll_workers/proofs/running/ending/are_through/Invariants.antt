@@ -1,6 +1,6 @@
 use Rattle.std.proofs.Common.{take}
 use Rattle.std.specs.Prelude.{All}
-use Rattle.vll_workers.specs.Tokens.{IsThrough}
+use Rattle.vll_tokens.specs.Tokens.{IsThrough}
 use Rattle.vll_workers.proofs.running.ending.are_through.Given as goal
 
 abbrev pub invariant-loop-token : goal.invariant-loop-token

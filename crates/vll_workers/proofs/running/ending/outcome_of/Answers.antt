@@ -2,11 +2,11 @@ use Rattle.std.proofs.Common.{rules, List, subst, sym}
 use Rattle.std.specs.Prelude.{All}
 use Rattle.std.specs.Global.{Vec}
 use Rattle.std.proofs.lemmas.List.Sorted.{All-permutation, IsNonDecreasingBy-from_sort_by_key}
-use Rattle.vll_workers.specs.Private.Pool.{AreSame}
-use Rattle.vll_workers.specs.Private.Settled.{IsSettled, OneHasLeft}
-use Rattle.vll_workers.specs.Shown.{TokenShown}
-use Rattle.vll_workers.specs.Tokens.{AreBack, IsThrough, OneIsSpent, clients_of}
-use Rattle.vll_workers.proofs.Settled.{are_back, one_is_spent}
+use Rattle.vll_tokens.specs.Pool.{AreSame}
+use Rattle.vll_tokens.specs.Settled.{IsSettled, OneHasLeft}
+use Rattle.vll_tokens.specs.Shown.{TokenShown}
+use Rattle.vll_tokens.specs.Tokens.{AreBack, IsThrough, OneIsSpent, clients_of}
+use Rattle.vll_tokens.proofs.Settled.{are_back, one_is_spent}
 use Rattle.vll_workers.proofs.running.ending.outcome_of.Goals as goal
 
 pub returns-then-not-are_through-clause-back : goal.returns-then-not-are_through-clause-back

@@ -1,8 +1,8 @@
 use Rattle.std.proofs.Common.{List, subst, rules}
 use Rattle.std.specs.Prelude.{All}
-use Rattle.vll_workers.specs.Shown.{TokenShown}
-use Rattle.vll_workers.specs.Tokens.{IsOf}
-use Rattle.vll_workers.proofs.Gained.{all_of}
+use Rattle.vll_tokens.specs.Shown.{TokenShown}
+use Rattle.vll_tokens.specs.Tokens.{IsOf}
+use Rattle.vll_tokens.proofs.Gained.{all_of}
 use Rattle.vll_workers.proofs.running.start.hand_out.Goals as goal
 
 pub put_all-requires-clause-own : goal.put_all-requires-clause-own

@@ -1,6 +1,6 @@
 -- The tokens that are left and those that were tried are in hand.
 use Rattle.std.proofs.Common.{◌≡◌, ◌≤◌, ◌+◌, ◌++◌, length}
-use Rattle.vll_workers.specs.declared.stack.TheConstants.{MOST_BATCH}
+use Rattle.vll_tokens.specs.declared.stack.TheConstants.{MOST_BATCH}
 use Rattle.crossbeam_queue.specs.Passes.{view}
 use Rattle.vll_workers.specs.Private.Work.{IsAtWork}
 use Rattle.vll_workers.proofs.work.Work.begin_all.Given as goal

@@ -1,7 +1,7 @@
 use Rattle.std.proofs.Common.{◌∙◌, ap, inr, sym, rules}
-use Rattle.vll_queue.specs.declared.begun.BegunOnto.TheVariants.{Refused}
-use Rattle.vll_workers.proofs.Gained.{client_begun, of_begun, spent_session}
-use Rattle.vll_workers.proofs.Owned.{own_fits}
+use Rattle.vll_engine.specs.declared.passes.BegunOnto.TheVariants.{Refused}
+use Rattle.vll_tokens.proofs.Gained.{client_begun, of_begun, spent_session}
+use Rattle.vll_tokens.proofs.Owned.{own_fits}
 use Rattle.vll_workers.proofs.work.Work.begin_calls.Goals as goal
 
 pub looks_held-requires-after_bounds : goal.looks_held-requires-after_bounds

@@ -1,7 +1,7 @@
 use Rattle.std.proofs.Common.{◌++◌, ◌∷◌, ◌∙◌, ap}
-use Rattle.vll_workers.specs.Shown.{TokenShown}
+use Rattle.vll_tokens.specs.Shown.{TokenShown}
 use Rattle.vll_workers.proofs.AtWork.{held_more, one_kept, own_of, popped, renewed_at_work, set_aside}
-use Rattle.vll_workers.proofs.Owned.{own_fits}
+use Rattle.vll_tokens.proofs.Owned.{own_fits}
 use Rattle.vll_workers.proofs.work.Work.begin_next.Goals as goal
 
 pub keep-requires-clause-held : goal.keep-requires-clause-held

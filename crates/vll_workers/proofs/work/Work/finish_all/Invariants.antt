@@ -1,7 +1,7 @@
 -- What is left has released its claims.
 use Rattle.std.proofs.Common.{◌≤◌, ◌+◌, All, length}
 use Rattle.vll_queue.specs.Pass.{IsReleased}
-use Rattle.vll_workers.specs.declared.stack.TheConstants.{MOST_BATCH}
+use Rattle.vll_tokens.specs.declared.stack.TheConstants.{MOST_BATCH}
 use Rattle.vll_workers.proofs.work.Work.finish_all.Given as goal
 
 abbrev pub invariant-loop-done : goal.invariant-loop-done

@@ -2,7 +2,7 @@ use Rattle.std.proofs.Common.{Bor, ◌∙◌, ◌+◌, ap, subst, sym}
 use Rattle.std.specs.Option.{option_map}
 use Rattle.vll_proc.specs.declared.call.Call.{Call}
 use Rattle.vll_check.specs.Calls.{Fits}
-use Rattle.vll_workers.proofs.Owned.{call_fits}
+use Rattle.vll_tokens.proofs.Owned.{call_fits}
 use Rattle.vll_workers.proofs.work.Work.is_indirect.Goals as goal
 
 pub source-requires : goal.source-requires

@@ -1,6 +1,6 @@
 use Rattle.std.proofs.Common.{List, ◌≡◌, ◌∷◌, ap, arith, length}
 use Rattle.vll_workers.proofs.AtWork.{popped, set_aside}
-use Rattle.vll_workers.specs.Shown.{TokenShown}
+use Rattle.vll_tokens.specs.Shown.{TokenShown}
 use Rattle.vll_workers.proofs.work.Work.keep_in_hand.Goals as goal
 
 pub loop-token-preserved : goal.loop-token-preserved

@@ -1,6 +1,6 @@
 -- The tokens of both stacks are in hand.
 use Rattle.std.proofs.Common.{◌≤◌, ◌+◌, ◌++◌, length}
-use Rattle.vll_workers.specs.declared.stack.TheConstants.{MOST_BATCH}
+use Rattle.vll_tokens.specs.declared.stack.TheConstants.{MOST_BATCH}
 use Rattle.vll_workers.specs.Private.Work.{IsAtWork}
 use Rattle.vll_workers.proofs.work.Work.keep_in_hand.Given as goal
 

@@ -1,7 +1,7 @@
 use Rattle.std.proofs.Common.{Bor, ◌∙◌, ◌+◌, ap, sym}
 use Rattle.std.specs.Option.{option_map}
 use Rattle.vll_proc.specs.declared.call.Call.{Call}
-use Rattle.vll_workers.proofs.Owned.{call_fits}
+use Rattle.vll_tokens.proofs.Owned.{call_fits}
 use Rattle.vll_workers.proofs.work.Work.looks_free.Goals as goal
 
 pub look-requires : goal.look-requires

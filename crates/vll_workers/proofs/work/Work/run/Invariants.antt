@@ -1,7 +1,7 @@
 -- The tokens that were kept are in hand, and each call that was executed has released its claims.
 use Rattle.std.proofs.Common.{◌≡◌, ◌≤◌, [], All, length}
 use Rattle.vll_queue.specs.Pass.{IsReleased}
-use Rattle.vll_workers.specs.declared.stack.TheConstants.{MOST_BATCH}
+use Rattle.vll_tokens.specs.declared.stack.TheConstants.{MOST_BATCH}
 use Rattle.crossbeam_queue.specs.Passes.{view}
 use Rattle.vll_workers.specs.Private.Work.{IsAtWork}
 use Rattle.vll_workers.proofs.work.Work.run.Given as goal

@@ -1,6 +1,6 @@
 -- The worker has in hand just what it keeps, and all parts; nothing is under way.
 use Rattle.std.proofs.Common.{◌≡◌, []}
-use Rattle.vll_workers.specs.Private.Pool.{all_parts}
+use Rattle.vll_tokens.specs.Pool.{all_parts}
 use Rattle.crossbeam_queue.specs.Passes.{view}
 use Rattle.vll_workers.specs.Private.Work.{IsAtWork}
 use Rattle.vll_workers.proofs.work.Work.run_to_the_end.Given as goal

@@ -1,8 +1,8 @@
 use Rattle.std.proofs.Common.{List, ◌++◌, ◌∷◌, ◌∙◌, subst, sym}
 use Rattle.vll_workers.specs.Private.Work.{IsAtWork}
-use Rattle.vll_workers.specs.Shown.{TokenShown}
+use Rattle.vll_tokens.specs.Shown.{TokenShown}
 use Rattle.vll_workers.proofs.AtWork.{one_more, own_of, taken_back}
-use Rattle.vll_workers.proofs.Owned.{own_fits}
+use Rattle.vll_tokens.proofs.Owned.{own_fits}
 use Rattle.vll_workers.proofs.work.Work.take_one.Goals as goal
 
 pub add-requires-clause-fit : goal.add-requires-clause-fit

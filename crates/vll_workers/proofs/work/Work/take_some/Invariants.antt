@@ -1,7 +1,7 @@
 -- The tokens that were taken, and those that were kept in hand, are in hand.
 use Rattle.std.proofs.Common.{◌≡◌, ◌≤◌, ◌+◌, ◌++◌, length}
 use Rattle.crossbeam_queue.specs.Passes.{view}
-use Rattle.vll_workers.specs.declared.stack.TheConstants.{MOST_BATCH}
+use Rattle.vll_tokens.specs.declared.stack.TheConstants.{MOST_BATCH}
 use Rattle.vll_workers.specs.Private.Work.{IsAtWork}
 use Rattle.vll_workers.proofs.work.Work.take_some.Given as goal
 

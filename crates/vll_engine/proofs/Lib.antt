@@ -1,0 +1,4 @@
+pub mod Attempts
+pub mod Crossing
+pub mod Onto
+pub mod Opens

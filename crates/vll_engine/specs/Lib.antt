@@ -1,0 +1,2 @@
+pub mod Onto
+pub mod Private

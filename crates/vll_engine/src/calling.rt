@@ -1,0 +1,216 @@
+//! Calls from entry to reply.
+ghost use Rattle.std.specs.Prelude.{◌≡◌, ◌<◌, ◌++◌, ◌∷◌, [], IfErr, IfOk, Some};
+ghost use Rattle.vll_check.specs.Headline.Calls.{source as source_in};
+ghost use Rattle.vll_check.specs.Calls.{Fits, IsReady};
+ghost use Rattle.vll_proc.specs.Headline.Serial.{answer};
+ghost use Rattle.vll_queue.specs.Calling.{IsCalled, IsTurnedAway};
+ghost use Rattle.vll_queue.specs.Pass.{IsFresh};
+ghost use Rattle.vll_engine.specs.Private.Attempt.{IsAttempted, IsTried};
+ghost use Rattle.vll_queue.specs.Looked.{IsLookedUp};
+ghost use Rattle.vll_queue.specs.Sessions.{SawOthers};
+ghost use Rattle.vll_queue.specs.Shown.{library_of};
+
+use crate::engine::Engine;
+use crate::hold::Hold;
+use crate::rest::Rest;
+use std::sync::Wait;
+use vll_core::Ticket;
+use vll_counters::PassSeat;
+use vll_proc::{Call, Reply};
+use vll_queue::{Admission, BeginRefusal, Name, Pass, Released, Session, find};
+use vll_record::RecordId;
+use vll_sca::Place;
+
+/// As many calls as the limit have entered, and the engine takes no more.
+#[derive(Clone, Copy, PartialEq, Eq, Debug)]
+pub struct EngineSpent;
+
+impl<N: Name, H: Place + Drop> Engine<N, H> {
+    /// Makes a call of the session's client, from its entry to its reply, as `Client::make` says. A call that may run at
+    /// entry takes the lock twice.
+    pub fn call(
+        &self,
+        wait: &impl Wait,
+        session: &mut Session,
+        call: &Call,
+    ) -> Result<(Ticket, Reply), EngineSpent>
+        requires session { session.old.table ≡ N.engine.table }
+        requires fits { Fits (library_of N.engine) call.now }
+        ensures called { IfOk result (λ r. IsCalled N.engine session.old.session session.new.session call.now r.0 r.1) }
+        ensures spent { IfErr result (λ _. IsTurnedAway N.engine session.old.session session.new.session) }
+        ensures session { session.new.table ≡ session.old.table }
+    {
+        let mut rest = Rest::new();
+        for _ in wait.forever() {
+            match self.try_call(wait, session, call, &mut rest) {
+                Ok(Some(made)) => return Ok(made),
+                Ok(None) => {}
+                Err(EngineSpent) => return Err(EngineSpent),
+            }
+        }
+        unreachable!()
+    }
+
+    // As `call`, unless as many calls as the cap wait: then this thread helps once, and no call has entered.
+    fn try_call(
+        &self,
+        wait: &impl Wait,
+        session: &mut Session,
+        call: &Call,
+        rest: &mut Rest,
+    ) -> Result<Option<(Ticket, Reply)>, EngineSpent>
+        requires session { session.old.table ≡ N.engine.table }
+        requires fits { Fits (library_of N.engine) call.now }
+        ensures answer { IsAttempted N.engine session.old.session session.new.session call.now result }
+        ensures session { session.new.table ≡ session.old.table }
+    {
+        let source = self.library.source(call);
+        // the claims' pair words are then in the cache when the lock is taken
+        let _ = self.look(call);
+        let hold = self.hold_of_a_caller(wait);
+        match source {
+            None => self.try_ready(wait, hold, session, call, rest),
+            Some(source) => self.find_and_try(wait, hold, session, call, source, rest),
+        }
+    }
+
+    // As `try_call`, for a call with an indirect key. It is not inlined, so that other calls make no room for it.
+    #[inline(never)]
+    fn find_and_try<'a>(
+        &'a self,
+        wait: &impl Wait,
+        hold: Hold<'a, N, H>,
+        session: &mut Session,
+        call: &Call,
+        source: RecordId,
+        rest: &mut Rest,
+    ) -> Result<Option<(Ticket, Reply)>, EngineSpent>
+        requires session { session.old.table ≡ N.engine.table }
+        requires fits { Fits (library_of N.engine) call.now }
+        requires source { source_in (library_of N.engine) call.now ≡ Some source }
+        requires there { source < (library_of N.engine).records }
+        ensures answer { IsAttempted N.engine session.old.session session.new.session call.now result }
+        ensures session { session.new.table ≡ session.old.table }
+    {
+        let call = find::<N>(&self.words, &self.library, session, call, source);
+        self.try_ready(wait, hold, session, &call, rest)
+    }
+
+    // As `try_call`, for a ready call.
+    #[inline(always)]
+    fn try_ready<'a>(
+        &'a self,
+        wait: &impl Wait,
+        hold: Hold<'a, N, H>,
+        session: &mut Session,
+        ready: &Call,
+        rest: &mut Rest,
+    ) -> Result<Option<(Ticket, Reply)>, EngineSpent>
+        requires session { session.old.table ≡ N.engine.table }
+        requires ready { IsReady (library_of N.engine) ready.now }
+        requires looked_up { IsLookedUp N.engine session.old.session ready.now }
+        ensures answer { IsTried N.engine session.old.session session.new.session ready.now result }
+        ensures session { session.new.table ≡ session.old.table }
+    {
+        let mut hold = hold;
+        match hold.admit(session, ready) {
+            Admission::Free(seat, ticket) => {
+                drop(hold);
+                Ok(Some((ticket, self.make(wait, session, ready, seat, ticket))))
+            }
+            Admission::Blocked(ticket) => {
+                Ok(Some((ticket, self.reply_of(wait, hold, session, ticket))))
+            }
+            Admission::Refused(why) => {
+                if why == BeginRefusal::Spent {
+                    return Err(EngineSpent);
+                }
+                self.help(wait, hold, rest);
+                Ok(None)
+            }
+        }
+    }
+
+    // Makes a call that may run, whose pass has this seat, and returns its reply.
+    #[inline(always)]
+    fn make(
+        &self,
+        wait: &impl Wait,
+        session: &mut Session,
+        call: &Call,
+        seat: PassSeat,
+        ticket: Ticket,
+    ) -> Reply
+        requires session { session.old.table ≡ N.engine.table }
+        requires seat { IsFresh N.engine seat }
+        requires call { seat.pass.call ≡ call.now }
+        requires ticket { seat.pass.ticket ≡ ticket }
+        ensures reply { answer N.engine.base.procs session.new.session.seen N.engine.base.records ticket ≡ Some result }
+        ensures given { session.new.session.given ≡ session.old.session.given ++ ticket ∷ [] }
+        ensures session { (session.new.table ≡ session.old.table) × SawOthers session.old.session session.new.session }
+    {
+        let mut seat = seat;
+        let reply = self.run_at(&mut seat, call);
+        let released = Released::of(seat, ticket, reply);
+        self.hold_of_a_caller(wait).finish_own(session, released)
+    }
+
+    // Returns the reply of a ticket, once it is there.
+    fn reply_of<'a>(
+        &'a self,
+        wait: &impl Wait,
+        hold: Hold<'a, N, H>,
+        session: &mut Session,
+        ticket: Ticket,
+    ) -> Reply
+        requires session { session.old.table ≡ N.engine.table }
+        ensures reply { answer N.engine.base.procs session.new.session.seen N.engine.base.records ticket ≡ Some result }
+        ensures given { session.new.session.given ≡ session.old.session.given ++ ticket ∷ [] }
+        ensures session { (session.new.table ≡ session.old.table) × SawOthers session.old.session session.new.session }
+    {
+        let mut rest = Rest::new();
+        let mut hold = hold;
+        for _ in wait.forever() {
+            if let Some(reply) = hold.reply(session, ticket) {
+                return reply;
+            }
+            hold = self.help(wait, hold, &mut rest);
+        }
+        unreachable!()
+    }
+
+    // Brings a call that may run to its end, if there is one, else rests. The lock is released meanwhile.
+    fn help<'a>(
+        &'a self,
+        wait: &impl Wait,
+        hold: Hold<'a, N, H>,
+        rest: &mut Rest,
+    ) -> Hold<'a, N, H> {
+        let mut hold = hold;
+        let found = match hold.next_front() {
+            Some(pass) => Some(pass),
+            None => hold.next_scan(true),
+        };
+        drop(hold);
+        match found {
+            Some(pass) => {
+                rest.found();
+                self.bring_to_its_end(wait, pass)
+            }
+            None => {
+                rest.pause();
+                self.hold_of_a_caller(wait)
+            }
+        }
+    }
+
+    // Executes a call, releases its claims, and finishes it under a new hold.
+    fn bring_to_its_end<'a>(&'a self, wait: &impl Wait, pass: Pass) -> Hold<'a, N, H>
+        requires { IsFresh N.engine pass }
+    {
+        let released = self.run(pass);
+        let mut hold = self.hold_of_a_caller(wait);
+        hold.finish(released);
+        hold
+    }
+}

@@ -1,0 +1,82 @@
+//! The next opening of an engine in which no call runs or waits.
+ghost use Rattle.std.specs.Prelude.{◌≡◌, ◌≤◌, [], IfErr, IfOk, IsOk, vec_capacity};
+ghost use Rattle.vll_core.specs.Queue.{lines};
+ghost use Rattle.vll_counters.specs.Shown.{AreNewSessions, shown_queue};
+ghost use Rattle.vll_counters.specs.Steps.{first_queue};
+ghost use Rattle.vll_counters.specs.Headline.Views.{calls_in};
+ghost use Rattle.vll_queue.specs.Closed.{AreSerial, GoesOn, IsSerial};
+ghost use Rattle.vll_queue.specs.Ended.{IsEnded};
+
+use crate::endings::{NotReopened, Reopened};
+use crate::opening::Opening;
+use std::alloc::Global;
+use vll_core::Line;
+use vll_counters::{QueueSeat, Words};
+use vll_queue::{Closed, Ended, Name, Room, Session};
+use vll_sca::Place;
+
+// Returns the journal and the next opening.
+pub(crate) fn reopen<N: Name, H: Place + Drop>(
+    ended: Ended<H>,
+    alloc: Global,
+    journal: Vec<Line>,
+) -> Result<Reopened<H>, NotReopened<N, H>>
+    requires ended { IsEnded H.place_of N.engine ended }
+    requires clients { ended.clients ≡ N.engine.clients }
+    requires sessions { ended.clients ≤ vec_capacity ended.sessions }
+    requires room { N.engine.config.limit ≤ vec_capacity journal }
+    ensures serial { IfOk result (λ r. AreSerial N.engine r.journal.items) }
+    ensures opening { IfOk result (λ r. GoesOn H.place_of N.engine (calls_in r.journal.items) r.opening) }
+    ensures lines { IfOk result (λ r. r.journal.items ≡ lines ended.queue) }
+    ensures room { IfOk result (λ r. N.engine.config.limit ≤ vec_capacity r.journal) }
+    ensures closed { IfErr result (λ n. IfOk n.left (λ c. IsSerial N.engine c)) }
+    ensures closed_lines { IfErr result (λ n. IfOk n.left (λ c. c.journal.items ≡ lines ended.queue)) }
+    ensures is_closed { IfErr result (λ n. IsOk n.left) }
+    ensures list { IfErr result (λ n. n.journal ≡ journal) }
+{
+    let Ended {
+        library,
+        words,
+        records,
+        pairs,
+        queue,
+        sessions,
+        clients,
+    } = ended;
+    let Ok((words, mut seat)) = Words::reopen(alloc, words, records.as_slice(), &library) else {
+        return Err(NotReopened {
+            left: Ok(Closed {
+                records,
+                pairs,
+                journal: queue.into_journal(),
+            }),
+            journal,
+        });
+    };
+    let (queue, lines) = queue.reopen(journal);
+    let sessions = new_sessions(&words, &mut seat, sessions, clients as u32);
+    let room = Room::of(library.records(), records, pairs);
+    Ok(Reopened {
+        journal: lines,
+        opening: Opening::of(library, words, seat, queue, room, sessions),
+    })
+}
+
+// A new session for each client, in order, in a list that has room for them.
+fn new_sessions(
+    words: &Words,
+    queue: &mut QueueSeat,
+    mut sessions: Vec<Session>,
+    clients: u32,
+) -> Vec<Session>
+    requires first { queue.old ≡ shown_queue words.now.table [] (first_queue 0) }
+    requires none { sessions.items ≡ [] }
+    requires room { clients ≤ vec_capacity sessions }
+    ensures queue { queue.new ≡ shown_queue words.now.table [] (first_queue clients) }
+    ensures sessions { AreNewSessions words.now.table clients result.items }
+{
+    for client in 0..clients {
+        sessions.push_reserved(Session::of(client, words.make_session(queue)));
+    }
+    sessions
+}

@@ -1,0 +1,14 @@
+-- The thread that tells may have its client and its end of the channel, and every thread may see the engine.
+use denote.Param.Send.{sendable}
+use Rattle.std.proofs.Crossing.{crosses}
+use Rattle.vll_engine.proofs.Crossing.{engine}
+use Rattle.vll_engine.proofs.client.Client.TheSendSync as client
+use Rattle.vll_engine_tests.proofs.telling.Receipt.TheSendSync as receipt
+use Rattle.vll_engine_tests.proofs.telling.one_tells_and_one_hears.Goals as goal
+
+pub join-requires-send-F : goal.join-requires-send-F
+join-requires-send-F g c κs within =
+    let s = c.type_bounds.send-N in
+    let y = c.type_bounds.sync-N in
+    let r = c.type_bounds.sync-R in
+    search (engine, client.the_send, receipt.the_send, sendable, crosses) depth 40 fits 20000

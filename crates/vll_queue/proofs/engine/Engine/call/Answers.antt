@@ -1,9 +1,0 @@
--- What is said of the attempt that made the call is said of all of them.
-use Rattle.vll_queue.proofs.Attempts.{called_more}
-use Rattle.vll_queue.proofs.engine.Engine.call.Goals as goal
-
-pub returns-in-Ok-Some-clause-called : goal.returns-in-Ok-Some-clause-called
-returns-in-Ok-Some-clause-called g c =
-    let i = c.loop.invariant in
-    called_more g.N.Name.engine c.args.session.now.session c.loop.session.session c.try_call.new.session.session c.args.call.now c.in-Ok-Some.made.0 c.in-Ok-Some.made.1 i.3 i.4
-    (rw c.in-Ok-Some.field-0-is at c.in-Ok-Some.ensures.answer)

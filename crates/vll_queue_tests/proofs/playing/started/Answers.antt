@@ -1,5 +1,0 @@
-use Rattle.vll_queue.proofs.Opens.{new_sessions_are_there}
-use Rattle.vll_queue_tests.proofs.playing.started.Goals as goal
-
-pub returns : goal.returns
-returns g c = new_sessions_are_there g.N.Name.engine.table g.N.Name.engine.clients c.start.result.1.items c.start.ensures.sessions

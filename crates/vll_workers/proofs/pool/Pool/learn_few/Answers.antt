@@ -1,5 +1,0 @@
-use Rattle.vll_workers.proofs.Fair.{few}
-use Rattle.vll_workers.proofs.pool.Pool.learn_few.Goals as goal
-
-pub learn_as-requires-clause-rule : goal.learn_as-requires-clause-rule
-learn_as-requires-clause-rule g c = few g.T.Roster.tokens _ _

@@ -1,5 +1,0 @@
-use Rattle.std.proofs.Common.{rules}
-use Rattle.vll_workers.proofs.token.Token.script.Goals as goal
-
-pub returns-clause-calls : goal.returns-clause-calls
-returns-clause-calls c = search rules
