@@ -1,5 +1,5 @@
 //! The queue of entered calls, and the machine that brings them to their replies in atomic steps, one event at a time.
-//! The engine (`vll_queue`) keeps its calls in the queue; replays (`vll_replay`) run the machine.
+//! The engine (`vll_engine`) keeps its calls in the queue; replays (`vll_replay`) run the machine.
 //! Proved: each step gives the answer and the next state of the plain machine of `specs/Machine.antt`. In each state
 //! that lawful moves reach, loads and stores agree with the calls run one at a time, in the order of their tickets.
 //! Start at `Core` and `Event` for the machine, at `Queue` for the queue alone, and at `laws.rt` for the laws.

@@ -7,9 +7,9 @@ use crate::session::Session;
 use std::marker::{Model, PhantomData};
 use vll_counters::{NewsSeat, Words};
 
-/// A causality token: it stands for the calls that a client had seen when it was made. Each of them is
-/// ordered before every call that a client enters after hearing the news. It takes no bytes, and can reach another
-/// thread in any way, such as a channel or a lock. Contracts see the calls.
+/// A causality token: it stands for the calls that a client had seen when it was made. Each of them is ordered before
+/// every call that a client enters after hearing the news. It takes no bytes, and can reach another thread in any way,
+/// such as a channel or a lock. Contracts see the calls.
 #[derive(Drop)]
 pub struct News<N: Name> {
     seat: NewsSeat,
