@@ -14,7 +14,7 @@ use vll_server::{Bits, Cap, MOST_EVENTS, RunOptions, UpTo, Workers};
 use vll_workers::MOST_WORKERS;
 
 /// What the command line asks for.
-#[derive(Debug, Drop)]
+#[derive(Drop)]
 pub(crate) enum Action {
     /// To print this text: the help or the version.
     Tell(Error),
@@ -31,7 +31,7 @@ pub(crate) enum Action {
 }
 
 /// How calls are served.
-#[derive(Debug, Drop)]
+#[derive(Drop)]
 pub(crate) struct ServeOptions {
     /// The path of the scenario's file.
     pub(crate) file: String,

@@ -7,7 +7,7 @@ use vll_server::{ReplayFault, ScenarioFault, ServeFault, WriteFault};
 use vll_stream::StreamFault;
 
 /// Why the program ended without an outcome. Its text is the line that is printed.
-#[derive(Clone, Copy, Debug, PartialEq, Eq, Error)]
+#[derive(Clone, Copy, Debug, Error)]
 pub(crate) enum Fault {
     /// The program does not accept these words, or memory ran out while they were read.
     #[error("vll: command line")]
