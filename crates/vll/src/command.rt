@@ -150,9 +150,9 @@ fn run_command<'a>(alloc: Global) -> Result<Command<'a>, AllocError> {
     Command::new(alloc, "run")
         .about("Runs the scenario on standard input and prints its outcome")
         .after_help(RUN_EXAMPLES)
-        .arg(number::<MOST_WORKERS>(alloc, "workers", WORKERS).default_value("4"))?
-        .arg(number::<MOST_WAITING>(alloc, "cap", CAP))?
-        .arg(number::<MOST_BITS>(alloc, "bits", BITS))
+        .arg(number(alloc, "workers", MOST_WORKERS, WORKERS).default_value("4"))?
+        .arg(number(alloc, "cap", MOST_WAITING, CAP))?
+        .arg(number(alloc, "bits", MOST_BITS, BITS))
 }
 
 fn serve_command<'a>(alloc: Global) -> Result<Command<'a>, AllocError> {
@@ -160,9 +160,9 @@ fn serve_command<'a>(alloc: Global) -> Result<Command<'a>, AllocError> {
         .about("Serves calls: one on each line of standard input, until it ends")
         .after_help(SERVE_EXAMPLES)
         .arg(Arg::new(alloc, "FILE").required(true).help(FILE))?
-        .arg(number::<MOST_WORKERS>(alloc, "workers", WORKERS).default_value("1"))?
-        .arg(number::<MOST_WAITING>(alloc, "cap", CAP))?
-        .arg(number::<MOST_BITS>(alloc, "bits", BITS))
+        .arg(number(alloc, "workers", MOST_WORKERS, WORKERS).default_value("1"))?
+        .arg(number(alloc, "cap", MOST_WAITING, CAP))?
+        .arg(number(alloc, "bits", MOST_BITS, BITS))
 }
 
 fn replay_command<'a>(alloc: Global) -> Command<'a> {
@@ -186,7 +186,7 @@ fn draw_command<'a>(alloc: Global) -> Result<Command<'a>, AllocError> {
         )
         .after_help(DRAW_EXAMPLES)
         .arg(from_option(alloc))?
-        .arg(number::<MOST_COLUMNS>(alloc, "count", COUNT).default_value("360"))
+        .arg(number(alloc, "count", MOST_COLUMNS, COUNT).default_value("360"))
 }
 
 // The option `--from`.
@@ -199,12 +199,12 @@ fn from_option<'a>(alloc: Global) -> Arg<'a> {
         .help(FROM)
 }
 
-// The option `--NAME`, which takes a whole number from 1 to `MOST`.
-fn number<'a, const MOST: u32>(alloc: Global, name: &'a str, help: &'a str) -> Arg<'a> {
+// The option `--NAME`, which takes a whole number from 1 to `most`.
+fn number<'a>(alloc: Global, name: &'a str, most: u32, help: &'a str) -> Arg<'a> {
     Arg::new(alloc, name)
         .long(name)
         .value_name("N")
-        .value_parser(value_parser!(u32).range(1..=i64::from(MOST)))
+        .value_parser(value_parser!(u32).range(1..=i64::from(most)))
         .help(help)
 }
 
