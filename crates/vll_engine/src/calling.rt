@@ -40,9 +40,26 @@ impl<N: Name, H: Place + Drop> Engine<N, H> {
         ensures spent { IfErr result (λ _. IsTurnedAway N.engine session.old.session session.new.session) }
         ensures session { session.new.table ≡ session.old.table }
     {
-        let mut rest = Rest::new();
+        self.call_with(wait, session, call, &mut Rest::new())
+    }
+
+    // As `call`, by a thread that waits as `rest` says.
+    pub(crate) fn call_with(
+        &self,
+        wait: &impl Wait,
+        session: &mut Session,
+        call: &Call,
+        rest: &mut Rest,
+    ) -> Result<(Ticket, Reply), EngineSpent>
+        requires session { session.old.table ≡ N.engine.table }
+        requires fits { Fits (library_of N.engine) call.now }
+        ensures called { IfOk result (λ r. IsCalled N.engine session.old.session session.new.session call.now r.0 r.1) }
+        ensures spent { IfErr result (λ _. IsTurnedAway N.engine session.old.session session.new.session) }
+        ensures session { session.new.table ≡ session.old.table }
+    {
+        rest.found();
         for _ in wait.forever() {
-            match self.try_call(wait, session, call, &mut rest) {
+            match self.try_call(wait, session, call, rest) {
                 Ok(Some(made)) => return Ok(made),
                 Ok(None) => {}
                 Err(EngineSpent) => return Err(EngineSpent),
@@ -67,7 +84,7 @@ impl<N: Name, H: Place + Drop> Engine<N, H> {
         let source = self.library.source(call);
         // the claims' pair words are then in the cache when the lock is taken
         let _ = self.look(call);
-        let hold = self.hold_of_a_caller(wait);
+        let hold = self.hold_of_a_caller(wait, rest);
         match source {
             None => self.try_ready(wait, hold, session, call, rest),
             Some(source) => self.find_and_try(wait, hold, session, call, source, rest),
@@ -116,10 +133,10 @@ impl<N: Name, H: Place + Drop> Engine<N, H> {
         match hold.admit(session, ready) {
             Admission::Free(seat, ticket) => {
                 drop(hold);
-                Ok(Some((ticket, self.make(wait, session, ready, seat, ticket))))
+                Ok(Some((ticket, self.make(wait, session, ready, seat, ticket, rest))))
             }
             Admission::Blocked(ticket) => {
-                Ok(Some((ticket, self.reply_of(wait, hold, session, ticket))))
+                Ok(Some((ticket, self.reply_of(wait, hold, session, ticket, rest))))
             }
             Admission::Refused(why) => {
                 if why == BeginRefusal::Spent {
@@ -140,6 +157,7 @@ impl<N: Name, H: Place + Drop> Engine<N, H> {
         call: &Call,
         seat: PassSeat,
         ticket: Ticket,
+        rest: &mut Rest,
     ) -> Reply
         requires session { session.old.table ≡ N.engine.table }
         requires seat { IsFresh N.engine seat }
@@ -152,7 +170,8 @@ impl<N: Name, H: Place + Drop> Engine<N, H> {
         let mut seat = seat;
         let reply = self.run_at(&mut seat, call);
         let released = Released::of(seat, ticket, reply);
-        self.hold_of_a_caller(wait).finish_own(session, released)
+        self.hold_of_a_caller(wait, rest)
+            .finish_own(session, released)
     }
 
     // Returns the reply of a ticket, once it is there.
@@ -162,19 +181,20 @@ impl<N: Name, H: Place + Drop> Engine<N, H> {
         hold: Hold<'a, N, H>,
         session: &mut Session,
         ticket: Ticket,
+        rest: &mut Rest,
     ) -> Reply
         requires session { session.old.table ≡ N.engine.table }
         ensures reply { answer N.engine.base.procs session.new.session.seen N.engine.base.records ticket ≡ Some result }
         ensures given { session.new.session.given ≡ session.old.session.given ++ ticket ∷ [] }
         ensures session { (session.new.table ≡ session.old.table) × SawOthers session.old.session session.new.session }
     {
-        let mut rest = Rest::new();
+        rest.found();
         let mut hold = hold;
         for _ in wait.forever() {
             if let Some(reply) = hold.reply(session, ticket) {
                 return reply;
             }
-            hold = self.help(wait, hold, &mut rest);
+            hold = self.help(wait, hold, rest);
         }
         unreachable!()
     }
@@ -195,21 +215,26 @@ impl<N: Name, H: Place + Drop> Engine<N, H> {
         match found {
             Some(pass) => {
                 rest.found();
-                self.bring_to_its_end(wait, pass)
+                self.bring_to_its_end(wait, pass, rest)
             }
             None => {
-                rest.pause();
-                self.hold_of_a_caller(wait)
+                rest.rest();
+                self.hold_of_a_caller(wait, rest)
             }
         }
     }
 
     // Executes a call, releases its claims, and finishes it under a new hold.
-    fn bring_to_its_end<'a>(&'a self, wait: &impl Wait, pass: Pass) -> Hold<'a, N, H>
+    fn bring_to_its_end<'a>(
+        &'a self,
+        wait: &impl Wait,
+        pass: Pass,
+        rest: &mut Rest,
+    ) -> Hold<'a, N, H>
         requires { IsFresh N.engine pass }
     {
         let released = self.run(pass);
-        let mut hold = self.hold_of_a_caller(wait);
+        let mut hold = self.hold_of_a_caller(wait, rest);
         hold.finish(released);
         hold
     }

@@ -12,6 +12,7 @@ ghost use Rattle.vll_queue.specs.Shown.{library_of};
 use crate::calling::EngineSpent;
 use crate::engine::Engine;
 use crate::fault::EngineFault;
+use crate::rest::Rest;
 use std::marker::{Model, PhantomData};
 use std::sync::Wait;
 use vll_core::{Line, Ticket};
@@ -23,6 +24,8 @@ use vll_sca::Place;
 #[derive(Drop)]
 pub struct Client<N: Name> {
     session: Session,
+    // How the thread that makes its calls waits.
+    rest: Rest,
     of: PhantomData<N>,
 }
 
@@ -45,6 +48,7 @@ impl<N: Name> Client<N> {
     {
         Client {
             session,
+            rest: Rest::new(),
             of: PhantomData,
         }
     }
@@ -89,7 +93,7 @@ impl<N: Name> Client<N> {
         ensures called { IfOk result (λ r. IsCalled N.engine self.old.session self.new.session call.now r.0 r.1) }
         ensures spent { IfErr result (λ _. IsTurnedAway N.engine self.old.session self.new.session) }
     {
-        engine.call(wait, &mut self.session, call)
+        engine.call_with(wait, &mut self.session, call, &mut self.rest)
     }
 
     /// Enters a call, as `Engine::begin` does.

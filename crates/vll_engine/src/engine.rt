@@ -14,8 +14,9 @@ ghost use Rattle.vll_queue.specs.Shown.{library_of, words_of};
 
 use crate::endings::{NotClosed, NotReopened, Reopened};
 use crate::hold::Hold;
-use crate::latch::{Latch, Visitor};
+use crate::latch::Latch;
 use crate::reopening::reopen;
+use crate::rest::{MOST_TRIES, Rest};
 use crossbeam_utils::CachePadded;
 use std::alloc::Global;
 use std::sync::{Mutex, Wait};
@@ -78,20 +79,34 @@ impl<N: Name, H: Place + Drop> Engine<N, H> {
     /// Takes the lock and keeps it until the hold is dropped: functions of the hold take no lock of their own, and
     /// nothing that another thread does under the lock comes between them.
     pub fn hold(&self, wait: &impl Wait) -> Hold<'_, N, H> {
-        self.hold_of(wait, Visitor::Holder)
-    }
-
-    // As `hold`, for a thread that makes one call.
-    pub(crate) fn hold_of_a_caller(&self, wait: &impl Wait) -> Hold<'_, N, H> {
-        self.hold_of(wait, Visitor::Caller)
-    }
-
-    // Takes the lock, and the latch before it if it can.
-    #[inline(always)]
-    fn hold_of(&self, wait: &impl Wait, visitor: Visitor) -> Hold<'_, N, H> {
         let latch: &Latch = &self.latch;
-        let latch = latch.enter(visitor).then_some(latch);
+        let latch = latch.enter().then_some(latch);
         Hold::new(self.locked.lock(wait), &self.words, &self.library, latch)
+    }
+
+    // As `hold`, for a thread that makes one call. It takes no latch: with its pauses the lock's own word is enough, and
+    // one word less goes from processor to processor.
+    #[inline(always)]
+    pub(crate) fn hold_of_a_caller(&self, wait: &impl Wait, rest: &mut Rest) -> Hold<'_, N, H> {
+        match self.locked.try_lock() {
+            Some(guard) => {
+                rest.met_nobody();
+                Hold::new(guard, &self.words, &self.library, None)
+            }
+            None => self.hold_after_pauses(wait, rest),
+        }
+    }
+
+    // Takes the lock in one of many tries, with a pause before each, or waits for it.
+    #[inline(never)]
+    fn hold_after_pauses(&self, wait: &impl Wait, rest: &mut Rest) -> Hold<'_, N, H> {
+        for tries in 1..MOST_TRIES {
+            rest.pause(tries);
+            if let Some(guard) = self.locked.try_lock() {
+                return Hold::new(guard, &self.words, &self.library, None);
+            }
+        }
+        Hold::new(self.locked.lock(wait), &self.words, &self.library, None)
     }
 
     /// Loads the pair word of each record that the call claims, and returns whether each claim would have been granted

@@ -1,38 +1,64 @@
-//! How a thread that finds nothing to do waits.
+//! How a thread that makes calls waits: for the engine's lock, and while it finds nothing to do.
 use std::hint::spin_loop;
 use std::thread::yield_now;
 
-// The first pause, in spins of a loop.
-const FIRST_PAUSE: u32 = 32;
+// How often a thread tries to take the lock before it goes to sleep, after some milliseconds.
+pub(crate) const MOST_TRIES: u32 = 512;
 
-// After this many spins of a pause the thread yields to others.
+// After this many tries it yields to others.
+const TRIES_A_YIELD: u32 = 16;
+
+// The first rest, in spins of a loop.
+const FIRST_REST: u32 = 32;
+
+// After this many spins of a rest the thread yields to others.
 const SPINS_A_YIELD: u32 = 64;
 
-// The longest pause, some ten microseconds.
-const LONGEST_PAUSE: u32 = 1_024;
+// The longest pause and the longest rest, in spins: some ten microseconds.
+const LONGEST: u32 = 1_024;
 
-// How a thread that finds nothing to do waits: each time about twice as long, until it finds something. It only affects
-// speed, and nothing is promised of it.
+// How a thread that makes calls waits. It only affects speed, and nothing is promised of it.
 #[derive(Clone, Copy)]
 pub(crate) struct Rest {
+    // The next pause between two tries to take the lock, in spins. A client keeps it from call to call: the fewer
+    // threads try, the longer what the lock protects stays in the cache of the one that goes on.
     pause: u32,
+    // The last rest, in spins.
+    rest: u32,
 }
 
 impl Rest {
-    // A rest whose next pause is the shortest.
+    // The next pause and the next rest are the shortest.
     pub(crate) fn new() -> Rest {
-        Rest { pause: 0 }
+        Rest { pause: 1, rest: 0 }
     }
 
-    // Notes that something was found: the next pause is the shortest again.
+    // Notes that the first try took the lock: the next pause is half as long.
+    pub(crate) fn met_nobody(&mut self) {
+        self.pause = 1.max(self.pause / 2);
+    }
+
+    // Waits after a try in vain, the `tries`-th: each time twice as long.
+    pub(crate) fn pause(&mut self, tries: u32) {
+        if tries % TRIES_A_YIELD == 0 {
+            yield_now();
+            return;
+        }
+        for _ in 0..self.pause {
+            spin_loop();
+        }
+        self.pause = LONGEST.min(self.pause.saturating_mul(2));
+    }
+
+    // Notes that something was found to do: the next rest is the shortest.
     pub(crate) fn found(&mut self) {
-        self.pause = 0;
+        self.rest = 0;
     }
 
-    // Waits.
-    pub(crate) fn pause(&mut self) {
-        self.pause = LONGEST_PAUSE.min(self.pause.saturating_mul(2).saturating_add(FIRST_PAUSE));
-        for spin in 0..self.pause {
+    // Waits while there is nothing to do: each time about twice as long.
+    pub(crate) fn rest(&mut self) {
+        self.rest = LONGEST.min(self.rest.saturating_mul(2).saturating_add(FIRST_REST));
+        for spin in 0..self.rest {
             if spin % SPINS_A_YIELD == SPINS_A_YIELD - 1 {
                 yield_now();
             } else {

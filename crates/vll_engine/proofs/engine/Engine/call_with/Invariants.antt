@@ -1,7 +1,7 @@
 -- The call has not entered: the session has seen calls of other clients alone, and was given nothing.
 use Rattle.std.proofs.Common.{◌≡◌}
 use Rattle.vll_queue.specs.Sessions.{SawOthers}
-use Rattle.vll_engine.proofs.engine.Engine.call.Given as goal
+use Rattle.vll_engine.proofs.engine.Engine.call_with.Given as goal
 
 abbrev pub invariant-loop : goal.invariant-loop
 invariant-loop g l =

@@ -1,6 +1,6 @@
 -- What is said of the attempt that made the call is said of all of them.
 use Rattle.vll_engine.proofs.Attempts.{called_more}
-use Rattle.vll_engine.proofs.engine.Engine.call.Goals as goal
+use Rattle.vll_engine.proofs.engine.Engine.call_with.Goals as goal
 
 pub returns-in-Ok-Some-clause-called : goal.returns-in-Ok-Some-clause-called
 returns-in-Ok-Some-clause-called g c =
