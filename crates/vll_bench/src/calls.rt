@@ -7,10 +7,11 @@ ghost use Rattle.vll_sca.specs.Placing.{placing};
 use crate::caller::{Caller, callers};
 use crate::fault::Fault;
 use crate::runs::count_closed;
+use crate::threads::in_threads;
 use crate::timed::Timed;
 use std::alloc::Global;
 use std::sync::{Mutex, Wait};
-use std::thread::{Threads, map_indices};
+use std::thread::Threads;
 use std::time::{Clock, Duration, Instant};
 use vll_engine::{Engine, EngineSpent, Name, Opening};
 use vll_proc::Call;
@@ -46,7 +47,7 @@ fn time_callers<N: Name + Send + Sync, R: Threads + Wait + Clock + Sync>(
     requires { 0 < threads }
 {
     let start = Instant::now(rt)?;
-    let shares = map_indices(rt, alloc, threads, &|_| { make_share(rt, engine, callers) })?;
+    let shares = in_threads(rt, alloc, threads, &|| { make_share(rt, engine, callers) })?;
     let time = start.elapsed(rt)?;
     for made in shares.iter() {
         (*made)?;

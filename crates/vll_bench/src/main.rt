@@ -18,6 +18,7 @@ mod setup;
 mod shapes;
 mod shares;
 mod task;
+mod threads;
 mod timed;
 mod ways;
 mod workload;

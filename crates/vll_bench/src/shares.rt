@@ -3,10 +3,11 @@ ghost use Rattle.std.specs.Prelude.{◌<◌, All};
 ghost use Rattle.vll_check.specs.Calls.{Fits};
 
 use crate::fault::Fault;
+use crate::threads::in_threads;
 use crate::timed::{Count, Timed};
 use std::alloc::Global;
 use std::sync::atomic::{AtomicUsize, Ordering};
-use std::thread::{Threads, map_indices};
+use std::thread::Threads;
 use std::time::{Clock, Instant};
 use vll_proc::Call;
 
@@ -34,11 +35,11 @@ pub(crate) fn time_shares<R: Threads + Clock + Sync, M: Maker + Sync>(
 {
     let next = AtomicUsize::new(0);
     let start = Instant::now(rt)?;
-    let counts = map_indices(
+    let counts = in_threads(
         rt,
         alloc,
         threads,
-        &|_| { make_share(maker, scripts, &next) },
+        &|| { make_share(maker, scripts, &next) },
     )?;
     let time = start.elapsed(rt)?;
     let mut count = Count::none();

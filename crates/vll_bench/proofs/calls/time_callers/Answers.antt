@@ -5,8 +5,8 @@ use Rattle.vll_engine.proofs.Crossing.{engine}
 use Rattle.vll_bench.proofs.caller.Caller.TheSendSync as caller
 use Rattle.vll_bench.proofs.calls.time_callers.Goals as goal
 
-pub map_indices-requires-sync-F : goal.map_indices-requires-sync-F
-map_indices-requires-sync-F g c κs within =
+pub in_threads-requires-sync-F : goal.in_threads-requires-sync-F
+in_threads-requires-sync-F g c κs within =
     let s = c.type_bounds.send-N in
     let y = c.type_bounds.sync-N in
     let r = c.type_bounds.sync-R in
