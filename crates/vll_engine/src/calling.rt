@@ -15,8 +15,7 @@ use crate::hold::Hold;
 use crate::rest::Rest;
 use std::sync::Wait;
 use vll_core::Ticket;
-use vll_counters::PassSeat;
-use vll_proc::{Call, Reply};
+use vll_proc::{Call, Reason, Reply};
 use vll_queue::{Admission, BeginRefusal, Name, Pass, Released, Session, find};
 use vll_record::RecordId;
 use vll_sca::Place;
@@ -58,9 +57,10 @@ impl<N: Name, H: Place + Drop> Engine<N, H> {
         ensures session { session.new.table ≡ session.old.table }
     {
         rest.found();
+        let mut reply = Reply::Aborted(Reason::Moved);
         for _ in wait.forever() {
-            match self.try_call(wait, session, call, rest) {
-                Ok(Some(made)) => return Ok(made),
+            match self.try_call(wait, session, call, rest, &mut reply) {
+                Ok(Some(ticket)) => return Ok((ticket, reply)),
                 Ok(None) => {}
                 Err(EngineSpent) => return Err(EngineSpent),
             }
@@ -68,49 +68,54 @@ impl<N: Name, H: Place + Drop> Engine<N, H> {
         unreachable!()
     }
 
-    // As `call`, unless as many calls as the cap wait: then this thread helps once, and no call has entered.
+    // As `call`, unless as many calls as the cap wait: then this thread helps once, and no call has entered. The reply is
+    // written where the caller has it, since each return would copy it.
     fn try_call(
         &self,
         wait: &impl Wait,
         session: &mut Session,
         call: &Call,
         rest: &mut Rest,
-    ) -> Result<Option<(Ticket, Reply)>, EngineSpent>
+        reply: &mut Reply,
+    ) -> Result<Option<Ticket>, EngineSpent>
         requires session { session.old.table ≡ N.engine.table }
         requires fits { Fits (library_of N.engine) call.now }
-        ensures answer { IsAttempted N.engine session.old.session session.new.session call.now result }
+        ensures answer { IsAttempted N.engine session.old.session session.new.session call.now result reply.new }
         ensures session { session.new.table ≡ session.old.table }
     {
         let source = self.library.source(call);
         // the claims' pair words are then in the cache when the lock is taken
         let _ = self.look(call);
-        let hold = self.hold_of_a_caller(wait, rest);
         match source {
-            None => self.try_ready(wait, hold, session, call, rest),
-            Some(source) => self.find_and_try(wait, hold, session, call, source, rest),
+            None => {
+                let hold = self.hold_of_a_caller(wait, rest);
+                self.try_ready(wait, hold, session, call, rest, reply)
+            }
+            Some(source) => self.find_and_try(wait, session, call, source, rest, reply),
         }
     }
 
     // As `try_call`, for a call with an indirect key. It is not inlined, so that other calls make no room for it.
     #[inline(never)]
-    fn find_and_try<'a>(
-        &'a self,
+    fn find_and_try(
+        &self,
         wait: &impl Wait,
-        hold: Hold<'a, N, H>,
         session: &mut Session,
         call: &Call,
         source: RecordId,
         rest: &mut Rest,
-    ) -> Result<Option<(Ticket, Reply)>, EngineSpent>
+        reply: &mut Reply,
+    ) -> Result<Option<Ticket>, EngineSpent>
         requires session { session.old.table ≡ N.engine.table }
         requires fits { Fits (library_of N.engine) call.now }
         requires source { source_in (library_of N.engine) call.now ≡ Some source }
         requires there { source < (library_of N.engine).records }
-        ensures answer { IsAttempted N.engine session.old.session session.new.session call.now result }
+        ensures answer { IsAttempted N.engine session.old.session session.new.session call.now result reply.new }
         ensures session { session.new.table ≡ session.old.table }
     {
+        let hold = self.hold_of_a_caller(wait, rest);
         let call = find::<N>(&self.words, &self.library, session, call, source);
-        self.try_ready(wait, hold, session, &call, rest)
+        self.try_ready(wait, hold, session, &call, rest, reply)
     }
 
     // As `try_call`, for a ready call.
@@ -122,21 +127,28 @@ impl<N: Name, H: Place + Drop> Engine<N, H> {
         session: &mut Session,
         ready: &Call,
         rest: &mut Rest,
-    ) -> Result<Option<(Ticket, Reply)>, EngineSpent>
+        reply: &mut Reply,
+    ) -> Result<Option<Ticket>, EngineSpent>
         requires session { session.old.table ≡ N.engine.table }
         requires ready { IsReady (library_of N.engine) ready.now }
         requires looked_up { IsLookedUp N.engine session.old.session ready.now }
-        ensures answer { IsTried N.engine session.old.session session.new.session ready.now result }
+        ensures answer { IsTried N.engine session.old.session session.new.session ready.now result reply.new }
         ensures session { session.new.table ≡ session.old.table }
     {
         let mut hold = hold;
         match hold.admit(session, ready) {
             Admission::Free(seat, ticket) => {
                 drop(hold);
-                Ok(Some((ticket, self.make(wait, session, ready, seat, ticket, rest))))
+                let mut seat = seat;
+                self.run_at(&mut seat, ready, reply);
+                let released = Released::of(seat, ticket, *reply);
+                let mut hold = self.hold_of_a_caller(wait, rest);
+                hold.finish_own(session, released);
+                Ok(Some(ticket))
             }
             Admission::Blocked(ticket) => {
-                Ok(Some((ticket, self.reply_of(wait, hold, session, ticket, rest))))
+                *reply = self.reply_of(wait, hold, session, ticket, rest);
+                Ok(Some(ticket))
             }
             Admission::Refused(why) => {
                 if why == BeginRefusal::Spent {
@@ -146,32 +158,6 @@ impl<N: Name, H: Place + Drop> Engine<N, H> {
                 Ok(None)
             }
         }
-    }
-
-    // Makes a call that may run, whose pass has this seat, and returns its reply.
-    #[inline(always)]
-    fn make(
-        &self,
-        wait: &impl Wait,
-        session: &mut Session,
-        call: &Call,
-        seat: PassSeat,
-        ticket: Ticket,
-        rest: &mut Rest,
-    ) -> Reply
-        requires session { session.old.table ≡ N.engine.table }
-        requires seat { IsFresh N.engine seat }
-        requires call { seat.pass.call ≡ call.now }
-        requires ticket { seat.pass.ticket ≡ ticket }
-        ensures reply { answer N.engine.base.procs session.new.session.seen N.engine.base.records ticket ≡ Some result }
-        ensures given { session.new.session.given ≡ session.old.session.given ++ ticket ∷ [] }
-        ensures session { (session.new.table ≡ session.old.table) × SawOthers session.old.session session.new.session }
-    {
-        let mut seat = seat;
-        let reply = self.run_at(&mut seat, call);
-        let released = Released::of(seat, ticket, reply);
-        self.hold_of_a_caller(wait, rest)
-            .finish_own(session, released)
     }
 
     // Returns the reply of a ticket, once it is there.

@@ -196,15 +196,15 @@ impl<N: Name, H: Place + Drop> Engine<N, H> {
         pass.into_released(reply)
     }
 
-    // Executes the call whose pass has this seat, and releases its claims. Returns the reply.
+    // Executes the call whose pass has this seat, writes its reply, and releases its claims.
     #[inline(always)]
-    pub(crate) fn run_at(&self, seat: &mut PassSeat, call: &Call) -> Reply
+    pub(crate) fn run_at(&self, seat: &mut PassSeat, call: &Call, reply: &mut Reply)
         requires seat { IsFresh N.engine seat.old }
         requires call { seat.old.pass.call ≡ call.now }
-        ensures released { IsReleased N.engine (record { table = seat.new.table; pass = seat.new.pass; reply = result }) }
+        ensures released { IsReleased N.engine (record { table = seat.new.table; pass = seat.new.pass; reply = reply.new }) }
         ensures same { StaysOf seat.old.pass seat.new.pass }
     {
-        vll_queue::run_at::<N>(&self.words, &self.library, seat, call)
+        vll_queue::run_at::<N>(&self.words, &self.library, seat, call, reply);
     }
 
     // Executes the call of a borrowed pass and releases its claims. Returns the reply.

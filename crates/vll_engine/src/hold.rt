@@ -116,16 +116,16 @@ impl<'a, N: Name, H: Place + Drop> Hold<'a, N, H> {
         self.guard.finish(self.words, released)
     }
 
-    // Finishes a call of the session's client, gives the session its ticket, and returns its reply.
+    // Finishes a call of the session's client, and gives the session its ticket.
     #[inline(always)]
-    pub(crate) fn finish_own(&mut self, session: &mut Session, released: Released) -> Reply
+    pub(crate) fn finish_own(&mut self, session: &mut Session, released: Released)
         requires session { session.old.table ≡ N.engine.table }
         requires released { IsReleased N.engine released }
-        ensures reply { answer N.engine.base.procs session.new.session.seen N.engine.base.records released.pass.ticket ≡ Some result }
+        ensures reply { answer N.engine.base.procs session.new.session.seen N.engine.base.records released.pass.ticket ≡ Some released.reply }
         ensures given { session.new.session.given ≡ session.old.session.given ++ released.pass.ticket ∷ [] }
         ensures session { (session.new.table ≡ session.old.table) × SawOthers session.old.session session.new.session }
     {
-        self.guard.finish_for(self.words, session, released)
+        self.guard.finish_for(self.words, session, released);
     }
 
     // Returns the reply in the ticket's line, if there is one yet, as `Engine::reply`.

@@ -17,7 +17,7 @@ use crate::name::Name;
 use crate::pass::{Done, Pass, Released};
 use vll_check::Library;
 use vll_counters::{PassSeat, Words};
-use vll_proc::{Call, Frame, Reply};
+use vll_proc::{Call, Frame, Reason, Reply};
 use vll_record::{Claims, MOST_CLAIMS, Mode};
 
 /// Loads the pair word of each record that the call claims. Returns whether each claim looks free.
@@ -73,25 +73,33 @@ pub fn run_in_place<N: Name>(words: &Words, library: &Library, pass: &mut Pass) 
     ensures released { IsReleased N.engine (record { table = pass.new.table; pass = pass.new.pass; reply = result }) }
     ensures same { StaysOf pass.old.pass pass.new.pass }
 {
-    run_at::<N>(words, library, &mut pass.seat, &pass.call)
+    let mut reply = Reply::Aborted(Reason::Moved);
+    run_at::<N>(words, library, &mut pass.seat, &pass.call, &mut reply);
+    reply
 }
 
-/// As `run_in_place` for the call whose pass has this seat.
+/// As `run_in_place` for the call whose pass has this seat. The reply is written where the caller has it, since each
+/// return would copy it.
 #[inline(always)]
-pub fn run_at<N: Name>(words: &Words, library: &Library, seat: &mut PassSeat, call: &Call) -> Reply
+pub fn run_at<N: Name>(
+    words: &Words,
+    library: &Library,
+    seat: &mut PassSeat,
+    call: &Call,
+    reply: &mut Reply,
+)
     requires words { words.now ≡ words_of N.engine }
     requires library { library.now ≡ library_of N.engine }
     requires catalog { IsCatalog (library_of N.engine) }
     requires fresh { IsFresh N.engine seat.old }
     requires call { seat.old.pass.call ≡ call.now }
-    ensures released { IsReleased N.engine (record { table = seat.new.table; pass = seat.new.pass; reply = result }) }
+    ensures released { IsReleased N.engine (record { table = seat.new.table; pass = seat.new.pass; reply = reply.new }) }
     ensures same { StaysOf seat.old.pass seat.new.pass }
 {
     // A contract knows that the claims are few only if they are counted.
     let _ = call.claims.len();
-    let reply = work::<N>(words, library, seat, call);
+    *reply = work::<N>(words, library, seat, call);
     release_all(words, seat, &call.claims);
-    reply
 }
 
 // Makes the loads of a call whose pass has this seat, runs its body, and makes its stores unless the body aborts.

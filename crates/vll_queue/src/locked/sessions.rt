@@ -43,22 +43,20 @@ impl<N: Name, H: Place> Locked<N, H> {
         admission
     }
 
-    /// Finishes a call, gives the session its ticket, and returns its reply.
+    /// Finishes a call, and gives the session its ticket.
     #[inline(always)]
-    pub fn finish_for(&mut self, words: &Words, session: &mut Session, released: Released) -> Reply
+    pub fn finish_for(&mut self, words: &Words, session: &mut Session, released: Released)
         requires words { words.now ≡ words_of N.engine }
         requires session { session.old.table ≡ N.engine.table }
         requires released { IsReleased N.engine released }
-        ensures reply { answer N.engine.base.procs session.new.session.seen N.engine.base.records released.pass.ticket ≡ Some result }
+        ensures reply { answer N.engine.base.procs session.new.session.seen N.engine.base.records released.pass.ticket ≡ Some released.reply }
         ensures given { session.new.session.given ≡ session.old.session.given ++ released.pass.ticket ∷ [] }
         ensures session { (session.new.table ≡ session.old.table) × SawOthers session.old.session session.new.session }
     {
         let Some(seat) = session.seat.take() else {
             unreachable!()
         };
-        let reply = released.reply;
         session.seat = Some(self.finish_own(words, seat, released));
-        reply
     }
 
     /// Returns the reply in the ticket's line, if there is one. The session sees all calls that have entered, and is

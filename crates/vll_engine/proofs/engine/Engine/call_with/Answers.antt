@@ -5,5 +5,5 @@ use Rattle.vll_engine.proofs.engine.Engine.call_with.Goals as goal
 pub returns-in-Ok-Some-clause-called : goal.returns-in-Ok-Some-clause-called
 returns-in-Ok-Some-clause-called g c =
     let i = c.loop.invariant in
-    called_more g.N.Name.engine c.args.session.now.session c.loop.session.session c.try_call.new.session.session c.args.call.now c.in-Ok-Some.made.0 c.in-Ok-Some.made.1 i.3 i.4
+    called_more g.N.Name.engine c.args.session.now.session c.loop.session.session c.try_call.new.session.session c.args.call.now c.in-Ok-Some.ticket c.try_call.new.reply i.3 i.4
     (rw c.in-Ok-Some.field-0-is at c.in-Ok-Some.ensures.answer)
