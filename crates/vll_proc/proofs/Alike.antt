@@ -7,7 +7,7 @@ use Rattle.std.proofs.lemmas.List.{get_or-set_same, get_or-set_other, get_or_pas
 use Rattle.vll_proc.specs.declared.call.Reason.{Reason}
 use Rattle.vll_proc.specs.declared.syntax.Expr.{Expr, Row_of-Expr, end_of-Expr, more_of-Expr, Num, Arg, Key, Local, Add', Sub', Mul', Div', Rem', Min', Max', Equal', Less', Not'}
 use Rattle.vll_proc.specs.declared.syntax.Stmt.{Stmt, Row_of-Stmt, end_of-Stmt, more_of-Stmt, Let, Set, If', Abort, Reply, Repeat'}
-use Rattle.vll_proc.specs.Headline.Meaning.{Scene, Value, Action, and_then, both, sum, difference, product, quotient, remainder, lesser, greater, equality, order, truth, value_of, operand, effect, list_effect, in_turn, repeated}
+use Rattle.vll_proc.specs.Headline.Meaning.{Scene, Action, and_then, both, sum, difference, product, quotient, remainder, lesser, greater, equality, order, truth, value_of, operand, effect, list_effect, in_turn, repeated}
 use Rattle.vll_proc.specs.WellFormed.{Locals, all_leaves, operand_leaves, throughout, list_throughout, key_is_below, arg_is_below, set_is_below, any_stmt, local_is_set, both_set, set_behind, list_set_behind, body_set_behind, reads_set, list_reads_set, body_reads_set}
 use Rattle.vll_proc.proofs.Copy.{both_true}
 
@@ -38,9 +38,6 @@ pub record IsAlike (b : Bridge) (set : Locals) (s t : Scene) : Type 0 where
 abbrev pub IsKnown : Bridge → Locals → ((Expr → Bool) → Bool) → Type 0
 IsKnown b set all = (all (key_is_below b.keys) ≡ true) × (all (arg_is_below b.args) ≡ true) × (all (local_is_set set) ≡ true)
 
-same_both : (f : ℕ → ℕ → Result ℕ Reason) (a b : Value) (s t : Scene) → a s ≡ a t → b s ≡ b t → both f a b s ≡ both f a b t
-same_both f a b s t p q = rw (p, q)
-
 known_both : (b : Bridge) (set : Locals) (x y : (Expr → Bool) → Bool) → IsKnown b set (λ test. x test && y test) → IsKnown b set x × IsKnown b set y
 known_both b set x y k =
     let keys = both_true _ _ k.0 in
@@ -48,39 +45,28 @@ known_both b set x y k =
     let locals = both_true _ _ k.2 in
     ((keys.0, args.0, locals.0), (keys.1, args.1, locals.1))
 
+same_both : {m n : _} → (f : ℕ → ℕ → Result ℕ Reason) (b : Bridge) (set : Locals) (s t : Scene) (x : Row_of-Expr m) (y : Row_of-Expr n) → IsKnown b set (λ test. operand_leaves test x && operand_leaves test y)
+    → (IsKnown b set (λ test. operand_leaves test x) → operand x s ≡ operand x t) → (IsKnown b set (λ test. operand_leaves test y) → operand y s ≡ operand y t)
+    → both f (operand x) (operand y) s ≡ both f (operand x) (operand y) t
+same_both f b set s t x y k p q =
+    let parts = known_both b set (λ test. operand_leaves test x) (λ test. operand_leaves test y) k in
+    rw (p parts.0, q parts.1)
+
 mutual
   pub same_value : (b : Bridge) (set : Locals) (s t : Scene) (e : Expr) → IsAlike b set s t → IsKnown b set (λ test. all_leaves test e) → value_of e s ≡ value_of e t
   same_value b set s t (Num v) h k = refl
   same_value b set s t (Arg i) h k = ap Ok (h.args i (ltb-true i b.args k.1))
   same_value b set s t (Key i) h k = ap Ok (b.read s.records t.records _ _ h.values (h.named i (ltb-true i b.keys k.0)))
   same_value b set s t (Local i) h k = ap Ok (h.locals i k.2)
-  same_value b set s t (Add' p x q y) h k =
-      let parts = known_both b set (λ test. operand_leaves test x) (λ test. operand_leaves test y) k in
-      same_both sum (operand x) (operand y) s t (same_operand b set s t x h parts.0) (same_operand b set s t y h parts.1)
-  same_value b set s t (Sub' p x q y) h k =
-      let parts = known_both b set (λ test. operand_leaves test x) (λ test. operand_leaves test y) k in
-      same_both difference (operand x) (operand y) s t (same_operand b set s t x h parts.0) (same_operand b set s t y h parts.1)
-  same_value b set s t (Mul' p x q y) h k =
-      let parts = known_both b set (λ test. operand_leaves test x) (λ test. operand_leaves test y) k in
-      same_both product (operand x) (operand y) s t (same_operand b set s t x h parts.0) (same_operand b set s t y h parts.1)
-  same_value b set s t (Div' p x q y) h k =
-      let parts = known_both b set (λ test. operand_leaves test x) (λ test. operand_leaves test y) k in
-      same_both quotient (operand x) (operand y) s t (same_operand b set s t x h parts.0) (same_operand b set s t y h parts.1)
-  same_value b set s t (Rem' p x q y) h k =
-      let parts = known_both b set (λ test. operand_leaves test x) (λ test. operand_leaves test y) k in
-      same_both remainder (operand x) (operand y) s t (same_operand b set s t x h parts.0) (same_operand b set s t y h parts.1)
-  same_value b set s t (Min' p x q y) h k =
-      let parts = known_both b set (λ test. operand_leaves test x) (λ test. operand_leaves test y) k in
-      same_both lesser (operand x) (operand y) s t (same_operand b set s t x h parts.0) (same_operand b set s t y h parts.1)
-  same_value b set s t (Max' p x q y) h k =
-      let parts = known_both b set (λ test. operand_leaves test x) (λ test. operand_leaves test y) k in
-      same_both greater (operand x) (operand y) s t (same_operand b set s t x h parts.0) (same_operand b set s t y h parts.1)
-  same_value b set s t (Equal' p x q y) h k =
-      let parts = known_both b set (λ test. operand_leaves test x) (λ test. operand_leaves test y) k in
-      same_both equality (operand x) (operand y) s t (same_operand b set s t x h parts.0) (same_operand b set s t y h parts.1)
-  same_value b set s t (Less' p x q y) h k =
-      let parts = known_both b set (λ test. operand_leaves test x) (λ test. operand_leaves test y) k in
-      same_both order (operand x) (operand y) s t (same_operand b set s t x h parts.0) (same_operand b set s t y h parts.1)
+  same_value b set s t (Add' p x q y) h k = same_both sum b set s t x y k (same_operand b set s t x h) (same_operand b set s t y h)
+  same_value b set s t (Sub' p x q y) h k = same_both difference b set s t x y k (same_operand b set s t x h) (same_operand b set s t y h)
+  same_value b set s t (Mul' p x q y) h k = same_both product b set s t x y k (same_operand b set s t x h) (same_operand b set s t y h)
+  same_value b set s t (Div' p x q y) h k = same_both quotient b set s t x y k (same_operand b set s t x h) (same_operand b set s t y h)
+  same_value b set s t (Rem' p x q y) h k = same_both remainder b set s t x y k (same_operand b set s t x h) (same_operand b set s t y h)
+  same_value b set s t (Min' p x q y) h k = same_both lesser b set s t x y k (same_operand b set s t x h) (same_operand b set s t y h)
+  same_value b set s t (Max' p x q y) h k = same_both greater b set s t x y k (same_operand b set s t x h) (same_operand b set s t y h)
+  same_value b set s t (Equal' p x q y) h k = same_both equality b set s t x y k (same_operand b set s t x h) (same_operand b set s t y h)
+  same_value b set s t (Less' p x q y) h k = same_both order b set s t x y k (same_operand b set s t x h) (same_operand b set s t y h)
   same_value b set s t (Not' p x) h k = ap (λ (r : Result ℕ Reason). and_then r (λ v. Ok (truth (v == 0)))) (same_operand b set s t x h k)
 
   same_operand : {m : _} → (b : Bridge) (set : Locals) (s t : Scene) (row : Row_of-Expr m) → IsAlike b set s t → IsKnown b set (λ test. operand_leaves test row) → operand row s ≡ operand row t

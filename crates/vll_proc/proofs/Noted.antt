@@ -1,12 +1,12 @@
--- The result of an operator of two operands when the first reason is noted on the way: one statement for all operators.
-use Rattle.std.proofs.Common.{◌≡◌, ℕ, suc, ◌+◌, ◌*◌, ◌<◌, Bool, true, ◌&&◌, Option, Some, None, Result, Ok, Err, refl, sym, subst, ◌∙◌, arith, ◌⊎◌, ⊎_elim}
+-- An operator of two operands: what the definitions say of it, whichever it is, and its result when the first reason is noted on the way.
+use Rattle.std.proofs.Common.{◌≡◌, ℕ, suc, ◌+◌, ◌*◌, ◌<◌, max, Bool, true, ◌&&◌, Option, Some, None, Result, Ok, Err, refl, sym, subst, ◌∙◌, arith, ◌⊎◌, inl, inr}
 use denote.Hole.Carrier.{hidden}
 use Rattle.vll_proc.specs.declared.call.Reason.{Reason}
 use Rattle.vll_proc.specs.declared.syntax.Expr.{Expr, Add, Sub, Mul, Div, Rem, Min, Max, Equal, Less}
 use Rattle.vll_proc.specs.declared.syntax.Expr.TheBlock.{hidden-the_row-Expr-0}
 use Rattle.vll_proc.specs.Headline.Meaning.{Scene, and_then, value_of}
 use Rattle.vll_proc.specs.Private.Running.{noted, behind, operation_of}
-use Rattle.vll_proc.specs.WellFormed.{all_leaves, nodes}
+use Rattle.vll_proc.specs.WellFormed.{all_leaves, depth, nodes}
 use Rattle.vll_proc.proofs.Copy.{both_true}
 
 -- the value after both operands: a reason of the first hides the second, and a reason noted before hides both
@@ -16,8 +16,11 @@ pub noted_both : (f : ℕ → ℕ → Result ℕ Reason) (before between after :
 noted_both f (Some w) (Some v) (Some u) p q r x y one two three = cc
 noted_both f (Some w) (Some v) None p q r x y one two three = cc
 noted_both f (Some w) None after p q r x y one two three = cc
-noted_both f None None None (Ok a) (Ok b) r x y one two three = cc
-noted_both f None None (Some u) (Ok a) (Ok b) r x y one two three = cc
+noted_both f None None after (Ok a) (Ok b) r x y one two three = by_after after two three
+  where
+    by_after : (after : Option Reason) → noted after y ≡ Ok b → r ≡ behind after (f x y) → r ≡ f a b
+    by_after None two three = cc
+    by_after (Some u) two three = cc
 noted_both f None None None (Ok a) (Err why) r x y one two three = cc
 noted_both f None None (Some u) (Ok a) (Err why) r x y one two three = cc
 noted_both f None (Some v) after (Ok a) q r x y one two three = cc
@@ -28,60 +31,22 @@ noted_both f None (Some v) (Some u) (Err why) q r x y one two three = cc
 -- an expression with an operator and two operands
 pub record IsOperation (e a b : Expr) : Type 0 where
   pub leaves : (t : Expr → Bool) → all_leaves t e ≡ (all_leaves t a && all_leaves t b)
+  pub levels : depth e ≡ suc (max (depth a) (depth b))
   pub size : nodes e ≡ suc (nodes a + nodes b)
   pub value : (s : Scene) → value_of e s ≡ and_then (value_of a s) (λ x. and_then (value_of b s) (λ y. operation_of e x y))
 
-pub is_add : (a b : Expr) → IsOperation (Add a b) a b
-unfolding hidden hidden-the_row-Expr-0
-is_add a b = record { leaves = λ t. refl; size = refl; value = λ s. refl }
-
-pub is_sub : (a b : Expr) → IsOperation (Sub a b) a b
-unfolding hidden hidden-the_row-Expr-0
-is_sub a b = record { leaves = λ t. refl; size = refl; value = λ s. refl }
-
-pub is_mul : (a b : Expr) → IsOperation (Mul a b) a b
-unfolding hidden hidden-the_row-Expr-0
-is_mul a b = record { leaves = λ t. refl; size = refl; value = λ s. refl }
-
-pub is_div : (a b : Expr) → IsOperation (Div a b) a b
-unfolding hidden hidden-the_row-Expr-0
-is_div a b = record { leaves = λ t. refl; size = refl; value = λ s. refl }
-
-pub is_rem : (a b : Expr) → IsOperation (Rem a b) a b
-unfolding hidden hidden-the_row-Expr-0
-is_rem a b = record { leaves = λ t. refl; size = refl; value = λ s. refl }
-
-pub is_min : (a b : Expr) → IsOperation (Min a b) a b
-unfolding hidden hidden-the_row-Expr-0
-is_min a b = record { leaves = λ t. refl; size = refl; value = λ s. refl }
-
-pub is_max : (a b : Expr) → IsOperation (Max a b) a b
-unfolding hidden hidden-the_row-Expr-0
-is_max a b = record { leaves = λ t. refl; size = refl; value = λ s. refl }
-
-pub is_equal : (a b : Expr) → IsOperation (Equal a b) a b
-unfolding hidden hidden-the_row-Expr-0
-is_equal a b = record { leaves = λ t. refl; size = refl; value = λ s. refl }
-
-pub is_less : (a b : Expr) → IsOperation (Less a b) a b
-unfolding hidden hidden-the_row-Expr-0
-is_less a b = record { leaves = λ t. refl; size = refl; value = λ s. refl }
-
-at_that : (e x a b : Expr) → e ≡ x → IsOperation x a b → IsOperation e a b
-at_that e x a b is known = subst (λ (y : Expr). IsOperation y a b) (sym is) known
-
 -- whichever of the operators it is
 pub is_operation : (e a b : Expr) → (e ≡ Add a b) ⊎ ((e ≡ Sub a b) ⊎ ((e ≡ Mul a b) ⊎ ((e ≡ Div a b) ⊎ ((e ≡ Rem a b) ⊎ ((e ≡ Min a b) ⊎ ((e ≡ Max a b) ⊎ ((e ≡ Equal a b) ⊎ ((e ≡ Less a b))))))))) → IsOperation e a b
-is_operation e a b =
-    ⊎_elim (λ (is : e ≡ Add a b). at_that e (Add a b) a b is (is_add a b))
-    (⊎_elim (λ (is : e ≡ Sub a b). at_that e (Sub a b) a b is (is_sub a b))
-    (⊎_elim (λ (is : e ≡ Mul a b). at_that e (Mul a b) a b is (is_mul a b))
-    (⊎_elim (λ (is : e ≡ Div a b). at_that e (Div a b) a b is (is_div a b))
-    (⊎_elim (λ (is : e ≡ Rem a b). at_that e (Rem a b) a b is (is_rem a b))
-    (⊎_elim (λ (is : e ≡ Min a b). at_that e (Min a b) a b is (is_min a b))
-    (⊎_elim (λ (is : e ≡ Max a b). at_that e (Max a b) a b is (is_max a b))
-    (⊎_elim (λ (is : e ≡ Equal a b). at_that e (Equal a b) a b is (is_equal a b))
-    (λ (is : e ≡ Less a b). at_that e (Less a b) a b is (is_less a b)))))))))
+unfolding hidden hidden-the_row-Expr-0
+is_operation e a b (inl is) = subst (λ x. IsOperation x a b) (sym is) (record { leaves = λ t. refl; levels = refl; size = refl; value = λ s. refl })
+is_operation e a b (inr (inl is)) = subst (λ x. IsOperation x a b) (sym is) (record { leaves = λ t. refl; levels = refl; size = refl; value = λ s. refl })
+is_operation e a b (inr (inr (inl is))) = subst (λ x. IsOperation x a b) (sym is) (record { leaves = λ t. refl; levels = refl; size = refl; value = λ s. refl })
+is_operation e a b (inr (inr (inr (inl is)))) = subst (λ x. IsOperation x a b) (sym is) (record { leaves = λ t. refl; levels = refl; size = refl; value = λ s. refl })
+is_operation e a b (inr (inr (inr (inr (inl is))))) = subst (λ x. IsOperation x a b) (sym is) (record { leaves = λ t. refl; levels = refl; size = refl; value = λ s. refl })
+is_operation e a b (inr (inr (inr (inr (inr (inl is)))))) = subst (λ x. IsOperation x a b) (sym is) (record { leaves = λ t. refl; levels = refl; size = refl; value = λ s. refl })
+is_operation e a b (inr (inr (inr (inr (inr (inr (inl is))))))) = subst (λ x. IsOperation x a b) (sym is) (record { leaves = λ t. refl; levels = refl; size = refl; value = λ s. refl })
+is_operation e a b (inr (inr (inr (inr (inr (inr (inr (inl is)))))))) = subst (λ x. IsOperation x a b) (sym is) (record { leaves = λ t. refl; levels = refl; size = refl; value = λ s. refl })
+is_operation e a b (inr (inr (inr (inr (inr (inr (inr (inr is)))))))) = subst (λ x. IsOperation x a b) (sym is) (record { leaves = λ t. refl; levels = refl; size = refl; value = λ s. refl })
 
 -- what is asked of all leaves is asked of each operand's
 pub leaves_left : (t : Expr → Bool) (e a b v : Expr) → IsOperation e a b → v ≡ a → all_leaves t e ≡ true → all_leaves t v ≡ true

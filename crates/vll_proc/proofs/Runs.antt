@@ -73,43 +73,15 @@ still_all p q (x ∷ xs) f h = both_still _ _ _ _ (f x) (still_all p q xs f) h
 
 key_still_below : (m n : ℕ) (e : Expr) → m ≤ n → key_is_below m e ≡ true → key_is_below n e ≡ true
 key_still_below m n (Key i) le h = still_below m n i le h
-key_still_below m n (Num v) le h = refl
-key_still_below m n (Arg i) le h = refl
-key_still_below m n (Local i) le h = refl
-key_still_below m n (Add' p a q b) le h = refl
-key_still_below m n (Sub' p a q b) le h = refl
-key_still_below m n (Mul' p a q b) le h = refl
-key_still_below m n (Div' p a q b) le h = refl
-key_still_below m n (Rem' p a q b) le h = refl
-key_still_below m n (Min' p a q b) le h = refl
-key_still_below m n (Max' p a q b) le h = refl
-key_still_below m n (Equal' p a q b) le h = refl
-key_still_below m n (Less' p a q b) le h = refl
-key_still_below m n (Not' p a) le h = refl
+key_still_below m n other le h = refl
 
 arg_still_below : (m n : ℕ) (e : Expr) → m ≤ n → arg_is_below m e ≡ true → arg_is_below n e ≡ true
 arg_still_below m n (Arg i) le h = still_below m n i le h
-arg_still_below m n (Num v) le h = refl
-arg_still_below m n (Key i) le h = refl
-arg_still_below m n (Local i) le h = refl
-arg_still_below m n (Add' p a q b) le h = refl
-arg_still_below m n (Sub' p a q b) le h = refl
-arg_still_below m n (Mul' p a q b) le h = refl
-arg_still_below m n (Div' p a q b) le h = refl
-arg_still_below m n (Rem' p a q b) le h = refl
-arg_still_below m n (Min' p a q b) le h = refl
-arg_still_below m n (Max' p a q b) le h = refl
-arg_still_below m n (Equal' p a q b) le h = refl
-arg_still_below m n (Less' p a q b) le h = refl
-arg_still_below m n (Not' p a) le h = refl
+arg_still_below m n other le h = refl
 
 set_still_below : (m n : ℕ) (st : Stmt) → m ≤ n → set_is_below m st ≡ true → set_is_below n st ≡ true
 set_still_below m n (Set i e) le h = still_below m n i le h
-set_still_below m n (Let i e) le h = refl
-set_still_below m n (If' e k first l second) le h = refl
-set_still_below m n (Abort code) le h = refl
-set_still_below m n (Reply e) le h = refl
-set_still_below m n (Repeat' turns k list) le h = refl
+set_still_below m n other le h = refl
 
 -- a well-formed body reads and sets no more key positions and arguments than there may be
 pub keys_known : (p : Proc) → IsWellFormed p → list_all (throughout (key_is_below MOST_CLAIMS) (set_is_below MOST_CLAIMS)) p.body ≡ true

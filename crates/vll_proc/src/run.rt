@@ -196,7 +196,6 @@ fn value_at(cells: &Frame, i: u8, call: &Call) -> u64
 
 // The result of an expression's operator on two operands, and 0 if it does not have two.
 #[inline(always)]
-#[tactic(auto, using(crate::proofs::Equations::operators))]
 fn operation(expr: &Expr, x: u64, y: u64) -> Result<u64, Reason>
     ensures { result ≡ operation_of expr.now x y }
 {

@@ -1,9 +1,9 @@
 use Rattle.std.proofs.Common.{arith}
 use Rattle.std.proofs.lemmas.Grind.{common_steps}
-use Rattle.vll_check.proofs.Pairs.{all_leaves-pair}
+use Rattle.vll_proc.proofs.Noted.{is_operation}
 use Rattle.vll_check.proofs.walk.+all_leaves.Goals as goal
 
 pub returns-then-all_leaves : goal.returns-then-all_leaves
 returns-then-all_leaves g t c =
-    let pair = all_leaves-pair (g.T.LeafTest.passes_leaf c.args.test.now) c.args.expression.now c.in-Add.left c.in-Add.right c.in-Add.is in
+    let pair = (is_operation c.args.expression.now c.in-Add.left c.in-Add.right c.in-Add.is).leaves (g.T.LeafTest.passes_leaf c.args.test.now) in
     grind (arith, common_steps)
