@@ -159,30 +159,19 @@ core_admit {H} {places} a turn works w core has =
     let now : List ℕ = before a.library.value.procs (made_of a.queue.entries) a.opening.value.items (length a.queue.entries) in
     let long : length now ≡ a.library.value.records = length_before a.library.value.procs (made_of a.queue.entries) a.opening.value.items (length a.queue.entries) ∙ sym core.records in
     let within : All (λ (d : Claim). d.id < length now) turn.call.claims = subst (λ (n : ℕ). All (λ (d : Claim). d.id < n) turn.call.claims) (sym long) calls.within in
-    record {
-      reached = taken_reached a b event.Admit seen takes core.reached;
-      words = taken_words a b event.Admit seen takes core.reached refl refl refl core.words;
-      some_records = core.some_records;
-      few_records = core.few_records;
-      records = core.records;
-      catalog = core.catalog;
-      queue = queued_admitted a.queue last (turn_room a turn core has.opened) (turn_idle a turn core has.opened) refl (here_still turn.granted) core.queue;
-      works =
-          ap (λ (ws : List Execution). length ws) has.pushed
-          ∙ omega (arith, core.works, length-append a.execution.items (w ∷ []), length-append a.queue.entries (last ∷ []));
-      room = omega (arith, core.room, has.room);
-      nexts = core.nexts;
-      kepts = core.kepts;
-      entries_ready = all_from (λ (e : QueueEntry). IsReady a.library.value e.line.call) b.queue.entries (λ t e at. ready t e (at_push a.queue.entries last t e at));
-      turn_ready = tt;
-      scripts_fit = core.scripts_fit;
-      at_work =
-          subst (AreAtWork a.library.value a.opening.value.items b.queue.entries) (sym has.pushed)
-          (at_work_pushed a.library.value a.opening.value.items a.queue.entries a.execution.items last w core.works (has.at_work now long within) core.at_work);
-      replied =
-          subst (AreReplied b.queue.entries) (sym has.pushed)
-          (replied_pushed a.queue.entries a.execution.items last w core.works (here_still turn.granted) core.replied);
-    }
+    let room : a.queue.limit ≤ vec_capacity works = omega (arith, core.room, has.room) in
+    let as_many : length works.items ≡ length b.queue.entries =
+    ap (λ (ws : List Execution). length ws) has.pushed ∙ omega (arith, core.works, length-append a.execution.items (w ∷ []), length-append a.queue.entries (last ∷ [])) in
+    assumption (
+      taken_reached a b event.Admit seen takes core.reached,
+      taken_words a b event.Admit seen takes core.reached refl refl refl core.words,
+      queued_admitted a.queue last (turn_room a turn core has.opened) (turn_idle a turn core has.opened) refl (here_still turn.granted) core.queue,
+      as_many,
+      all_from (λ (e : QueueEntry). IsReady a.library.value e.line.call) b.queue.entries (λ t e at. ready t e (at_push a.queue.entries last t e at)),
+      subst (AreAtWork a.library.value a.opening.value.items b.queue.entries) (sym has.pushed) (at_work_pushed a.library.value a.opening.value.items a.queue.entries a.execution.items last w core.works (has.at_work now long within) core.at_work),
+      subst (AreReplied b.queue.entries) (sym has.pushed) (replied_pushed a.queue.entries a.execution.items last w core.works (here_still turn.granted) core.replied),
+      room,
+    )
   where
     ready : (t : ℕ) (e : QueueEntry) → (slice_get a.queue.entries t ≡ Some e) ⊎ ((t ≡ length a.queue.entries) × (e ≡ turn_entry turn)) → IsReady a.library.value e.line.call
     ready t e (inl at) = all_at (λ (d : QueueEntry). IsReady a.library.value d.line.call) a.queue.entries t e core.entries_ready at

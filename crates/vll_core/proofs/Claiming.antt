@@ -174,22 +174,8 @@ kept_claimed {H} {places} a turn c words granted kept found at is written =
     let s : State = (shown a).state in
     let t : Turn = record { client = turn.client; call = turn.call; requested = turn.requested; granted = turn.granted } in
     let next : after_request s t c ≡ (shown (claimed a words turn granted)).state = ap (λ (g : Bool). (shown (claimed a words turn g)).state) (sym is) in
-    record {
-      reached = subst (IsReached o) next (request_reached o s t c found.reached found.open_turn at);
-      words = subst (λ (n : State). AreWords o.base n words.items) next
-          (subst (AreWords o.base (after_request s t c)) (sym written) (words_asked o s t c a.words.items found.reached found.open_turn at found.record_there kept.words));
-      some_records = kept.some_records;
-      few_records = kept.few_records;
-      records = kept.records;
-      catalog = kept.catalog;
-      queue = kept.queue;
-      works = kept.works;
-      room = kept.room;
-      nexts = kept.nexts;
-      kepts = kept.kepts;
-      entries_ready = kept.entries_ready;
-      turn_ready = found.ready;
-      scripts_fit = kept.scripts_fit;
-      at_work = kept.at_work;
-      replied = kept.replied;
-    }
+    assumption (
+      subst (IsReached o) next (request_reached o s t c found.reached found.open_turn at),
+      subst (λ (n : State). AreWords o.base n words.items) next (subst (AreWords o.base (after_request s t c)) (sym written) (words_asked o s t c a.words.items found.reached found.open_turn at found.record_there kept.words)),
+      found.ready,
+    )

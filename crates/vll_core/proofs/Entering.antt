@@ -320,24 +320,13 @@ core_enter {H} {places} a client n next call can is_ready =
     let b : Inside H = opened_turn a client call n in
     let takes : Takes places a b (event.Enter client) Opened = taken_enter a client n next call can in
     let core = can.core in
-    record {
-      reached = taken_reached a b (event.Enter client) Opened takes core.reached;
-      words = taken_words a b (event.Enter client) Opened takes core.reached refl refl refl core.words;
-      some_records = core.some_records;
-      few_records = core.few_records;
-      records = core.records;
-      catalog = core.catalog;
-      queue = core.queue;
-      works = core.works;
-      room = core.room;
-      nexts = length-set a.next.items client (n + 1) ∙ core.nexts;
-      kepts = length-set a.kept.items client None ∙ core.kepts;
-      entries_ready = core.entries_ready;
-      turn_ready = is_ready;
-      scripts_fit = core.scripts_fit;
-      at_work = core.at_work;
-      replied = core.replied;
-    }
+    assumption (
+      taken_reached a b (event.Enter client) Opened takes core.reached,
+      taken_words a b (event.Enter client) Opened takes core.reached refl refl refl core.words,
+      length-set a.next.items client (n + 1) ∙ core.nexts,
+      length-set a.kept.items client None ∙ core.kepts,
+      is_ready,
+    )
 
 -- the next call of a client's script is one that the library makes
 pub next_fits : {H : Type 0} {places : H → ℕ → ℕ} (a : Inside H) (client : ℕ) (call : Call) → IsMachine places a → StandsNext a client call → Fits a.library.value call
@@ -361,21 +350,8 @@ core_handed {H} {places} a client call core closed is_ready room =
     let o : Opening = opening_of places (shown a) in
     let next : State = (shown (handed_turn a client call)).state in
     let is : move o (shown a).state (hand client call) ≡ Ok (Opened, next) = hand_is places a client call (Ok tt) closed room in
-    record {
-      reached = moved (shown a).state (hand client call) Opened next core.reached (proper_ready a.library.value a.opening.value.items call core.catalog core.records is_ready) is;
-      words = words_stay o (shown a).state next (hand client call) Opened a.words.items core.reached is refl refl refl core.words;
-      some_records = core.some_records;
-      few_records = core.few_records;
-      records = core.records;
-      catalog = core.catalog;
-      queue = core.queue;
-      works = core.works;
-      room = core.room;
-      nexts = core.nexts;
-      kepts = core.kepts;
-      entries_ready = core.entries_ready;
-      turn_ready = is_ready;
-      scripts_fit = core.scripts_fit;
-      at_work = core.at_work;
-      replied = core.replied;
-    }
+    assumption (
+      moved (shown a).state (hand client call) Opened next core.reached (proper_ready a.library.value a.opening.value.items call core.catalog core.records is_ready) is,
+      words_stay o (shown a).state next (hand client call) Opened a.words.items core.reached is refl refl refl core.words,
+      is_ready,
+    )

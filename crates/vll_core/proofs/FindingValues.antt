@@ -75,21 +75,8 @@ core_find {H} {places} a client r v call sees =
     let b : Inside H = kept_value a client v in
     let core = sees.core in
     let takes : Takes places a b (event.Find client) (Found v) = taken_find a client r v call sees in
-    record {
-      reached = taken_reached a b (event.Find client) (Found v) takes core.reached;
-      words = taken_words a b (event.Find client) (Found v) takes core.reached refl refl refl core.words;
-      some_records = core.some_records;
-      few_records = core.few_records;
-      records = core.records;
-      catalog = core.catalog;
-      queue = core.queue;
-      works = core.works;
-      room = core.room;
-      nexts = core.nexts;
-      kepts = length-set a.kept.items client (Some v) ∙ core.kepts;
-      entries_ready = core.entries_ready;
-      turn_ready = core.turn_ready;
-      scripts_fit = core.scripts_fit;
-      at_work = core.at_work;
-      replied = core.replied;
-    }
+    assumption (
+      taken_reached a b (event.Find client) (Found v) takes core.reached,
+      taken_words a b (event.Find client) (Found v) takes core.reached refl refl refl core.words,
+      length-set a.kept.items client (Some v) ∙ core.kepts,
+    )

@@ -143,23 +143,12 @@ core_finish {H} {places} a t call w reply core e is =
     let takes = taken_finish {places = places} a t call w reply core e is in
     let change : QueueEntry → QueueEntry = λ d. record { line = record d.line { reply = Some reply }; status = Gone } in
     let made = made_changed a.queue.entries t change (λ d. refl) in
-    record {
-      reached = taken_reached a b (event.Finish t) _ takes core.reached;
-      words = taken_words a b (event.Finish t) _ takes core.reached refl refl refl core.words;
-      some_records = core.some_records;
-      few_records = core.few_records;
-      records = core.records;
-      catalog = core.catalog;
-      queue = queued_finished a.queue t reply core.queue;
-      works = core.works ∙ sym (length_changed a.queue.entries t change);
-      room = core.room;
-      nexts = core.nexts;
-      kepts = core.kepts;
-      entries_ready = ready_same a.library.value a.queue.entries _ (sym made) core.entries_ready;
-      turn_ready = core.turn_ready;
-      scripts_fit = core.scripts_fit;
-      at_work = at_work_same a.library.value a.opening.value.items a.queue.entries _ a.execution.items (sym made) core.at_work;
-      replied =
-          replied_changed a.queue.entries a.execution.items t change
-          (λ d v at has gone. sym is ∙ ap (λ (x : Execution). x.reply) (e.execution ∙ same_Some r.execution v (sym r.has ∙ has))) core.replied;
-    }
+    assumption (
+      taken_reached a b (event.Finish t) _ takes core.reached,
+      taken_words a b (event.Finish t) _ takes core.reached refl refl refl core.words,
+      queued_finished a.queue t reply core.queue,
+      core.works ∙ sym (length_changed a.queue.entries t change),
+      ready_same a.library.value a.queue.entries _ (sym made) core.entries_ready,
+      at_work_same a.library.value a.opening.value.items a.queue.entries _ a.execution.items (sym made) core.at_work,
+      replied_changed a.queue.entries a.execution.items t change (λ d v at has gone. sym is ∙ ap (λ (x : Execution). x.reply) (e.execution ∙ same_Some r.execution v (sym r.has ∙ has))) core.replied,
+    )

@@ -138,25 +138,10 @@ core_load {H} {places} a t call w c new core l h at_work =
     let r : RunsAt a t call = l.runs in
     let takes = taken_load {places = places} a t call w c new l h in
     let here : (e : QueueEntry) → slice_get a.queue.entries t ≡ Some e → r.entry ≡ e = λ e at. same_Some r.entry e (sym r.at ∙ at) in
-    record {
-      reached = taken_reached a b (event.Load t) _ takes core.reached;
-      words = taken_words a b (event.Load t) _ takes core.reached refl refl refl core.words;
-      some_records = core.some_records;
-      few_records = core.few_records;
-      records = core.records;
-      catalog = core.catalog;
-      queue = core.queue;
-      works = length-set a.execution.items t new ∙ core.works;
-      room = core.room;
-      nexts = core.nexts;
-      kepts = core.kepts;
-      entries_ready = core.entries_ready;
-      turn_ready = core.turn_ready;
-      scripts_fit = core.scripts_fit;
-      at_work =
-          at_work_put a.library.value a.opening.value.items a.queue.entries a.execution.items t new
-          (λ e at. subst (λ (x : Call). IsAtWork a.library.value.procs x (now_at a t) new) (sym r.own ∙ ap (λ (x : QueueEntry). x.line.call) (here e at)) at_work) core.at_work;
-      replied =
-          replied_put a.queue.entries a.execution.items t new
-          (λ e at gone. absurd (running_not_gone e.status (ap (λ (x : QueueEntry). is_running x.status) (sym (here e at)) ∙ r.runs) gone)) core.replied;
-    }
+    assumption (
+      taken_reached a b (event.Load t) _ takes core.reached,
+      taken_words a b (event.Load t) _ takes core.reached refl refl refl core.words,
+      length-set a.execution.items t new ∙ core.works,
+      at_work_put a.library.value a.opening.value.items a.queue.entries a.execution.items t new (λ e at. subst (λ (x : Call). IsAtWork a.library.value.procs x (now_at a t) new) (sym r.own ∙ ap (λ (x : QueueEntry). x.line.call) (here e at)) at_work) core.at_work,
+      replied_put a.queue.entries a.execution.items t new (λ e at gone. absurd (running_not_gone e.status (ap (λ (x : QueueEntry). is_running x.status) (sym (here e at)) ∙ r.runs) gone)) core.replied,
+    )

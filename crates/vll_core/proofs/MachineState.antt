@@ -234,37 +234,25 @@ replied_pushed es ws last new same left all t e w at has gone = step (at_push es
 
 -- the queue stays one where a waiting call begins to run
 pub queued_started : {H : Type 0} (q : Queued H) (t : ℕ) → slice_get (statuses q) t ≡ Some Waiting → IsQueued q → IsQueued (started q t)
-queued_started q t at kept = record {
-  some_calls = kept.some_calls;
-  few_calls = kept.few_calls;
-  some_wait = kept.some_wait;
-  few_wait = kept.few_wait;
-  some_bits = kept.some_bits;
-  few_bits = kept.few_bits;
-  capped = rw (statuses_started q t) (omega (arith, kept.capped, (starts (statuses q) t at).waiting));
-  within = rw (length_changed q.entries t (λ e. record e { status = Running })) kept.within;
-  answered =
-      ap (λ (ls : List Line). map has_reply ls) (lines_started q t)
-      ∙ (kept.answered ∙ (sym (starts (statuses q) t at).gone ∙ ap (λ (ss : List Status). map is_gone ss) (sym (statuses_started q t))));
-}
+queued_started q t at kept =
+    let capped : count_by is_waiting (statuses (started q t)) ≤ q.cap = rw (statuses_started q t) (omega (arith, kept.capped, (starts (statuses q) t at).waiting)) in
+    let within : length (started q t).entries ≤ q.limit = rw (length_changed q.entries t (λ e. record e { status = Running })) kept.within in
+    let answered : map has_reply (lines (started q t)) ≡ map is_gone (statuses (started q t)) =
+    ap (λ (ls : List Line). map has_reply ls) (lines_started q t)
+    ∙ (kept.answered ∙ (sym (starts (statuses q) t at).gone ∙ ap (λ (ss : List Status). map is_gone ss) (sym (statuses_started q t)))) in
+    assumption (capped, within, answered, kept)
 
 -- the queue stays one where a running call is finished
 pub queued_finished : {H : Type 0} (q : Queued H) (t : ℕ) (reply : Reply) → IsQueued q → IsQueued (finished q t reply)
-queued_finished q t reply kept = record {
-  some_calls = kept.some_calls;
-  few_calls = kept.few_calls;
-  some_wait = kept.some_wait;
-  few_wait = kept.few_wait;
-  some_bits = kept.some_bits;
-  few_bits = kept.few_bits;
-  capped = rw (statuses_finished q t reply) (omega (arith, kept.capped, fewer_wait (statuses q) t));
-  within = rw (length_changed q.entries t (λ e. record { line = record e.line { reply = Some reply }; status = Gone })) kept.within;
-  answered =
-      answers (finished q t reply).entries
-      ∙ (map_changed (λ (e : QueueEntry). has_reply e.line) q.entries t _ true (λ e. refl)
-      ∙ (ap (λ (bs : List Bool). slice_set bs t true) (sym (answers q.entries) ∙ (kept.answered ∙ goes q.entries))
-      ∙ (sym (map_changed (λ (e : QueueEntry). is_gone e.status) q.entries t _ true (λ e. refl)) ∙ sym (goes (finished q t reply).entries))));
-}
+queued_finished q t reply kept =
+    let capped : count_by is_waiting (statuses (finished q t reply)) ≤ q.cap = rw (statuses_finished q t reply) (omega (arith, kept.capped, fewer_wait (statuses q) t)) in
+    let within : length (finished q t reply).entries ≤ q.limit = rw (length_changed q.entries t (λ e. record { line = record e.line { reply = Some reply }; status = Gone })) kept.within in
+    let answered : map has_reply (lines (finished q t reply)) ≡ map is_gone (statuses (finished q t reply)) =
+    answers (finished q t reply).entries
+    ∙ (map_changed (λ (e : QueueEntry). has_reply e.line) q.entries t _ true (λ e. refl)
+    ∙ (ap (λ (bs : List Bool). slice_set bs t true) (sym (answers q.entries) ∙ (kept.answered ∙ goes q.entries))
+    ∙ (sym (map_changed (λ (e : QueueEntry). is_gone e.status) q.entries t _ true (λ e. refl)) ∙ sym (goes (finished q t reply).entries)))) in
+    assumption (capped, within, answered, kept)
   where
     answers : (es : List QueueEntry) → map has_reply (map (λ (e : QueueEntry). e.line) es) ≡ map (λ (e : QueueEntry). has_reply e.line) es
     answers [] = refl
@@ -277,19 +265,13 @@ queued_finished q t reply kept = record {
 -- the queue stays one where a call enters that is not gone, without a reply
 pub queued_admitted : {H : Type 0} (q : Queued H) (e : QueueEntry) → length q.entries < q.limit → count_by is_waiting (statuses q) < q.cap
     → has_reply e.line ≡ false → is_gone e.status ≡ false → IsQueued q → IsQueued (admitted q e)
-queued_admitted q e room idle silent left kept = record {
-  some_calls = kept.some_calls;
-  few_calls = kept.few_calls;
-  some_wait = kept.some_wait;
-  few_wait = kept.few_wait;
-  some_bits = kept.some_bits;
-  few_bits = kept.few_bits;
-  capped = rw (statuses_admitted q e) (omega (arith, idle, one_more_waits (statuses q) e.status));
-  within = omega (arith, length-append q.entries (e ∷ []), room);
-  answered =
-      ap (λ (ls : List Line). map has_reply ls) (lines_admitted q e)
-      ∙ (map-append has_reply (lines q) (e.line ∷ [])
-      ∙ (ap (λ (bs : List Bool). bs ++ has_reply e.line ∷ []) kept.answered
-      ∙ (ap (λ (b : Bool). map is_gone (statuses q) ++ b ∷ []) (silent ∙ sym left)
-      ∙ (sym (map-append is_gone (statuses q) (e.status ∷ [])) ∙ ap (λ (ss : List Status). map is_gone ss) (sym (statuses_admitted q e))))));
-}
+queued_admitted q e room idle silent left kept =
+    let capped : count_by is_waiting (statuses (admitted q e)) ≤ q.cap = rw (statuses_admitted q e) (omega (arith, idle, one_more_waits (statuses q) e.status)) in
+    let within : length (admitted q e).entries ≤ q.limit = omega (arith, length-append q.entries (e ∷ []), room) in
+    let answered : map has_reply (lines (admitted q e)) ≡ map is_gone (statuses (admitted q e)) =
+    ap (λ (ls : List Line). map has_reply ls) (lines_admitted q e)
+    ∙ (map-append has_reply (lines q) (e.line ∷ [])
+    ∙ (ap (λ (bs : List Bool). bs ++ has_reply e.line ∷ []) kept.answered
+    ∙ (ap (λ (b : Bool). map is_gone (statuses q) ++ b ∷ []) (silent ∙ sym left)
+    ∙ (sym (map-append is_gone (statuses q) (e.status ∷ [])) ∙ ap (λ (ss : List Status). map is_gone ss) (sym (statuses_admitted q e)))))) in
+    assumption (capped, within, answered, kept)

@@ -1,5 +1,5 @@
 -- The queue stays kept where a call enters, begins to run and finishes, and what it shows is what its definitions say.
-use Rattle.std.proofs.Common.{Vec, Global, vec_capacity, ◌-◌, ◌≡◌, ℕ, ◌+◌, ◌<◌, ◌≤◌, Bool, true, false, List, [], ◌∷◌, ◌++◌, length, map, not, sym, ap, ap₂, ◌∙◌, subst, arith, slice_get, slice_set, get_or, cond, Some, length-set, length-append, All}
+use Rattle.std.proofs.Common.{Vec, Global, vec_capacity, ◌-◌, ◌≡◌, ℕ, ◌+◌, ◌<◌, ◌≤◌, Bool, true, false, List, [], ◌∷◌, ◌++◌, length, map, not, sym, ap, ap₂, ◌∙◌, subst, arith, slice_get, slice_set, get_or, cond, Some, None, length-set, length-append, All}
 use Rattle.std.specs.List.{count_by}
 use Rattle.std.specs.Vec.{with_item}
 use Rattle.std.proofs.lemmas.Bool.{true≢false}
@@ -12,7 +12,7 @@ use Rattle.vll_sca.specs.declared.status.Status.{Status}
 use Rattle.vll_sca.specs.declared.status.Status.TheVariants.{Running, Waiting, Gone}
 use Rattle.vll_sca.specs.Headline.Status.{is_waiting}
 use Rattle.vll_sca.specs.Status.{is_running, is_gone}
-use Rattle.vll_core.specs.Queue.{QueueEntry, Queued, has_reply, admitted, started, finished}
+use Rattle.vll_core.specs.Queue.{QueueEntry, Queued, has_reply, admitted, started, finished, found_by}
 use Rattle.vll_core.specs.declared.queue.window.Window.{Window}
 use Rattle.vll_core.specs.Private.Paired.{paired}
 use Rattle.vll_core.specs.Private.Window.{IsWindow, first_left}
@@ -31,28 +31,27 @@ pub kept_started : {H : Type 0} {place : H → ℕ → ℕ} (a : Inside H) (t : 
 kept_started {H} {place} a t h at =
     let change : Starts a.statuses.items t = starts a.statuses.items t at in
     let long : length (slice_set a.statuses.items t Running) ≡ length a.statuses.items = length-set a.statuses.items t Running in
-    record {
-      some_calls = h.some_calls;
-      few_calls = h.few_calls;
-      some_wait = h.some_wait;
-      few_wait = h.few_wait;
-      some_bits = h.some_bits;
-      few_bits = h.few_bits;
-      capped = omega (arith, h.capped, change.waiting);
-      within = omega (arith, h.within, long);
-      as_many = h.as_many ∙ sym long;
-      room = h.room;
-      room_for_lines = h.room_for_lines;
-      room_in_window = h.room_in_window;
-      answered = h.answered ∙ sym change.gone;
-      window = record {
-        tickets = left_started a.statuses.items a.window.tickets.items t at h.window.tickets;
-        first = h.window.first ∙ first_started a.statuses.items a.window.tickets.items t at;
-      };
-      waiting = omega (arith, h.waiting, change.waiting);
-      running = ap (λ (n : ℕ). n + 1) h.running ∙ sym change.running;
-      fruitless = λ is_set. none_started (place a.hash) a.bits a.journal.items a.statuses.items t h.as_many at (h.fruitless is_set);
-    }
+    let ss : List Status = slice_set a.statuses.items t Running in
+    let capped : count_by is_waiting ss ≤ a.cap = omega (arith, h.capped, change.waiting) in
+    let within : length ss ≤ a.limit = omega (arith, h.within, long) in
+    let window : IsWindow ss a.window = record {
+      tickets = left_started a.statuses.items a.window.tickets.items t at h.window.tickets;
+      first = h.window.first ∙ first_started a.statuses.items a.window.tickets.items t at;
+    } in
+    let waiting : a.waiting - 1 ≡ count_by is_waiting ss = omega (arith, h.waiting, change.waiting) in
+    let fruitless : a.is_fruitless ≡ true → found_by place (kept_with a (paired a.journal.items ss)) ≡ None =
+    λ is_set. none_started (place a.hash) a.bits a.journal.items a.statuses.items t h.as_many at (h.fruitless is_set) in
+    assumption (
+      capped,
+      within,
+      h.as_many ∙ sym long,
+      h.answered ∙ sym change.gone,
+      window,
+      waiting,
+      ap (λ (n : ℕ). n + 1) h.running ∙ sym change.running,
+      fruitless,
+      h,
+    )
 
 pub shown_started : {H : Type 0} {place : H → ℕ → ℕ} (a : Inside H) (q : Queued H) (t u : ℕ) → IsKept place a → kept a ≡ q → t ≡ u
     → kept_with a (paired a.journal.items (slice_set a.statuses.items t Running)) ≡ started q u
@@ -80,31 +79,28 @@ window_passed ss us w v t h within same is = record {
 pub kept_finished : {H : Type 0} {place : H → ℕ → ℕ} (a : Inside H) (w : Window) (t : ℕ) (reply : Reply) (l : Line) → IsKept place a → slice_get a.statuses.items t ≡ Some Running
     → l ≡ get_or a.journal.items t l → IsWindow (slice_set a.statuses.items t Gone) w → vec_capacity w.tickets ≡ vec_capacity a.window.tickets
     → IsKept place (record a { statuses = with_item a.statuses t Gone; journal = with_item a.journal t (record l { reply = Some reply }); window = w; running = a.running - 1; is_fruitless = false })
-kept_finished a w t reply l h at there window room =
+kept_finished {H} {place} a w t reply l h at there window room =
     let change : Ends a.statuses.items t = ends a.statuses.items t at in
     let line : Line = record l { reply = Some reply } in
     let long : length (slice_set a.statuses.items t Gone) ≡ length a.statuses.items = length-set a.statuses.items t Gone in
-    record {
-      some_calls = h.some_calls;
-      few_calls = h.few_calls;
-      some_wait = h.some_wait;
-      few_wait = h.few_wait;
-      some_bits = h.some_bits;
-      few_bits = h.few_bits;
-      capped = omega (arith, h.capped, change.waiting);
-      within = omega (arith, h.within, long);
-      as_many = length-set a.journal.items t line ∙ (h.as_many ∙ sym long);
-      room = h.room;
-      room_for_lines = h.room_for_lines;
-      room_in_window = omega (arith, h.room_in_window, room);
-      answered =
-          map-set has_reply a.journal.items t line
-          ∙ (ap (λ (bs : List Bool). slice_set bs t true) h.answered ∙ sym (map-set is_gone a.statuses.items t Gone));
-      window = window;
-      waiting = h.waiting ∙ sym change.waiting;
-      running = omega (arith, h.running, change.running);
-      fruitless = λ is_set. absurd (true≢false (sym is_set));
-    }
+    let ss : List Status = slice_set a.statuses.items t Gone in
+    let capped : count_by is_waiting ss ≤ a.cap = omega (arith, h.capped, change.waiting) in
+    let within : length ss ≤ a.limit = omega (arith, h.within, long) in
+    let room_in_window : a.limit ≤ vec_capacity w.tickets = omega (arith, h.room_in_window, room) in
+    let running : a.running - 1 ≡ count_by is_running ss = omega (arith, h.running, change.running) in
+    let fruitless : false ≡ true → found_by place (kept_with a (paired (slice_set a.journal.items t line) ss)) ≡ None = λ is_set. absurd (true≢false (sym is_set)) in
+    assumption (
+      capped,
+      within,
+      length-set a.journal.items t line ∙ (h.as_many ∙ sym long),
+      room_in_window,
+      map-set has_reply a.journal.items t line ∙ (ap (λ (bs : List Bool). slice_set bs t true) h.answered ∙ sym (map-set is_gone a.statuses.items t Gone)),
+      window,
+      h.waiting ∙ sym change.waiting,
+      running,
+      fruitless,
+      h,
+    )
 
 pub shown_finished : {H : Type 0} {place : H → ℕ → ℕ} (a : Inside H) (q : Queued H) (t u : ℕ) (reply : Reply) (l : Line) → IsKept place a → kept a ≡ q → t ≡ u → l ≡ get_or a.journal.items t l
     → kept_with a (paired (slice_set a.journal.items t (record l { reply = Some reply })) (slice_set a.statuses.items t Gone)) ≡ finished q u reply
@@ -136,30 +132,24 @@ kept_entered {H} {place} a vs vl w l s waiting running fruitless h room idle pus
     let ss : List Status = a.statuses.items in
     let long : length vs.items ≡ length ss + 1 = rw pushed (omega (arith, length-append ss (s ∷ []))) in
     let long_lines : length vl.items ≡ length a.journal.items + 1 = rw new_line (omega (arith, length-append a.journal.items (l ∷ []))) in
-    record {
-      some_calls = h.some_calls;
-      few_calls = h.few_calls;
-      some_wait = h.some_wait;
-      few_wait = h.few_wait;
-      some_bits = h.some_bits;
-      few_bits = h.few_bits;
-      capped = rw pushed (omega (arith, idle, one_more_waits ss s));
-      within = omega (arith, long, room);
-      as_many = omega (arith, long, long_lines, h.as_many);
-      room = omega (arith, same_room, h.room);
-      room_for_lines = omega (arith, same_line_room, h.room_for_lines);
-      room_in_window = omega (arith, h.room_in_window, ticket.room);
-      answered = rw (pushed, new_line) (answered_push a.journal.items ss l s h.answered (silent ∙ sym left));
-      window = record {
-        tickets = rw (pushed, ticket.tickets) (left_entered ss s (ap not left) a.window.tickets.items h.window.tickets);
-        first = rw (pushed, ticket.tickets) (ticket.first ∙ (h.window.first ∙ first_entered ss s (ap not left) a.window.tickets.items h.window.tickets.below));
-      };
-      waiting = rw pushed (one_waits ∙ (ap (λ (n : ℕ). n + cond (is_waiting s) 1 0) h.waiting ∙ sym (sum_by_push (λ (t : Status). cond (is_waiting t) 1 0) ss s)));
-      running = rw pushed (one_runs ∙ (ap (λ (n : ℕ). n + cond (is_running s) 1 0) h.running ∙ sym (sum_by_push (λ (t : Status). cond (is_running t) 1 0) ss s)));
-      fruitless =
-          λ is_set.
-          rw (pushed, new_line) (none_entered (place a.hash) a.bits a.journal.items ss l s h.as_many (idles is_set) (h.fruitless (was_set is_set)));
-    }
+    let capped : count_by is_waiting vs.items ≤ a.cap = rw pushed (omega (arith, idle, one_more_waits ss s)) in
+    let within : length vs.items ≤ a.limit = omega (arith, long, room) in
+    let as_many : length vl.items ≡ length vs.items = omega (arith, long, long_lines, h.as_many) in
+    let wide : a.limit ≤ vec_capacity vs = omega (arith, same_room, h.room) in
+    let wide_for_lines : a.limit ≤ vec_capacity vl = omega (arith, same_line_room, h.room_for_lines) in
+    let wide_in_window : a.limit ≤ vec_capacity w.tickets = omega (arith, h.room_in_window, ticket.room) in
+    let answered : map has_reply vl.items ≡ map is_gone vs.items = rw (pushed, new_line) (answered_push a.journal.items ss l s h.answered (silent ∙ sym left)) in
+    let window : IsWindow vs.items w = record {
+      tickets = rw (pushed, ticket.tickets) (left_entered ss s (ap not left) a.window.tickets.items h.window.tickets);
+      first = rw (pushed, ticket.tickets) (ticket.first ∙ (h.window.first ∙ first_entered ss s (ap not left) a.window.tickets.items h.window.tickets.below));
+    } in
+    let waits : waiting ≡ count_by is_waiting vs.items =
+    rw pushed (one_waits ∙ (ap (λ (n : ℕ). n + cond (is_waiting s) 1 0) h.waiting ∙ sym (sum_by_push (λ (t : Status). cond (is_waiting t) 1 0) ss s))) in
+    let runs : running ≡ count_by is_running vs.items =
+    rw pushed (one_runs ∙ (ap (λ (n : ℕ). n + cond (is_running s) 1 0) h.running ∙ sym (sum_by_push (λ (t : Status). cond (is_running t) 1 0) ss s))) in
+    let none : fruitless ≡ true → found_by place (kept_with a (paired vl.items vs.items)) ≡ None =
+    λ is_set. rw (pushed, new_line) (none_entered (place a.hash) a.bits a.journal.items ss l s h.as_many (idles is_set) (h.fruitless (was_set is_set))) in
+    assumption (capped, within, as_many, wide, wide_for_lines, wide_in_window, answered, window, waits, runs, none, h)
   where
     answered_push : (ls : List Line) (ss : List Status) (m : Line) (t : Status) → map has_reply ls ≡ map is_gone ss → has_reply m ≡ is_gone t
         → map has_reply (ls ++ m ∷ []) ≡ map is_gone (ss ++ t ∷ [])

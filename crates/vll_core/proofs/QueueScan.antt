@@ -90,22 +90,5 @@ shown_bits a q bits is same = ap (λ (n : ℕ). kept (record a { bits = n })) sa
 pub kept_scanned : {H : Type 0} {place : H → ℕ → ℕ} (a : Inside H) (q : Queued H) (bits : ℕ) (fruitless : Bool) → IsKept place a → kept a ≡ q → bits ≡ a.bits → found_by place q ≡ None
     → IsKept place (record a { bits = bits; is_fruitless = fruitless })
 kept_scanned {H} {place} a q bits fruitless h is same none =
-    subst (λ (n : ℕ). IsKept place (record a { bits = n; is_fruitless = fruitless })) (sym same) (record {
-      some_calls = h.some_calls;
-      few_calls = h.few_calls;
-      some_wait = h.some_wait;
-      few_wait = h.few_wait;
-      some_bits = h.some_bits;
-      few_bits = h.few_bits;
-      capped = h.capped;
-      within = h.within;
-      as_many = h.as_many;
-      room = h.room;
-      room_for_lines = h.room_for_lines;
-      room_in_window = h.room_in_window;
-      answered = h.answered;
-      window = h.window;
-      waiting = h.waiting;
-      running = h.running;
-      fruitless = λ _. ap (found_by place) is ∙ none;
-    })
+    subst (λ (n : ℕ). IsKept place (record a { bits = n; is_fruitless = fruitless })) (sym same)
+    (let knows : fruitless ≡ true → found_by place (kept a) ≡ None = λ _. ap (found_by place) is ∙ none in assumption (knows, h))

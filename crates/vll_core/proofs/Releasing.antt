@@ -181,33 +181,12 @@ pub core_release : {H : Type 0} {places : H → ℕ → ℕ} (a : Inside H) (t :
     → IsMachine places (released a words works)
 core_release {H} {places} a t call w c words works r kept all at written put room =
     let takes = taken_release {places = places} a t call w c words works r all at put in
-    record {
-      reached = taken_reached a (released a words works) (event.Release t) _ takes kept.reached;
-      words = words_less a t call w c words works r kept takes at (shown_released a t call w words works r put) written;
-      some_records = kept.some_records;
-      few_records = kept.few_records;
-      records = kept.records;
-      catalog = kept.catalog;
-      queue = kept.queue;
-      works = ap length put ∙ length-set a.execution.items t (one_more w) ∙ kept.works;
-      room = omega (arith, kept.room, room);
-      nexts = kept.nexts;
-      kepts = kept.kepts;
-      entries_ready = kept.entries_ready;
-      turn_ready = kept.turn_ready;
-      scripts_fit = kept.scripts_fit;
-      at_work =
-          subst (AreAtWork a.library.value a.opening.value.items a.queue.entries) (sym put)
-          (at_work_put a.library.value a.opening.value.items a.queue.entries a.execution.items t (one_more w)
-          (λ e here. let was = kept.at_work t e w here r.worked in record {
-            within = was.within;
-            whole = was.whole;
-            loaded = was.loaded;
-            pending = was.pending;
-            ran = was.ran;
-            holds = was.holds;
-          }) kept.at_work);
-      replied =
-          subst (AreReplied a.queue.entries) (sym put)
-          (replied_put a.queue.entries a.execution.items t (one_more w) (λ e here gone. kept.replied t e w here r.worked gone) kept.replied);
-    }
+    let wide : a.queue.limit ≤ vec_capacity works = omega (arith, kept.room, room) in
+    assumption (
+      taken_reached a (released a words works) (event.Release t) _ takes kept.reached,
+      words_less a t call w c words works r kept takes at (shown_released a t call w words works r put) written,
+      ap length put ∙ length-set a.execution.items t (one_more w) ∙ kept.works,
+      subst (AreAtWork a.library.value a.opening.value.items a.queue.entries) (sym put) (at_work_put a.library.value a.opening.value.items a.queue.entries a.execution.items t (one_more w) (λ e here. let was = kept.at_work t e w here r.worked in assumption was) kept.at_work),
+      subst (AreReplied a.queue.entries) (sym put) (replied_put a.queue.entries a.execution.items t (one_more w) (λ e here gone. kept.replied t e w here r.worked gone) kept.replied),
+      wide,
+    )

@@ -190,14 +190,7 @@ words_stored {H} {places} a t place word v call w next c core f =
 
 -- another count of stores leaves a call's execution right
 still_at_work : (procs : List Proc) (call : Call) (records : List ℕ) (w next : Execution) (n : ℕ) → next ≡ record w { stores = n } → IsAtWork procs call records w → IsAtWork procs call records next
-still_at_work procs call records w next n is at = subst (IsAtWork procs call records) (sym is) (record {
-  within = at.within;
-  whole = at.whole;
-  loaded = at.loaded;
-  pending = at.pending;
-  ran = at.ran;
-  holds = at.holds;
-})
+still_at_work procs call records w next n is at = subst (IsAtWork procs call records) (sym is) (assumption at)
 
 -- a call has few stores
 pub few_stores : {H : Type 0} (a : Inside H) (t : ℕ) (call : Call) (w : Execution) (c : Claim) → Runs a t call w → slice_get (writes call) w.stores ≡ Some c → w.stores < 255
@@ -209,24 +202,10 @@ pub core_store : {H : Type 0} {places : H → ℕ → ℕ} (a : Inside H) (t pla
 core_store {H} {places} a t place word v call w next c core f =
     let b : Inside H = stored_core a place word v next in
     let takes = taken_store {places = places} a t place word v call w next c f in
-    record {
-      reached = taken_reached a b (event.Store t) Stored takes core.reached;
-      words = words_stored a t place word v call w next c core f;
-      some_records = core.some_records;
-      few_records = core.few_records;
-      records = core.records;
-      catalog = core.catalog;
-      queue = core.queue;
-      works = length-set a.execution.items place next ∙ core.works;
-      room = core.room;
-      nexts = core.nexts;
-      kepts = core.kepts;
-      entries_ready = core.entries_ready;
-      turn_ready = core.turn_ready;
-      scripts_fit = core.scripts_fit;
-      at_work = at_work_put a.library.value a.opening.value.items a.queue.entries a.execution.items place next
-          (λ e at. still_at_work a.library.value.procs e.line.call _ w next (w.stores + 1) f.more
-          (core.at_work place e w at (ap (λ (n : ℕ). slice_get a.execution.items n) f.there ∙ f.runs.worked))) core.at_work;
-      replied = replied_put a.queue.entries a.execution.items place next
-          (λ e at gone. core.replied place e w at (ap (λ (n : ℕ). slice_get a.execution.items n) f.there ∙ f.runs.worked) gone ∙ ap (λ (x : Execution). x.reply) (sym f.more)) core.replied;
-    }
+    assumption (
+      taken_reached a b (event.Store t) Stored takes core.reached,
+      words_stored a t place word v call w next c core f,
+      length-set a.execution.items place next ∙ core.works,
+      at_work_put a.library.value a.opening.value.items a.queue.entries a.execution.items place next (λ e at. still_at_work a.library.value.procs e.line.call _ w next (w.stores + 1) f.more (core.at_work place e w at (ap (λ (n : ℕ). slice_get a.execution.items n) f.there ∙ f.runs.worked))) core.at_work,
+      replied_put a.queue.entries a.execution.items place next (λ e at gone. core.replied place e w at (ap (λ (n : ℕ). slice_get a.execution.items n) f.there ∙ f.runs.worked) gone ∙ ap (λ (x : Execution). x.reply) (sym f.more)) core.replied,
+    )

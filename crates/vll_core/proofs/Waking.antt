@@ -78,24 +78,15 @@ core_wake {H} {places} a e found t core wakes some =
     let waiting : slice_get (statuses a.queue) t ≡ Some Waiting =
     slice_get-map (λ (e : QueueEntry). e.status) a.queue.entries t
     ∙ (ap (λ (o : Option QueueEntry). option_map (λ (e : QueueEntry). e.status) o) w.at ∙ ap (λ (x : Status). Some x) w.waits) in
-    record {
-      reached = taken_reached a b e (Run t) takes core.reached;
-      words = taken_words a b e (Run t) takes core.reached wakes.asks wakes.frees wakes.stores core.words;
-      some_records = core.some_records;
-      few_records = core.few_records;
-      records = core.records;
-      catalog = core.catalog;
-      queue = queued_started a.queue t waiting core.queue;
-      works = core.works ∙ sym (length_changed a.queue.entries t (λ e. record e { status = Running }));
-      room = core.room;
-      nexts = core.nexts;
-      kepts = core.kepts;
-      entries_ready = ready_same a.library.value a.queue.entries b.queue.entries (sym calls) core.entries_ready;
-      turn_ready = core.turn_ready;
-      scripts_fit = core.scripts_fit;
-      at_work = at_work_same a.library.value a.opening.value.items a.queue.entries b.queue.entries a.execution.items (sym calls) core.at_work;
-      replied = replied_changed a.queue.entries a.execution.items t (λ e. record e { status = Running }) (λ e w at has gone. absurd (cc gone)) core.replied;
-    }
+    assumption (
+      taken_reached a b e (Run t) takes core.reached,
+      taken_words a b e (Run t) takes core.reached wakes.asks wakes.frees wakes.stores core.words,
+      queued_started a.queue t waiting core.queue,
+      core.works ∙ sym (length_changed a.queue.entries t (λ e. record e { status = Running })),
+      ready_same a.library.value a.queue.entries b.queue.entries (sym calls) core.entries_ready,
+      at_work_same a.library.value a.opening.value.items a.queue.entries b.queue.entries a.execution.items (sym calls) core.at_work,
+      replied_changed a.queue.entries a.execution.items t (λ e. record e { status = Running }) (λ e w at has gone. absurd (cc gone)) core.replied,
+    )
 
 -- the queue after it, where a ticket is found
 pub some_woken : {H : Type 0} (q p : Queued H) (found : Option ℕ) (t : ℕ) → found ≡ Some t → p ≡ started_if q found → p ≡ started q t
