@@ -1,9 +1,6 @@
 -- What two lists of the same length both have, place by place.
 use Rattle.std.proofs.Common.{◌≡◌, ℕ, zero, suc, ◌+◌, ◌<◌, ◌≤◌, Bool, false, ◌&&◌, [], ◌∷◌, length, get_or, slice_set, ⊎_elim, refl, sym, ap, ◌∙◌, arith}
-use Rattle.std.proofs.lemmas.Bool.{cases_lt}
-use Rattle.std.proofs.lemmas.Grind.{get_or-set_at}
-use Rattle.std.proofs.lemmas.List.{get_or-set_other, ext_get_or, length-set}
-use Rattle.vll_proc.specs.WellFormed.{Locals, both_set}
+use Rattle.vll_check.proofs.Common.{cases_lt, get_or-set_at, get_or-set_other, ext_get_or, length-set, Locals, both_set}
 
 length-both_set : (a b : Locals) → length a ≡ length b → length (both_set a b) ≡ length a
 length-both_set [] b same = refl

@@ -1,7 +1,6 @@
 -- Each statement is one node and one level at least, and weighs 1 at least.
 use Rattle.std.proofs.Common.{◌<◌, arith}
-use Rattle.vll_proc.specs.declared.syntax.Stmt.{Stmt, Let}
-use Rattle.vll_proc.specs.WellFormed.{stmt_depth, stmt_nodes, weight}
+use Rattle.vll_check.proofs.Common.{Stmt, Let, stmt_depth, stmt_nodes, weight}
 
 pub stmt_depth_positive : (st : Stmt) → 0 < stmt_depth st
 stmt_depth_positive (Let i e) = omega arith

@@ -1,12 +1,7 @@
 -- The number of a name, and the procedure that has it.
 use Rattle.std.proofs.Common.{◌≡◌, ℕ, zero, suc, ◌+◌, ◌<◌, Bool, true, false, List, [], ◌∷◌, length, get_or, None, Some, slice_get, refl, sym, ap, ◌∙◌, if◌then◌else◌, arith}
-use Rattle.std.specs.Cmp.Lexicographic.{nat_list_eq_equiv}
-use Rattle.std.specs.List.{list_any}
-use Rattle.std.specs.Str.{bytes_eq}
-use Rattle.std.proofs.lemmas.Option.{get_or_from_slice_get, slice_get_within}
+use Rattle.vll_check.proofs.Common.{nat_list_eq_equiv, list_any, bytes_eq, get_or_from_slice_get, slice_get_within, Proc, number_from, number_named, has_name_twice}
 use Rattle.std.proofs.lemmas.Slice.Eq.{bytes_eq-Decides}
-use Rattle.vll_proc.specs.declared.syntax.Proc.{Proc}
-use Rattle.vll_check.specs.Names.{number_from, number_named, has_name_twice}
 use Rattle.vll_check.proofs.Twice.{first_fails, rest_fails}
 
 -- a procedure with a name stands at a number, where numbers begin at n

@@ -1,22 +1,7 @@
 -- What a search for a name finds among the entries.
 use Rattle.std.proofs.Common.{◌≡◌, ⊎_elim, ℕ, ◌<◌, ◌≤◌, true, false, List, length, get_or, Some, None, refl, sym, ap, ◌∙◌, arith}
-use Rattle.std.specs.Cmp.Lexicographic.{slice_cmp, nat_list_eq_equiv, nat_list_cmp_total}
-use Rattle.std.specs.declared.cmp.Ordering.{Ordering}
-use Rattle.std.specs.declared.cmp.Ordering.TheVariants.{Less, Equal, Greater}
-use Rattle.std.specs.List.{slice_get}
-use Rattle.std.specs.List.Sorted.{IsStrictlySortedBy, IsNonDecreasingBy, IsPartitionPoint}
-use Rattle.std.specs.Ordering.{nat_cmp, is_eq, ordering_index}
-use Rattle.std.specs.Str.{bytes_eq}
-use Rattle.std.proofs.lemmas.Bool.{cases_eq, cases_lt}
-use Rattle.std.proofs.lemmas.Cmp.{alike_right}
-use Rattle.std.proofs.lemmas.List.{get_or_default, get_or-map, length-map}
-use Rattle.std.proofs.lemmas.Map.Keys.{Less-from_sorted}
-use Rattle.std.proofs.lemmas.Map.Text.{is_eq-slice_cmp}
-use Rattle.std.proofs.lemmas.Option.{slice_get-get_or}
-use Rattle.vll_proc.specs.declared.syntax.Proc.{Proc}
-use Rattle.vll_check.specs.Entry.{Entry}
-use Rattle.vll_check.specs.Names.{has_name_twice, number_named}
-use Rattle.vll_check.specs.Private.Order.{by_name, numbered, IsIndexed}
+use Rattle.vll_check.proofs.Common.{slice_cmp, nat_list_eq_equiv, nat_list_cmp_total, Ordering, Less, Equal, Greater, slice_get, IsNonDecreasingBy, IsPartitionPoint, nat_cmp, is_eq, ordering_index, bytes_eq, cases_eq, cases_lt, alike_right, get_or_default, get_or-map, length-map, Less-from_sorted, is_eq-slice_cmp, slice_get-get_or, Proc, Entry, has_name_twice, number_named, by_name, numbered, IsIndexed}
+use Rattle.std.specs.List.Sorted.{IsStrictlySortedBy}
 use Rattle.vll_check.proofs.Distinct.{number_from-at, number_from-none}
 use Rattle.vll_check.proofs.Indexed.{entry_at}
 

@@ -1,32 +1,11 @@
 -- What is known of a call that was made for a checked procedure, and of one that a library makes.
 use Rattle.std.proofs.Common.{◌^◌, get_or, ◌≡◌, ◌↔◌, ℕ, zero, suc, ◌-◌, ◌<◌, ◌≤◌, arith, Bool, true, false, ◌&&◌, ◌==◌, nat_lt, List, [], ◌∷◌, length, take, take_at, replicate, Option, Some, None, Result, Ok, Err, refl, sym, ap, ◌∙◌, subst, if◌then◌else◌, slice_get, slice_index, is_some, IfSome}
-use Rattle.std.specs.List.{All, AllByRecursion, list_all}
-use Rattle.std.proofs.lemmas.Bool.{eqb-true, false≢true, ltb-true}
-use Rattle.std.proofs.lemmas.Option.{slice_get_within, slice_get-get_or, get_or_from_slice_get, none-some, same_Some}
-use Rattle.std.proofs.lemmas.List.Elements.{All-from_recursion}
-use Rattle.vll_proc.specs.declared.limits.TheConstants.{MOST_ARGS}
-use Rattle.vll_record.specs.Headline.Claim.{claims_of, with_claim, stronger}
-use Rattle.vll_record.specs.declared.claim.Claim.{Claim}
-use Rattle.vll_record.specs.declared.claim.Mode.{Mode}
-use Rattle.vll_proc.specs.declared.call.Call.{Call}
-use Rattle.vll_record.specs.Headline.Canon.{laid}
-use Rattle.vll_proc.specs.declared.syntax.KeyAt.{KeyAt}
+use Rattle.vll_check.proofs.Common.{All, AllByRecursion, list_all, eqb-true, false≢true, ltb-true, slice_get_within, slice_get-get_or, get_or_from_slice_get, none-some, same_Some, All-from_recursion, MOST_ARGS, claims_of, with_claim, stronger, Claim, Mode, Call, laid, KeyAt, KeyDecl, Proc, asking, asked_by, asked, call_of, or_else, record_named, source_at, source_of, AreFound, key_at, named_by, source, source_by, found_by, with_found, bare, bares, call_to, call_numbered, place_is_there, Fits, IsReady, CallsProcedure, Catalog, IsCatalog, check_fault, IsPlaced, IsMadeFor, number_named, has_name_twice}
 use Rattle.vll_proc.specs.declared.syntax.KeyAt.TheVariants as at
-use Rattle.vll_proc.specs.declared.syntax.KeyDecl.{KeyDecl}
-use Rattle.vll_proc.specs.declared.syntax.Proc.{Proc}
-use Rattle.vll_proc.specs.Headline.Made.{asking, asked_by, asked, call_of}
 use Rattle.vll_proc.specs.Made.{is_led, IsCallOf}
-use Rattle.vll_proc.specs.Headline.Meaning.{or_else, record_named, source_at, source_of}
 use Rattle.vll_proc.specs.WellFormed as formed
 use Rattle.vll_check.specs.declared.fault.CallFault.{CallFault}
 use Rattle.vll_check.specs.declared.fault.CallFault.TheVariants.{ArgCount, RecordRange}
-use Rattle.vll_check.specs.Headline.Calls.{AreFound, key_at, named_by, source, source_by, found_by, with_found}
-use Rattle.vll_check.specs.Calls.{bare, bares, call_to, call_numbered, place_is_there, Fits, IsReady, CallsProcedure}
-use Rattle.vll_check.specs.Headline.Catalog.{Catalog}
-use Rattle.vll_check.specs.Catalog.{IsCatalog}
-use Rattle.vll_check.specs.Faults.{check_fault}
-use Rattle.vll_check.specs.Private.Making.{IsPlaced, IsMadeFor}
-use Rattle.vll_check.specs.Names.{number_named, has_name_twice}
 use Rattle.vll_check.proofs.Distinct.{number_named-distinct, number_named-stands}
 use Rattle.vll_check.proofs.Passed.{passed_all, all_placed, named_there}
 

@@ -1,20 +1,8 @@
 -- The entries of a library: numbered, sorted, and placed.
 use Rattle.std.proofs.Common.{◌≡◌, ◌⊎◌, ⊎_elim, ℕ, ◌+◌, ◌<◌, ◌^◌, Bool, false, None, List, length, map, get_or, sym, ap, ap₂, ◌∙◌, subst, arith, All}
+use Rattle.vll_check.proofs.Common.{IsPermutation, ◌==◌, cases_order, ne_eqb, eq-eqb, both_ways, nat_eq_equiv, get_or_default, get_or-map, length-map, same_lists, Contains-get_or, All-map, All-permutation, Contains-permutation, length_permutation, IsPermutation-sym, IsDistinct-from_apart, IsDistinct-IsPermutation, apart_from_distinct, Less-from_sorted, Proc, IsCatalog, Entry, procedure_of, check_fault, has_name_twice, by_name, AllPassed, AreNumbered, HaveNumbers, ArePlaced, AreArranged, IsInOrder, numbered, IsIndexed}
 use Rattle.std.specs.List.{IsDistinct}
-use Rattle.std.specs.List.Sorted.{IsPermutation, IsStrictlySortedBy}
-use Rattle.std.specs.Prelude.{◌==◌}
-use Rattle.std.proofs.lemmas.Bool.{cases_order, ne_eqb, eq-eqb, both_ways}
-use Rattle.std.proofs.lemmas.Cmp.{nat_eq_equiv}
-use Rattle.std.proofs.lemmas.List.{get_or_default, get_or-map, length-map, same_lists}
-use Rattle.std.proofs.lemmas.List.Elements.{Contains-get_or, All-map}
-use Rattle.std.proofs.lemmas.List.Sorted.{All-permutation, Contains-permutation, length_permutation, IsPermutation-sym}
-use Rattle.std.proofs.lemmas.Map.Keys.{IsDistinct-from_apart, IsDistinct-IsPermutation, apart_from_distinct, Less-from_sorted}
-use Rattle.vll_proc.specs.declared.syntax.Proc.{Proc}
-use Rattle.vll_check.specs.Catalog.{IsCatalog}
-use Rattle.vll_check.specs.Entry.{Entry, procedure_of}
-use Rattle.vll_check.specs.Faults.{check_fault}
-use Rattle.vll_check.specs.Names.{has_name_twice}
-use Rattle.vll_check.specs.Private.Order.{by_name, AllPassed, AreNumbered, HaveNumbers, ArePlaced, AreArranged, IsInOrder, numbered, IsIndexed}
+use Rattle.std.specs.List.Sorted.{IsStrictlySortedBy}
 use Rattle.vll_check.proofs.Numbering.{with_number}
 use Rattle.vll_check.proofs.Twice.{rising_from_less, rising_from_once, twice-permutation}
 

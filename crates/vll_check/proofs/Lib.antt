@@ -1,3 +1,4 @@
+mod Common
 pub mod Counts
 pub mod Shares
 pub mod Both

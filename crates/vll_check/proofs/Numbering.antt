@@ -1,10 +1,6 @@
 -- The numbers of entries, and the places at which they stand.
 use Rattle.std.proofs.Common.{◌≡◌, ⊎_elim, ℕ, ◌+◌, ◌<◌, ◌≤◌, None, List, length, get_or, set, sym, ap, ◌∙◌, subst, arith}
-use Rattle.std.proofs.lemmas.Bool.{cases_eq}
-use Rattle.std.proofs.lemmas.List.{get_or_default, get_or-set_same, get_or-set_other}
-use Rattle.vll_check.specs.Entry.{Entry}
-use Rattle.vll_check.specs.Faults.{check_fault}
-use Rattle.vll_check.specs.Private.Order.{HaveNumbers}
+use Rattle.vll_check.proofs.Common.{cases_eq, get_or_default, get_or-set_same, get_or-set_other, Entry, check_fault, HaveNumbers}
 
 abbrev pub with_number : Entry → ℕ → Entry
 with_number e n = record e { number = n }

@@ -1,20 +1,10 @@
 -- What is known of a procedure that passes the tests, and of the records that its keys name.
 use Rattle.std.proofs.Common.{◌≡◌, ℕ, zero, suc, ◌<◌, ◌%◌, ◌^◌, ◌&&◌, Bool, true, false, List, [], ◌∷◌, length, get_or, IfSome, arith, refl, slice_index, Option, Some, None, subst}
-use Rattle.std.specs.List.{list_all}
+use Rattle.vll_check.proofs.Common.{list_all, ltb-true, false≢true, same_Some, get_or_from_slice_get, none-some, Mode, KeyAt, KeyDecl, Proc, led_to, record_named, place_is_there, IsPlaced, fault_unless, check_fault}
 use Rattle.std.specs.Option.{option_or}
-use Rattle.std.proofs.lemmas.Bool.{ltb-true, false≢true}
-use Rattle.std.proofs.lemmas.Option.{same_Some, get_or_from_slice_get, none-some}
-use Rattle.vll_record.specs.declared.claim.Mode.{Mode}
-use Rattle.vll_proc.specs.declared.syntax.KeyAt.{KeyAt}
 use Rattle.vll_proc.specs.declared.syntax.KeyAt.TheVariants as at
-use Rattle.vll_proc.specs.declared.syntax.KeyDecl.{KeyDecl}
-use Rattle.vll_proc.specs.declared.syntax.Proc.{Proc}
-use Rattle.vll_proc.specs.Headline.Meaning.{led_to, record_named}
 use Rattle.vll_proc.specs.WellFormed as formed
 use Rattle.vll_check.specs.declared.fault.CheckFault.{CheckFault}
-use Rattle.vll_check.specs.Calls.{place_is_there}
-use Rattle.vll_check.specs.Private.Making.{IsPlaced}
-use Rattle.vll_check.specs.Faults.{fault_unless, check_fault}
 
 passed : (b : Bool) (fault : CheckFault) (behind : Option CheckFault) → fault_unless b fault behind ≡ None → (b ≡ true) × (behind ≡ None)
 passed true fault behind e = (refl, e)

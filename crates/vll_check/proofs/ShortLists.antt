@@ -1,12 +1,8 @@
 -- Short lists in arrays, item by item, and the place of a claim.
 use Rattle.std.proofs.Common.{◌≡◌, ℕ, zero, suc, ◌+◌, ◌-◌, ◌<◌, List, [], ◌∷◌, ◌++◌, length, take, set, get_or, replicate, refl, sym, ap, ◌∙◌, arith, append_assoc, length-append, add-one, if◌then◌else◌, ◌==◌, map}
+use Rattle.vll_check.proofs.Common.{length-map, map-append, length-take-le, position_or_len, laid, Claim, place_of}
 use Rattle.std.proofs.Math.Seq.{take-suc}
-use Rattle.std.proofs.lemmas.List.{length-map, map-append, length-take-le}
-use Rattle.std.specs.List.{position_or_len}
 use Rattle.std.proofs.lemmas.List.Recursion.{is_position_or_len}
-use Rattle.vll_record.specs.Headline.Canon.{laid}
-use Rattle.vll_record.specs.declared.claim.Claim.{Claim}
-use Rattle.vll_proc.specs.Headline.Made.{place_of}
 
 set-behind : {A : Type 0} (xs ys : List A) (b y : A) → set (xs ++ b ∷ ys) (length xs) y ≡ xs ++ y ∷ ys
 set-behind [] ys b y = refl

@@ -1,21 +1,9 @@
 -- Entries of which no two have one name, in any order and in the order of the names.
 use Rattle.std.proofs.Common.{◌≡◌, ⊎_elim, ℕ, ◌+◌, ◌<◌, Bool, true, false, ◌||◌, List, [], ◌∷◌, length, map, get_or, refl, sym, ap, ap₂, ◌∙◌, ◌-◌, ◌≤◌, arith}
+use Rattle.vll_check.proofs.Common.{nat_list_eq_equiv, on_texts, Ordering, Less, Equal, Greater, AllByRecursion, list_any, IsPermutation, is_lt, is_eq, ordering_reverse, bytes_eq, cases_Bool, cases_eq, both_ways, true≢false, get_or_default, IsDistinct-head, IsDistinct-tail, IsDistinct-cons, IsDistinct-from_apart, IsDistinct-IsPermutation, apart_from_distinct, Less-from_sorted, sorted_from_all_adjacent, is_eq-slice_cmp, Proc, Entry, procedure_of, has_name_twice, by_name, IsInOrder}
 use Rattle.std.specs.Cmp.{IsTotalOrder}
-use Rattle.std.specs.Cmp.Lexicographic.{nat_list_eq_equiv, on_texts}
-use Rattle.std.specs.declared.cmp.Ordering.{Ordering}
-use Rattle.std.specs.declared.cmp.Ordering.TheVariants.{Less, Equal, Greater}
-use Rattle.std.specs.List.{IsDistinct, AllByRecursion, list_any}
-use Rattle.std.specs.List.Sorted.{IsPermutation, IsStrictlySortedBy}
-use Rattle.std.specs.Ordering.{is_lt, is_eq, ordering_reverse}
-use Rattle.std.specs.Str.{bytes_eq}
-use Rattle.std.proofs.lemmas.Bool.{cases_Bool, cases_eq, both_ways, true≢false}
-use Rattle.std.proofs.lemmas.List.{get_or_default}
-use Rattle.std.proofs.lemmas.Map.Keys.{IsDistinct-head, IsDistinct-tail, IsDistinct-cons, IsDistinct-from_apart, IsDistinct-IsPermutation, apart_from_distinct, Less-from_sorted, sorted_from_all_adjacent}
-use Rattle.std.proofs.lemmas.Map.Text.{is_eq-slice_cmp}
-use Rattle.vll_proc.specs.declared.syntax.Proc.{Proc}
-use Rattle.vll_check.specs.Entry.{Entry, procedure_of}
-use Rattle.vll_check.specs.Names.{has_name_twice}
-use Rattle.vll_check.specs.Private.Order.{by_name, IsInOrder}
+use Rattle.std.specs.List.{IsDistinct}
+use Rattle.std.specs.List.Sorted.{IsStrictlySortedBy}
 
 -- two entries have one name
 abbrev pub has_name_of : Entry → Entry → Bool

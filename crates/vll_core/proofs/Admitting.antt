@@ -1,34 +1,7 @@
 -- The call of the open turn gets the next ticket.
 use Rattle.std.proofs.Common.{◌≡◌, ℕ, ◌<◌, ◌≤◌, ◌⊎◌, inl, inr, Bool, true, false, nat_lt, refl, sym, ap, ◌∙◌, subst, arith, List, [], ◌∷◌, ◌++◌, length, count_by, slice_get, Bor, Option, Some, None, Ok, All, IfSome, vec_capacity, length-append, if◌then◌else◌}
-use Rattle.std.specs.Global.{Vec}
-use Rattle.std.specs.Option.{option_map}
-use Rattle.std.proofs.lemmas.Bool.Decides.{nat_tests}
-use Rattle.vll_record.specs.declared.claim.Claim.{Claim}
-use Rattle.vll_proc.specs.declared.syntax.Proc.{Proc}
-use Rattle.vll_proc.specs.Made.{IsCallOf}
-use Rattle.vll_proc.specs.Headline.Serial.{before}
-use Rattle.vll_proc.specs.WellFormed.{IsWellFormed}
-use Rattle.vll_check.specs.Calls.{IsReady, CallsProcedure}
-use Rattle.vll_check.specs.Headline.Catalog.{Catalog}
-use Rattle.vll_check.proofs.Fitting.{ready_well}
+use Rattle.vll_core.proofs.Common.{Vec, option_map, nat_tests, Claim, Proc, IsCallOf, before, IsWellFormed, IsReady, CallsProcedure, Catalog, ready_well, Inside, OpenTurn, NoTurn, OutOfStep, Seen, Free, Blocked, Status, Running, Waiting, Execution, is_waiting, is_gone, Opening, Entered, Turn, State, Outcome, refuse_if, or_refuse, admit, step, QueueEntry, admitted, entry, statuses, Shown, library_of, opening_of, entered_of, entries_of, turn_of, shown, IsAtWork, IsMachine, made_of, AreAtWork, AreReplied}
 use Rattle.vll_core.specs.declared.event.Event.TheVariants as event
-use Rattle.vll_core.specs.declared.machine.Machine.TheInside.{Inside}
-use Rattle.vll_core.specs.declared.machine.OpenTurn.{OpenTurn}
-use Rattle.vll_core.specs.declared.refusal.Refusal.TheVariants.{NoTurn, OutOfStep}
-use Rattle.vll_core.specs.declared.seen.Seen.{Seen}
-use Rattle.vll_core.specs.declared.seen.Seen.TheVariants.{Free, Blocked}
-use Rattle.vll_sca.specs.declared.status.Status.{Status}
-use Rattle.vll_sca.specs.declared.status.Status.TheVariants.{Running, Waiting}
-use Rattle.vll_core.specs.declared.execution.Execution.{Execution}
-use Rattle.vll_sca.specs.Headline.Status.{is_waiting}
-use Rattle.vll_sca.specs.Status.{is_gone}
-use Rattle.vll_core.specs.State.{Opening, Entered, Turn, State}
-use Rattle.vll_core.specs.Machine.{Outcome, refuse_if, or_refuse, admit, step}
-use Rattle.vll_core.specs.Queue.{QueueEntry, admitted, entry, statuses}
-use Rattle.vll_core.specs.Shown.{Shown, library_of, opening_of}
-use Rattle.vll_core.specs.Private.View.{entered_of, entries_of, turn_of, shown}
-use Rattle.vll_core.specs.Private.Execution.{IsAtWork}
-use Rattle.vll_core.specs.Private.MachineKept.{IsMachine, made_of, AreAtWork, AreReplied}
 use Rattle.vll_core.proofs.Places.{all_at, at_push}
 use Rattle.vll_core.proofs.AtWork.{procedure_ready}
 use Rattle.vll_core.proofs.Reached.{turn_has_room}

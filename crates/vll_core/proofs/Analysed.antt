@@ -1,13 +1,6 @@
 -- What the contention analysis sees of the entries by ticket, where one changes.
 use Rattle.std.proofs.Common.{◌≡◌, ℕ, zero, suc, ◌+◌, List, [], ◌∷◌, ◌++◌, length, map, refl, ap, ap₂, ◌∙◌, arith, slice_get, slice_set, Some}
-use Rattle.std.specs.List.{enumerate_from}
-use Rattle.std.proofs.lemmas.List.{length-map, map-append}
-use Rattle.std.proofs.lemmas.Option.{none-some, same_Some}
-use Rattle.vll_sca.specs.declared.entry.Entry.{Entry}
-use Rattle.vll_sca.specs.declared.status.Status.{Status}
-use Rattle.vll_core.specs.declared.line.Line.{Line}
-use Rattle.vll_core.specs.Queue.{analysed}
-use Rattle.vll_core.specs.Private.Paired.{paired, seen}
+use Rattle.vll_core.proofs.Common.{enumerate_from, length-map, map-append, none-some, same_Some, Entry, Status, Line, analysed, paired, seen}
 use Rattle.vll_core.proofs.Entries.{paired_push, length_paired}
 
 pub seen_statuses : (ls : List Line) (ss : List Status) → length ls ≡ length ss → map (λ (e : Entry). e.status) (seen ls ss) ≡ ss

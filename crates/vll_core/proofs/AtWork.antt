@@ -1,27 +1,6 @@
 -- What a call's loads make of its execution, and where its Write claims stand.
 use Rattle.std.proofs.Common.{◌≡◌, ℕ, suc, ◌+◌, ◌<◌, ◌≤◌, Bool, true, false, List, [], ◌∷◌, All, length, filter, drop, replicate, Option, Some, None, slice_get, slice_index, slice_set, refl, sym, ap, subst, ◌∙◌, arith, ⊎_elim, ◌==◌, ◌&&◌}
-use Rattle.std.specs.Option.{option_map_or}
-use Rattle.std.proofs.lemmas.Bool.{cases_eq, cond-true, cond-false, false≢true}
-use Rattle.std.proofs.lemmas.Map.Views.{exact_unsigned_eq}
-use Rattle.std.proofs.lemmas.List.{get_or-set_same, get_or-set_other, length-set}
-use Rattle.std.proofs.lemmas.Option.{slice_get_within, same_Some}
-use Rattle.std.proofs.lemmas.List.Sums.{length-filter, count_by-le-length}
-use Rattle.vll_record.specs.declared.claim.Claim.{Claim}
-use Rattle.vll_record.specs.declared.claims.TheConstants.{MOST_CLAIMS}
-use Rattle.vll_record.specs.Headline.Claim.{is_write}
-use Rattle.vll_proc.specs.declared.call.Call.{Call}
-use Rattle.vll_proc.specs.declared.syntax.Proc.{Proc}
-use Rattle.vll_proc.specs.Cells.{Holds}
-use Rattle.vll_proc.specs.Made.{IsCallOf}
-use Rattle.vll_proc.specs.Headline.Serial.{apply}
-use Rattle.vll_proc.specs.WellFormed.{IsWellFormed}
-use Rattle.vll_check.specs.Calls.{IsReady, CallsProcedure}
-use Rattle.vll_check.specs.Headline.Catalog.{Catalog}
-use Rattle.vll_check.specs.Catalog.{IsCatalog}
-use Rattle.vll_check.proofs.Fitting.{ready_well}
-use Rattle.vll_core.specs.declared.execution.Execution.{Execution}
-use Rattle.vll_core.specs.State.{is_aborted}
-use Rattle.vll_core.specs.Private.Execution.{HoldsFirst, IsLoading, IsAtWork}
+use Rattle.vll_core.proofs.Common.{option_map_or, cases_eq, cond-true, cond-false, false≢true, exact_unsigned_eq, get_or-set_same, get_or-set_other, length-set, slice_get_within, same_Some, length-filter, count_by-le-length, Claim, MOST_CLAIMS, is_write, Call, Proc, Holds, IsCallOf, apply, IsWellFormed, IsReady, CallsProcedure, Catalog, IsCatalog, ready_well, Execution, is_aborted, HoldsFirst, IsLoading, IsAtWork}
 use Rattle.vll_core.proofs.Tests.{eq_no}
 use Rattle.vll_core.proofs.Places.{all_at, drop_next, drop_none, entry_at}
 

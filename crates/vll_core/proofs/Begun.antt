@@ -1,24 +1,7 @@
 -- What is shown of a machine in which nothing is entered, and that it keeps what a machine keeps.
 use Rattle.std.proofs.Common.{◌≡◌, ℕ, ◌≤◌, List, [], ◌∷◌, length, map, replicate, refl, sym, ap, ◌∙◌, subst, vec_capacity, Option, Some, None, IfSome, Result, Ok, Err, IfOk, slice_get}
-use Rattle.std.specs.Global.{Vec}
-use Rattle.std.specs.List.{All}
-use Rattle.std.proofs.lemmas.List.{length-replicate}
-use Rattle.std.proofs.lemmas.List.Elements.{All-map, All-nil}
-use Rattle.vll_proc.specs.declared.call.Call.{Call}
-use Rattle.vll_check.specs.Calls.{Fits, IsReady}
-use Rattle.vll_check.specs.Catalog.{IsCatalog}
-use Rattle.vll_core.specs.declared.config.Config.{Config}
-use Rattle.vll_core.specs.declared.machine.Machine.TheInside.{Inside}
-use Rattle.vll_core.specs.Headline.State.{Base}
-use Rattle.vll_core.specs.Machine.{opened}
-use Rattle.vll_core.specs.Moves.{AreProper, IsReached, begun}
-use Rattle.vll_core.specs.declared.machine.OpenTurn.{OpenTurn}
-use Rattle.vll_core.specs.Queue.{QueueEntry, Queued, IsQueued, empty}
-use Rattle.vll_core.specs.Private.FirstWords.{AreFirstWords}
-use Rattle.vll_core.specs.Shown.{Shown, AreWords, opening_of}
+use Rattle.vll_core.proofs.Common.{Vec, All, length-replicate, All-map, All-nil, Call, Fits, IsReady, IsCatalog, Config, Inside, Base, opened, AreProper, IsReached, begun, OpenTurn, QueueEntry, Queued, IsQueued, empty, AreFirstWords, Shown, AreWords, opening_of, shown, entries_of, turn_of, left_of, IsMachine}
 use Rattle.vll_core.specs.Shown as shown_of
-use Rattle.vll_core.specs.Private.View.{shown, entries_of, turn_of, left_of}
-use Rattle.vll_core.specs.Private.MachineKept.{IsMachine}
 use Rattle.vll_core.proofs.Fitted.{proper_scripts}
 
 -- each script is left whole where its next call is its first

@@ -1,25 +1,8 @@
 -- What a lawful move that is not refused changes, case by case.
 use Rattle.std.proofs.Common.{◌≡◌, ℕ, Bool, true, false, ◌&&◌, not, refl, sym, ◌||◌, nat_lt, nat_le, ◌+◌, [], ◌∷◌, length, ap, ◌∙◌, subst, slice_get, Some, ◌++◌, map, Option, None, if◌then◌else◌, Ok, is_some}
-use Rattle.std.proofs.lemmas.Option.{same_Some, same_Some}
-use Rattle.vll_core.specs.Machine.{step, with_entry, has_stored, running, next_call, used, is_turn_of, keeping, ready, front, scanned, waiting, Outcome, refuse_if, or_refuse, if_running, with_status, admit}
-use Rattle.vll_core.specs.Headline.State.{catalog_of}
-use Rattle.vll_core.specs.State.{Entered, State, Turn, is_clear, value, Opening, open_claims}
-use Rattle.vll_record.specs.declared.claim.Claim.{Claim}
-use Rattle.vll_record.specs.Claim.{conflict}
-use Rattle.std.proofs.lemmas.Bool.{or_parts}
-use Rattle.vll_core.specs.Moves.{Move, by_event, wake, hand, if_waiting, move}
-use Rattle.vll_proc.specs.declared.call.Call.{Call}
-use Rattle.vll_check.specs.Headline.Calls.{source}
-use Rattle.vll_sca.specs.declared.status.Status.{Status}
-use Rattle.vll_sca.specs.Headline.Status.{is_waiting}
-use Rattle.vll_sca.specs.Status.{is_gone, is_running}
-use Rattle.vll_sca.specs.declared.status.Status.TheVariants.{Running, Gone, Waiting}
-use Rattle.vll_core.specs.declared.refusal.Refusal.{Refusal}
-use Rattle.vll_core.specs.declared.seen.Seen.TheVariants.{Loaded, Free, Blocked}
-use Rattle.vll_core.specs.declared.seen.Seen.{Seen}
+use Rattle.vll_core.proofs.Common.{same_Some, step, with_entry, has_stored, running, next_call, used, is_turn_of, keeping, ready, front, scanned, waiting, Outcome, refuse_if, or_refuse, if_running, with_status, admit, catalog_of, Entered, State, Turn, is_clear, value, Opening, open_claims, Claim, conflict, or_parts, Move, by_event, wake, hand, if_waiting, move, Call, source, Status, is_waiting, is_gone, is_running, Running, Gone, Waiting, Refusal, Loaded, Free, Blocked, Seen, scan}
 use Rattle.vll_core.specs.declared.event.Event.TheVariants as event
 use Rattle.vll_core.proofs.Tests.{not_no}
-use Rattle.vll_sca.specs.Scan.{scan}
 use Rattle.vll_core.proofs.Events.{IsFront, front_is}
 use Rattle.vll_core.proofs.Picked.{IsPicked, picked_is}
 

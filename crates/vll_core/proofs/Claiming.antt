@@ -1,31 +1,8 @@
 -- A request by the open turn of a machine: what it finds, and what the machine is after it.
 use Rattle.std.proofs.Common.{◌≡◌, ◌≢◌, ℕ, ◌+◌, ◌<◌, ◌≤◌, ◌^◌, Bool, ◌&&◌, ◌==◌, not, List, [], ◌∷◌, length, Option, Some, Result, Ok, IfSome, slice_get, slice_index, slice_index_or, slice_set, refl, sym, ap, ◌∙◌, subst, arith}
-use Rattle.std.specs.Global.{Vec}
-use Rattle.std.proofs.lemmas.Bool.{eq-eqb, ne_eqb, cond-true, cond-false}
-use Rattle.std.proofs.lemmas.Option.{slice_get_within}
-use Rattle.vll_record.specs.declared.claim.Claim.{Claim}
-use Rattle.vll_record.specs.declared.claims.TheConstants.{MOST_CLAIMS}
-use Rattle.vll_record.specs.Claim.{conflict}
-use Rattle.vll_record.specs.Headline.Counter.{claims_on}
-use Rattle.vll_record.specs.Counter.{delta_of, is_granted}
-use Rattle.vll_record.specs.Headline.Word.{pair_word_of_record}
+use Rattle.vll_core.proofs.Common.{Vec, eq-eqb, ne_eqb, cond-true, cond-false, slice_get_within, Claim, MOST_CLAIMS, conflict, claims_on, delta_of, is_granted, pair_word_of_record, claims_few, IsReady, CallsProcedure, ready_well, OpenTurn, Inside, Refusal, NoTurn, OutOfStep, Seen, Claimed, Opening, State, Turn, open_claims, counter, value, delta_on, step, answer_of, request, or_refuse, by_event, moved, IsReached, AreWords, after, opening_of, shown, turn_of, IsMachine}
 use Rattle.vll_record.proofs.Counted.{pair_word_of-below, is_granted-no_conflict}
-use Rattle.vll_proc.proofs.Called.{claims_few}
-use Rattle.vll_check.specs.Calls.{IsReady, CallsProcedure}
-use Rattle.vll_check.proofs.Fitting.{ready_well}
 use Rattle.vll_core.specs.declared.event.Event.TheVariants as event
-use Rattle.vll_core.specs.declared.machine.OpenTurn.{OpenTurn}
-use Rattle.vll_core.specs.declared.machine.Machine.TheInside.{Inside}
-use Rattle.vll_core.specs.declared.refusal.Refusal.{Refusal}
-use Rattle.vll_core.specs.declared.refusal.Refusal.TheVariants.{NoTurn, OutOfStep}
-use Rattle.vll_core.specs.declared.seen.Seen.{Seen}
-use Rattle.vll_core.specs.declared.seen.Seen.TheVariants.{Claimed}
-use Rattle.vll_core.specs.State.{Opening, State, Turn, open_claims, counter, value, delta_on}
-use Rattle.vll_core.specs.Machine.{step, answer_of, request, or_refuse}
-use Rattle.vll_core.specs.Moves.{by_event, moved, IsReached}
-use Rattle.vll_core.specs.Shown.{AreWords, after, opening_of}
-use Rattle.vll_core.specs.Private.View.{shown, turn_of}
-use Rattle.vll_core.specs.Private.MachineKept.{IsMachine}
 use Rattle.vll_core.proofs.Counters.{counters_within}
 use Rattle.vll_core.proofs.Deltas.{counter_request}
 use Rattle.vll_core.proofs.Places.{all_at}

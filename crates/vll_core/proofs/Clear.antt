@@ -1,15 +1,6 @@
 -- Which tickets are clear: open claims of lower tickets only go.
 use Rattle.std.proofs.Common.{◌≡◌, ℕ, zero, suc, Bool, true, false, not, refl, sym, arith, ◌<◌, ◌≤◌, List, [], ◌∷◌, length, drop, ap, ◌∙◌, subst, slice_get, slice_set, Some, ◌++◌, take, Option, length-set}
-use Rattle.std.proofs.Math.Seq.{take-length}
-use Rattle.std.proofs.lemmas.Option.{same_Some, same_Some}
-use Rattle.std.specs.List.{list_any, flat_map}
-use Rattle.vll_core.specs.State.{Entered, State, Turn, open_of, is_clear}
-use Rattle.vll_record.specs.declared.claim.Claim.{Claim}
-use Rattle.std.proofs.lemmas.List.Folds.{list_any-append}
-use Rattle.std.proofs.lemmas.List.{take-append-le}
-use Rattle.vll_record.specs.Claim.{conflict, conflicts}
-use Rattle.std.proofs.lemmas.Bool.{or_parts, or_from, or_left, or_right}
-use Rattle.std.proofs.lemmas.List.Concat.{flat_map-cons}
+use Rattle.vll_core.proofs.Common.{take-length, same_Some, list_any, flat_map, Entered, State, Turn, open_of, is_clear, Claim, list_any-append, take-append-le, conflict, conflicts, or_parts, or_from, or_left, or_right, flat_map-cons}
 use Rattle.vll_core.proofs.Tests.{not_yes}
 
 none_in : (p : Claim → Bool) (e : Entered) (es : List Entered) → list_any p (open_of e) ≡ false → list_any p (flat_map open_of es) ≡ false

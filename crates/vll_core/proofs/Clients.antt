@@ -1,10 +1,6 @@
 -- A machine has as many scripts at any time as at its opening.
 use Rattle.std.proofs.Common.{◌≡◌, ℕ, refl, ap, ◌∙◌, List, length, slice_get, slice_set, Option, Some, None, Ok, Err, length-set}
-use Rattle.vll_proc.specs.declared.call.Call.{Call}
-use Rattle.vll_core.specs.Machine.{Outcome, rest_of, used, state_after}
-use Rattle.vll_core.specs.Moves.{Move, move}
-use Rattle.vll_core.specs.Shown.{Shown, after}
-use Rattle.vll_core.specs.State.{Opening, State}
+use Rattle.vll_core.proofs.Common.{Call, Outcome, rest_of, used, state_after, Move, move, Shown, after, Opening, State}
 use Rattle.vll_core.proofs.Changes.{Change, change_of, sourced, entered_by, handed, requested, admitted, fronted, picked, woken, loaded, stored, released, finished}
 
 length-used : (s : State) (client : ℕ) → length (used s client) ≡ length s.scripts

@@ -1,15 +1,6 @@
 -- What lawful moves do to counters, and how many open claims a record has.
 use Rattle.std.proofs.Common.{◌≡◌, ℕ, suc, ◌&&◌, not, refl, sym, arith, ◌≤◌, ◌+◌, List, [], ◌∷◌, length, ap, ◌∙◌, slice_get, Some, ◌++◌, take, Option, None, take_all, append-nil}
-use Rattle.std.specs.List.{flat_map}
-use Rattle.vll_core.specs.State.{Entered, State, Turn, open_of, requested_of, counter, delta_on, Opening, open_claims}
-use Rattle.vll_record.specs.Headline.Claim.{is_write}
-use Rattle.vll_record.specs.Claim.{IsRising, conflict}
-use Rattle.vll_record.specs.Headline.Counter.{claims_on}
-use Rattle.vll_core.specs.Moves.{Move, requested_by, released_by, turn_request, entry_release, delta_if}
-use Rattle.std.proofs.lemmas.List.Concat.{flat_map-cons}
-use Rattle.std.proofs.lemmas.Grind.{flat_map-append}
-use Rattle.std.proofs.lemmas.List.Sums.{count_by-le-length}
-use Rattle.vll_core.specs.Laws.{CountersChangeByDeltas, CountersStayWithinTheLimit}
+use Rattle.vll_core.proofs.Common.{flat_map, Entered, State, Turn, open_of, requested_of, counter, delta_on, Opening, open_claims, is_write, IsRising, conflict, claims_on, Move, requested_by, released_by, turn_request, entry_release, delta_if, flat_map-cons, flat_map-append, count_by-le-length, CountersChangeByDeltas, CountersStayWithinTheLimit}
 use Rattle.vll_core.proofs.Tests.{lt_no}
 use Rattle.vll_core.proofs.OwnClaims.{once, on-append, on_part}
 use Rattle.vll_core.proofs.Deltas.{word_on, counter_request, counter_release, counter_same}

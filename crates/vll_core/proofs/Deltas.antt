@@ -1,20 +1,6 @@
 -- What each event does to counters.
 use Rattle.std.proofs.Common.{◌≡◌, ℕ, Bool, true, false, ◌==◌, not, refl, sym, arith, ◌+◌, List, [], ◌∷◌, drop, ap, ◌∙◌, slice_get, slice_set, Some, cond, ◌++◌, take, add-one, if◌then◌else◌, count_by}
-use Rattle.std.proofs.lemmas.Option.{slice_get_within}
-use Rattle.std.specs.List.{flat_map}
-use Rattle.vll_core.specs.Machine.{with_entry}
-use Rattle.vll_core.specs.State.{Entered, State, Turn, open_of, requested_of, counter, delta_on}
-use Rattle.vll_record.specs.declared.claim.Claim.{Claim}
-use Rattle.std.proofs.lemmas.List.Elements.{filter-append}
-use Rattle.std.proofs.lemmas.List.{take-append-drop, set_split}
-use Rattle.vll_record.specs.Headline.Claim.{is_write}
-use Rattle.vll_record.specs.Headline.Counter.{claims_on, pair_word_of}
-use Rattle.vll_record.specs.Counter.{delta_of}
-use Rattle.vll_record.specs.declared.claim.Mode.TheVariants.{Read, Write}
-use Rattle.vll_record.specs.declared.claim.Mode.{Mode}
-use Rattle.std.proofs.lemmas.List.Concat.{flat_map-cons}
-use Rattle.std.proofs.lemmas.Grind.{flat_map-append}
-use Rattle.std.proofs.lemmas.List.Sums.{sum_by-append}
+use Rattle.vll_core.proofs.Common.{slice_get_within, flat_map, with_entry, Entered, State, Turn, open_of, requested_of, counter, delta_on, Claim, filter-append, take-append-drop, set_split, is_write, claims_on, pair_word_of, delta_of, Read, Write, Mode, flat_map-cons, flat_map-append, sum_by-append}
 use Rattle.vll_core.proofs.Places.{take_next, drop_next}
 
 count_by-append : (p : Claim → Bool) (xs ys : List Claim) → count_by p (xs ++ ys) ≡ count_by p xs + count_by p ys

@@ -1,15 +1,6 @@
 -- Lists of events that lead from a state to another, none of them Find, Enter or Scan and none refused.
 use Rattle.std.proofs.Common.{◌≡◌, ℕ, ◌+◌, ◌<◌, ◌^◌, true, false, List, [], ◌∷◌, ◌++◌, length, All, Ok, Err, Result, is_ok, refl, sym, ap, ◌∙◌, subst, arith, length-append}
-use Rattle.std.proofs.lemmas.List.Elements.{All-nil, All-push}
-use Rattle.vll_core.specs.declared.event.Event.{Event}
-use Rattle.vll_core.specs.declared.refusal.Refusal.{Refusal}
-use Rattle.vll_core.specs.declared.seen.Seen.{Seen}
-use Rattle.vll_core.specs.State.{Opening, State}
-use Rattle.vll_core.specs.Machine.{Outcome, step, state_after, answer_of, answers, run}
-use Rattle.vll_core.specs.Drain.{begins_or_scans, IsDrained}
-use Rattle.vll_core.specs.Private.Draining.{IsNext, left}
-use Rattle.vll_core.specs.Moves.{IsReached}
-use Rattle.vll_core.specs.Shown.{Shown, opening_of, after}
+use Rattle.vll_core.proofs.Common.{All-nil, All-push, Event, Refusal, Seen, Opening, State, Outcome, step, state_after, answer_of, answers, run, begins_or_scans, IsDrained, IsNext, left, IsReached, Shown, opening_of, after}
 use Rattle.vll_core.proofs.Draining.{less_left}
 
 -- one more event after a list

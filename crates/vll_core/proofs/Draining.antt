@@ -1,21 +1,6 @@
 -- Every event but Find, Enter and Scan lessens what is left to do, and leaves no turn open where none was.
 use Rattle.std.proofs.Common.{◌≡◌, ℕ, ◌+◌, ◌*◌, ◌-◌, ◌<◌, ◌≤◌, ◌≢◌, Bool, true, false, ◌==◌, [], ◌∷◌, length, slice_get, get_or, Option, Some, None, Ok, refl, ap, arith}
-use Rattle.std.proofs.lemmas.List.Sums.{count_by-le-length, length-filter, sum_by-append, sum_by-set, sum_by-le-sum_by}
-use Rattle.std.proofs.lemmas.Bool.{or_parts}
-use Rattle.std.proofs.lemmas.Option.{slice_get_within, get_or_from_slice_get}
-use Rattle.vll_record.specs.Headline.Claim.{is_write}
-use Rattle.vll_proc.specs.declared.call.Call.{Call}
-use Rattle.vll_sca.specs.declared.status.Status.{Status}
-use Rattle.vll_sca.specs.declared.status.Status.TheVariants.{Running, Waiting, Gone}
-use Rattle.vll_sca.specs.Headline.Status.{is_waiting}
-use Rattle.vll_sca.specs.Status.{is_running}
-use Rattle.vll_core.specs.declared.event.Event.{Event}
-use Rattle.vll_core.specs.declared.seen.Seen.{Seen}
-use Rattle.vll_core.specs.State.{Opening, Entered, State, Turn, writes, has_aborted}
-use Rattle.vll_core.specs.Machine.{step, with_entry}
-use Rattle.vll_core.specs.Moves.{Move, by_event, IsReached}
-use Rattle.vll_core.specs.Drain.{begins_or_scans, most_of, most_of_turn, most_events}
-use Rattle.vll_core.specs.Private.Draining.{steps_left, turn_left, left}
+use Rattle.vll_core.proofs.Common.{count_by-le-length, length-filter, sum_by-append, sum_by-set, sum_by-le-sum_by, or_parts, slice_get_within, get_or_from_slice_get, is_write, Call, Status, Running, Waiting, Gone, is_waiting, is_running, Event, Seen, Opening, Entered, State, Turn, writes, has_aborted, step, with_entry, Move, by_event, IsReached, begins_or_scans, most_of, most_of_turn, most_events, steps_left, turn_left, left}
 use Rattle.vll_core.proofs.Tests.{and_rest, lt_no, eq_no, eq_same}
 use Rattle.vll_core.proofs.Kept.{IsKept}
 use Rattle.vll_core.proofs.Changes.{Change, change_of, requested, admitted, fronted, loaded, stored, released, finished}

@@ -1,36 +1,7 @@
 -- The event that brings a machine nearer to its end is not refused, and where there is none the machine is at its end.
 use Rattle.std.proofs.Common.{◌≡◌, ℕ, ◌+◌, ◌*◌, ◌<◌, ◌≤◌, ◌^◌, ◌==◌, not, nat_lt, Bool, true, false, List, length, All, slice_get, get_or, Option, Some, None, is_some, is_ok, cond, if◌then◌else◌, refl, sym, ap, ◌∙◌, subst, arith}
-use Rattle.std.specs.Option.{option_map, IfSome}
-use Rattle.std.specs.List.{position, position_or_len}
-use Rattle.std.proofs.lemmas.Bool.{or_from}
-use Rattle.std.proofs.lemmas.List.Sums.{sum_by-le, fails_before_first, passes_at_first}
-use Rattle.std.proofs.lemmas.Map.Views.{exact_unsigned_eq}
-use Rattle.std.proofs.lemmas.Option.{same_Some, slice_get-map, slice_get-get_or, slice_get_within, get_or_from_slice_get}
-use Rattle.vll_record.specs.declared.claim.Claim.{Claim}
-use Rattle.vll_record.specs.declared.claims.TheConstants.{MOST_CLAIMS}
-use Rattle.vll_proc.specs.declared.call.Call.{Call}
-use Rattle.vll_proc.proofs.Called.{claims_few}
-use Rattle.vll_check.specs.Calls.{IsReady, CallsProcedure}
-use Rattle.vll_check.specs.Headline.Catalog.{Catalog}
-use Rattle.vll_check.specs.Catalog.{IsCatalog}
-use Rattle.vll_check.proofs.Fitting.{ready_well}
-use Rattle.vll_sca.specs.declared.status.Status.{Status}
-use Rattle.vll_sca.specs.declared.status.Status.TheVariants.{Running, Waiting, Gone}
-use Rattle.vll_sca.specs.Status.{is_running, is_gone}
-use Rattle.vll_core.specs.declared.event.Event.{Event}
+use Rattle.vll_core.proofs.Common.{option_map, IfSome, position, position_or_len, or_from, sum_by-le, fails_before_first, passes_at_first, exact_unsigned_eq, same_Some, slice_get-map, slice_get-get_or, slice_get_within, get_or_from_slice_get, Claim, MOST_CLAIMS, Call, claims_few, IsReady, CallsProcedure, Catalog, IsCatalog, ready_well, Status, Running, Waiting, Gone, is_running, is_gone, Event, Refusal, OpenTurn, Inside, Execution, Opening, Entered, State, Turn, Outcome, refuse_if, or_refuse, has_stored, running, if_running, front, admit, IsAtEnd, most_of, QueueEntry, statuses, is_left, front_among, waiting_ticket, Shown, opening_of, shown, turn_of, IsMachine, IsNext, steps_left, turn_left, left}
 use Rattle.vll_core.specs.declared.event.Event.TheVariants as event
-use Rattle.vll_core.specs.declared.refusal.Refusal.{Refusal}
-use Rattle.vll_core.specs.declared.machine.OpenTurn.{OpenTurn}
-use Rattle.vll_core.specs.declared.machine.Machine.TheInside.{Inside}
-use Rattle.vll_core.specs.declared.execution.Execution.{Execution}
-use Rattle.vll_core.specs.State.{Opening, Entered, State, Turn}
-use Rattle.vll_core.specs.Machine.{Outcome, refuse_if, or_refuse, has_stored, running, if_running, front, admit}
-use Rattle.vll_core.specs.Drain.{IsAtEnd, most_of}
-use Rattle.vll_core.specs.Queue.{QueueEntry, statuses, is_left, front_among, waiting_ticket}
-use Rattle.vll_core.specs.Shown.{Shown, opening_of}
-use Rattle.vll_core.specs.Private.View.{shown, turn_of}
-use Rattle.vll_core.specs.Private.MachineKept.{IsMachine}
-use Rattle.vll_core.specs.Private.Draining.{IsNext, steps_left, turn_left, left}
 use Rattle.vll_core.proofs.Tests.{lt_no, eq_no, not_no}
 use Rattle.vll_core.proofs.Places.{all_at, entry_at}
 use Rattle.vll_core.proofs.Draining.{entry_most}

@@ -1,29 +1,7 @@
 -- A turn opens, for the next call of a client's script or for one that is handed in.
 use Rattle.std.proofs.Common.{◌≡◌, ℕ, zero, suc, ◌+◌, ◌^◌, ◌<◌, ◌≤◌, ◌↔◌, Bool, true, false, IsTrue, nat_le, refl, sym, ap, ◌∙◌, subst, arith, List, [], ◌∷◌, length, count_by, drop, slice_get, slice_set, Option, Some, None, is_some, IfSome, Result, Ok, Err, add-one, length-set, All}
-use Rattle.std.specs.Option.{option_map}
-use Rattle.std.specs.Vec.{with_item}
-use Rattle.std.specs.Global.{Vec}
-use Rattle.std.proofs.lemmas.Option.{same_Some, slice_get_within}
-use Rattle.vll_proc.specs.declared.call.Call.{Call}
-use Rattle.vll_check.specs.Headline.Calls.{source, with_found}
-use Rattle.vll_check.specs.Calls.{Fits, IsReady}
-use Rattle.vll_check.specs.Headline.Catalog.{Catalog}
-use Rattle.vll_check.specs.Catalog.{IsCatalog}
+use Rattle.vll_core.proofs.Common.{option_map, with_item, Vec, same_Some, slice_get_within, Call, source, with_found, Fits, IsReady, Catalog, IsCatalog, Inside, Refusal, TurnOpen, NoCall, Spent, Busy, OutOfStep, Opened, Status, is_waiting, Base, catalog_of, Entered, Opening, State, Outcome, refuse_if, or_refuse, waiting, first_call, next_call, rest_of, used, kept_for, keeping, ready, enter, step, hand, move, moved, statuses, Shown, library_of, opening_of, turn_of, left_of, shown, IsMachine}
 use Rattle.vll_core.specs.declared.event.Event.TheVariants as event
-use Rattle.vll_core.specs.declared.machine.Machine.TheInside.{Inside}
-use Rattle.vll_core.specs.declared.refusal.Refusal.{Refusal}
-use Rattle.vll_core.specs.declared.refusal.Refusal.TheVariants.{TurnOpen, NoCall, Spent, Busy, OutOfStep}
-use Rattle.vll_core.specs.declared.seen.Seen.TheVariants.{Opened}
-use Rattle.vll_sca.specs.declared.status.Status.{Status}
-use Rattle.vll_sca.specs.Headline.Status.{is_waiting}
-use Rattle.vll_core.specs.Headline.State.{Base, catalog_of}
-use Rattle.vll_core.specs.State.{Entered, Opening, State}
-use Rattle.vll_core.specs.Machine.{Outcome, refuse_if, or_refuse, waiting, first_call, next_call, rest_of, used, kept_for, keeping, ready, enter, step}
-use Rattle.vll_core.specs.Moves.{hand, move, moved}
-use Rattle.vll_core.specs.Queue.{statuses}
-use Rattle.vll_core.specs.Shown.{Shown, library_of, opening_of}
-use Rattle.vll_core.specs.Private.View.{turn_of, left_of, shown}
-use Rattle.vll_core.specs.Private.MachineKept.{IsMachine}
 use Rattle.vll_core.proofs.Tests.{le_no}
 use Rattle.vll_core.proofs.Places.{all_at, entry_at}
 use Rattle.vll_core.proofs.Fitted.{proper_ready}

@@ -1,21 +1,7 @@
 -- The queue's entries lie as lines beside statuses.
 use Rattle.std.proofs.Common.{Bor, if◌then◌else◌, nat_lt, ◌≡◌, ℕ, zero, suc, ◌+◌, ◌<◌, ◌≤◌, Bool, true, false, List, [], ◌∷◌, ◌++◌, length, map, refl, sym, ap, ◌∙◌, arith, slice_get, slice_set, get_or, cond, Option, Some, None}
-use Rattle.std.specs.List.{position, position_or_len, count_by}
-use Rattle.std.proofs.lemmas.List.Sums.{sum_by-cons, sum_by-set, sum_by_push}
-use Rattle.std.proofs.lemmas.Bool.Decides.{nat_tests}
-use Rattle.std.proofs.lemmas.Option.{slice_get_past, slice_get_read, slice_get_within, get_or_from_slice_get}
-use Rattle.std.specs.Option.{option_copied}
+use Rattle.vll_core.proofs.Common.{position, position_or_len, count_by, sum_by-cons, sum_by-set, sum_by_push, nat_tests, slice_get_past, slice_get_read, slice_get_within, get_or_from_slice_get, option_copied, map-set_same, Reply, Line, Status, Running, Waiting, Gone, is_waiting, is_running, is_gone, QueueEntry, Queued, IsQueued, is_left, changed_at, lines, statuses, waiting_ticket, front_among, paired, kept, IsKept}
 use Rattle.std.specs.Slice.{IsItemAt}
-use Rattle.std.proofs.Math.Seq.{map-set_same}
-use Rattle.vll_proc.specs.declared.call.Reply.{Reply}
-use Rattle.vll_core.specs.declared.line.Line.{Line}
-use Rattle.vll_sca.specs.declared.status.Status.{Status}
-use Rattle.vll_sca.specs.declared.status.Status.TheVariants.{Running, Waiting, Gone}
-use Rattle.vll_sca.specs.Headline.Status.{is_waiting}
-use Rattle.vll_sca.specs.Status.{is_running, is_gone}
-use Rattle.vll_core.specs.Queue.{QueueEntry, Queued, IsQueued, is_left, changed_at, lines, statuses, waiting_ticket, front_among}
-use Rattle.vll_core.specs.Private.Paired.{paired}
-use Rattle.vll_core.specs.Private.QueueKept.{kept, IsKept}
 use Rattle.vll_core.specs.declared.queue.Queue.TheInside.{Inside}
 
 pub lines_paired : (ls : List Line) (ss : List Status) → length ls ≡ length ss → map (λ (e : QueueEntry). e.line) (paired ls ss) ≡ ls

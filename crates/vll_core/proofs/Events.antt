@@ -1,24 +1,6 @@
 -- Each event keeps what reached states keep.
 use Rattle.std.proofs.Common.{◌≡◌, ℕ, Bool, true, false, ◌==◌, ◌&&◌, not, refl, sym, arith, ◌<◌, ◌≤◌, nat_lt, nat_le, ◌≢◌, ◌⊎◌, inl, inr, ◌+◌, List, [], ◌∷◌, length, drop, ap, ◌∙◌, subst, slice_get, slice_set, Some, cond, ◌++◌, take, All, Option, None, option_map, if◌then◌else◌, length-append, take_all}
-use Rattle.std.proofs.Math.Seq.{take-length}
-use Rattle.std.proofs.lemmas.Option.{slice_get_within, same_Some, same_Some}
-use Rattle.std.specs.List.{position_or_len, list_any, flat_map}
-use Rattle.vll_core.specs.Machine.{with_entry, has_stored, first_call, next_call, rest_of, used, kept_for, ready, front}
-use Rattle.vll_core.specs.Headline.State.{Base, catalog_of}
-use Rattle.vll_core.specs.State.{Entered, State, Turn, writes, records_before, open_of, is_clear, requested_of, unstored, has_aborted, Opening, open_claims}
-use Rattle.vll_record.specs.declared.claim.Claim.{Claim}
-use Rattle.std.proofs.lemmas.List.Elements.{All-set, All-tail}
-use Rattle.std.proofs.lemmas.List.Folds.{list_any-append}
-use Rattle.std.proofs.lemmas.Map.Views.{exact_unsigned_eq}
-use Rattle.vll_record.specs.Claim.{conflict, conflicts}
-use Rattle.std.proofs.lemmas.Bool.{or_parts}
-use Rattle.vll_core.specs.Moves.{IsProper, EntersProper, AreProper}
-use Rattle.vll_proc.specs.declared.call.Call.{Call}
-use Rattle.vll_check.specs.Headline.Calls.{source, with_found}
-use Rattle.vll_sca.specs.declared.status.Status.{Status}
-use Rattle.vll_sca.specs.Headline.Status.{is_waiting}
-use Rattle.vll_sca.specs.Status.{is_gone, is_running}
-use Rattle.vll_sca.specs.declared.status.Status.TheVariants.{Running, Gone, Waiting}
+use Rattle.vll_core.proofs.Common.{take-length, slice_get_within, same_Some, position_or_len, list_any, flat_map, with_entry, has_stored, first_call, next_call, rest_of, used, kept_for, ready, front, Base, catalog_of, Entered, State, Turn, writes, records_before, open_of, is_clear, requested_of, unstored, has_aborted, Opening, open_claims, Claim, All-set, All-tail, list_any-append, exact_unsigned_eq, conflict, conflicts, or_parts, IsProper, EntersProper, AreProper, Call, source, with_found, Status, is_waiting, is_gone, is_running, Running, Gone, Waiting}
 use Rattle.vll_core.proofs.Tests.{both_true, and_rest, not_no, not_yes, lt_no, le_no, eq_no, eq_same}
 use Rattle.vll_core.proofs.Places.{take_next, drop_next, drop_none, all_at, at_push, below_position}
 use Rattle.vll_core.proofs.OwnClaims.{conflict_none, conflict_both}

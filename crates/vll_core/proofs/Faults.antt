@@ -1,12 +1,9 @@
 -- What follows if no fault applies at an opening.
 use Rattle.std.proofs.Common.{◌≡◌, ℕ, ◌≤◌, Bool, true, false, nat_le, Option, Some, None, if◌then◌else◌, refl}
-use Rattle.std.proofs.lemmas.Bool.{leb-true}
+use Rattle.vll_core.proofs.Common.{leb-true, MOST_RECORDS, MOST_CALLS, MOST_WAITING, Config, is_up_to, config_fault, open_fault}
 use Rattle.vll_sca.specs.declared.bits.TheConstants.{MOST_BITS}
-use Rattle.vll_core.specs.declared.config.TheConstants.{MOST_RECORDS, MOST_CALLS, MOST_WAITING}
-use Rattle.vll_core.specs.declared.config.Config.{Config}
 use Rattle.vll_core.specs.declared.config.OpenFault.{OpenFault}
 use Rattle.vll_core.specs.declared.config.OpenFault.TheVariants.{Records, Limit, Cap, Bits}
-use Rattle.vll_core.specs.Faults.{is_up_to, config_fault, open_fault}
 use Rattle.vll_core.proofs.Tests.{both_true}
 
 -- a number from 1 to the most

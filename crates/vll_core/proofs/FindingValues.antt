@@ -1,19 +1,7 @@
 -- The source of a client's next call is loaded, and its value kept.
 use Rattle.std.proofs.Common.{◌≡◌, ℕ, ◌<◌, Bool, false, refl, sym, ap, ◌∙◌, arith, length, slice_set, slice_index_or, Option, Some, Ok, length-set}
-use Rattle.std.specs.Vec.{with_item}
-use Rattle.vll_record.specs.Word.{value_word_of}
-use Rattle.vll_proc.specs.declared.call.Call.{Call}
-use Rattle.vll_check.specs.Headline.Calls.{source}
+use Rattle.vll_core.proofs.Common.{with_item, value_word_of, Call, source, Inside, TurnOpen, NoCall, OutOfStep, Found, catalog_of, Opening, State, value, Outcome, find, is_turn_of, next_call, or_refuse, refuse_if, step, library_of, opening_of, shown, IsMachine}
 use Rattle.vll_core.specs.declared.event.Event.TheVariants as event
-use Rattle.vll_core.specs.declared.machine.Machine.TheInside.{Inside}
-use Rattle.vll_core.specs.declared.refusal.Refusal.TheVariants.{TurnOpen, NoCall, OutOfStep}
-use Rattle.vll_core.specs.declared.seen.Seen.TheVariants.{Found}
-use Rattle.vll_core.specs.Headline.State.{catalog_of}
-use Rattle.vll_core.specs.State.{Opening, State, value}
-use Rattle.vll_core.specs.Machine.{Outcome, find, is_turn_of, next_call, or_refuse, refuse_if, step}
-use Rattle.vll_core.specs.Shown.{library_of, opening_of}
-use Rattle.vll_core.specs.Private.View.{shown}
-use Rattle.vll_core.specs.Private.MachineKept.{IsMachine}
 use Rattle.vll_core.proofs.WordChanges.{value_word_within, word_read}
 use Rattle.vll_core.proofs.MachineSteps.{Takes, taken_reached, taken_words}
 

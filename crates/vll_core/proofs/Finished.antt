@@ -1,25 +1,6 @@
 -- Where no turn is open and no call waits or runs: each call is gone, and values and counters are those of the end.
 use Rattle.std.proofs.Common.{◌≡◌, ℕ, ◌+◌, ◌≤◌, Bool, true, false, ◌==◌, not, List, [], ◌++◌, length, drop, slice_get, slice_index, Option, Some, None, count_by, cond, refl, ap, ◌∙◌, sym, arith}
-use Rattle.std.proofs.Math.Seq.{take-length}
-use Rattle.std.proofs.lemmas.Bool.{and_left, and_right, false_from_ne_true}
-use Rattle.std.proofs.lemmas.List.{length-map}
-use Rattle.std.proofs.lemmas.List.Sums.{count_by-le-length, count_by_more_yes, length-filter, sum_by-take-le}
-use Rattle.std.proofs.lemmas.Map.Views.{exact_unsigned_eq}
-use Rattle.std.proofs.lemmas.Option.{slice_get_within, slice_get-get_or, get_or_from_slice_get}
-use Rattle.std.specs.List.{list_any, flat_map}
-use Rattle.vll_record.specs.declared.claim.Claim.{Claim}
-use Rattle.vll_record.specs.Headline.Claim.{is_write}
-use Rattle.vll_record.specs.Headline.Counter.{claims_on, pair_word_of}
-use Rattle.vll_proc.specs.Headline.Serial.{Made, end}
-use Rattle.vll_sca.specs.declared.status.Status.{Status}
-use Rattle.vll_sca.specs.declared.status.Status.TheVariants.{Running, Waiting, Gone}
-use Rattle.vll_sca.specs.Headline.Status.{is_waiting}
-use Rattle.vll_sca.specs.Status.{is_running, is_gone}
-use Rattle.vll_core.specs.Drain.{IsAtEnd}
-use Rattle.vll_core.specs.Moves.{IsReached}
-use Rattle.vll_core.specs.Laws.{FinishedMachinesHaveTheSerialEnd}
-use Rattle.vll_core.specs.Headline.State.{Base}
-use Rattle.vll_core.specs.State.{Opening, Entered, State, Turn, made, entered, writes, open_of, requested_of, records_before, counter, will_store, unstored, value, has_aborted}
+use Rattle.vll_core.proofs.Common.{take-length, and_left, and_right, false_from_ne_true, length-map, count_by-le-length, count_by_more_yes, length-filter, sum_by-take-le, exact_unsigned_eq, slice_get_within, slice_get-get_or, get_or_from_slice_get, list_any, flat_map, Claim, is_write, claims_on, pair_word_of, Made, end, Status, Running, Waiting, Gone, is_waiting, is_running, is_gone, IsAtEnd, IsReached, FinishedMachinesHaveTheSerialEnd, Base, Opening, Entered, State, Turn, made, entered, writes, open_of, requested_of, records_before, counter, will_store, unstored, value, has_aborted}
 use Rattle.vll_core.proofs.Tests.{both_true, or_rest, none_pos, at_least}
 use Rattle.vll_core.proofs.Places.{drop_none}
 use Rattle.vll_core.proofs.Clear.{none_open}

@@ -1,27 +1,7 @@
 -- The end of a running call of a machine: what it finds, and what the machine is after it.
 use Rattle.std.proofs.Common.{◌≡◌, ℕ, ◌||◌, Bool, true, false, not, nat_lt, refl, sym, ap, ◌∙◌, arith, ⊎_elim, List, length, slice_get, Option, Some, is_some, Ok}
-use Rattle.std.specs.Option.{option_map}
-use Rattle.std.proofs.lemmas.Bool.{or_right}
-use Rattle.std.proofs.lemmas.Bool.Decides.{nat_tests}
-use Rattle.std.proofs.lemmas.Option.{same_Some, slice_get-map, slice_get_cases}
-use Rattle.vll_record.specs.declared.claim.Claim.{Claim}
-use Rattle.vll_proc.specs.declared.call.Call.{Call}
-use Rattle.vll_proc.specs.declared.call.Reply.{Reply}
-use Rattle.vll_proc.specs.Headline.Serial.{apply}
+use Rattle.vll_core.proofs.Common.{option_map, or_right, nat_tests, same_Some, slice_get-map, slice_get_cases, Claim, Call, Reply, apply, Inside, TurnOpen, NotRunning, OutOfStep, Replied, Status, Running, Waiting, Gone, Execution, is_running, Entered, Opening, State, reply_at, Outcome, step, refuse_if, or_refuse, running, has_stored, with_entry, QueueEntry, Queued, statuses, finished, opening_of, entered_of, shown, IsMachine}
 use Rattle.vll_core.specs.declared.event.Event.TheVariants as event
-use Rattle.vll_core.specs.declared.machine.Machine.TheInside.{Inside}
-use Rattle.vll_core.specs.declared.refusal.Refusal.TheVariants.{TurnOpen, NotRunning, OutOfStep}
-use Rattle.vll_core.specs.declared.seen.Seen.TheVariants.{Replied}
-use Rattle.vll_sca.specs.declared.status.Status.{Status}
-use Rattle.vll_sca.specs.declared.status.Status.TheVariants.{Running, Waiting, Gone}
-use Rattle.vll_core.specs.declared.execution.Execution.{Execution}
-use Rattle.vll_sca.specs.Status.{is_running}
-use Rattle.vll_core.specs.State.{Entered, Opening, State, reply_at}
-use Rattle.vll_core.specs.Machine.{Outcome, step, refuse_if, or_refuse, running, has_stored, with_entry}
-use Rattle.vll_core.specs.Queue.{QueueEntry, Queued, statuses, finished}
-use Rattle.vll_core.specs.Shown.{opening_of}
-use Rattle.vll_core.specs.Private.View.{entered_of, shown}
-use Rattle.vll_core.specs.Private.MachineKept.{IsMachine}
 use Rattle.vll_core.proofs.MachineState.{entry_changed, made_changed, ready_same, at_work_same, replied_changed, queued_finished, length_changed}
 use Rattle.vll_core.proofs.MachineSteps.{Refuses, Takes, taken_reached, taken_words}
 use Rattle.vll_core.proofs.RunningCalls.{RunsAt, now_at, now_shown, stored_by_work, stored_shown, replies}

@@ -1,9 +1,6 @@
 -- The words at the opening, as the list that is written.
 use Rattle.std.proofs.Common.{◌≡◌, ℕ, zero, suc, ◌+◌, ◌*◌, ◌<◌, List, [], ◌∷◌, ◌++◌, length, take, refl, sym, ap, ◌∙◌, arith, get_or, slice_index, append_assoc}
-use Rattle.std.proofs.lemmas.List.{take_more}
-use Rattle.vll_record.specs.Headline.Word.{pair_word_of_record}
-use Rattle.vll_record.specs.Word.{value_word_of}
-use Rattle.vll_core.specs.Private.FirstWords.{AreFirstWords}
+use Rattle.vll_core.proofs.Common.{take_more, pair_word_of_record, value_word_of, AreFirstWords}
 
 -- each value, followed by pair word 0
 abbrev pub laid : List ℕ → List ℕ

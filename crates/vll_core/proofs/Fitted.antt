@@ -1,18 +1,6 @@
 -- Calls that are ready are proper on the library's procedures, and calls that a library makes are so as they enter.
 use Rattle.std.proofs.Common.{◌≡◌, ℕ, List, length, Option, Some, None, refl, ap, subst}
-use Rattle.std.specs.List.{All}
-use Rattle.std.proofs.lemmas.List.Elements.{All-weaker}
-use Rattle.vll_proc.specs.declared.call.Call.{Call}
-use Rattle.vll_proc.specs.Made.{IsCallOf}
-use Rattle.vll_proc.proofs.Kept.{slice_index-applied}
-use Rattle.vll_check.specs.Headline.Calls.{source, with_found}
-use Rattle.vll_check.specs.Calls.{Fits}
-use Rattle.vll_check.specs.Headline.Catalog.{Catalog}
-use Rattle.vll_check.specs.Catalog.{IsCatalog}
-use Rattle.vll_check.proofs.Fitting.{ready_well, ready_without}
-use Rattle.vll_core.specs.Headline.State.{Base, catalog_of}
-use Rattle.vll_core.specs.Moves.{IsProper, EntersProper}
-use Rattle.vll_core.specs.Laws.{ReadyCallIsProper, FittingScriptsAreProper}
+use Rattle.vll_core.proofs.Common.{All, All-weaker, Call, IsCallOf, slice_index-applied, source, with_found, Fits, Catalog, IsCatalog, ready_well, ready_without, Base, catalog_of, IsProper, EntersProper, ReadyCallIsProper, FittingScriptsAreProper}
 use Rattle.vll_core.proofs.Proper.{proper_call}
 
 -- a call that is ready is proper, whatever is in the records

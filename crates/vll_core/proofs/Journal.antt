@@ -1,23 +1,7 @@
 -- What a machine reports of its entered calls: the status of each, and the lines of the journal.
 use Rattle.std.proofs.Common.{◌≡◌, ℕ, zero, suc, ◌+◌, ◌<◌, Bool, true, false, List, [], ◌∷◌, length, map, refl, sym, ap, zero-add, add-zero, ◌∙◌, arith, slice_get, Option, Some, None, is_some, if◌then◌else◌}
-use Rattle.std.specs.List.{enumerate_from}
-use Rattle.std.specs.Option.{option_map}
-use Rattle.std.proofs.lemmas.Bool.{eqb-true}
-use Rattle.std.proofs.lemmas.Option.{same_Some, slice_get-map}
-use Rattle.vll_proc.specs.declared.call.Reply.{Reply}
-use Rattle.vll_proc.specs.Headline.Serial.{Made, apply, before}
-use Rattle.vll_core.specs.declared.line.Line.{Line}
-use Rattle.vll_core.specs.declared.machine.Machine.TheInside.{Inside}
-use Rattle.vll_sca.specs.declared.status.Status.{Status}
-use Rattle.vll_core.specs.declared.execution.Execution.{Execution}
-use Rattle.vll_sca.specs.Status.{is_gone}
-use Rattle.vll_core.specs.Headline.State.{Base}
-use Rattle.vll_core.specs.State.{Entered, reply_at}
-use Rattle.vll_core.specs.Queue.{QueueEntry, lines, statuses, has_reply}
+use Rattle.vll_core.proofs.Common.{enumerate_from, option_map, eqb-true, same_Some, slice_get-map, Reply, Made, apply, before, Line, Inside, Status, Execution, is_gone, Base, Entered, reply_at, QueueEntry, lines, statuses, has_reply, Shown, opening_of, shown, entered_of, entries_of, IsMachine}
 use Rattle.vll_core.specs.Journal.{reply_of, line_of, journal_of}
-use Rattle.vll_core.specs.Shown.{Shown, opening_of}
-use Rattle.vll_core.specs.Private.View.{shown, entered_of, entries_of}
-use Rattle.vll_core.specs.Private.MachineKept.{IsMachine}
 use Rattle.vll_core.proofs.Tests.{both_true}
 use Rattle.vll_core.proofs.Kept.{IsEntryKept}
 use Rattle.vll_core.proofs.Reached.{kept_reached}

@@ -1,16 +1,6 @@
 -- What every reached state keeps, and that a changed entry keeps it.
 use Rattle.std.proofs.Common.{◌≡◌, ℕ, Bool, true, false, ◌==◌, ◌&&◌, not, sym, ◌<◌, ◌≤◌, ◌||◌, ◌⊎◌, inl, inr, List, length, ap, ◌∙◌, subst, slice_get, Some, take, length-set}
-use Rattle.std.proofs.lemmas.Option.{same_Some, same_Some}
-use Rattle.std.specs.List.{list_any, flat_map}
-use Rattle.vll_core.specs.Machine.{with_entry}
-use Rattle.vll_core.specs.Headline.State.{Base}
-use Rattle.vll_core.specs.State.{Entered, State, Turn, made, writes, records_before, is_aborted, open_of, is_clear, Opening}
-use Rattle.vll_proc.specs.Headline.Serial.{apply}
-use Rattle.vll_record.specs.declared.claim.Claim.{Claim}
-use Rattle.vll_record.specs.Claim.{conflict, conflicts}
-use Rattle.vll_core.specs.Moves.{IsProper, AreProper}
-use Rattle.vll_sca.specs.Headline.Status.{is_waiting}
-use Rattle.vll_sca.specs.Status.{is_gone}
+use Rattle.vll_core.proofs.Common.{same_Some, list_any, flat_map, with_entry, Base, Entered, State, Turn, made, writes, records_before, is_aborted, open_of, is_clear, Opening, apply, Claim, conflict, conflicts, IsProper, AreProper, is_waiting, is_gone}
 use Rattle.vll_core.proofs.Tests.{not_yes}
 use Rattle.vll_core.proofs.Places.{at_set}
 use Rattle.vll_core.proofs.SerialRun.{proper_keeps, records_same}

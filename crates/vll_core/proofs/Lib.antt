@@ -1,3 +1,4 @@
+mod Common
 mod Procedures
 mod Rows
 pub mod Tests

@@ -1,26 +1,7 @@
 -- A load of a running call of a machine: what it finds, and what the machine is after it.
 use Rattle.std.proofs.Common.{◌≡◌, ℕ, ◌+◌, ◌<◌, true, refl, sym, ap, ◌∙◌, subst, arith, List, length, slice_get, slice_set, slice_index, slice_index_or, Option, Some, None, Ok, Err, length-set}
-use Rattle.std.specs.Vec.{with_item}
-use Rattle.std.proofs.lemmas.List.{get_or_default}
-use Rattle.std.proofs.lemmas.Option.{same_Some, slice_get_within}
-use Rattle.vll_record.specs.declared.claim.Claim.{Claim}
-use Rattle.vll_record.specs.Word.{value_word_of}
-use Rattle.vll_proc.specs.declared.call.Call.{Call}
+use Rattle.vll_core.proofs.Common.{with_item, get_or_default, same_Some, slice_get_within, Claim, value_word_of, Call, Inside, NotRunning, OutOfStep, Loaded, Execution, is_gone, is_running, Status, Running, Waiting, Gone, Entered, Opening, State, value, Outcome, step, or_refuse, running, with_entry, QueueEntry, opening_of, entered_of, shown, IsAtWork, IsMachine}
 use Rattle.vll_core.specs.declared.event.Event.TheVariants as event
-use Rattle.vll_core.specs.declared.machine.Machine.TheInside.{Inside}
-use Rattle.vll_core.specs.declared.refusal.Refusal.TheVariants.{NotRunning, OutOfStep}
-use Rattle.vll_core.specs.declared.seen.Seen.TheVariants.{Loaded}
-use Rattle.vll_core.specs.declared.execution.Execution.{Execution}
-use Rattle.vll_sca.specs.Status.{is_gone, is_running}
-use Rattle.vll_sca.specs.declared.status.Status.{Status}
-use Rattle.vll_sca.specs.declared.status.Status.TheVariants.{Running, Waiting, Gone}
-use Rattle.vll_core.specs.State.{Entered, Opening, State, value}
-use Rattle.vll_core.specs.Machine.{Outcome, step, or_refuse, running, with_entry}
-use Rattle.vll_core.specs.Queue.{QueueEntry}
-use Rattle.vll_core.specs.Shown.{opening_of}
-use Rattle.vll_core.specs.Private.View.{entered_of, shown}
-use Rattle.vll_core.specs.Private.Execution.{IsAtWork}
-use Rattle.vll_core.specs.Private.MachineKept.{IsMachine}
 use Rattle.vll_core.proofs.Places.{all_at}
 use Rattle.vll_core.proofs.Reached.{load_reached}
 use Rattle.vll_core.proofs.MachineState.{entry_shown, work_put, at_work_put, replied_put}

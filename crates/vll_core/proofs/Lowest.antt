@@ -1,14 +1,6 @@
 -- The lowest ticket that is not gone, by the window of the queue.
 use Rattle.std.proofs.Common.{◌≡◌, ℕ, ◌+◌, ◌<◌, ◌≤◌, Bool, true, false, not, nat_lt, List, [], ◌∷◌, length, map, get_or, slice_get, Option, Some, None, cond, refl, sym, ap, ◌∙◌, arith}
-use Rattle.std.specs.List.{position, position_or_len, range_with_len}
-use Rattle.std.proofs.lemmas.Bool.Decides.{nat_tests}
-use Rattle.std.proofs.lemmas.List.FromFn.{fill_by_all, length-range_with_len, get_or-range_with_len}
-use Rattle.std.proofs.lemmas.Option.{slice_get-get_or, slice_get_past}
-use Rattle.vll_sca.specs.declared.status.Status.{Status}
-use Rattle.vll_sca.specs.declared.status.Status.TheVariants.{Gone}
-use Rattle.vll_core.specs.Queue.{Queued, statuses, is_left}
-use Rattle.vll_core.specs.Private.Window.{is_left_at, first_left}
-use Rattle.vll_core.specs.Private.QueueKept.{kept, IsKept}
+use Rattle.vll_core.proofs.Common.{position, position_or_len, range_with_len, nat_tests, fill_by_all, length-range_with_len, get_or-range_with_len, slice_get-get_or, slice_get_past, Status, Gone, Queued, statuses, is_left, is_left_at, first_left, kept, IsKept}
 use Rattle.vll_core.specs.declared.queue.Queue.TheInside.{Inside}
 use Rattle.vll_core.proofs.Entries.{shown_statuses}
 use Rattle.vll_core.proofs.Windows.{first_is_head}

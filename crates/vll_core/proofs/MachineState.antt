@@ -1,25 +1,6 @@
 -- What a machine shows of its queue and its works, and what stays where one of their entries changes.
 use Rattle.std.proofs.Common.{◌≡◌, ℕ, zero, suc, true, ◌<◌, ◌⊎◌, inl, inr, ⊎_elim, refl, sym, ap, ◌∙◌, subst, arith, List, [], ◌∷◌, ◌++◌, length, map, count_by, slice_get, slice_set, Option, Some, None, All, Bool, false, cond, ◌+◌, ◌≤◌, length-set, length-append}
-use Rattle.std.specs.Option.{option_map}
-use Rattle.std.proofs.lemmas.Option.{same_Some, slice_get-map, slice_get_within, get_or_from_slice_get}
-use Rattle.std.proofs.lemmas.List.{map-append, length-map, take-append-le}
-use Rattle.std.proofs.lemmas.List.Folds.{fold-map}
-use Rattle.vll_proc.specs.declared.call.Call.{Call}
-use Rattle.vll_proc.specs.declared.call.Reply.{Reply}
-use Rattle.vll_proc.specs.Headline.Serial.{Made, before, end}
-use Rattle.vll_check.specs.Calls.{IsReady}
-use Rattle.vll_check.specs.Headline.Catalog.{Catalog}
-use Rattle.vll_core.specs.declared.line.Line.{Line}
-use Rattle.vll_sca.specs.declared.status.Status.{Status}
-use Rattle.vll_sca.specs.declared.status.Status.TheVariants.{Running, Waiting, Gone}
-use Rattle.vll_core.specs.declared.execution.Execution.{Execution}
-use Rattle.vll_sca.specs.Headline.Status.{is_waiting}
-use Rattle.vll_sca.specs.Status.{is_gone}
-use Rattle.vll_core.specs.State.{Entered, made}
-use Rattle.vll_core.specs.Queue.{QueueEntry, Queued, IsQueued, has_reply, lines, statuses, changed_at, started, finished, admitted}
-use Rattle.vll_core.specs.Private.View.{entered_of, entries_of}
-use Rattle.vll_core.specs.Private.Execution.{IsAtWork}
-use Rattle.vll_core.specs.Private.MachineKept.{made_of, AreAtWork, AreReplied}
+use Rattle.vll_core.proofs.Common.{option_map, same_Some, slice_get-map, slice_get_within, get_or_from_slice_get, map-append, length-map, take-append-le, fold-map, Call, Reply, Made, before, end, IsReady, Catalog, Line, Status, Running, Waiting, Gone, Execution, is_waiting, is_gone, Entered, made, QueueEntry, Queued, IsQueued, has_reply, lines, statuses, changed_at, started, finished, admitted, entered_of, entries_of, IsAtWork, made_of, AreAtWork, AreReplied}
 use Rattle.vll_core.proofs.Places.{all_at, entry_at, at_set, at_push}
 use Rattle.vll_core.proofs.Entries.{starts, fewer_wait, one_more_waits}
 use Rattle.vll_core.proofs.QueueLaws.{changed_there, map_changed, map_unchanged, lines_started, statuses_started, statuses_finished, lines_admitted, statuses_admitted}

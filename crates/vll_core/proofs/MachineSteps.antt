@@ -1,16 +1,6 @@
 -- What a machine owes for an event, from what the plain machine does with it.
 use Rattle.std.proofs.Common.{◌≡◌, ℕ, Bool, false, refl, sym, ap, ◌∙◌, subst, Option, Some, None, is_some, Result, Ok, Err}
-use Rattle.vll_check.specs.Headline.Catalog.{Catalog}
-use Rattle.vll_core.specs.declared.event.Event.{Event}
-use Rattle.vll_core.specs.declared.machine.Machine.TheInside.{Inside}
-use Rattle.vll_core.specs.declared.machine.OpenTurn.{OpenTurn}
-use Rattle.vll_core.specs.declared.refusal.Refusal.{Refusal}
-use Rattle.vll_core.specs.declared.seen.Seen.{Seen}
-use Rattle.vll_core.specs.Machine.{Outcome, step, answer_of}
-use Rattle.vll_core.specs.Moves.{IsReached, by_event, moved, requested_by, released_by, stored_by}
-use Rattle.vll_core.specs.Shown.{Shown, AreWords, library_of, opening_of, after}
-use Rattle.vll_core.specs.Private.View.{turn_of, shown}
-use Rattle.vll_core.specs.Private.MachineKept.{IsMachine}
+use Rattle.vll_core.proofs.Common.{Catalog, Event, Inside, OpenTurn, Refusal, Seen, Outcome, step, answer_of, IsReached, by_event, moved, requested_by, released_by, stored_by, Shown, AreWords, library_of, opening_of, after, turn_of, shown, IsMachine}
 use Rattle.vll_core.proofs.WordsKept.{words_stay}
 
 -- no turn is shown where none is kept

@@ -1,16 +1,6 @@
 -- The claim that an event of a running call is of, by the execution of the call.
 use Rattle.std.proofs.Common.{◌≡◌, ℕ, sym, ap, ◌∙◌, slice_get, slice_index_or, Option, Some, None, option_map}
-use Rattle.vll_record.specs.declared.claim.Claim.{Claim}
-use Rattle.vll_proc.specs.declared.call.Call.{Call}
-use Rattle.vll_core.specs.declared.machine.Machine.TheInside.{Inside}
-use Rattle.vll_core.specs.declared.execution.Execution.{Execution}
-use Rattle.vll_core.specs.Machine.{running}
-use Rattle.vll_core.specs.State.{Entered, writes}
-use Rattle.vll_core.specs.Moves.{entry_store, entry_release}
-use Rattle.vll_core.specs.Next.{entry_load}
-use Rattle.vll_core.specs.Shown.{Shown}
-use Rattle.vll_core.specs.Private.View.{shown}
-use Rattle.vll_core.specs.Private.MachineKept.{IsMachine}
+use Rattle.vll_core.proofs.Common.{Claim, Call, Inside, Execution, running, Entered, writes, entry_store, entry_release, entry_load, Shown, shown, IsMachine}
 use Rattle.vll_core.proofs.RunningWorks.{Runs, runs_of}
 
 -- no call runs, so nothing is next

@@ -1,15 +1,6 @@
 -- A ticket starts once: what is gone stays, and what has started does not wait again.
 use Rattle.std.proofs.Common.{◌≡◌, ◌≢◌, ℕ, Bool, true, false, refl, sym, ap, ◌∙◌, subst, ⊎_elim, slice_get, slice_set, Option, Some, None, if◌then◌else◌}
-use Rattle.std.proofs.lemmas.Bool.{cases_eq}
-use Rattle.std.proofs.lemmas.Option.{same_Some}
-use Rattle.vll_sca.specs.declared.status.Status.{Status}
-use Rattle.vll_sca.specs.declared.status.Status.TheVariants.{Running, Waiting, Gone}
-use Rattle.vll_sca.specs.Headline.Status.{is_waiting}
-use Rattle.vll_sca.specs.Status.{is_running, is_gone}
-use Rattle.vll_core.specs.State.{Opening, Entered, State}
-use Rattle.vll_core.specs.Machine.{if_running, with_entry}
-use Rattle.vll_core.specs.Moves.{Move, Leads, stays, goes}
-use Rattle.vll_core.specs.Laws.{GoneTicketsStay, StartedTicketsDoNotWait, TicketsStartOnce}
+use Rattle.vll_core.proofs.Common.{cases_eq, same_Some, Status, Running, Waiting, Gone, is_waiting, is_running, is_gone, Opening, Entered, State, if_running, with_entry, Move, Leads, stays, goes, GoneTicketsStay, StartedTicketsDoNotWait, TicketsStartOnce}
 use Rattle.vll_core.proofs.Places.{get_set, get_set_other, get_pushed}
 use Rattle.vll_core.proofs.Changes.{Change, change_of, sourced, entered_by, handed, requested, admitted, fronted, picked, woken, loaded, stored, released, finished}
 

@@ -1,19 +1,6 @@
 -- Which records the claims of a call name: rising claims name each record once.
 use Rattle.std.proofs.Common.{◌≡◌, ℕ, zero, suc, Bool, true, false, ◌==◌, refl, sym, arith, ◌<◌, ◌≤◌, ◌||◌, ◌+◌, List, [], ◌∷◌, length, drop, ap, ◌∙◌, slice_get, Some, cond, ◌++◌, take, Option, None, filter, if◌then◌else◌, length-append}
-use Rattle.std.proofs.lemmas.Option.{same_Some, same_Some}
-use Rattle.std.specs.List.{list_any}
-use Rattle.vll_record.specs.declared.claim.Claim.{Claim}
-use Rattle.std.proofs.lemmas.List.Elements.{filter-append}
-use Rattle.std.proofs.lemmas.List.Folds.{list_any-append}
-use Rattle.std.proofs.lemmas.List.{take-append-drop}
-use Rattle.std.proofs.lemmas.Map.Views.{exact_unsigned_eq}
-use Rattle.vll_record.proofs.Rising.{RisesFrom, RisesFrom-zero}
-use Rattle.vll_record.specs.Headline.Claim.{is_write}
-use Rattle.vll_record.specs.Claim.{IsRising, conflict, conflicts, mode_on, stronger_of}
-use Rattle.vll_record.specs.Headline.Counter.{claims_on}
-use Rattle.vll_record.specs.declared.claim.Mode.TheVariants.{Read, Write}
-use Rattle.vll_record.specs.declared.claim.Mode.{Mode}
-use Rattle.std.proofs.lemmas.Bool.{and_from, or_parts, or_left, or_right}
+use Rattle.vll_core.proofs.Common.{same_Some, list_any, Claim, filter-append, list_any-append, take-append-drop, exact_unsigned_eq, RisesFrom, RisesFrom-zero, is_write, IsRising, conflict, conflicts, mode_on, stronger_of, claims_on, Read, Write, Mode, and_from, or_parts, or_left, or_right}
 
 -- a member that passes a test
 pub hit : (p : Claim → Bool) (cs : List Claim) (n : ℕ) (c : Claim) → slice_get cs n ≡ Some c → p c ≡ true → list_any p cs ≡ true

@@ -1,17 +1,6 @@
 -- The ticket that the scan picks: it waits, and no lower one that is not gone conflicts with it.
 use Rattle.std.proofs.Common.{◌≡◌, ℕ, Bool, true, false, not, ◌<◌, map, slice_get, Some, option_map, refl, ap, ◌∙◌, sym}
-use Rattle.std.proofs.lemmas.Bool.{false_from_ne_true}
-use Rattle.std.proofs.lemmas.List.{length-map}
-use Rattle.std.proofs.lemmas.Option.{slice_get-map}
-use Rattle.std.specs.List.{list_any}
-use Rattle.vll_record.specs.declared.claim.Claim.{Claim}
-use Rattle.vll_record.specs.Claim.{conflict, conflicts}
-use Rattle.vll_sca.specs.Scan.{scan}
-use Rattle.vll_sca.specs.Headline.Status.{is_waiting}
-use Rattle.vll_sca.specs.Status.{is_gone}
-use Rattle.vll_sca.proofs.Scanning.{scanned_within, scanned_waits, scanned_is_clear}
-use Rattle.vll_core.specs.Machine.{scanned}
-use Rattle.vll_core.specs.State.{Opening, Entered, State, open_of, is_clear}
+use Rattle.vll_core.proofs.Common.{false_from_ne_true, length-map, slice_get-map, list_any, Claim, conflict, conflicts, scan, is_waiting, is_gone, scanned_within, scanned_waits, scanned_is_clear, scanned, Opening, Entered, State, open_of, is_clear}
 use Rattle.vll_core.proofs.Places.{drop_none, entry_at}
 use Rattle.vll_core.proofs.OwnClaims.{drop_any}
 use Rattle.vll_core.proofs.Clear.{none_met}

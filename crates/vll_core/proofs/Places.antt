@@ -1,10 +1,6 @@
 -- Which item stands at which place of a list.
 use Rattle.std.proofs.Common.{◌≡◌, ◌≢◌, ℕ, zero, suc, Bool, true, false, not, refl, sym, arith, ◌<◌, ◌≤◌, ◌⊎◌, inl, inr, ◌+◌, List, [], ◌∷◌, length, drop, ap, ◌∙◌, subst, slice_get, slice_set, Some, cond, ◌++◌, take, add-one, ⊎_elim, All}
-use Rattle.std.proofs.Math.Seq.{take-suc, drop-cons}
-use Rattle.std.proofs.lemmas.Option.{slice_get_within, get_or_from_slice_get, same_Some, same_Some}
-use Rattle.std.specs.List.{position_or_len}
-use Rattle.vll_core.specs.State.{Entered}
-use Rattle.vll_record.specs.declared.claim.Claim.{Claim}
+use Rattle.vll_core.proofs.Common.{take-suc, drop-cons, slice_get_within, get_or_from_slice_get, same_Some, position_or_len, Entered, Claim}
 
 pub take_next : {A : Type 0} (xs : List A) (n : ℕ) (x : A) → slice_get xs n ≡ Some x → take (n + 1) xs ≡ take n xs ++ x ∷ []
 take_next xs n x h = rw (add-one n, take-suc xs n x (slice_get_within xs n x h), get_or_from_slice_get xs n x x h) refl

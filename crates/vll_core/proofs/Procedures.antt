@@ -1,17 +1,14 @@
 -- The procedures of the worked rows, calls of them, and openings.
 use Rattle.std.proofs.Common.{ℕ, List, [], ◌∷◌, None}
+use Rattle.vll_core.proofs.Common.{Read, Write, Call, Proc, Opening}
 use Rattle.std.specs.Prelude.{codes}
-use Rattle.vll_record.specs.declared.claim.Mode.TheVariants.{Read, Write}
-use Rattle.vll_proc.specs.declared.call.Call.{Call}
 use Rattle.vll_proc.specs.declared.syntax.Edition.TheVariants.{One}
 use Rattle.vll_proc.specs.declared.syntax.KeyAt.TheVariants as at
-use Rattle.vll_proc.specs.declared.syntax.Proc.{Proc}
 use Rattle.vll_proc.specs.declared.syntax.Expr.{Num, Arg, Key, Add, Sub}
 use Rattle.vll_proc.specs.declared.syntax.Stmt.{Set, Reply}
 use Rattle.vll_proc.specs.Headline.Made.{call_of}
 use Rattle.vll_sca.specs.Placing.{placing}
 use Rattle.vll_sca.specs.declared.place.Placing.TheVariants.{Modulo}
-use Rattle.vll_core.specs.State.{Opening}
 
 abbrev pub transfer : Proc
 transfer = record {

@@ -1,15 +1,6 @@
 -- A call that was made for a well-formed procedure is proper.
 use Rattle.std.proofs.Common.{◌≡◌, ◌≢◌, ℕ, List, length, Option, Some, sym, ap, ◌∙◌, subst, slice_get, slice_index}
-use Rattle.vll_record.specs.declared.claim.Mode.TheVariants.{Write}
-use Rattle.vll_record.specs.Claim.{mode_on}
-use Rattle.vll_proc.specs.declared.call.Call.{Call}
-use Rattle.vll_proc.specs.declared.syntax.Proc.{Proc}
-use Rattle.vll_proc.specs.Made.{IsCallOf}
-use Rattle.vll_proc.specs.Headline.Serial.{applied, applied_at}
-use Rattle.vll_proc.specs.WellFormed.{IsWellFormed}
-use Rattle.vll_proc.proofs.Called.{claims_rise}
-use Rattle.vll_core.specs.Headline.State.{Base}
-use Rattle.vll_core.specs.Moves.{IsProper}
+use Rattle.vll_core.proofs.Common.{Write, mode_on, Call, Proc, IsCallOf, applied, applied_at, IsWellFormed, claims_rise, Base, IsProper}
 
 -- a call changes no record that it does not claim for writing
 abbrev pub ChangesClaimedRecordsAlone : Type 0

@@ -1,22 +1,6 @@
 -- The queue stays kept where a call enters, begins to run and finishes, and what it shows is what its definitions say.
 use Rattle.std.proofs.Common.{Vec, Global, vec_capacity, ◌-◌, ◌≡◌, ℕ, ◌+◌, ◌<◌, ◌≤◌, Bool, true, false, List, [], ◌∷◌, ◌++◌, length, map, not, sym, ap, ap₂, ◌∙◌, subst, arith, slice_get, slice_set, get_or, cond, Some, None, length-set, length-append, All}
-use Rattle.std.specs.List.{count_by}
-use Rattle.std.specs.Vec.{with_item}
-use Rattle.std.proofs.lemmas.Bool.{true≢false}
-use Rattle.std.proofs.lemmas.List.{map-append}
-use Rattle.std.proofs.lemmas.List.Sums.{sum_by_push}
-use Rattle.std.proofs.Math.Seq.{map-set}
-use Rattle.vll_proc.specs.declared.call.Reply.{Reply}
-use Rattle.vll_core.specs.declared.line.Line.{Line}
-use Rattle.vll_sca.specs.declared.status.Status.{Status}
-use Rattle.vll_sca.specs.declared.status.Status.TheVariants.{Running, Waiting, Gone}
-use Rattle.vll_sca.specs.Headline.Status.{is_waiting}
-use Rattle.vll_sca.specs.Status.{is_running, is_gone}
-use Rattle.vll_core.specs.Queue.{QueueEntry, Queued, has_reply, admitted, started, finished, found_by}
-use Rattle.vll_core.specs.declared.queue.window.Window.{Window}
-use Rattle.vll_core.specs.Private.Paired.{paired}
-use Rattle.vll_core.specs.Private.Window.{IsWindow, first_left}
-use Rattle.vll_core.specs.Private.QueueKept.{kept, IsKept}
+use Rattle.vll_core.proofs.Common.{count_by, with_item, true≢false, map-append, sum_by_push, map-set, Reply, Line, Status, Running, Waiting, Gone, is_waiting, is_running, is_gone, QueueEntry, Queued, has_reply, admitted, started, finished, found_by, Window, paired, IsWindow, first_left, kept, IsKept}
 use Rattle.vll_core.specs.declared.queue.Queue.TheInside.{Inside}
 use Rattle.vll_core.proofs.Windows.{left_started, first_started, left_finished, first_finished, left_entered, first_entered}
 use Rattle.vll_core.proofs.QueueFruitless.{none_started, none_entered}

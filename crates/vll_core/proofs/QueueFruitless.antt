@@ -1,15 +1,8 @@
 -- Where the contention analysis of the queue finds nothing, it still finds nothing once a call that waits begins to run, or
 -- once a call enters that does not wait.
 use Rattle.std.proofs.Common.{◌≡◌, ℕ, ◌+◌, false, List, [], ◌∷◌, ◌++◌, length, sym, ap, ◌∙◌, slice_get, slice_set, Some, None}
-use Rattle.std.specs.List.{enumerate_from}
-use Rattle.vll_sca.specs.declared.entry.Entry.{Entry}
-use Rattle.vll_sca.specs.declared.status.Status.{Status}
-use Rattle.vll_sca.specs.declared.status.Status.TheVariants.{Running, Waiting}
-use Rattle.vll_sca.specs.Headline.Status.{is_waiting}
-use Rattle.vll_sca.specs.Scan.{scan, scan_numbered}
+use Rattle.vll_core.proofs.Common.{enumerate_from, Entry, Status, Running, Waiting, is_waiting, scan, scan_numbered, Line, seen}
 use Rattle.vll_sca.proofs.Fruitless.{running, none_after_push, none_after_start}
-use Rattle.vll_core.specs.declared.line.Line.{Line}
-use Rattle.vll_core.specs.Private.Paired.{seen}
 use Rattle.vll_core.proofs.Analysed.{SeenAt, seen_at, seen_set, seen_push, numbered_at, numbered_set, numbered_push}
 use Rattle.vll_core.proofs.QueueScan.{scan_by_place}
 

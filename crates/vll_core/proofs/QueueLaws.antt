@@ -1,17 +1,6 @@
 -- What the queue's changes leave of its lines and statuses, and that its front is the plain machine's.
 use Rattle.std.proofs.Common.{◌≡◌, ℕ, zero, suc, ◌+◌, not, cond, nat_lt, List, [], ◌∷◌, ◌++◌, length, map, refl, sym, ap, ◌∙◌, slice_get, slice_set, Option, Some, None}
-use Rattle.std.specs.List.{position, position_or_len}
-use Rattle.std.specs.Option.{option_map}
-use Rattle.std.proofs.lemmas.List.{map-append, length-map}
-use Rattle.std.proofs.lemmas.Option.{slice_get-map}
-use Rattle.vll_proc.specs.declared.call.Reply.{Reply}
-use Rattle.vll_sca.specs.declared.status.Status.{Status}
-use Rattle.vll_sca.specs.declared.status.Status.TheVariants.{Running, Gone}
-use Rattle.vll_sca.specs.Headline.Status.{is_waiting}
-use Rattle.vll_sca.specs.Status.{is_gone}
-use Rattle.vll_core.specs.State.{Entered, State}
-use Rattle.vll_core.specs.Machine.{front}
-use Rattle.vll_core.specs.Queue.{QueueEntry, Queued, lines, statuses, is_left, waiting_ticket, changed_at, front_among, admitted, started, finished}
+use Rattle.vll_core.proofs.Common.{position, position_or_len, option_map, map-append, length-map, slice_get-map, Reply, Status, Running, Gone, is_waiting, is_gone, Entered, State, front, QueueEntry, Queued, lines, statuses, is_left, waiting_ticket, changed_at, front_among, admitted, started, finished}
 use Rattle.vll_core.proofs.Entries.{changed_later}
 
 abbrev status_of : Entered → Status

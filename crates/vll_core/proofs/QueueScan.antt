@@ -1,21 +1,7 @@
 -- A scan of the window finds what the contention analysis of the whole queue finds.
 use Rattle.std.proofs.Common.{◌≡◌, ℕ, ◌+◌, ◌<◌, true, List, [], ◌∷◌, length, map, refl, sym, ap, ap₂, ◌∙◌, arith, slice_get, get_or, Option, Some, None, suc, zero, zero-add, Bool, subst}
-use Rattle.std.specs.List.{enumerate_from, range_with_len}
-use Rattle.std.specs.Option.{option_map}
-use Rattle.std.proofs.lemmas.Bool.{true≢false}
-use Rattle.std.proofs.lemmas.Option.{slice_get-map, slice_get-get_or}
-use Rattle.vll_sca.specs.declared.entry.Entry.{Entry}
-use Rattle.vll_sca.specs.declared.status.Status.{Status}
-use Rattle.vll_sca.specs.declared.status.Status.TheVariants.{Running, Waiting, Gone}
-use Rattle.vll_sca.specs.Headline.Status.{is_waiting}
-use Rattle.vll_sca.specs.Scan.{scan, scan_numbered}
-use Rattle.vll_sca.proofs.Scanning.{scanned_within, scanned_waits}
+use Rattle.vll_core.proofs.Common.{enumerate_from, range_with_len, option_map, true≢false, slice_get-map, slice_get-get_or, Entry, Status, Running, Waiting, Gone, is_waiting, scan, scan_numbered, scanned_within, scanned_waits, Queued, statuses, found_by, Line, seen, left_among, numbered, kept, IsKept}
 use Rattle.vll_sca.proofs.Leaving.{gone_entries_do_not_matter}
-use Rattle.vll_core.specs.Queue.{Queued, statuses, found_by}
-use Rattle.vll_core.specs.declared.line.Line.{Line}
-use Rattle.vll_core.specs.Private.Paired.{seen}
-use Rattle.vll_core.specs.Private.Window.{left_among, numbered}
-use Rattle.vll_core.specs.Private.QueueKept.{kept, IsKept}
 use Rattle.vll_core.specs.declared.queue.Queue.TheInside.{Inside}
 use Rattle.vll_core.proofs.Entries.{shown_statuses}
 use Rattle.vll_core.proofs.Analysed.{seen_statuses}

@@ -1,17 +1,6 @@
 -- Every reached state keeps what reached states keep.
 use Rattle.std.proofs.Common.{◌≡◌, ℕ, false, refl, sym, arith, ◌≤◌, List, [], ◌∷◌, length, ap, ◌∙◌, slice_get, None, Ok, Err}
-use Rattle.std.proofs.lemmas.Option.{same_Some, same_Some}
-use Rattle.vll_core.specs.Machine.{step, Outcome, opened, run, state_after}
-use Rattle.vll_core.specs.State.{Entered, State, records_before, value, is_clear, Opening}
-use Rattle.vll_proc.specs.Headline.Serial.{before}
-use Rattle.vll_record.specs.declared.claim.Claim.{Claim}
-use Rattle.vll_core.specs.Moves.{AreProper, Move, by_event, IsLawful, IsReached, begun, moved}
-use Rattle.vll_sca.specs.Headline.Status.{is_waiting}
-use Rattle.vll_sca.specs.Status.{is_running}
-use Rattle.vll_core.specs.declared.seen.Seen.TheVariants.{Loaded}
-use Rattle.vll_core.specs.declared.seen.Seen.{Seen}
-use Rattle.vll_core.specs.declared.event.Event.{Event}
-use Rattle.vll_core.specs.Laws.{FrontTicketIsClear, ScanTicketIsClear, OpenTurnsHaveRoom, WaitingStaysWithinTheCap, EventListsReach, SerialStatesStay, RunningTicketsAreClear, LoadsSeeTheSerialState}
+use Rattle.vll_core.proofs.Common.{same_Some, step, Outcome, opened, run, state_after, Entered, State, records_before, value, is_clear, Opening, before, Claim, AreProper, Move, by_event, IsLawful, IsReached, begun, moved, is_waiting, is_running, Loaded, Seen, Event, FrontTicketIsClear, ScanTicketIsClear, OpenTurnsHaveRoom, WaitingStaysWithinTheCap, EventListsReach, SerialStatesStay, RunningTicketsAreClear, LoadsSeeTheSerialState}
 use Rattle.vll_core.proofs.SerialRun.{records_same, records_pushed}
 use Rattle.vll_core.proofs.Sound.{load_sees}
 use Rattle.vll_core.proofs.Kept.{IsKept, sound_of}

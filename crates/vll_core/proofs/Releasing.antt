@@ -1,25 +1,7 @@
 -- A running call of a machine releases a claim.
 use Rattle.std.proofs.Common.{◌≡◌, ℕ, ◌+◌, ◌-◌, ◌<◌, ◌≤◌, Bool, true, false, not, List, length, Option, Some, None, Ok, slice_get, slice_index, slice_index_or, slice_set, vec_capacity, refl, sym, ap, ◌∙◌, subst, arith}
-use Rattle.std.specs.Global.{Vec}
-use Rattle.std.proofs.lemmas.List.{length-set}
-use Rattle.std.proofs.lemmas.Option.{slice_get_within}
-use Rattle.vll_record.specs.declared.claim.Claim.{Claim}
-use Rattle.vll_record.specs.declared.claims.TheConstants.{MOST_CLAIMS}
-use Rattle.vll_record.specs.Counter.{delta_of}
-use Rattle.vll_record.specs.Headline.Word.{pair_word_of_record}
-use Rattle.vll_proc.specs.declared.call.Call.{Call}
-use Rattle.vll_proc.proofs.Called.{claims_few}
+use Rattle.vll_core.proofs.Common.{Vec, length-set, slice_get_within, Claim, MOST_CLAIMS, delta_of, pair_word_of_record, Call, claims_few, Inside, NotRunning, OutOfStep, Released, Execution, Opening, Entered, State, counter, Outcome, refuse_if, or_refuse, running, with_entry, has_stored, step, by_event, AreWords, opening_of, entries_of, shown, IsMachine, AreAtWork, AreReplied}
 use Rattle.vll_core.specs.declared.event.Event.TheVariants as event
-use Rattle.vll_core.specs.declared.machine.Machine.TheInside.{Inside}
-use Rattle.vll_core.specs.declared.refusal.Refusal.TheVariants.{NotRunning, OutOfStep}
-use Rattle.vll_core.specs.declared.seen.Seen.TheVariants.{Released}
-use Rattle.vll_core.specs.declared.execution.Execution.{Execution}
-use Rattle.vll_core.specs.State.{Opening, Entered, State, counter}
-use Rattle.vll_core.specs.Machine.{Outcome, refuse_if, or_refuse, running, with_entry, has_stored, step}
-use Rattle.vll_core.specs.Moves.{by_event}
-use Rattle.vll_core.specs.Shown.{AreWords, opening_of}
-use Rattle.vll_core.specs.Private.View.{entries_of, shown}
-use Rattle.vll_core.specs.Private.MachineKept.{IsMachine, AreAtWork, AreReplied}
 use Rattle.vll_core.proofs.Claiming.{delta_here, delta_elsewhere}
 use Rattle.vll_core.proofs.WordChanges.{pair_word_within, word_read, words_set_pair}
 use Rattle.vll_core.proofs.RunningWorks.{Runs, entered_as, same_work}

@@ -1,21 +1,12 @@
 -- Worked lists of events: what each is answered, and the words at the end.
 use Rattle.std.proofs.Common.{◌≡◌, ℕ, List, [], ◌∷◌, map, refl, Result, Ok, Err, true, false}
+use Rattle.vll_core.proofs.Common.{Event, Seen, Found, Opened, Claimed, Free, Blocked, Run, Loaded, Stored, Released, Replied, Refusal, TurnOpen, NoTurn, NoCall, Spent, Busy, NotRunning, OutOfStep, Idle, Status, Running, Waiting, Gone, State, Opening, Entered, counter, value, answers, opened, run, state_after, answer_of, Move, by_event, hand, move}
 use Rattle.vll_proc.specs.declared.call.Reason.TheVariants.{Moved}
 use Rattle.vll_proc.specs.declared.call.Reply.TheVariants.{Committed, Aborted}
 use Rattle.vll_proc.specs.declared.syntax.Expr.TheBlock.{hidden-the_row-Expr-0}
 use Rattle.vll_proc.specs.declared.syntax.Stmt.TheBlock.{hidden-the_row-Stmt-0}
 use denote.Hole.Carrier.{hidden}
-use Rattle.vll_core.specs.declared.event.Event.{Event}
 use Rattle.vll_core.specs.declared.event.Event.TheVariants as ev
-use Rattle.vll_core.specs.declared.seen.Seen.{Seen}
-use Rattle.vll_core.specs.declared.seen.Seen.TheVariants.{Found, Opened, Claimed, Free, Blocked, Run, Loaded, Stored, Released, Replied}
-use Rattle.vll_core.specs.declared.refusal.Refusal.{Refusal}
-use Rattle.vll_core.specs.declared.refusal.Refusal.TheVariants.{TurnOpen, NoTurn, NoCall, Spent, Busy, NotRunning, OutOfStep, Idle}
-use Rattle.vll_sca.specs.declared.status.Status.{Status}
-use Rattle.vll_sca.specs.declared.status.Status.TheVariants.{Running, Waiting, Gone}
-use Rattle.vll_core.specs.State.{State, Opening, Entered, counter, value}
-use Rattle.vll_core.specs.Machine.{answers, opened, run, state_after, answer_of}
-use Rattle.vll_core.specs.Moves.{Move, by_event, hand, move}
 use Rattle.vll_core.proofs.Procedures.{opening, bump_call, read_call, transfer_call, seven_call, via_call}
 
 -- the statuses at the end of a list of events

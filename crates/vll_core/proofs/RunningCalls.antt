@@ -1,31 +1,6 @@
 -- What is known of a running call of a machine.
 use Rattle.std.proofs.Common.{◌≡◌, ℕ, ◌<◌, ◌==◌, ◌&&◌, ◌||◌, Bool, true, false, refl, sym, ap, ◌∙◌, subst, arith, List, [], ◌∷◌, length, take, slice_get, slice_index_or, Option, Some, None, All, Bor, if◌then◌else◌}
-use Rattle.std.specs.Option.{option_map, IsSome}
-use Rattle.std.proofs.lemmas.Option.{same_Some, slice_get-map, slice_get_within, get_or_from_slice_get}
-use Rattle.std.proofs.lemmas.Map.Views.{exact_unsigned_eq}
-use Rattle.vll_record.specs.declared.claim.Claim.{Claim}
-use Rattle.vll_proc.specs.declared.call.Call.{Call}
-use Rattle.vll_proc.specs.declared.syntax.Proc.{Proc}
-use Rattle.vll_proc.specs.Made.{IsCallOf}
-use Rattle.vll_proc.specs.Headline.Serial.{Made, After, apply, applied_at, before, end}
-use Rattle.vll_proc.specs.WellFormed.{IsWellFormed}
-use Rattle.vll_proc.proofs.Kept.{length-applied}
-use Rattle.vll_check.specs.Calls.{IsReady, CallsProcedure}
-use Rattle.vll_check.specs.Headline.Catalog.{Catalog}
-use Rattle.vll_check.proofs.Fitting.{ready_well}
-use Rattle.vll_core.specs.declared.line.Line.{Line}
-use Rattle.vll_core.specs.declared.machine.Machine.TheInside.{Inside}
-use Rattle.vll_sca.specs.declared.status.Status.{Status}
-use Rattle.vll_sca.specs.declared.status.Status.TheVariants.{Running, Waiting, Gone}
-use Rattle.vll_core.specs.declared.execution.Execution.{Execution}
-use Rattle.vll_sca.specs.Status.{is_running}
-use Rattle.vll_core.specs.State.{Entered, writes, is_aborted, records_before}
-use Rattle.vll_core.specs.Machine.{running, if_running, has_stored}
-use Rattle.vll_core.specs.Shown.{Shown, library_of}
-use Rattle.vll_core.specs.Queue.{QueueEntry, lines, statuses}
-use Rattle.vll_core.specs.Private.View.{entered_of, shown}
-use Rattle.vll_core.specs.Private.Execution.{IsAtWork}
-use Rattle.vll_core.specs.Private.MachineKept.{IsMachine, made_of}
+use Rattle.vll_core.proofs.Common.{option_map, IsSome, same_Some, slice_get-map, slice_get_within, get_or_from_slice_get, exact_unsigned_eq, Claim, Call, Proc, IsCallOf, Made, After, apply, applied_at, before, end, IsWellFormed, length-applied, IsReady, CallsProcedure, Catalog, ready_well, Line, Inside, Status, Running, Waiting, Gone, Execution, is_running, Entered, writes, is_aborted, records_before, running, if_running, has_stored, Shown, library_of, QueueEntry, lines, statuses, entered_of, shown, IsAtWork, IsMachine, made_of}
 use Rattle.vll_core.proofs.Tests.{both_true}
 use Rattle.vll_core.proofs.Places.{all_at, entry_at}
 use Rattle.vll_core.proofs.MachineState.{entry_shown, none_shown, made_shown}

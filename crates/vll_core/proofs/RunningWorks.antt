@@ -1,21 +1,6 @@
 -- The call of a ticket that runs: its entry of the queue, its execution, and what the plain machine finds of it.
 use Rattle.std.proofs.Common.{◌≡◌, ℕ, ◌<◌, true, refl, sym, ap, ◌∙◌, subst, List, length, slice_get, slice_index_or, Option, Some}
-use Rattle.std.specs.Option.{option_map}
-use Rattle.std.proofs.lemmas.Option.{same_Some, slice_get_read, slice_get_within}
-use Rattle.vll_proc.specs.declared.call.Call.{Call}
-use Rattle.vll_proc.specs.declared.call.Reply.{Reply}
-use Rattle.vll_check.specs.Calls.{CallsProcedure}
-use Rattle.vll_core.specs.declared.machine.Machine.TheInside.{Inside}
-use Rattle.vll_sca.specs.declared.status.Status.{Status}
-use Rattle.vll_core.specs.declared.execution.Execution.{Execution}
-use Rattle.vll_sca.specs.Status.{is_running}
-use Rattle.vll_core.specs.Queue.{QueueEntry}
-use Rattle.vll_core.specs.State.{Entered, records_before}
-use Rattle.vll_core.specs.Machine.{running, if_running}
-use Rattle.vll_core.specs.Shown.{Shown}
-use Rattle.vll_core.specs.Private.View.{shown}
-use Rattle.vll_core.specs.Private.Execution.{IsAtWork}
-use Rattle.vll_core.specs.Private.MachineKept.{IsMachine}
+use Rattle.vll_core.proofs.Common.{option_map, same_Some, slice_get_read, slice_get_within, Call, Reply, CallsProcedure, Inside, Status, Execution, is_running, QueueEntry, Entered, records_before, running, if_running, Shown, shown, IsAtWork, IsMachine}
 use Rattle.vll_core.proofs.RunningCalls.{RunsAt, runs_told, read_work, work_there, now_shown}
 use Rattle.vll_core.proofs.MachineState.{entry_shown}
 

@@ -1,21 +1,10 @@
 -- How the calls run one at a time: what leaves the records before a ticket, and a record, as they were.
 use Rattle.std.proofs.Common.{◌≡◌, ℕ, zero, suc, true, false, ◌==◌, refl, sym, arith, ◌<◌, ◌≤◌, ◌+◌, List, [], ◌∷◌, length, ap, ◌∙◌, slice_get, slice_set, Some, ◌++◌, take, Option, None, map, slice_index, Result, Ok, Err}
-use Rattle.std.proofs.lemmas.Option.{same_Some, same_Some}
-use Rattle.std.specs.List.{list_any}
-use Rattle.vll_core.specs.Machine.{with_entry}
-use Rattle.vll_core.specs.Headline.State.{Base}
-use Rattle.vll_core.specs.State.{Entered, State, Turn, made, writes, records_before, is_aborted}
-use Rattle.vll_proc.specs.Headline.Serial.{before, Made, apply, applied_at, after, end}
-use Rattle.vll_record.specs.declared.claim.Claim.{Claim}
-use Rattle.std.proofs.lemmas.List.{take-append-le}
-use Rattle.vll_core.specs.Moves.{IsProper}
-use Rattle.vll_core.specs.Laws.{LaterCallsLeaveSerialStates, LaterCallsLeaveSerialAnswers}
+use Rattle.vll_core.proofs.Common.{same_Some, list_any, with_entry, Base, Entered, State, Turn, made, writes, records_before, is_aborted, before, Made, apply, applied_at, end, Claim, take-append-le, IsProper, LaterCallsLeaveSerialStates, LaterCallsLeaveSerialAnswers, Call, Proc, length-applied}
+use Rattle.vll_proc.specs.Headline.Serial.{after}
 use Rattle.vll_proc.specs.Headline.Meaning.{Scene, body}
-use Rattle.vll_proc.specs.declared.call.Call.{Call}
 use Rattle.vll_proc.specs.declared.call.Reason.{Reason}
-use Rattle.vll_proc.specs.declared.syntax.Proc.{Proc}
 use Rattle.vll_proc.proofs.Joined.{answer_of_first}
-use Rattle.vll_proc.proofs.Kept.{length-applied}
 use Rattle.vll_core.proofs.Places.{take_next}
 use Rattle.vll_core.proofs.OwnClaims.{mode_hit}
 

@@ -1,16 +1,6 @@
 -- In a sound state a load sees the records before its ticket, and a store gives its record the value after the ticket.
 use Rattle.std.proofs.Common.{◌≡◌, ℕ, Bool, true, false, ◌==◌, not, refl, sym, arith, ◌<◌, ◌≤◌, nat_lt, ◌+◌, List, length, drop, ap, ◌∙◌, subst, slice_get, Some, slice_index}
-use Rattle.std.proofs.lemmas.Option.{slice_get_within, same_Some, same_Some}
-use Rattle.std.specs.List.{list_any}
-use Rattle.vll_core.specs.Machine.{has_stored}
-use Rattle.vll_core.specs.Headline.State.{Base}
-use Rattle.vll_core.specs.State.{Entered, State, entered, writes, records_before, is_clear, will_store, unstored, value, has_aborted}
-use Rattle.vll_proc.specs.Headline.Serial.{apply}
-use Rattle.vll_record.specs.declared.claim.Claim.{Claim}
-use Rattle.std.proofs.lemmas.Map.Views.{exact_unsigned_eq}
-use Rattle.vll_record.specs.Claim.{conflicts}
-use Rattle.std.proofs.lemmas.Bool.{and_from, false_from_ne_true}
-use Rattle.vll_sca.specs.Headline.Status.{is_waiting}
+use Rattle.vll_core.proofs.Common.{slice_get_within, same_Some, list_any, has_stored, Base, Entered, State, entered, writes, records_before, is_clear, will_store, unstored, value, has_aborted, apply, Claim, exact_unsigned_eq, conflicts, and_from, false_from_ne_true, is_waiting}
 use Rattle.vll_core.proofs.Tests.{both_true, or_rest, not_yes, lt_no, lt_yes, none_pos, some_pos, at_least}
 use Rattle.vll_core.proofs.Places.{drop_none}
 use Rattle.vll_core.proofs.OwnClaims.{hit, write_hit, drop_any, meets, met_by}

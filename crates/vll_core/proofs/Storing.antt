@@ -1,28 +1,7 @@
 -- A running call stores the record of its next Write claim.
 use Rattle.std.proofs.Common.{◌≡◌, ◌≢◌, ℕ, suc, ◌+◌, ◌<◌, ◌≤◌, Bool, true, false, ◌&&◌, ◌||◌, ◌==◌, nat_lt, refl, sym, ap, ◌∙◌, subst, arith, List, length, slice_get, slice_set, slice_index, Option, Some, None, Ok, length-set, add-one}
-use Rattle.std.specs.Vec.{with_item}
-use Rattle.std.specs.Option.{option_map_or}
-use Rattle.std.proofs.lemmas.Bool.{ne_eqb}
-use Rattle.std.proofs.lemmas.Bool.Decides.{nat_tests}
-use Rattle.std.proofs.lemmas.Option.{slice_get_within}
-use Rattle.vll_record.specs.declared.claim.Claim.{Claim}
-use Rattle.vll_record.specs.Word.{value_word_of}
-use Rattle.vll_proc.specs.declared.call.Call.{Call}
-use Rattle.vll_proc.specs.Headline.Serial.{apply}
-use Rattle.vll_proc.specs.declared.syntax.Proc.{Proc}
-use Rattle.vll_proc.proofs.Called.{claims_few}
+use Rattle.vll_core.proofs.Common.{with_item, option_map_or, ne_eqb, nat_tests, slice_get_within, Claim, value_word_of, Call, apply, Proc, claims_few, Inside, NotRunning, OutOfStep, Stored, Execution, Opening, Entered, State, made, writes, records_before, value, entered, is_aborted, has_aborted, Outcome, step, refuse_if, or_refuse, running, with_entry, has_stored, by_event, is_on, entry_store, AreWords, opening_of, shown, IsAtWork, IsMachine}
 use Rattle.vll_core.specs.declared.event.Event.TheVariants as event
-use Rattle.vll_core.specs.declared.machine.Machine.TheInside.{Inside}
-use Rattle.vll_core.specs.declared.refusal.Refusal.TheVariants.{NotRunning, OutOfStep}
-use Rattle.vll_core.specs.declared.seen.Seen.TheVariants.{Stored}
-use Rattle.vll_core.specs.declared.execution.Execution.{Execution}
-use Rattle.vll_core.specs.State.{Opening, Entered, State, made, writes, records_before, value, entered, is_aborted, has_aborted}
-use Rattle.vll_core.specs.Machine.{Outcome, step, refuse_if, or_refuse, running, with_entry, has_stored}
-use Rattle.vll_core.specs.Moves.{by_event, is_on, entry_store}
-use Rattle.vll_core.specs.Shown.{AreWords, opening_of}
-use Rattle.vll_core.specs.Private.View.{shown}
-use Rattle.vll_core.specs.Private.Execution.{IsAtWork}
-use Rattle.vll_core.specs.Private.MachineKept.{IsMachine}
 use Rattle.vll_core.proofs.AtWork.{aborted_at_work, few_writes}
 use Rattle.vll_core.proofs.WordChanges.{words_set_value, value_word_within}
 use Rattle.vll_core.proofs.RunningWorks.{Runs, entered_as}

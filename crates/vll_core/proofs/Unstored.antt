@@ -1,13 +1,6 @@
 -- The lowest ticket that is yet to store a record, and the value that it gives.
 use Rattle.std.proofs.Common.{◌≡◌, ℕ, zero, suc, Bool, true, false, ◌==◌, ◌&&◌, not, refl, sym, arith, ◌<◌, ◌≤◌, ◌+◌, List, [], ◌∷◌, length, drop, ap, ◌∙◌, subst, slice_get, slice_set, Some, cond, slice_index, ◌-◌}
-use Rattle.std.proofs.lemmas.Option.{same_Some, same_Some}
-use Rattle.std.specs.List.{position_or_len, list_any, enumerate_from}
-use Rattle.vll_core.specs.Machine.{with_entry}
-use Rattle.vll_core.specs.Headline.State.{Base}
-use Rattle.vll_core.specs.State.{Entered, State, made, writes, records_before, is_aborted, entered, will_store, unstored, value}
-use Rattle.vll_proc.specs.Headline.Serial.{before, Made, apply}
-use Rattle.vll_record.specs.declared.claim.Claim.{Claim}
-use Rattle.vll_sca.specs.declared.status.Status.{Status}
+use Rattle.vll_core.proofs.Common.{same_Some, position_or_len, list_any, enumerate_from, with_entry, Base, Entered, State, made, writes, records_before, is_aborted, entered, will_store, unstored, value, before, Made, apply, Claim, Status}
 use Rattle.vll_core.proofs.Tests.{at_least}
 use Rattle.vll_core.proofs.Places.{entry_at}
 use Rattle.vll_core.proofs.SerialRun.{unchanged, made_at, map_set}

@@ -1,20 +1,6 @@
 -- What lawful moves do to values.
 use Rattle.std.proofs.Common.{◌≡◌, ℕ, suc, Bool, true, false, ◌==◌, ◌&&◌, not, refl, sym, arith, ◌<◌, ◌≤◌, ◌||◌, nat_lt, ◌⊎◌, inl, inr, ◌+◌, List, [], ◌∷◌, length, drop, ap, ◌∙◌, subst, slice_get, Some, ◌++◌, add-one, Option, None, length-append, slice_index}
-use Rattle.std.proofs.lemmas.Option.{slice_get_within, same_Some, same_Some}
-use Rattle.std.specs.List.{list_any}
-use Rattle.vll_core.specs.Machine.{with_entry, has_stored}
-use Rattle.vll_core.specs.Headline.State.{Base}
-use Rattle.vll_core.specs.State.{Entered, State, Turn, made, writes, records_before, is_aborted, entered, will_store, unstored, value, has_aborted, Opening}
-use Rattle.vll_proc.specs.Headline.Serial.{apply}
-use Rattle.vll_record.specs.declared.claim.Claim.{Claim}
-use Rattle.std.proofs.lemmas.Map.Views.{exact_unsigned_eq}
-use Rattle.vll_record.proofs.Rising.{RisesFrom-zero}
-use Rattle.std.proofs.lemmas.Bool.{and_from, and_left, and_right, false_from_ne_true}
-use Rattle.vll_core.specs.Moves.{Move, stored_by, entry_store, is_on}
-use Rattle.vll_sca.specs.Headline.Status.{is_waiting}
-use Rattle.vll_sca.specs.Status.{is_running}
-use Rattle.vll_sca.specs.declared.status.Status.TheVariants.{Running, Gone}
-use Rattle.vll_core.specs.Laws.{StoresMakeTheSerialState, OtherValuesStay}
+use Rattle.vll_core.proofs.Common.{slice_get_within, same_Some, list_any, with_entry, has_stored, Base, Entered, State, Turn, made, writes, records_before, is_aborted, entered, will_store, unstored, value, has_aborted, Opening, apply, Claim, exact_unsigned_eq, RisesFrom-zero, and_from, and_left, and_right, false_from_ne_true, Move, stored_by, entry_store, is_on, is_waiting, is_running, Running, Gone, StoresMakeTheSerialState, OtherValuesStay}
 use Rattle.vll_core.proofs.Tests.{both_true, and_not_parts, none_pos}
 use Rattle.vll_core.proofs.Places.{drop_next, entry_at, get_set, at_push, get_pushed}
 use Rattle.vll_core.proofs.OwnClaims.{IsClaimedAt, claimed_at, at_filter, RisesFrom-writes, none_behind}

@@ -1,11 +1,6 @@
 -- How many calls wait: never more than the cap, and fewer while a turn is open.
 use Rattle.std.proofs.Common.{◌≡◌, ℕ, ◌≤◌, ◌<◌, Bool, true, false, List, [], ◌∷◌, slice_get, slice_set, get_or, Some, cond, count_by, refl, ap, arith}
-use Rattle.std.proofs.lemmas.List.Sums.{count_by-le-length, sum_by-append, sum_by-set}
-use Rattle.std.proofs.lemmas.Option.{slice_get_within, get_or_from_slice_get}
-use Rattle.vll_sca.specs.Headline.Status.{is_waiting}
-use Rattle.vll_core.specs.Machine.{waiting, with_entry}
-use Rattle.vll_core.specs.Moves.{Move, IsReached, begun, moved}
-use Rattle.vll_core.specs.State.{Opening, Entered, State, Turn}
+use Rattle.vll_core.proofs.Common.{count_by-le-length, sum_by-append, sum_by-set, slice_get_within, get_or_from_slice_get, is_waiting, waiting, with_entry, Move, IsReached, begun, moved, Opening, Entered, State, Turn}
 use Rattle.vll_core.proofs.Tests.{le_no}
 use Rattle.vll_core.proofs.Changes.{Change, change_of, sourced, entered_by, handed, requested, admitted, fronted, picked, woken, loaded, stored, released, finished}
 

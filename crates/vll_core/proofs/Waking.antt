@@ -1,25 +1,8 @@
 -- A waiting call begins to run: the front of the queue, or the one that the contention analysis finds.
 use Rattle.std.proofs.Common.{◌≡◌, ℕ, true, false, Bool, refl, sym, ap, ◌∙◌, subst, List, map, slice_get, Option, Some, None, is_some, Ok}
-use Rattle.std.proofs.lemmas.Option.{slice_get-map}
-use Rattle.std.specs.Option.{option_map}
-use Rattle.vll_core.specs.declared.event.Event.{Event}
+use Rattle.vll_core.proofs.Common.{slice_get-map, option_map, Event, Inside, TurnOpen, Idle, Run, Execution, Entry, Status, Running, Waiting, Gone, scan, is_waiting, Entered, State, Outcome, refuse_if, or_refuse, front, with_entry, with_status, step, by_event, requested_by, released_by, stored_by, QueueEntry, Queued, statuses, front_among, started_if, started, analysed, found_by, opening_of, turn_of, shown, IsMachine, made_of}
 use Rattle.vll_core.specs.declared.event.Event.TheVariants as event
-use Rattle.vll_core.specs.declared.machine.Machine.TheInside.{Inside}
-use Rattle.vll_core.specs.declared.refusal.Refusal.TheVariants.{TurnOpen, Idle}
-use Rattle.vll_core.specs.declared.seen.Seen.TheVariants.{Run}
-use Rattle.vll_core.specs.declared.execution.Execution.{Execution}
-use Rattle.vll_sca.specs.declared.entry.Entry.{Entry}
-use Rattle.vll_sca.specs.declared.status.Status.{Status}
-use Rattle.vll_sca.specs.declared.status.Status.TheVariants.{Running, Waiting, Gone}
-use Rattle.vll_sca.specs.Scan.{scan}
-use Rattle.vll_sca.specs.Headline.Status.{is_waiting}
-use Rattle.vll_core.specs.State.{Entered, State}
-use Rattle.vll_core.specs.Machine.{Outcome, refuse_if, or_refuse, front, with_entry, with_status, step, scanned as scanned_entry}
-use Rattle.vll_core.specs.Moves.{by_event, requested_by, released_by, stored_by}
-use Rattle.vll_core.specs.Queue.{QueueEntry, Queued, statuses, front_among, started_if, started, analysed, found_by}
-use Rattle.vll_core.specs.Shown.{opening_of}
-use Rattle.vll_core.specs.Private.View.{turn_of, shown}
-use Rattle.vll_core.specs.Private.MachineKept.{IsMachine, made_of}
+use Rattle.vll_core.specs.Machine.{scanned as scanned_entry}
 use Rattle.vll_core.proofs.Events.{front_is}
 use Rattle.vll_core.proofs.Picked.{picked_is}
 use Rattle.vll_core.proofs.QueueLaws.{machine_front}

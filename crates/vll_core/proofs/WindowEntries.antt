@@ -1,17 +1,6 @@
 -- What the contention analysis reads of the calls of tickets, and what it finds among them.
 use Rattle.std.proofs.Common.{◌≡◌, ℕ, zero, suc, Bool, true, false, not, cond, List, [], ◌∷◌, length, map, refl, sym, ap, ap₂, ◌∙◌, arith, slice_get, get_or, Option, Some, None, zero-add}
-use Rattle.std.specs.List.{filter, enumerate_from, range_with_len}
-use Rattle.std.specs.Option.{option_map}
-use Rattle.std.proofs.lemmas.List.FromFn.{fill_by_all, length-enumerate_from, get_or-enumerate_from}
-use Rattle.std.proofs.lemmas.Option.{none-some, same_Some, slice_get-map, get_or_from_slice_get}
-use Rattle.vll_sca.specs.declared.entry.Entry.{Entry}
-use Rattle.vll_sca.specs.declared.status.Status.{Status}
-use Rattle.vll_sca.specs.declared.status.Status.TheVariants.{Gone}
-use Rattle.vll_sca.specs.Status.{is_gone}
-use Rattle.vll_sca.specs.Scan.{scan, scan_numbered}
-use Rattle.vll_core.specs.declared.line.Line.{Line}
-use Rattle.vll_core.specs.Private.Paired.{seen}
-use Rattle.vll_core.specs.Private.Window.{is_left_at, left_among, entry_at, entries_at, numbered}
+use Rattle.vll_core.proofs.Common.{filter, enumerate_from, range_with_len, option_map, fill_by_all, length-enumerate_from, get_or-enumerate_from, none-some, same_Some, slice_get-map, get_or_from_slice_get, Entry, Status, Gone, is_gone, scan, scan_numbered, Line, seen, is_left_at, left_among, entry_at, entries_at, numbered}
 use Rattle.vll_core.proofs.Analysed.{seen_length}
 
 -- ---- the entry of a ticket

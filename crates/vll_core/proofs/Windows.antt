@@ -1,22 +1,7 @@
 -- The tickets of the window stay those that are left, where a call enters, begins to run and is gone.
 use Rattle.std.proofs.Common.{◌≡◌, ℕ, zero, suc, ◌+◌, ◌<◌, ◌≤◌, Bool, true, false, not, ◌&&◌, ◌==◌, cond, List, [], ◌∷◌, ◌++◌, length, take, All, refl, sym, ap, ap₂, ◌∙◌, subst, arith, slice_get, slice_set, get_or, Some, zero-add, length-set, length-append, get_or-set_same, get_or-set_other, eq-eqb, ne_eqb, inl, inr}
-use Rattle.std.specs.List.{filter, position_or_len, range_with_len}
-use Rattle.std.proofs.lemmas.Bool.{cases_eq}
-use Rattle.std.proofs.lemmas.Bool.Decides.{nat_tests}
-use Rattle.std.proofs.lemmas.List.{get_or-drop, get_or_append_left, get_or_default}
-use Rattle.std.proofs.lemmas.List.Elements.{All-filter, All-push, filter-append, filter_agree, filter_passes}
-use Rattle.std.proofs.lemmas.List.Filters.{FiltersInPlace}
-use Rattle.std.proofs.lemmas.List.Folds.{position_or_len_push}
-use Rattle.std.proofs.lemmas.List.FromFn.{length-range_with_len, get_or-range_with_len}
-use Rattle.std.proofs.lemmas.List.Sums.{fails_before_first, passes_at_first, prefix_len-le-length}
-use Rattle.std.proofs.lemmas.Option.{slice_get_within, get_or_from_slice_get}
+use Rattle.vll_core.proofs.Common.{filter, position_or_len, range_with_len, cases_eq, nat_tests, get_or-drop, get_or_append_left, get_or_default, All-filter, All-push, filter-append, filter_agree, filter_passes, FiltersInPlace, position_or_len_push, length-range_with_len, get_or-range_with_len, fails_before_first, passes_at_first, prefix_len-le-length, slice_get_within, get_or_from_slice_get, get_or-append_seam, Status, Running, Waiting, Gone, is_gone, is_left, is_left_at, left_among, first_left, HasLeft}
 use Rattle.std.proofs.Math.Bool.{and-true}
-use Rattle.std.proofs.Math.Seq.{get_or-append_seam}
-use Rattle.vll_sca.specs.declared.status.Status.{Status}
-use Rattle.vll_sca.specs.declared.status.Status.TheVariants.{Running, Waiting, Gone}
-use Rattle.vll_sca.specs.Status.{is_gone}
-use Rattle.vll_core.specs.Queue.{is_left}
-use Rattle.vll_core.specs.Private.Window.{is_left_at, left_among, first_left, HasLeft}
 
 -- ---- what passes a test, and the first that does
 

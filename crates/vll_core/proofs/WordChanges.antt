@@ -1,12 +1,6 @@
 -- The words of a state where one counter or one value has changed.
 use Rattle.std.proofs.Common.{◌≡◌, ◌≢◌, ℕ, ◌<◌, sym, ap, ◌∙◌, arith, List, length, slice_index, slice_index_or, slice_set, ⊎_elim}
-use Rattle.std.proofs.lemmas.Bool.{cases_eq}
-use Rattle.std.proofs.lemmas.List.{get_or_default, get_or-set_same, get_or-set_other, length-set}
-use Rattle.vll_record.specs.Headline.Word.{pair_word_of_record}
-use Rattle.vll_record.specs.Word.{value_word_of}
-use Rattle.vll_core.specs.Headline.State.{Base}
-use Rattle.vll_core.specs.State.{State, counter, value}
-use Rattle.vll_core.specs.Shown.{AreWords}
+use Rattle.vll_core.proofs.Common.{cases_eq, get_or_default, get_or-set_same, get_or-set_other, length-set, pair_word_of_record, value_word_of, Base, State, counter, value, AreWords}
 
 -- a record's words are among the words
 pub pair_word_within : (base : Base) (s : State) (words : List ℕ) (r : ℕ) → AreWords base s words → r < length base.records → pair_word_of_record r < length words

@@ -1,10 +1,6 @@
 -- What lawful moves leave of the words of a state.
 use Rattle.std.proofs.Common.{◌≡◌, ℕ, sym, ap, ◌∙◌, arith, List, None, Ok}
-use Rattle.vll_core.specs.declared.seen.Seen.{Seen}
-use Rattle.vll_core.specs.Headline.State.{Base}
-use Rattle.vll_core.specs.State.{Opening, State, counter, value}
-use Rattle.vll_core.specs.Moves.{Move, move, IsReached, requested_by, stored_by, released_by, delta_if, is_on}
-use Rattle.vll_core.specs.Shown.{AreWords}
+use Rattle.vll_core.proofs.Common.{Seen, Base, Opening, State, counter, value, Move, move, IsReached, requested_by, stored_by, released_by, delta_if, is_on, AreWords}
 use Rattle.vll_core.proofs.Counters.{counters_change}
 use Rattle.vll_core.proofs.Values.{others_stay}
 

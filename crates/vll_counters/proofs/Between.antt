@@ -1,16 +1,7 @@
 -- The laws of the rule.
 use Rattle.std.proofs.Common.{sym, ap, ◌∙◌, refl, Some}
-use Rattle.std.specs.Option.{option_map}
-use Rattle.vll_core.specs.State.{Entered, entered, is_clear}
-use Rattle.vll_core.proofs.Events.{running_not_waiting}
-use Rattle.vll_core.proofs.Reached.{clear_reached}
-use Rattle.vll_core.specs.Machine.{if_running}
+use Rattle.vll_counters.proofs.Common.{option_map, Entered, entered, is_clear, running_not_waiting, clear_reached, if_running, widest, pass_for, PassView, Pass, TicketsAreClear, PassesAreClear, RunningTicketsHaveAPass, PassesAreOfRunningTickets, TicketsHaveOnePass, ClientsHaveOneSession, PastsAreOfOneRun, OnePastBeginsTheOther, LongerPastHasBoth, nat_lt, length}
 use Rattle.std.proofs.Common.{Option, Bool, None, if◌then◌else◌}
-use Rattle.vll_counters.specs.Rule.{widest, pass_for}
-use Rattle.vll_counters.specs.declared.views.PassView.{PassView}
-use Rattle.vll_counters.specs.declared.views.View.TheVariants.{Pass}
-use Rattle.vll_counters.specs.Laws.{TicketsAreClear, PassesAreClear, RunningTicketsHaveAPass, PassesAreOfRunningTickets, TicketsHaveOnePass, ClientsHaveOneSession, PastsAreOfOneRun, OnePastBeginsTheOther, LongerPastHasBoth}
-use Rattle.std.specs.Prelude.{nat_lt, length}
 use Rattle.vll_counters.proofs.Pasts.{ordered}
 use Rattle.vll_counters.proofs.States.{pass_is}
 

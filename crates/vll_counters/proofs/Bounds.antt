@@ -1,35 +1,11 @@
 -- The rule at the opening, while sessions are made, and at the end.
 use Rattle.std.proofs.Common.{◌≡◌, ℕ, zero, suc, ◌+◌, Bool, true, List, [], ◌∷◌, length, map, set, refl, sym, ap, ◌∙◌, subst, arith, Some, None, slice_get, slice_index, count_by, cond}
-use Rattle.std.specs.Option.{option_map}
-use Rattle.std.specs.List.{fold}
-use Rattle.std.proofs.lemmas.Option.{slice_get-map, slice_get_within}
+use Rattle.vll_counters.proofs.Common.{option_map, fold, slice_get-map, slice_get_within, Splits, opening, set_here, at_longer, Made, end, Status, Running, Waiting, Gone, is_waiting, is_running, is_gone, Line, Base, Entered, opened, begun, AreWords, AreLaid, entry_at, QueueView, View, Queue, Session, calls_in, pass_in, session_in, news_in, widest, pass_of, Rule, first_queue, first_view, new_session, IsAtEnd}
 use mathlib.Core.Option.{some, some-injective, some-ne-none}
 use lib.ListN.{get_elem?}
 use Rattle.atomic_table.specs.Table as table
-use Rattle.atomic_table.specs.Table.{Splits, opening, Seen as SeenBy}
-use Rattle.atomic_table.proofs.Lists.{set_here, at_longer}
-use Rattle.vll_proc.specs.Headline.Serial.{Made, end}
-use Rattle.vll_sca.specs.declared.status.Status.{Status}
-use Rattle.vll_sca.specs.declared.status.Status.TheVariants.{Running, Waiting, Gone}
-use Rattle.vll_sca.specs.Headline.Status.{is_waiting}
-use Rattle.vll_sca.specs.Status.{is_running, is_gone}
-use Rattle.vll_core.specs.declared.line.Line.{Line}
-use Rattle.vll_core.specs.Headline.State.{Base}
-use Rattle.vll_core.specs.State.{Entered}
-use Rattle.vll_core.specs.Machine.{opened}
-use Rattle.vll_core.specs.Moves.{begun}
-use Rattle.vll_core.specs.Shown.{AreWords}
-use Rattle.vll_counters.specs.Laid.{AreLaid}
-use Rattle.vll_core.proofs.Places.{entry_at}
+use Rattle.atomic_table.specs.Table.{Seen as SeenBy}
 use Rattle.vll_core.proofs.Finished.{finished_reached}
-use Rattle.vll_counters.specs.declared.views.QueueView.{QueueView}
-use Rattle.vll_counters.specs.declared.views.View.{View}
-use Rattle.vll_counters.specs.declared.views.View.TheVariants.{Queue, Session}
-use Rattle.vll_counters.specs.Headline.Views.{calls_in, pass_in}
-use Rattle.vll_counters.specs.Views.{session_in, news_in}
-use Rattle.vll_counters.specs.Rule.{widest, pass_of, Rule}
-use Rattle.vll_counters.specs.Steps.{first_queue, first_view, new_session}
-use Rattle.vll_counters.specs.Told.{IsAtEnd}
 use Rattle.vll_counters.proofs.Places.{no_some, at_below, seat_with}
 use Rattle.vll_counters.proofs.Passes.{passes_reviewed, passes_pushed}
 use Rattle.vll_counters.proofs.Sessions.{sessions_reviewed, sessions_made, seen_all}

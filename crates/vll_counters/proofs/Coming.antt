@@ -1,36 +1,9 @@
 -- A pass or a session comes to the queue's seat, a pass that has come ends, and a session that has come leaves.
 use Rattle.std.proofs.Common.{◌≡◌, ◌≢◌, ℕ, suc, true, false, List, [], ◌∷◌, ◌++◌, length, take, set, refl, sym, ap, ◌∙◌, subst, arith, Option, Some, None, slice_get, slice_index, slice_set, nat_lt, ⊎_elim}
-use Rattle.std.specs.Option.{option_map}
-use Rattle.std.proofs.lemmas.Bool.{cases_eq}
-use Rattle.std.proofs.lemmas.List.{set-set}
-use Rattle.std.proofs.lemmas.Option.{same_Some}
+use Rattle.vll_counters.proofs.Common.{option_map, cases_eq, set-set, same_Some, step, keeps, Allows, Splits, Joins, set_here, set_else, at_longer, Made, apply, Status, Running, Waiting, Gone, is_running, Line, Base, Entered, entered, with_entry, by_event, moved, AreWords, words_stay, get_set, at_push, TurnView, PassView, SessionView, QueueView, View, Queue, Pass, Session, Spent, calls_in, widest, pass_of, IsHosted, AreSessions, Rule, new_status, told, admitted, turn_ended, leaving, session_left, answered, finished, finished_by, ended, KnowsPass, has_stored_pass, EndTells, MayLeave, IsGivenOut}
 use mathlib.Core.Option.{some}
 use lib.ListN.{get_elem?}
-use Rattle.atomic_table.specs.Table.{step, keeps, Allows, Splits, Joins}
-use Rattle.atomic_table.proofs.Lists.{set_here, set_else, at_longer}
-use Rattle.vll_proc.specs.Headline.Serial.{Made, apply}
-use Rattle.vll_sca.specs.declared.status.Status.{Status}
-use Rattle.vll_sca.specs.declared.status.Status.TheVariants.{Running, Waiting, Gone}
-use Rattle.vll_sca.specs.Status.{is_running}
 use Rattle.vll_core.specs.declared.event.Event.TheVariants as event
-use Rattle.vll_core.specs.declared.line.Line.{Line}
-use Rattle.vll_core.specs.Headline.State.{Base}
-use Rattle.vll_core.specs.State.{Entered, entered}
-use Rattle.vll_core.specs.Machine.{with_entry}
-use Rattle.vll_core.specs.Moves.{by_event, moved}
-use Rattle.vll_core.specs.Shown.{AreWords}
-use Rattle.vll_core.proofs.WordsKept.{words_stay}
-use Rattle.vll_core.proofs.Places.{get_set, at_push}
-use Rattle.vll_counters.specs.declared.views.TurnView.{TurnView}
-use Rattle.vll_counters.specs.declared.views.PassView.{PassView}
-use Rattle.vll_counters.specs.declared.views.SessionView.{SessionView}
-use Rattle.vll_counters.specs.declared.views.QueueView.{QueueView}
-use Rattle.vll_counters.specs.declared.views.View.{View}
-use Rattle.vll_counters.specs.declared.views.View.TheVariants.{Queue, Pass, Session, Spent}
-use Rattle.vll_counters.specs.Headline.Views.{calls_in}
-use Rattle.vll_counters.specs.Rule.{widest, pass_of, IsHosted, AreSessions, Rule}
-use Rattle.vll_counters.specs.Steps.{new_status, told, admitted, turn_ended, leaving, session_left, answered, finished, finished_by, ended}
-use Rattle.vll_counters.specs.Told.{KnowsPass, has_stored_pass, EndTells, MayLeave, IsGivenOut}
 use Rattle.vll_counters.proofs.Places.{at_below, get_longer, get_set_else, seat_with}
 use Rattle.vll_counters.proofs.Passes.{passes_reviewed, passes_come, passes_ended, passes_pushed}
 use Rattle.vll_counters.proofs.Sessions.{sessions_reviewed, sessions_kept, sessions_come, sessions_left, seen_all}

@@ -1,28 +1,9 @@
 -- The call of the open turn enters: what the queue's seat, the words and the sessions are then.
 use Rattle.std.proofs.Common.{◌≡◌, ◌≢◌, ℕ, ◌≤◌, Bool, true, false, List, [], ◌∷◌, ◌++◌, length, set, refl, sym, ap, ◌∙◌, subst, Option, Some, None, ⊎_elim, if◌then◌else◌}
-use Rattle.std.specs.Option.{option_map}
-use Rattle.std.proofs.lemmas.Bool.{cases_eq}
-use Rattle.std.proofs.lemmas.List.{map-append}
+use Rattle.vll_counters.proofs.Common.{option_map, cases_eq, map-append, Made, Running, Waiting, is_running, is_gone, Line, Base, Turn, State, IsReached, by_event, moved, AreWords, words_stay, TurnView, SessionView, QueueView, View, Queue, calls_in, widest, Shows, IsHosted, AreSessions, AreNews, pass_of, new_line, new_status, told, admitted}
 use mathlib.Core.Option.{some}
 use lib.ListN.{get_elem?}
-use Rattle.vll_proc.specs.Headline.Serial.{Made}
-use Rattle.vll_sca.specs.declared.status.Status.TheVariants.{Running, Waiting}
-use Rattle.vll_sca.specs.Status.{is_running, is_gone}
 use Rattle.vll_core.specs.declared.event.Event.TheVariants as event
-use Rattle.vll_core.specs.declared.line.Line.{Line}
-use Rattle.vll_core.specs.Headline.State.{Base}
-use Rattle.vll_core.specs.State.{Turn, State}
-use Rattle.vll_core.specs.Moves.{IsReached, by_event, moved}
-use Rattle.vll_core.specs.Shown.{AreWords}
-use Rattle.vll_core.proofs.WordsKept.{words_stay}
-use Rattle.vll_counters.specs.declared.views.TurnView.{TurnView}
-use Rattle.vll_counters.specs.declared.views.SessionView.{SessionView}
-use Rattle.vll_counters.specs.declared.views.QueueView.{QueueView}
-use Rattle.vll_counters.specs.declared.views.View.{View}
-use Rattle.vll_counters.specs.declared.views.View.TheVariants.{Queue}
-use Rattle.vll_counters.specs.Headline.Views.{calls_in}
-use Rattle.vll_counters.specs.Rule.{widest, Shows, IsHosted, AreSessions, AreNews, pass_of}
-use Rattle.vll_counters.specs.Steps.{new_line, new_status, told, admitted}
 use Rattle.vll_counters.proofs.Passes.{passes_same, passes_reviewed}
 use Rattle.vll_counters.proofs.Sessions.{sessions_entered}
 use Rattle.vll_counters.proofs.News.{news_kept, news_reviewed}

@@ -1,40 +1,13 @@
 -- The step of a session's seat under no lock keeps the rule: it finds a record's value as it is after each ticket that
 -- it was given and that claims the record.
 use Rattle.std.proofs.Common.{◌≡◌, ◌≢◌, ℕ, suc, ◌+◌, ◌<◌, ◌≤◌, ◌||◌, ◌==◌, Bool, true, false, List, [], ◌∷◌, length, drop, not, refl, sym, ap, ◌∙◌, subst, arith, Some, slice_get, slice_index}
-use Rattle.std.specs.List.{list_any}
-use Rattle.std.proofs.lemmas.List.{length-map}
-use Rattle.std.proofs.lemmas.Map.Views.{exact_unsigned_eq}
-use Rattle.std.proofs.lemmas.Option.{same_Some, slice_get_within}
+use Rattle.vll_counters.proofs.Common.{list_any, length-map, exact_unsigned_eq, same_Some, slice_get_within, step, keeps, set_else, Claim, value_word_of, Made, before, Status, Gone, is_waiting, is_gone, Base, Opening, Entered, State, made, writes, has_aborted, will_store, unstored, value, IsReached, AreWords, both_true, or_rest, not_yes, at_least, drop_none, made_at, kept_reached, SessionView, QueueView, Session, calls_in, widest, Rule, Shows, HasSeen, pass_of, told, is_claimed_by, WasThere, FindDoes, FindTells}
 use mathlib.Core.Option.{some}
 use lib.ListN.{get_elem?}
-use Rattle.atomic_table.specs.Table.{step, keeps}
-use Rattle.atomic_table.proofs.Lists.{set_else}
-use Rattle.vll_record.specs.declared.claim.Claim.{Claim}
-use Rattle.vll_record.specs.Word.{value_word_of}
-use Rattle.vll_proc.specs.Headline.Serial.{Made, before}
-use Rattle.vll_sca.specs.declared.status.Status.{Status}
-use Rattle.vll_sca.specs.declared.status.Status.TheVariants.{Gone}
-use Rattle.vll_sca.specs.Headline.Status.{is_waiting}
-use Rattle.vll_sca.specs.Status.{is_gone}
-use Rattle.vll_core.specs.Headline.State.{Base}
-use Rattle.vll_core.specs.State.{Opening, Entered, State, made, writes, has_aborted, will_store, unstored, value}
-use Rattle.vll_core.specs.Moves.{IsReached}
-use Rattle.vll_core.specs.Shown.{AreWords}
-use Rattle.vll_core.proofs.Tests.{both_true, or_rest, not_yes, at_least}
-use Rattle.vll_core.proofs.Places.{drop_none}
 use Rattle.vll_core.proofs.OwnClaims.{IsClaimedAt}
-use Rattle.vll_core.proofs.SerialRun.{made_at}
 use Rattle.vll_core.proofs.Unstored.{at_first, first_le}
 use Rattle.vll_core.proofs.Sound.{not_below}
 use Rattle.vll_core.proofs.Kept.{sound_of}
-use Rattle.vll_core.proofs.Reached.{kept_reached}
-use Rattle.vll_counters.specs.declared.views.SessionView.{SessionView}
-use Rattle.vll_counters.specs.declared.views.QueueView.{QueueView}
-use Rattle.vll_counters.specs.declared.views.View.TheVariants.{Session}
-use Rattle.vll_counters.specs.Headline.Views.{calls_in}
-use Rattle.vll_counters.specs.Rule.{widest, Rule, Shows, HasSeen, pass_of}
-use Rattle.vll_counters.specs.Steps.{told}
-use Rattle.vll_counters.specs.Told.{is_claimed_by, WasThere, FindDoes, FindTells}
 use Rattle.vll_counters.proofs.Passes.{passes_reviewed}
 use Rattle.vll_counters.proofs.Sessions.{sessions_told, seen_all}
 use Rattle.vll_counters.proofs.News.{news_reviewed}

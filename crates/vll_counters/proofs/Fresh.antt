@@ -1,13 +1,8 @@
 -- A call that waits has made no step, in every state that lawful moves reach.
 use Rattle.std.proofs.Common.{◌≡◌, ◌⊎◌, ℕ, true, false, refl, sym, ap, ◌∙◌, inl, inr, slice_get, Some, length}
-use Rattle.vll_sca.specs.declared.status.Status.TheVariants.{Running, Gone}
-use Rattle.vll_sca.specs.Headline.Status.{is_waiting}
-use Rattle.vll_core.specs.State.{Opening, Entered, State}
-use Rattle.vll_core.specs.Machine.{with_entry}
-use Rattle.vll_core.specs.Moves.{Move, IsReached, begun, moved}
-use Rattle.vll_core.proofs.Places.{at_set, at_push}
-use Rattle.vll_core.proofs.Events.{running_not_waiting}
-use Rattle.vll_core.proofs.Changes.{Change, change_of, sourced, entered_by, handed, requested, admitted, fronted, picked, woken, loaded, stored, released, finished}
+use Rattle.vll_counters.proofs.Common.{Running, Gone, is_waiting, Opening, Entered, State, with_entry, Move, IsReached, begun, moved, at_push, running_not_waiting, Change, change_of, sourced, entered_by, handed, fronted, picked, woken}
+use Rattle.vll_core.proofs.Places.{at_set}
+use Rattle.vll_core.proofs.Changes.{requested, admitted, loaded, stored, released, finished}
 
 pub record IsFresh (e : Entered) : Type 0 where
   pub loads : e.loads ≡ 0

@@ -1,32 +1,7 @@
 -- The queue's seat gives a pass: to a call that waits, or to the call of the open turn.
 use Rattle.std.proofs.Common.{◌≡◌, ℕ, suc, ◌≤◌, Bool, true, List, [], ◌∷◌, length, take, set, refl, sym, ap, ◌∙◌, subst, Option, Some, None, slice_get, slice_set, if◌then◌else◌}
-use Rattle.std.specs.Option.{option_map}
-use Rattle.std.proofs.lemmas.Option.{slice_get-map}
-use Rattle.atomic_table.specs.Table.{Splits}
-use Rattle.atomic_table.proofs.Lists.{set_here, at_longer}
-use Rattle.vll_record.specs.Claim.{conflict}
-use Rattle.vll_proc.specs.declared.call.Call.{Call}
-use Rattle.vll_proc.specs.Headline.Serial.{Made}
-use Rattle.vll_sca.specs.declared.status.Status.{Status}
-use Rattle.vll_sca.specs.declared.status.Status.TheVariants.{Running, Waiting, Gone}
-use Rattle.vll_sca.specs.Headline.Status.{is_waiting}
-use Rattle.vll_sca.specs.Status.{is_running, is_gone}
-use Rattle.vll_core.specs.declared.line.Line.{Line}
-use Rattle.vll_core.specs.Headline.State.{Base}
-use Rattle.vll_core.specs.State.{Entered, State, entered, is_clear}
-use Rattle.vll_core.specs.Machine.{with_entry}
-use Rattle.vll_core.specs.Moves.{wake, moved}
-use Rattle.vll_core.proofs.WordsKept.{words_stay}
+use Rattle.vll_counters.proofs.Common.{option_map, slice_get-map, Splits, set_here, at_longer, conflict, Call, Made, Status, Running, Waiting, Gone, is_waiting, is_running, is_gone, Line, Base, Entered, State, entered, is_clear, with_entry, wake, moved, words_stay, kept_reached, TurnView, QueueView, View, Queue, Pass, Spent, calls_in, widest, values_before, pass_for, pass_of, Shows, Rule, new_line, admitted, new_pass, pass_given, pass_at, MayStart, MayRun}
 use Rattle.vll_core.proofs.Picked.{clear_picked}
-use Rattle.vll_core.proofs.Reached.{kept_reached}
-use Rattle.vll_counters.specs.declared.views.TurnView.{TurnView}
-use Rattle.vll_counters.specs.declared.views.QueueView.{QueueView}
-use Rattle.vll_counters.specs.declared.views.View.{View}
-use Rattle.vll_counters.specs.declared.views.View.TheVariants.{Queue, Pass, Spent}
-use Rattle.vll_counters.specs.Headline.Views.{calls_in}
-use Rattle.vll_counters.specs.Rule.{widest, values_before, pass_for, pass_of, Shows, Rule}
-use Rattle.vll_counters.specs.Steps.{new_line, admitted, new_pass, pass_given, pass_at}
-use Rattle.vll_counters.specs.Told.{MayStart, MayRun}
 use Rattle.vll_counters.proofs.Places.{at_below, get_last, get_set_else, seat_with}
 use Rattle.vll_counters.proofs.Passes.{passes_reviewed, passes_given}
 use Rattle.vll_counters.proofs.Sessions.{sessions_reviewed, sessions_pushed, sessions_kept}

@@ -1,25 +1,9 @@
 -- The steps of news keep the rule: a session makes news of what it has seen, the news joins another session, and that
 -- one hears it.
 use Rattle.std.proofs.Common.{◌≡◌, ◌≢◌, ℕ, List, [], ◌∷◌, set, refl, sym, ap, ◌∙◌, subst}
-use Rattle.std.proofs.lemmas.Option.{same_Some}
+use Rattle.vll_counters.proofs.Common.{same_Some, TableId, Me, step, keeps, Allows, Splits, Joins, set_else, at_longer, Made, Base, AreWords, QueueView, SessionView, SeatView, Queue, Session, News, Hearing, Spent, Begins, calls_in, HasSeen, Rule, pass_of, told, Write, longer, seat_view, with_view, with_views, spent_seat, Stays, RuleWithHistory, NewsShown, calls_of_view, as_it_is, news_told, with_news, HearTells}
 use mathlib.Core.Option.{some, some-injective}
 use lib.ListN.{get_elem?}
-use Rattle.atomic_table.specs.Seated.{TableId}
-use Rattle.atomic_table.specs.Table.{Me, step, keeps, Allows, Splits, Joins}
-use Rattle.atomic_table.proofs.Lists.{set_else, at_longer}
-use Rattle.vll_proc.specs.Headline.Serial.{Made}
-use Rattle.vll_core.specs.Headline.State.{Base}
-use Rattle.vll_core.specs.Shown.{AreWords}
-use Rattle.vll_counters.specs.declared.views.QueueView.{QueueView}
-use Rattle.vll_counters.specs.declared.views.SessionView.{SessionView}
-use Rattle.vll_counters.specs.declared.views.SeatView.{SeatView}
-use Rattle.vll_counters.specs.declared.views.View.TheVariants.{Queue, Session, News, Hearing, Spent}
-use Rattle.vll_counters.specs.Headline.Views.{Begins, calls_in}
-use Rattle.vll_counters.specs.Rule.{HasSeen, Rule, pass_of}
-use Rattle.vll_counters.specs.Steps.{told}
-use Rattle.vll_counters.specs.Written.{Write, longer}
-use Rattle.vll_counters.specs.History.{seat_view, with_view, with_views, spent_seat, Stays, RuleWithHistory}
-use Rattle.vll_counters.specs.News.{NewsShown, calls_of_view, as_it_is, news_told, with_news, HearTells}
 use Rattle.vll_counters.proofs.Passes.{passes_reviewed, passes_pushed}
 use Rattle.vll_counters.proofs.Sessions.{sessions_reviewed, sessions_pushed, sessions_told, seen_all}
 use Rattle.vll_counters.proofs.News.{news_set, news_pushed, news_reviewed}

@@ -1,19 +1,9 @@
 -- The rule at a known view of the queue's seat, and how words stay as they were.
 use Rattle.std.proofs.Common.{◌≡◌, ℕ, ◌<◌, List, length, sym, ◌∙◌, subst, slice_index, slice_set}
-use Rattle.std.proofs.lemmas.List.{set-get_or}
+use Rattle.vll_counters.proofs.Common.{set-get_or, Base, State, AreWords, PassView, SessionView, QueueView, View, Queue, Pass, Session, calls_in, Shows, IsHosted, ArePasses, AreSessions, AreNews, pass_of, Rule}
 use mathlib.Core.Option.{some, some-injective}
 use lib.ListN.{get_elem?}
 use Rattle.atomic_table.specs.Table as table
-use Rattle.vll_core.specs.Headline.State.{Base}
-use Rattle.vll_core.specs.State.{State}
-use Rattle.vll_core.specs.Shown.{AreWords}
-use Rattle.vll_counters.specs.declared.views.PassView.{PassView}
-use Rattle.vll_counters.specs.declared.views.SessionView.{SessionView}
-use Rattle.vll_counters.specs.declared.views.QueueView.{QueueView}
-use Rattle.vll_counters.specs.declared.views.View.{View}
-use Rattle.vll_counters.specs.declared.views.View.TheVariants.{Queue, Pass, Session}
-use Rattle.vll_counters.specs.Headline.Views.{calls_in}
-use Rattle.vll_counters.specs.Rule.{Shows, IsHosted, ArePasses, AreSessions, AreNews, pass_of, Rule}
 
 -- what the rule says where the queue's seat has this view
 pub record Holds (base : Base) (q : QueueView) (ws : List ℕ) (views : List View) : Type 0 where

@@ -1,18 +1,10 @@
 -- A step that keeps the rule keeps the rule with the history: how the past of its seat and the history go on.
 use Rattle.std.proofs.Common.{◌≡◌, ℕ, List, [], ◌∷◌, ◌++◌, map, set, refl, sym, ap, ◌∙◌, subst, ⊎_elim, slice_index, slice_set}
-use Rattle.std.proofs.lemmas.List.{map-set, map-append}
+use Rattle.vll_counters.proofs.Common.{map-set, map-append, Me, Act, carried_after, Allows, Splits, Joins, Final, at_set, set_else, at_snoc, at_map, Base, SeatView, View, laid_words, Rule, Write, written, IsPastOf, longer, IsOfItsStep, IsOfItsLoad, plain, seat_view, without_pasts, RuleWithHistory}
 use mathlib.Core.Option.{some}
 use lib.ListN.{get_elem?}
 use Rattle.atomic_table.specs.Table as table
-use Rattle.atomic_table.specs.Table.{Me, Act, carried_after, Allows, Splits, Joins, Final, Seen as SeenBy}
-use Rattle.atomic_table.proofs.Lists.{at_set, set_else, at_snoc, at_map}
-use Rattle.vll_core.specs.Headline.State.{Base}
-use Rattle.vll_counters.specs.declared.views.SeatView.{SeatView}
-use Rattle.vll_counters.specs.declared.views.View.{View}
-use Rattle.vll_counters.specs.Laid.{laid_words}
-use Rattle.vll_counters.specs.Rule.{Rule}
-use Rattle.vll_counters.specs.Written.{Write, written, IsPastOf, longer, IsOfItsStep, IsOfItsLoad}
-use Rattle.vll_counters.specs.History.{plain, seat_view, without_pasts, RuleWithHistory}
+use Rattle.atomic_table.specs.Table.{Seen as SeenBy}
 use Rattle.vll_counters.proofs.Holding.{AllowsOfWords, same_words}
 use Rattle.vll_counters.proofs.Pasts.{written-append, past_itself, past_longer, longer_past}
 

@@ -1,17 +1,10 @@
 -- The moves of the plain machine, each with the state that it results in.
 use Rattle.std.proofs.Common.{◌≡◌, ℕ, ◌+◌, ◌<◌, ◌≤◌, ◌||◌, Bool, true, false, not, nat_lt, nat_le, refl, ap, ◌∙◌, arith, [], ◌∷◌, ◌++◌, length, slice_get, Option, Some, None, is_some, Ok, if◌then◌else◌}
-use Rattle.vll_record.specs.declared.claim.Claim.{Claim}
-use Rattle.vll_proc.specs.declared.call.Call.{Call}
-use Rattle.vll_sca.specs.declared.status.Status.{Status}
-use Rattle.vll_sca.specs.declared.status.Status.TheVariants.{Running, Waiting, Gone}
-use Rattle.vll_sca.specs.Headline.Status.{is_waiting}
+use Rattle.vll_counters.proofs.Common.{Claim, Call, Status, Running, Waiting, Gone, is_waiting, Seen, Opening, Entered, Turn, State, counter, value, is_clear, reply_at, Outcome, refuse_if, or_refuse, running, with_entry, with_status, has_stored, admit, enter, waiting, move, wake, hand, if_waiting}
 use Rattle.vll_core.specs.declared.event.Event.TheVariants as event
-use Rattle.vll_core.specs.declared.seen.Seen.{Seen}
 use Rattle.vll_core.specs.declared.seen.Seen.TheVariants.{Opened, Free, Blocked, Run, Loaded, Stored, Released, Replied}
 use Rattle.vll_core.specs.declared.refusal.Refusal.TheVariants.{TurnOpen, NoTurn, Spent, Busy, NotRunning, OutOfStep, Idle}
-use Rattle.vll_core.specs.State.{Opening, Entered, Turn, State, counter, value, is_clear, reply_at}
-use Rattle.vll_core.specs.Machine.{Outcome, step, refuse_if, or_refuse, running, with_entry, with_status, has_stored, admit, enter, waiting}
-use Rattle.vll_core.specs.Moves.{move, wake, hand, if_waiting}
+use Rattle.vll_core.specs.Machine.{step}
 
 pub load_made : (o : Opening) (s : State) (t : ℕ) (e : Entered) (c : Claim) → running s t ≡ Some e → slice_get e.call.claims e.loads ≡ Some c
     → step o s (event.Load t) ≡ Ok (Loaded (value o.base s c.id), with_entry s t (record e { loads = e.loads + 1 }))

@@ -1,14 +1,8 @@
 -- The news that seats have is of a beginning of the entered calls, after each kind of change; and its own steps keep the rule.
 use Rattle.std.proofs.Common.{◌≡◌, ◌≢◌, ℕ, List, [], ◌∷◌, ◌++◌, length, set, sym, ap, ◌∙◌, Some, None, ⊎_elim, append_assoc}
-use Rattle.std.proofs.lemmas.List.{append-nil}
+use Rattle.vll_counters.proofs.Common.{append-nil, at_set, Made, View, Begins, news_in, AreNews}
 use mathlib.Core.Option.{some}
 use lib.ListN.{get_elem?}
-use Rattle.atomic_table.proofs.Lists.{at_set}
-use Rattle.vll_proc.specs.Headline.Serial.{Made}
-use Rattle.vll_counters.specs.declared.views.View.{View}
-use Rattle.vll_counters.specs.Headline.Views.{Begins}
-use Rattle.vll_counters.specs.Views.{news_in}
-use Rattle.vll_counters.specs.Rule.{AreNews}
 use Rattle.vll_counters.proofs.Places.{no_some, at_end}
 
 -- ---- beginnings of lists

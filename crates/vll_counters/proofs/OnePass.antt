@@ -1,21 +1,7 @@
 -- A ticket that has begun to run never may again: no call of a function of the words makes it wait.
 use Rattle.std.proofs.Common.{◌≡◌, ℕ, ◌+◌, ◌≢◌, Bool, true, false, if◌then◌else◌, List, [], ◌∷◌, ◌++◌, length, length-append, refl, sym, ap, ◌∙◌, arith, Option, Some, None, slice_get, slice_set, ⊎_elim}
-use Rattle.std.proofs.lemmas.Bool.{cases_eq}
-use Rattle.std.proofs.lemmas.List.{length-set}
-use Rattle.std.proofs.lemmas.Option.{slice_get_within, same_Some}
-use Rattle.vll_sca.specs.declared.status.Status.{Status}
-use Rattle.vll_sca.specs.declared.status.Status.TheVariants.{Running, Waiting, Gone}
-use Rattle.vll_sca.specs.Headline.Status.{is_waiting}
-use Rattle.vll_core.specs.declared.line.Line.{Line}
-use Rattle.vll_core.specs.Headline.State.{Base}
-use Rattle.vll_core.proofs.Places.{get_set, get_set_other, get_pushed}
+use Rattle.vll_counters.proofs.Common.{cases_eq, length-set, slice_get_within, same_Some, Status, Running, Waiting, Gone, is_waiting, Line, Base, get_set, get_set_other, get_pushed, TurnView, PassView, QueueView, new_line, new_status, answered, pass_given, turn_ended, MayRun, TicketsGetOnePass, GivenTicketsRun}
 use Rattle.vll_counters.proofs.Places.{get_last}
-use Rattle.vll_counters.specs.declared.views.TurnView.{TurnView}
-use Rattle.vll_counters.specs.declared.views.PassView.{PassView}
-use Rattle.vll_counters.specs.declared.views.QueueView.{QueueView}
-use Rattle.vll_counters.specs.Steps.{new_line, new_status, answered, pass_given, turn_ended}
-use Rattle.vll_counters.specs.Told.{MayRun}
-use Rattle.vll_counters.specs.Laws.{TicketsGetOnePass, GivenTicketsRun}
 use Rattle.vll_counters.specs.Queueing.{QueueCall, makes_session, joins_session, requests, gives_pass, gives_session, joins_pass, view_after, view_after_all}
 
 -- a ticket runs or is gone, in lists of one length

@@ -1,34 +1,10 @@
 -- Each pair word counts the open claims that the views show: the passes at the seats are those of the running tickets,
 -- each once.
 use Rattle.std.proofs.Common.{◌≡◌, ◌≢◌, ℕ, zero, suc, ◌+◌, ◌<◌, ◌≤◌, ◌==◌, Bool, true, false, List, [], ◌∷◌, ◌++◌, map, length, drop, refl, sym, ap, ap₂, ◌∙◌, arith, add-zero, Option, Some, None, slice_get, ⊎_elim, if◌then◌else◌}
-use Rattle.std.specs.List.{enumerate_from, flat_map}
-use Rattle.std.specs.Option.{option_map}
-use Rattle.std.proofs.lemmas.Bool.{cases_eq}
-use Rattle.std.proofs.lemmas.Map.Views.{exact_unsigned_eq}
-use Rattle.std.proofs.lemmas.Option.{slice_get_within}
+use Rattle.vll_counters.proofs.Common.{enumerate_from, flat_map, option_map, cases_eq, exact_unsigned_eq, slice_get_within, Claim, Made, Status, Running, Waiting, Gone, is_waiting, is_running, is_gone, Base, Entered, Turn, State, entered, open_of, requested_of, if_running, eq_same, drop_none, word_on, word_on-append, kept_reached, PassView, QueueView, View, Queue, pass_in, ArePasses, widest, turn_view, pass_for, pass_of, PairWordsCountOpenClaims}
 use mathlib.Core.Option.{some, some-injective, some-ne-none}
 use lib.ListN.{get_elem?}
-use Rattle.vll_record.specs.declared.claim.Claim.{Claim}
-use Rattle.vll_proc.specs.Headline.Serial.{Made}
-use Rattle.vll_sca.specs.declared.status.Status.{Status}
-use Rattle.vll_sca.specs.declared.status.Status.TheVariants.{Running, Waiting, Gone}
-use Rattle.vll_sca.specs.Headline.Status.{is_waiting}
-use Rattle.vll_sca.specs.Status.{is_running, is_gone}
-use Rattle.vll_core.specs.Headline.State.{Base}
-use Rattle.vll_core.specs.State.{Entered, Turn, State, entered, open_of, requested_of}
-use Rattle.vll_core.specs.Machine.{if_running}
-use Rattle.vll_core.proofs.Tests.{eq_same}
-use Rattle.vll_core.proofs.Places.{drop_none}
-use Rattle.vll_core.proofs.Deltas.{word_on, word_on-append}
-use Rattle.vll_core.proofs.Reached.{kept_reached}
-use Rattle.vll_counters.specs.declared.views.PassView.{PassView}
-use Rattle.vll_counters.specs.declared.views.QueueView.{QueueView}
-use Rattle.vll_counters.specs.declared.views.View.{View}
-use Rattle.vll_counters.specs.declared.views.View.TheVariants.{Queue}
-use Rattle.vll_counters.specs.Headline.Views.{pass_in}
 use Rattle.vll_counters.specs.Headline.Open.{requested_in, waiting_in, held_by, held_in}
-use Rattle.vll_counters.specs.Rule.{ArePasses, widest, turn_view, pass_for, pass_of}
-use Rattle.vll_counters.specs.Laws.{PairWordsCountOpenClaims}
 use Rattle.vll_counters.proofs.Passes.{AreNamed}
 use Rattle.vll_counters.proofs.Places.{no_some}
 use Rattle.vll_counters.proofs.States.{status_of, line_by, pass_is, passes_named}

@@ -1,41 +1,12 @@
 -- The steps of a pass's seat keep the rule: loads, stores and releases.
 use Rattle.std.proofs.Common.{◌≡◌, ◌≢◌, ℕ, zero, suc, ◌+◌, ◌-◌, ◌<◌, ◌%◌, ◌&&◌, ◌||◌, ◌==◌, Bool, true, false, List, [], ◌∷◌, ◌++◌, length, take, refl, sym, ap, ◌∙◌, subst, arith, Option, Some, Ok, slice_get, slice_index, slice_set, nat_lt, add-one}
-use Rattle.std.proofs.lemmas.List.{map-append}
-use Rattle.std.proofs.lemmas.Option.{slice_get_within}
-use Rattle.std.proofs.lemmas.Bool.Decides.{nat_tests}
+use Rattle.vll_counters.proofs.Common.{map-append, slice_get_within, nat_tests, Me, Step, step, keeps, stepped, Allows, homes_after, set_else, Claim, delta_of, pair_word_of_record, value_word_of, Made, apply, before, end, is_running, is_gone, Seen, Base, Entered, State, made, entered, records_before, writes, is_aborted, counter, value, with_entry, has_stored, Move, move, by_event, IsLawful, moved, is_on, entry_store, AreWords, words_stay, counters_stay, counter_fits, delta_here, delta_elsewhere, counter_release, take_next, load_reached, before_more, made_at, ne_eqb, PassView, View, Pass, widest, values_before, pass_for, pass_of, Moment, Rule, loaded, stored, released, records_before_pass, reply_of_pass, PassMoment, IsCountedNow, has_stored_pass, LoadTells, StoreTells, ReleaseDoes, ReleaseTells}
 use mathlib.Core.Option.{some}
 use lib.ListN.{get_elem?}
 use Rattle.atomic_table.specs.Table as table
-use Rattle.atomic_table.specs.Table.{Me, Step, step, keeps, stepped, Allows, homes_after}
-use Rattle.atomic_table.proofs.Lists.{set_else}
-use Rattle.vll_record.specs.declared.claim.Claim.{Claim}
-use Rattle.vll_record.specs.Counter.{delta_of}
-use Rattle.vll_record.specs.Headline.Word.{pair_word_of_record}
-use Rattle.vll_record.specs.Word.{value_word_of}
-use Rattle.vll_proc.specs.Headline.Serial.{Made, apply, before, end}
-use Rattle.vll_sca.specs.Status.{is_running, is_gone}
 use Rattle.vll_core.specs.declared.event.Event.TheVariants as event
-use Rattle.vll_core.specs.declared.seen.Seen.{Seen}
-use Rattle.vll_core.specs.Headline.State.{Base}
-use Rattle.vll_core.specs.State.{Entered, State, made, entered, records_before, writes, is_aborted, counter, value}
-use Rattle.vll_core.specs.Machine.{with_entry, has_stored}
-use Rattle.vll_core.specs.Moves.{Move, move, by_event, IsLawful, moved, is_on, entry_store}
-use Rattle.vll_core.specs.Shown.{AreWords}
-use Rattle.vll_core.proofs.WordsKept.{words_stay, counters_stay}
 use Rattle.vll_core.proofs.WordChanges.{words_set_value, words_set_pair}
-use Rattle.vll_core.proofs.Claiming.{counter_fits, delta_here, delta_elsewhere}
-use Rattle.vll_core.proofs.Deltas.{counter_release}
-use Rattle.vll_core.proofs.Places.{take_next}
-use Rattle.vll_core.proofs.Reached.{load_reached}
-use Rattle.vll_core.proofs.SerialRun.{before_more, made_at}
-use Rattle.std.proofs.lemmas.Bool.{ne_eqb}
 use Rattle.vll_core.proofs.Values.{store_reached, others_stay}
-use Rattle.vll_counters.specs.declared.views.PassView.{PassView}
-use Rattle.vll_counters.specs.declared.views.View.{View}
-use Rattle.vll_counters.specs.declared.views.View.TheVariants.{Pass}
-use Rattle.vll_counters.specs.Rule.{widest, values_before, pass_for, pass_of, Moment, Rule}
-use Rattle.vll_counters.specs.Steps.{loaded, stored, released, records_before_pass, reply_of_pass}
-use Rattle.vll_counters.specs.Told.{PassMoment, IsCountedNow, has_stored_pass, LoadTells, StoreTells, ReleaseDoes, ReleaseTells}
 use Rattle.vll_counters.proofs.Moves.{load_made, store_made, release_made}
 use Rattle.vll_counters.proofs.Passes.{passes_moved}
 use Rattle.vll_counters.proofs.Sessions.{sessions_reviewed}

@@ -1,14 +1,8 @@
 -- Which seat has the pass of which ticket, after each kind of change.
 use Rattle.std.proofs.Common.{◌≡◌, ◌≢◌, ℕ, List, [], ◌∷◌, ◌++◌, length, set, sym, ap, ◌∙◌, Option, Some, None, ⊎_elim}
-use Rattle.std.proofs.lemmas.Bool.{cases_eq}
-use Rattle.std.proofs.lemmas.Option.{same_Some}
+use Rattle.vll_counters.proofs.Common.{cases_eq, same_Some, at_set, at_longer, at_last, set_here, set_else, PassView, View, pass_in, ArePasses}
 use mathlib.Core.Option.{some, some-injective}
 use lib.ListN.{get_elem?}
-use Rattle.atomic_table.proofs.Lists.{at_set, at_longer, at_last, set_here, set_else}
-use Rattle.vll_counters.specs.declared.views.PassView.{PassView}
-use Rattle.vll_counters.specs.declared.views.View.{View}
-use Rattle.vll_counters.specs.Headline.Views.{pass_in}
-use Rattle.vll_counters.specs.Rule.{ArePasses}
 use Rattle.vll_counters.proofs.Places.{no_some, at_below, at_end, seat_with, seat_here, seat_else}
 
 abbrev ticket_of : PassView → ℕ

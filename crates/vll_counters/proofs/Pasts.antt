@@ -1,8 +1,6 @@
 -- Pasts of one history: what their writes leave, the longer of two, and that one of them begins the other.
 use Rattle.std.proofs.Common.{◌≡◌, ◌⊎◌, ℕ, ◌≤◌, Bool, true, false, length, List, [], ◌∷◌, ◌++◌, refl, sym, ap, ◌∙◌, arith, inl, inr, append_assoc, append-nil, slice_set}
-use Rattle.std.specs.Prelude.{nat_lt, if◌then◌else◌}
-use Rattle.std.proofs.lemmas.Bool.Decides.{nat_tests}
-use Rattle.vll_counters.specs.Written.{Write, written, IsPastOf, longer}
+use Rattle.vll_counters.proofs.Common.{nat_lt, if◌then◌else◌, nat_tests, Write, written, IsPastOf, longer}
 
 pub written-append : (words : List ℕ) (first more : List Write) → written words (first ++ more) ≡ written (written words first) more
 written-append words [] more = refl

@@ -1,7 +1,6 @@
 -- Which item is at which place of a list, and which seat has what.
 use Rattle.std.proofs.Common.{◌≡◌, ◌≢◌, ◌⊎◌, ℕ, zero, suc, ◌<◌, List, [], ◌∷◌, ◌++◌, length, sym, ap, arith, Some, None, inl, inr, refl, slice_get}
-use Rattle.std.specs.Prelude.{◌==◌, if◌then◌else◌, slice_set}
-use Rattle.std.proofs.lemmas.Bool.Decides.{nat_tests}
+use Rattle.vll_counters.proofs.Common.{◌==◌, if◌then◌else◌, slice_set, nat_tests}
 use mathlib.Core.Option.{some, some-injective, some-ne-none}
 use lib.ListN.{get_elem?}
 

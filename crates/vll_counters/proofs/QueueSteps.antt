@@ -1,31 +1,10 @@
 -- The steps of the queue's seat that leave passes and sessions where they are: a turn opens, and requests its claims.
 use Rattle.std.proofs.Common.{◌≡◌, ℕ, ◌+◌, ◌<◌, ◌≤◌, ◌%◌, ◌&&◌, Bool, List, [], length, refl, sym, ap, ◌∙◌, subst, arith, Option, Some, None, slice_get, slice_index, slice_set}
-use Rattle.std.specs.Option.{option_map}
+use Rattle.vll_counters.proofs.Common.{option_map, step, keeps, Allows, set_here, Claim, delta_of, pair_word_of_record, Call, Line, Base, State, counter, waiting, IsProper, IsReached, hand, moved, AreWords, after_request, request_reached, words_asked, counter_asked, counter_fits, words_stay, TurnView, SessionView, QueueView, Queue, calls_in, widest, turn_view, Moment, Rule, pass_of, asked, requested, turn_of, IsCounterNow, KnowsSession, RequestDoes, RequestTells, OpenTells}
 use Rattle.std.proofs.lemmas.List.Sums.{count_by-le-length}
 use mathlib.Core.Option.{some}
 use lib.ListN.{get_elem?}
-use Rattle.atomic_table.specs.Table.{step, keeps, Allows}
-use Rattle.atomic_table.proofs.Lists.{set_here}
-use Rattle.vll_record.specs.declared.claim.Claim.{Claim}
-use Rattle.vll_record.specs.Counter.{delta_of}
-use Rattle.vll_record.specs.Headline.Word.{pair_word_of_record}
-use Rattle.vll_proc.specs.declared.call.Call.{Call}
-use Rattle.vll_core.specs.declared.line.Line.{Line}
-use Rattle.vll_core.specs.Headline.State.{Base}
-use Rattle.vll_core.specs.State.{State, counter}
-use Rattle.vll_core.specs.Machine.{waiting}
-use Rattle.vll_core.specs.Moves.{IsProper, IsReached, hand, moved}
-use Rattle.vll_core.specs.Shown.{AreWords}
-use Rattle.vll_core.proofs.Claiming.{after_request, request_reached, words_asked, counter_asked, counter_fits}
-use Rattle.vll_core.proofs.WordsKept.{words_stay}
-use Rattle.vll_counters.specs.declared.views.TurnView.{TurnView}
-use Rattle.vll_counters.specs.declared.views.SessionView.{SessionView}
-use Rattle.vll_counters.specs.declared.views.QueueView.{QueueView}
-use Rattle.vll_counters.specs.declared.views.View.TheVariants.{Queue}
-use Rattle.vll_counters.specs.Headline.Views.{calls_in}
-use Rattle.vll_counters.specs.Rule.{widest, turn_view, Moment, Rule, pass_of}
-use Rattle.vll_counters.specs.Steps.{asked, requested, turn_of, opened}
-use Rattle.vll_counters.specs.Told.{IsCounterNow, KnowsSession, RequestDoes, RequestTells, OpenTells}
+use Rattle.vll_counters.specs.Steps.{opened}
 use Rattle.vll_counters.proofs.Places.{at_below}
 use Rattle.vll_counters.proofs.Passes.{passes_reviewed}
 use Rattle.vll_counters.proofs.Sessions.{sessions_reviewed}

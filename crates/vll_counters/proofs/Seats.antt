@@ -1,49 +1,22 @@
 -- The steps, if the seat and its view, the words and what a step knows besides are known by equations.
 use Rattle.std.proofs.Common.{◌≡◌, ◌≢◌, ℕ, zero, suc, ◌+◌, ◌-◌, ◌*◌, ◌%◌, ◌<◌, true, false, List, [], ◌∷◌, ◌++◌, length, length-append, ⊎_elim, refl, sym, ap, ◌∙◌, subst, arith, Option, Some, None, slice_get, slice_index, IfSome, IsSome, count_by, Bor}
-use Rattle.std.specs.Option.{option_map}
+use Rattle.vll_counters.proofs.Common.{option_map, TableId, Me, step, Allows, Splits, Joins, opening, Final, Claim, delta_of, pair_word_of_record, value_word_of, Call, apply, Line, is_waiting, is_running, AreLaid, laid_words, Base, catalog_of, writes, is_aborted, IsProper, TurnView, PassView, SessionView, QueueView, SeatView, View, Queue, Pass, Session, Rule, new_session, new_line, admitted, joined, spent, reply_of_pass, records_before_pass, pass_given, pass_at, pass_kept, pass_made, session_kept, session_given, more_clients, session_made, new_pass, Write, written, IsPastOf, LeadsTo, longer, seat_view, with_view, with_views, first_seat, spent_seat, Stays, Requested, Found, RuleWithHistory, IsAtEnd, AtQueue, KnowsPass, KnowsSession, RequestDoes, RequestTells, OpenTells, LoadTells, FindDoes, FindTells, StoreTells, ReleaseDoes, ReleaseTells, EndTells, MayRun, MayLeave, IsGivenOut, has_stored_pass, AreNewSessions, base_of, QueueShown, SessionShown, PassShown, shown_queue, settled, queue_in, queue_view, session_of, pass_of_view, next_claim, record_of, cases_eq}
 use mathlib.Core.Option.{some, some-injective, some-ne-none}
 use lib.ListN.{get_elem?}
-use Rattle.atomic_table.specs.Seated.{TableId}
 use Rattle.atomic_table.specs.Table as table
-use Rattle.atomic_table.specs.Table.{Me, step, Allows, Splits, Joins, opening, Final, Seen as SeenBy}
-use Rattle.vll_record.specs.declared.claim.Claim.{Claim}
-use Rattle.vll_record.specs.Counter.{delta_of}
-use Rattle.vll_record.specs.Headline.Word.{pair_word_of_record}
-use Rattle.vll_record.specs.Word.{value_word_of}
-use Rattle.vll_proc.specs.declared.call.Call.{Call}
-use Rattle.vll_proc.specs.Headline.Serial.{apply}
+use Rattle.atomic_table.specs.Table.{Seen as SeenBy}
 use Rattle.vll_check.specs.Calls.{IsReady}
 use Rattle.vll_check.specs.Headline.Catalog.{Catalog}
 use Rattle.vll_check.specs.Catalog.{IsCatalog}
-use Rattle.vll_core.specs.declared.line.Line.{Line}
-use Rattle.vll_sca.specs.Headline.Status.{is_waiting}
-use Rattle.vll_sca.specs.Status.{is_running}
-use Rattle.vll_counters.specs.Laid.{AreLaid, laid_words}
-use Rattle.vll_core.specs.Headline.State.{Base, catalog_of}
-use Rattle.vll_core.specs.State.{writes, is_aborted}
-use Rattle.vll_core.specs.Moves.{IsProper}
 use Rattle.vll_core.proofs.Fitted.{proper_ready}
 use Rattle.vll_counters.specs.declared.key.Key.{Key}
-use Rattle.vll_counters.specs.declared.views.TurnView.{TurnView}
-use Rattle.vll_counters.specs.declared.views.PassView.{PassView}
-use Rattle.vll_counters.specs.declared.views.SessionView.{SessionView}
-use Rattle.vll_counters.specs.declared.views.QueueView.{QueueView}
-use Rattle.vll_counters.specs.declared.views.SeatView.{SeatView}
-use Rattle.vll_counters.specs.declared.views.View.{View}
-use Rattle.vll_counters.specs.declared.views.View.TheVariants.{Queue, Pass, Session}
-use Rattle.vll_counters.specs.Rule.{Rule}
-use Rattle.vll_counters.specs.Steps.{new_session, new_line, admitted, joined, spent, reply_of_pass, records_before_pass, pass_given, pass_at, pass_kept, pass_made, session_kept, session_given, more_clients, session_made, new_pass}
-use Rattle.vll_counters.specs.Written.{Write, written, IsPastOf, LeadsTo, longer}
-use Rattle.vll_counters.specs.History.{seat_view, with_view, with_views, first_seat, spent_seat, Stays, Requested, Released, Found, RuleWithHistory}
-use Rattle.vll_counters.specs.Told.{IsAtEnd, AtQueue, KnowsPass, KnowsSession, RequestDoes, RequestTells, OpenTells, LoadTells, FindDoes, FindTells, StoreTells, ReleaseDoes, ReleaseTells, EndTells, MayRun, MayLeave, IsGivenOut, has_stored_pass}
-use Rattle.vll_counters.specs.Shown.{AreNewSessions, base_of, QueueShown, SessionShown, PassShown, shown_queue, settled, queue_in, queue_view, session_of, pass_of_view, next_claim, record_of}
+use Rattle.vll_counters.specs.History.{Released}
 use Rattle.vll_counters.proofs.Lifting.{lifts_load, lifts_store, lifts_change, lifts_find, lifts_split, lifts_join, lowers_final}
 use Rattle.vll_counters.proofs.PassSteps.{loads, stores, releases, release_fits}
 use Rattle.vll_counters.proofs.Finding.{finds}
 use Rattle.vll_counters.proofs.QueueSteps.{MayOpen, requests, request_fits, opens}
 use Rattle.vll_counters.proofs.Giving.{gives, pass_there}
 use Rattle.vll_counters.proofs.Places.{get_last, get_longer}
-use Rattle.std.proofs.lemmas.Bool.{cases_eq}
 use Rattle.vll_counters.proofs.Coming.{comes_pass, comes_session, ends, leaves}
 use Rattle.vll_counters.proofs.Bounds.{starts, makes_session, closes}
 

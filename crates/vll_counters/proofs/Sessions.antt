@@ -1,21 +1,8 @@
 -- Which seat has which client's session, and what it has seen, after each kind of change.
 use Rattle.std.proofs.Common.{◌≡◌, ◌≢◌, ℕ, suc, ◌<◌, ◌==◌, List, [], ◌∷◌, ◌++◌, length, set, sym, ap, ◌∙◌, subst, arith, Some, None, ⊎_elim, append_assoc, cond}
-use Rattle.std.proofs.lemmas.Bool.{ne_eqb, cond-false}
-use Rattle.std.proofs.lemmas.List.{append-nil}
-use Rattle.std.proofs.lemmas.Option.{same_Some}
-use Rattle.std.specs.Prelude.{filter, map, slice_get, Bool, true, false}
+use Rattle.vll_counters.proofs.Common.{ne_eqb, cond-false, append-nil, same_Some, filter, map, slice_get, Bool, true, false, at_set, Call, Made, Status, Gone, SessionView, View, calls_by, Begins, session_in, HasSeen, IsSession, AreSessions}
 use mathlib.Core.Option.{some}
 use lib.ListN.{get_elem?}
-use Rattle.atomic_table.proofs.Lists.{at_set}
-use Rattle.vll_proc.specs.declared.call.Call.{Call}
-use Rattle.vll_proc.specs.Headline.Serial.{Made}
-use Rattle.vll_sca.specs.declared.status.Status.{Status}
-use Rattle.vll_sca.specs.declared.status.Status.TheVariants.{Gone}
-use Rattle.vll_counters.specs.declared.views.SessionView.{SessionView}
-use Rattle.vll_counters.specs.declared.views.View.{View}
-use Rattle.vll_counters.specs.Headline.Views.{calls_by, Begins}
-use Rattle.vll_counters.specs.Views.{session_in}
-use Rattle.vll_counters.specs.Rule.{HasSeen, IsSession, AreSessions}
 use Rattle.vll_counters.proofs.Places.{no_some, at_end, get_longer, seat_with, seat_here, seat_else}
 
 -- ---- a fact of each session at each seat

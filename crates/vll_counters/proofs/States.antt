@@ -1,24 +1,7 @@
 -- How lines, statuses and passes follow a state of the plain machine.
 use Rattle.std.proofs.Common.{◌≡◌, ◌≢◌, ℕ, zero, suc, ◌+◌, ◌<◌, ◌≤◌, Bool, true, false, List, [], ◌∷◌, ◌++◌, map, length, take, refl, sym, ap, ◌∙◌, arith, zero-add, add-zero, Option, Some, None, slice_get, slice_set, slice_index, if◌then◌else◌}
-use Rattle.std.specs.List.{enumerate_from}
-use Rattle.std.specs.Option.{option_map}
-use Rattle.std.proofs.lemmas.List.{take-append-le, map-set, length-map, map-append}
-use Rattle.std.proofs.lemmas.Option.{same_Some, slice_get-map, slice_get_within}
-use Rattle.vll_record.specs.declared.claim.Claim.{Claim}
-use Rattle.vll_proc.specs.Headline.Serial.{Made, apply, before, end}
-use Rattle.vll_sca.specs.declared.status.Status.{Status}
-use Rattle.vll_sca.specs.Status.{is_running, is_gone}
-use Rattle.vll_core.specs.declared.line.Line.{Line}
-use Rattle.vll_core.specs.Headline.State.{Base}
-use Rattle.vll_core.specs.State.{Entered, Turn, State, made, entered}
-use Rattle.vll_core.specs.Machine.{running, if_running, with_entry}
+use Rattle.vll_counters.proofs.Common.{enumerate_from, option_map, take-append-le, map-set, length-map, map-append, same_Some, slice_get-map, slice_get_within, Claim, Made, apply, before, end, Status, is_running, is_gone, Line, Base, Entered, Turn, State, made, entered, running, if_running, with_entry, get_set, map_set, map_push, entry_runs, PassView, calls_in, pass_for, pass_of}
 use Rattle.vll_core.specs.Journal.{journal_of}
-use Rattle.vll_core.proofs.Places.{get_set}
-use Rattle.vll_core.proofs.SerialRun.{map_set, map_push}
-use Rattle.vll_core.proofs.Changes.{entry_runs}
-use Rattle.vll_counters.specs.declared.views.PassView.{PassView}
-use Rattle.vll_counters.specs.Headline.Views.{calls_in}
-use Rattle.vll_counters.specs.Rule.{pass_for, pass_of}
 use Rattle.vll_counters.proofs.Passes.{AreNamed}
 use Rattle.vll_counters.proofs.Places.{get_longer, get_last, get_past, past_more, get_set_else}
 

@@ -1,32 +1,10 @@
 -- What the queue's seat knows of a state, and of its open turn.
 use Rattle.std.proofs.Common.{◌≡◌, ℕ, not, List, [], ◌∷◌, length, map, refl, sym, ap, ◌∙◌, arith, Option, Some, None, slice_get, if◌then◌else◌}
-use Rattle.std.specs.Option.{option_map}
-use Rattle.std.specs.List.{enumerate_from}
-use Rattle.std.proofs.lemmas.List.{length-map}
+use Rattle.vll_counters.proofs.Common.{option_map, enumerate_from, length-map, same_Some, slice_get-map, Claim, conflict, is_granted, Made, apply, before, answer, Status, Gone, is_gone, Line, Base, Entered, Turn, State, made, entered, open_claims, counter, IsReached, made_at, TurnView, SessionView, QueueView, calls_in, widest, turn_view, Shows, IsHosted, asked, AreReplied}
 use Rattle.std.proofs.lemmas.List.FromFn.{length-enumerate_from}
-use Rattle.std.proofs.lemmas.Option.{same_Some, slice_get-map}
-use Rattle.vll_record.specs.declared.claim.Claim.{Claim}
-use Rattle.vll_record.specs.Claim.{conflict}
-use Rattle.vll_record.specs.Counter.{is_granted}
 use Rattle.vll_record.proofs.Counted.{is_granted-no_conflict}
 use Rattle.vll_proc.specs.declared.syntax.Proc.{Proc}
-use Rattle.vll_proc.specs.Headline.Serial.{Made, apply, before, answer}
-use Rattle.vll_sca.specs.declared.status.Status.{Status}
-use Rattle.vll_sca.specs.declared.status.Status.TheVariants.{Gone}
-use Rattle.vll_sca.specs.Status.{is_gone}
-use Rattle.vll_core.specs.declared.line.Line.{Line}
-use Rattle.vll_core.specs.Headline.State.{Base}
-use Rattle.vll_core.specs.State.{Entered, Turn, State, made, entered, open_claims, counter}
-use Rattle.vll_core.specs.Moves.{IsReached}
 use Rattle.vll_core.proofs.Counters.{counters_within}
-use Rattle.vll_core.proofs.SerialRun.{made_at}
-use Rattle.vll_counters.specs.declared.views.TurnView.{TurnView}
-use Rattle.vll_counters.specs.declared.views.SessionView.{SessionView}
-use Rattle.vll_counters.specs.declared.views.QueueView.{QueueView}
-use Rattle.vll_counters.specs.Headline.Views.{calls_in}
-use Rattle.vll_counters.specs.Rule.{widest, turn_view, Shows, IsHosted}
-use Rattle.vll_counters.specs.Steps.{asked}
-use Rattle.vll_counters.specs.Told.{AreReplied}
 use Rattle.vll_counters.proofs.States.{status_of, line_by, calls_entered, line_at}
 
 -- a turn of the plain machine, as the queue's seat knows it

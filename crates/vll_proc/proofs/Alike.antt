@@ -1,14 +1,7 @@
 -- A body means the same on two scenes that agree on what it can read: its key positions, its arguments, and the locals that are surely set.
 use Rattle.std.proofs.Common.{◌≡◌, ℕ, zero, suc, ◌<◌, ◌≤◌, Bool, true, false, ◌==◌, ◌&&◌, List, [], ◌∷◌, ◌++◌, length, map, get_or, Result, Ok, Err, slice_index, slice_set, refl, sym, ap, ◌∙◌, arith, ⊎_elim, ◌⊎◌, if◌then◌else◌}
-use Rattle.std.specs.List.{list_all}
+use Rattle.vll_proc.proofs.Common.{list_all, ltb-true, cases_eq, cases_lt, false≢true, get_or-set_same, get_or-set_other, get_or_past, length-set, Reason, Expr, Row_of-Expr, end_of-Expr, more_of-Expr, Num, Arg, Key, Local, Add', Sub', Mul', Div', Rem', Min', Max', Equal', Less', Not', Stmt, Row_of-Stmt, end_of-Stmt, more_of-Stmt, Let, Set, If', Abort, Reply, Repeat', Scene, Action, and_then, both, sum, difference, product, quotient, remainder, lesser, greater, equality, order, truth, value_of, operand, effect, list_effect, in_turn, repeated, Locals, all_leaves, operand_leaves, throughout, list_throughout, key_is_below, arg_is_below, set_is_below, any_stmt, local_is_set, both_set, set_behind, list_set_behind, body_set_behind, reads_set, list_reads_set, body_reads_set}
 use Rattle.std.proofs.Math.Dec.{eqb-suc-zero}
-use Rattle.std.proofs.lemmas.Bool.{ltb-true, cases_eq, cases_lt, false≢true}
-use Rattle.std.proofs.lemmas.List.{get_or-set_same, get_or-set_other, get_or_past, length-set}
-use Rattle.vll_proc.specs.declared.call.Reason.{Reason}
-use Rattle.vll_proc.specs.declared.syntax.Expr.{Expr, Row_of-Expr, end_of-Expr, more_of-Expr, Num, Arg, Key, Local, Add', Sub', Mul', Div', Rem', Min', Max', Equal', Less', Not'}
-use Rattle.vll_proc.specs.declared.syntax.Stmt.{Stmt, Row_of-Stmt, end_of-Stmt, more_of-Stmt, Let, Set, If', Abort, Reply, Repeat'}
-use Rattle.vll_proc.specs.Headline.Meaning.{Scene, Action, and_then, both, sum, difference, product, quotient, remainder, lesser, greater, equality, order, truth, value_of, operand, effect, list_effect, in_turn, repeated}
-use Rattle.vll_proc.specs.WellFormed.{Locals, all_leaves, operand_leaves, throughout, list_throughout, key_is_below, arg_is_below, set_is_below, any_stmt, local_is_set, both_set, set_behind, list_set_behind, body_set_behind, reads_set, list_reads_set, body_reads_set}
 use Rattle.vll_proc.proofs.Copy.{both_true}
 
 -- how the records of two scenes correspond: which number on one side stands for which on the other,

@@ -1,31 +1,11 @@
 -- What a made call says of its procedure: each key position has the cell of its claim.
 use Rattle.std.proofs.Common.{◌≡◌, ℕ, zero, suc, ◌-◌, ◌<◌, ◌≤◌, Bool, true, false, ◌==◌, List, [], ◌∷◌, length, map, take, replicate, get_or, Option, Some, None, slice_index, refl, sym, ap, ap₂, unwrap_or, slice_get, ◌∙◌, arith, ⊎_elim, if◌then◌else◌}
-use Rattle.std.specs.List.{list_all}
-use Rattle.std.proofs.lemmas.Bool.{ltb-true, cases_lt, leb-true, eq-eqb, cond-true, false≢true}
+use Rattle.vll_proc.proofs.Common.{list_all, ltb-true, cases_lt, leb-true, eq-eqb, cond-true, false≢true, get_or-map, get_or_append_left, get_or-append_right, get_or_past, length-map, slice_get_within, none-some, slice_get-get_or, MOST_CLAIMS, Claim, Mode, Read, IsRising, mode_on, stronger_of, mode_on-claims_of, Call, Edition, One, Two, KeyDecl, Proc, asking, asked_by, asked, place_of, place_for, is_led, IsCallOf, found_at, led_to, or_else, record_named, source_at, source_of, HasCells, HasCellsBelow, IsWellFormed, most_keys, argument_is_declared, has_source, have_sources, is_direct, IsRising-claims_of, length-claims_of-le}
 use Rattle.std.proofs.lemmas.Map.Views.{exact_unsigned_eq}
-use Rattle.std.proofs.lemmas.List.{get_or-map, get_or_append_left, get_or-append_right, get_or_past, length-map}
-use Rattle.std.proofs.lemmas.Option.{slice_get_within, none-some, slice_get-get_or}
-use Rattle.vll_record.specs.declared.claims.TheConstants.{MOST_CLAIMS}
 use Rattle.vll_record.specs.Headline.Canon.{laid}
-use Rattle.vll_record.specs.declared.claim.Claim.{Claim}
-use Rattle.vll_record.specs.declared.claim.Mode.{Mode}
-use Rattle.vll_record.specs.declared.claim.Mode.TheVariants.{Read}
 use Rattle.vll_record.specs.Headline.Claim.{claims_of, stronger}
-use Rattle.vll_record.specs.Claim.{IsRising, mode_on, stronger_of}
-use Rattle.vll_record.proofs.ClaimsOf.{mode_on-claims_of}
-use Rattle.vll_proc.specs.declared.call.Call.{Call}
-use Rattle.vll_proc.specs.declared.syntax.Edition.{Edition}
-use Rattle.vll_proc.specs.declared.syntax.Edition.TheVariants.{One, Two}
 use Rattle.vll_proc.specs.declared.syntax.KeyAt.{KeyAt}
 use Rattle.vll_proc.specs.declared.syntax.KeyAt.TheVariants as at
-use Rattle.vll_proc.specs.declared.syntax.KeyDecl.{KeyDecl}
-use Rattle.vll_proc.specs.declared.syntax.Proc.{Proc}
-use Rattle.vll_proc.specs.Headline.Made.{asking, asked_by, asked, place_of, place_for}
-use Rattle.vll_proc.specs.Made.{is_led, IsCallOf}
-use Rattle.vll_proc.specs.Headline.Meaning.{found_at, led_to, or_else, record_named, source_at, source_of}
-use Rattle.vll_proc.specs.Private.Running.{HasCells, HasCellsBelow}
-use Rattle.vll_proc.specs.WellFormed.{IsWellFormed, most_keys, argument_is_declared, has_source, have_sources, is_direct}
-use Rattle.vll_record.proofs.ClaimsOf.{IsRising-claims_of, length-claims_of-le}
 use Rattle.vll_proc.proofs.Copy.{IsPlaceFor, both_true}
 
 -- a record that is claimed stands at its place

@@ -1,12 +1,7 @@
 -- Cells hold the values of the records of claims, each at the place of its claim.
 use Rattle.std.proofs.Common.{◌≡◌, ◌≢◌, ℕ, ◌<◌, ◌≤◌, Bool, true, false, ◌&&◌, List, length, Some, slice_get, slice_index, slice_set, refl, sym, ap, ◌∙◌, arith, ⊎_elim}
-use Rattle.std.proofs.lemmas.Bool.{cases_eq, false≢true}
-use Rattle.std.proofs.lemmas.List.{get_or-set_same, get_or-set_other, length-set}
-use Rattle.std.proofs.lemmas.Option.{same_Some, slice_get_within}
-use Rattle.vll_record.specs.declared.claim.Claim.{Claim}
-use Rattle.vll_record.specs.Claim.{IsRising}
+use Rattle.vll_proc.proofs.Common.{cases_eq, false≢true, get_or-set_same, get_or-set_other, length-set, same_Some, slice_get_within, Claim, IsRising, Holds}
 use Rattle.vll_record.proofs.Rising.{same_place}
-use Rattle.vll_proc.specs.Cells.{Holds}
 
 -- a place among claims whose claim is of a record
 pub record IsPlaceFor (claims : List Claim) (place r : ℕ) : Type 0 where

@@ -1,12 +1,7 @@
 -- A well-formed body ends alike on two scenes that its declarations cannot tell apart.
 use Rattle.std.proofs.Common.{◌≡◌, ℕ, zero, suc, false, length, map, replicate, get_or, Result, Ok, Err, refl, sym, ◌∙◌}
-use Rattle.std.proofs.lemmas.Bool.{false≢true}
-use Rattle.vll_proc.specs.declared.limits.TheConstants.{MOST_LOCALS}
-use Rattle.vll_proc.specs.declared.call.Reason.{Reason}
-use Rattle.vll_proc.specs.declared.syntax.Proc.{Proc}
-use Rattle.vll_proc.specs.Headline.Meaning.{Scene, effect, in_turn}
+use Rattle.vll_proc.proofs.Common.{false≢true, MOST_LOCALS, Reason, Proc, Scene, effect, in_turn, IsWellFormed, Locals, nothing_set, body_set_behind}
 use Rattle.vll_proc.specs.Undeclared.{AgreeOnDeclared, EndsAlike}
-use Rattle.vll_proc.specs.WellFormed.{IsWellFormed, Locals, nothing_set, body_set_behind}
 use Rattle.vll_proc.proofs.Alike.{Bridge, IsAlike, EndAlike, alike_in_turn}
 
 -- both sides have the same records, and each number stands for itself

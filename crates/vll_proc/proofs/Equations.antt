@@ -1,10 +1,8 @@
 -- What the definitions say of an operand and of an operator of one operand, as they are built.
 use Rattle.std.proofs.Common.{◌≡◌, suc, Bool, ◌==◌, refl, Ok}
+use Rattle.vll_proc.proofs.Common.{Expr, Not, Scene, and_then, value_of, truth, all_leaves, depth, nodes}
 use denote.Hole.Carrier.{hidden}
-use Rattle.vll_proc.specs.declared.syntax.Expr.{Expr, Not}
 use Rattle.vll_proc.specs.declared.syntax.Expr.TheBlock.{hidden-the_row-Expr-0}
-use Rattle.vll_proc.specs.Headline.Meaning.{Scene, and_then, value_of, truth}
-use Rattle.vll_proc.specs.WellFormed.{all_leaves, depth, nodes}
 
 pub value_of_not : (a : Expr) (s : Scene) → value_of (Not a) s ≡ and_then (value_of a s) (λ x. Ok (truth (x == 0)))
 unfolding hidden hidden-the_row-Expr-0

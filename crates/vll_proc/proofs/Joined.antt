@@ -1,12 +1,9 @@
 -- Lists of calls in a row, and properties that each call keeps.
 use Rattle.std.proofs.Common.{◌≡◌, ℕ, zero, suc, ◌+◌, ◌<◌, List, [], ◌∷◌, ◌++◌, length, slice_get, All, refl, sym, ap, ◌∙◌, arith, zero-add}
-use Rattle.std.proofs.lemmas.List.{take-append-le}
+use Rattle.vll_proc.proofs.Common.{take-append-le, Proc, Made, answer, apply, before, end, in_a_row, replies_by_epochs, end_by_epochs}
 use Rattle.std.proofs.lemmas.List.Elements.{All-head, All-tail}
 use Rattle.vll_proc.specs.declared.call.Reply.{Reply}
-use Rattle.vll_proc.specs.declared.syntax.Proc.{Proc}
-use Rattle.vll_proc.specs.Headline.Serial.{Made, answer, apply, before, end}
 use Rattle.vll_proc.specs.Serial.{Keeps, replies}
-use Rattle.vll_proc.specs.Epochs.{in_a_row, replies_by_epochs, end_by_epochs}
 
 -- the second list goes on from the end of the first
 pub end_joined : (procs : List Proc) (calls more : List Made) (records : List ℕ) → end procs (calls ++ more) records ≡ end procs more (end procs calls records)

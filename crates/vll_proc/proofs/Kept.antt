@@ -1,25 +1,6 @@
 -- What a body leaves as it was: the number of records, and each record that it does not claim for writing.
 use Rattle.std.proofs.Common.{◌≡◌, ◌≢◌, ℕ, zero, suc, ◌<◌, Bool, true, false, ◌==◌, nat_lt, List, [], ◌∷◌, ◌++◌, length, map, take, get_or, Option, Some, None, Result, Ok, Err, slice_get, slice_index, slice_set, refl, sym, ap, ◌∙◌, arith, if◌then◌else◌}
-use Rattle.std.specs.List.{list_all}
-use Rattle.std.proofs.lemmas.Bool.{ltb-true, eq-eqb, cond-true, false≢true}
-use Rattle.std.proofs.lemmas.List.{get_or-set_other, length-set}
-use Rattle.std.proofs.lemmas.Option.{slice_get-get_or}
-use Rattle.vll_record.specs.declared.claim.Claim.{Claim}
-use Rattle.vll_record.specs.declared.claim.Mode.{Mode}
-use Rattle.vll_record.specs.declared.claim.Mode.TheVariants.{Read, Write}
-use Rattle.vll_record.specs.Claim.{mode_on, stronger_of}
-use Rattle.vll_record.proofs.ClaimsOf.{mode_on-claims_of}
-use Rattle.vll_proc.specs.declared.call.Call.{Call}
-use Rattle.vll_proc.specs.declared.call.Reason.{Reason}
-use Rattle.vll_proc.specs.declared.call.Reason.TheVariants.{Moved}
-use Rattle.vll_proc.specs.declared.syntax.Expr.{Expr}
-use Rattle.vll_proc.specs.declared.syntax.KeyDecl.{KeyDecl}
-use Rattle.vll_proc.specs.declared.syntax.Proc.{Proc}
-use Rattle.vll_proc.specs.declared.syntax.Stmt.{Stmt, Row_of-Stmt, end_of-Stmt, more_of-Stmt, Let, Set, If', Abort, Reply, Repeat'}
-use Rattle.vll_proc.specs.Made.{IsCallOf}
-use Rattle.vll_proc.specs.Headline.Meaning.{Scene, Action, and_then, value_of, effect, list_effect, in_turn, repeated, record_named, found_at, has_moved, opening_scene, source_of, unless_moved, body}
-use Rattle.vll_proc.specs.Headline.Serial.{after, applied}
-use Rattle.vll_proc.specs.WellFormed.{IsWellFormed, key_is_below, set_is_below, any_leaf, throughout, list_throughout, is_not_read, sets_no_read_key}
+use Rattle.vll_proc.proofs.Common.{list_all, ltb-true, eq-eqb, cond-true, false≢true, get_or-set_other, length-set, slice_get-get_or, Claim, Mode, Read, Write, mode_on, stronger_of, mode_on-claims_of, Call, Reason, Moved, Expr, KeyDecl, Proc, Stmt, Row_of-Stmt, end_of-Stmt, more_of-Stmt, Let, Set, If', Abort, Reply, Repeat', IsCallOf, Scene, Action, and_then, value_of, effect, list_effect, in_turn, repeated, record_named, found_at, has_moved, opening_scene, source_of, unless_moved, body, after, applied, IsWellFormed, key_is_below, set_is_below, any_leaf, throughout, list_throughout, is_not_read, sets_no_read_key}
 use Rattle.vll_proc.proofs.Called.{claims_named, claim_named, number_named, some_key, key_record}
 use Rattle.vll_proc.proofs.Copy.{both_true}
 

@@ -1,3 +1,4 @@
+mod Common
 pub mod Equations
 pub mod Noted
 pub mod Lists

@@ -1,15 +1,9 @@
 -- What the definitions say of a list of statements, and so of an `If` and of a `Repeat` as they are built.
 use Rattle.std.proofs.Common.{◌≡◌, ℕ, zero, suc, ◌+◌, ◌*◌, max, Bool, ◌==◌, ◌&&◌, refl, ap, Result, Ok, Err, List, [], ◌∷◌, map, sum_by, if◌then◌else◌}
-use Rattle.std.specs.List.{list_all}
+use Rattle.vll_proc.proofs.Common.{list_all, Reason, Edition, Expr, Stmt, If, Repeat, Scene, Action, and_then, value_of, effect, in_turn, repeated, list_effect, Locals, local_is_set, all_leaves, throughout, list_throughout, both_set, set_behind, list_set_behind, body_set_behind, reads_set, list_reads_set, body_reads_set, replies, list_replies, depth, stmt_depth, list_depth, body_depth, nodes, stmt_nodes, list_nodes, weight, list_weight, may_repeat, turns_are_few, list_turns_are_few}
 use Rattle.std.proofs.lemmas.List.Sums.{sum_by-cons}
 use denote.Hole.Carrier.{hidden}
-use Rattle.vll_proc.specs.declared.call.Reason.{Reason}
-use Rattle.vll_proc.specs.declared.syntax.Edition.{Edition}
-use Rattle.vll_proc.specs.declared.syntax.Expr.{Expr}
-use Rattle.vll_proc.specs.declared.syntax.Stmt.{Stmt, If, Repeat}
 use Rattle.vll_proc.specs.declared.syntax.Stmt.TheBlock.{hidden-the_row-Stmt-0}
-use Rattle.vll_proc.specs.Headline.Meaning.{Scene, Action, and_then, value_of, effect, in_turn, repeated, list_effect}
-use Rattle.vll_proc.specs.WellFormed.{Locals, local_is_set, all_leaves, throughout, list_throughout, both_set, set_behind, list_set_behind, body_set_behind, reads_set, list_reads_set, body_reads_set, replies, list_replies, depth, stmt_depth, list_depth, body_depth, nodes, stmt_nodes, list_nodes, weight, list_weight, may_repeat, turns_are_few, list_turns_are_few}
 
 same_then : (r : Result Scene Reason) (f g : Action) → ((s : Scene) → f s ≡ g s) → and_then r f ≡ and_then r g
 same_then (Ok s) f g h = h s

@@ -1,16 +1,6 @@
 -- What a call does depends on the values at its claims alone: both lists of records are held by one list of cells.
 use Rattle.std.proofs.Common.{◌≡◌, ℕ, ◌≤◌, List, length, map, Result, Ok, Err, Some, slice_get, slice_index, sym, ap, ◌∙◌, arith}
-use Rattle.std.proofs.lemmas.List.{get_or-map, length-map}
-use Rattle.std.proofs.lemmas.Option.{slice_get_within, get_or_from_slice_get}
-use Rattle.vll_record.specs.declared.claim.Claim.{Claim}
-use Rattle.vll_proc.specs.declared.call.Call.{Call}
-use Rattle.vll_proc.specs.declared.call.Reason.{Reason}
-use Rattle.vll_proc.specs.declared.syntax.Proc.{Proc}
-use Rattle.vll_proc.specs.Cells.{AgreeAt}
-use Rattle.vll_proc.specs.Made.{IsCallOf}
-use Rattle.vll_proc.specs.Headline.Meaning.{Scene}
-use Rattle.vll_proc.specs.Headline.Serial.{After, applied}
-use Rattle.vll_proc.specs.WellFormed.{IsWellFormed}
+use Rattle.vll_proc.proofs.Common.{get_or-map, length-map, slice_get_within, get_or_from_slice_get, Claim, Call, Reason, Proc, AgreeAt, IsCallOf, Scene, After, applied, IsWellFormed}
 use Rattle.vll_proc.proofs.Runs.{ToldBy, cell_body, told_on}
 
 -- the cells of the claims, as a list of records has them

@@ -1,12 +1,8 @@
 -- An operator of two operands: what the definitions say of it, whichever it is, and its result when the first reason is noted on the way.
 use Rattle.std.proofs.Common.{◌≡◌, ℕ, suc, ◌+◌, ◌*◌, ◌<◌, max, Bool, true, ◌&&◌, Option, Some, None, Result, Ok, Err, refl, sym, subst, ◌∙◌, arith, ◌⊎◌, inl, inr}
+use Rattle.vll_proc.proofs.Common.{Reason, Expr, Add, Sub, Mul, Div, Rem, Min, Max, Equal, Less, Scene, and_then, value_of, noted, behind, operation_of, all_leaves, depth, nodes}
 use denote.Hole.Carrier.{hidden}
-use Rattle.vll_proc.specs.declared.call.Reason.{Reason}
-use Rattle.vll_proc.specs.declared.syntax.Expr.{Expr, Add, Sub, Mul, Div, Rem, Min, Max, Equal, Less}
 use Rattle.vll_proc.specs.declared.syntax.Expr.TheBlock.{hidden-the_row-Expr-0}
-use Rattle.vll_proc.specs.Headline.Meaning.{Scene, and_then, value_of}
-use Rattle.vll_proc.specs.Private.Running.{noted, behind, operation_of}
-use Rattle.vll_proc.specs.WellFormed.{all_leaves, depth, nodes}
 use Rattle.vll_proc.proofs.Copy.{both_true}
 
 -- the value after both operands: a reason of the first hides the second, and a reason noted before hides both

@@ -1,22 +1,11 @@
 -- What some procedures answer, computed.
 use Rattle.std.proofs.Common.{◌≡◌, ℕ, true, false, List, [], ◌∷◌, replicate, sum_by, None, Some, refl}
+use Rattle.vll_proc.proofs.Common.{Read, Write, Code, Moved, Overflow, Underflow, ZeroDivisor, Committed, Aborted, One, Two, Num, Arg, Key, Local, Add, Sub, Mul, Div, Rem, Min, Max, Equal, Less, Not, Proc, Stmt, Let, Set, If, Abort, Reply, Repeat, KeyDecl, call_of, apply, replies_by_epochs, IsWellFormed, body_reads_set, nothing_set, has_few_keys, has_few_replies, has_few_turns, is_light, weight}
 use Rattle.std.specs.Prelude.{codes}
 use denote.Hole.Carrier.{hidden}
-use Rattle.vll_record.specs.declared.claim.Mode.TheVariants.{Read, Write}
-use Rattle.vll_proc.specs.declared.call.Reason.TheVariants.{Code, Moved, Overflow, Underflow, ZeroDivisor}
-use Rattle.vll_proc.specs.declared.call.Reply.TheVariants.{Committed, Aborted}
-use Rattle.vll_proc.specs.declared.syntax.Edition.TheVariants.{One, Two}
-use Rattle.vll_proc.specs.declared.syntax.Expr.{Num, Arg, Key, Local, Add, Sub, Mul, Div, Rem, Min, Max, Equal, Less, Not}
 use Rattle.vll_proc.specs.declared.syntax.Expr.TheBlock.{hidden-the_row-Expr-0}
 use Rattle.vll_proc.specs.declared.syntax.KeyAt.TheVariants as at
-use Rattle.vll_proc.specs.declared.syntax.Proc.{Proc}
-use Rattle.vll_proc.specs.declared.syntax.Stmt.{Stmt, Let, Set, If, Abort, Reply, Repeat}
 use Rattle.vll_proc.specs.declared.syntax.Stmt.TheBlock.{hidden-the_row-Stmt-0}
-use Rattle.vll_proc.specs.declared.syntax.KeyDecl.{KeyDecl}
-use Rattle.vll_proc.specs.Headline.Made.{call_of}
-use Rattle.vll_proc.specs.Headline.Serial.{apply}
-use Rattle.vll_proc.specs.Epochs.{replies_by_epochs}
-use Rattle.vll_proc.specs.WellFormed.{IsWellFormed, body_reads_set, nothing_set, has_few_keys, has_few_replies, has_few_turns, is_light, weight}
 
 abbrev pub transfer_keys : List KeyDecl
 transfer_keys = record { mode = Write; at = at.Arg 0 } ∷ record { mode = Write; at = at.Arg 1 } ∷ []

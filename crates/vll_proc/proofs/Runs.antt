@@ -1,25 +1,6 @@
 -- A well-formed procedure's body on the cells of a made call: it may run there, and ends as on the records.
 use Rattle.std.proofs.Common.{◌≡◌, ℕ, ◌<◌, ◌≤◌, ◌==◌, Bool, true, false, ◌&&◌, not, nat_lt, List, [], ◌∷◌, ◌++◌, length, map, take, drop, Option, Some, None, Result, Ok, Err, slice_index, refl, sym, ap, ◌∙◌, arith}
-use Rattle.std.specs.List.{list_all}
-use Rattle.std.proofs.lemmas.Bool.{ltb-true, lt-ltb, leb-true}
-use Rattle.std.proofs.lemmas.List.{length-set, take-append-drop}
-use Rattle.vll_record.specs.declared.claims.TheConstants.{MOST_CLAIMS}
-use Rattle.vll_proc.specs.declared.limits.TheConstants.{MOST_ARGS}
-use Rattle.vll_record.specs.declared.claim.Claim.{Claim}
-use Rattle.vll_record.specs.Claim.{IsRising}
-use Rattle.vll_proc.specs.declared.call.Call.{Call}
-use Rattle.vll_proc.specs.declared.call.Reason.{Reason}
-use Rattle.vll_proc.specs.declared.call.Reason.TheVariants.{Moved}
-use Rattle.vll_proc.specs.declared.call.Reply.TheVariants.{Committed, Aborted}
-use Rattle.vll_proc.specs.declared.syntax.Expr.{Expr, Row_of-Expr, end_of-Expr, more_of-Expr, Num, Arg, Key, Local, Add', Sub', Mul', Div', Rem', Min', Max', Equal', Less', Not'}
-use Rattle.vll_proc.specs.declared.syntax.Proc.{Proc}
-use Rattle.vll_proc.specs.declared.syntax.Stmt.{Stmt, Row_of-Stmt, end_of-Stmt, more_of-Stmt, Let, Set, If', Abort, Reply, Repeat'}
-use Rattle.vll_proc.specs.Cells.{Holds}
-use Rattle.vll_proc.specs.Made.{IsCallOf}
-use Rattle.vll_proc.specs.Headline.Meaning.{Scene, and_then, effect, has_moved, in_turn, opening_scene, source_of, unless_moved}
-use Rattle.vll_proc.specs.Private.Running.{cell_opening}
-use Rattle.vll_proc.specs.Headline.Serial.{After, after, applied}
-use Rattle.vll_proc.specs.WellFormed.{IsWellFormed, all_leaves, operand_leaves, throughout, list_throughout, key_is_below, arg_is_below, set_is_below, any_stmt, nothing_set, body_set_behind}
+use Rattle.vll_proc.proofs.Common.{list_all, ltb-true, lt-ltb, leb-true, length-set, take-append-drop, MOST_CLAIMS, MOST_ARGS, Claim, IsRising, Call, Reason, Moved, Committed, Aborted, Expr, Row_of-Expr, end_of-Expr, more_of-Expr, Num, Arg, Key, Local, Add', Sub', Mul', Div', Rem', Min', Max', Equal', Less', Not', Proc, Stmt, Row_of-Stmt, end_of-Stmt, more_of-Stmt, Let, Set, If', Abort, Reply, Repeat', Holds, IsCallOf, Scene, and_then, effect, has_moved, in_turn, opening_scene, source_of, unless_moved, cell_opening, After, after, applied, IsWellFormed, all_leaves, operand_leaves, throughout, list_throughout, key_is_below, arg_is_below, set_is_below, any_stmt, nothing_set, body_set_behind}
 use Rattle.vll_proc.proofs.Alike.{Bridge, IsAlike, EndAlike, alike_in_turn}
 use Rattle.vll_proc.proofs.Called.{keys_few, claims_rise, claims_few, key_place, source_within}
 use Rattle.vll_proc.proofs.Copy.{IsPlaceFor, both_true, Holds-set}

@@ -1,6 +1,6 @@
 -- What is left of a number of turns once one of them is taken.
 use Rattle.std.proofs.Common.{◌≡◌, ℕ, suc, ◌+◌, ◌-◌, ◌*◌, ◌<◌, Ok, refl, ap, ◌∙◌, arith}
-use Rattle.vll_proc.specs.Headline.Meaning.{Scene, Action, repeated}
+use Rattle.vll_proc.proofs.Common.{Scene, Action, repeated}
 
 -- if that turn does not end the call, the others begin where it ends
 pub repeated-left : (n i : ℕ) (act : Action) (s t : Scene) → i < n → act s ≡ Ok t → repeated (n - i) act s ≡ repeated (n - (i + 1)) act t

@@ -1,15 +1,9 @@
 -- The claims of what was asked for are the one rising list that claims each record as strongly.
 use Rattle.std.proofs.Common.{◌≡◌, ◌⊎◌, ⊎_elim, ◌<◌, ◌≤◌, length, suc, arith, sym, subst, ap₂, ℕ, Bool, true, false, ◌==◌, nat_lt, List, [], ◌∷◌, Option, Some, None, refl, ap, ◌∙◌, if◌then◌else◌}
+use Rattle.vll_record.proofs.Common.{cases_eq, cases_order, none-some, same_Some, Claim, Mode, Read, Write, stronger, with_claim, claims_of, IsRising, AreClaimsOf, stronger_of, mode_on}
 use Rattle.std.proofs.lemmas.Map.Views.{exact_unsigned_eq}
-use Rattle.std.proofs.lemmas.Bool.{cases_eq, cases_order}
-use Rattle.std.proofs.lemmas.Option.{none-some, same_Some}
 use Rattle.vll_record.proofs.Rising.{claim_of, RisesFrom, RisesFrom-zero, IsRising-from_rises, mode_on_below, mode_on_first, mode_on-other}
 use Rattle.vll_record.proofs.WithClaim.{IsRising-with_claim, length-with_claim-le}
-use Rattle.vll_record.specs.declared.claim.Claim.{Claim}
-use Rattle.vll_record.specs.declared.claim.Mode.{Mode}
-use Rattle.vll_record.specs.declared.claim.Mode.TheVariants.{Read, Write}
-use Rattle.vll_record.specs.Headline.Claim.{stronger, with_claim, claims_of}
-use Rattle.vll_record.specs.Claim.{IsRising, AreClaimsOf, stronger_of, mode_on}
 
 -- a record that two positions name is one Write claim
 one_record : claims_of (claim_of 0 Write ∷ claim_of 0 Write ∷ []) ≡ claim_of 0 Write ∷ []

@@ -1,15 +1,8 @@
 -- The pair word of open claims: what one claim adds to it, what its halves count, and which requests it grants.
 use Rattle.std.proofs.Common.{◌≡◌, ℕ, zero, suc, ◌+◌, ◌*◌, ◌/◌, ◌%◌, ◌^◌, ◌<◌, ◌≤◌, Bool, true, false, ◌==◌, nat_lt, ◌||◌, ◌&&◌, not, cond, if◌then◌else◌, List, [], ◌∷◌, ◌++◌, length, count_by, refl, sym, ap, ◌∙◌, arith}
-use Rattle.std.proofs.lemmas.Bool.{lt-ltb, le-ltb, ne_eqb}
+use Rattle.vll_record.proofs.Common.{lt-ltb, le-ltb, ne_eqb, sum_by-append, count_by-le-length, length-filter, div-mul-add, mod-mul-add, Claim, Mode, Read, Write, is_write, conflict}
 use Rattle.std.proofs.lemmas.List.Elements.{filter-append}
-use Rattle.std.proofs.lemmas.List.Sums.{sum_by-append, count_by-le-length, length-filter}
-use Rattle.std.proofs.lemmas.Nat.{div-mul-add, mod-mul-add}
 use Rattle.vll_record.proofs.Rising.{claim_of}
-use Rattle.vll_record.specs.declared.claim.Claim.{Claim}
-use Rattle.vll_record.specs.declared.claim.Mode.{Mode}
-use Rattle.vll_record.specs.declared.claim.Mode.TheVariants.{Read, Write}
-use Rattle.vll_record.specs.Headline.Claim.{is_write}
-use Rattle.vll_record.specs.Claim.{conflict}
 use Rattle.vll_record.specs.Headline.Counter.{claims_on, pair_word_of}
 use Rattle.vll_record.specs.Counter.{delta_of, is_granted}
 

@@ -1,19 +1,8 @@
 -- Claims laid in their fields: what a mode that is strengthened and an insert leave.
 use Rattle.std.proofs.Common.{◌≡◌, ℕ, suc, ◌+◌, ◌-◌, ◌<◌, ◌≤◌, List, ◌∷◌, ◌++◌, length, take, drop, set, replicate, insert, refl, subst, sym, ap, ap₂, ◌∙◌, arith, drop-drop, append_assoc, length-append, length-set, length-drop, length-take-le, take_at, drop_at, slice_get, Some}
-use Rattle.std.specs.List.{copy_within}
+use Rattle.vll_record.proofs.Common.{copy_within, length-replicate, length-map, map-append, take-map, drop-map, set_split, take-append-le, drop-append-le, take-take, drop-replicate, length-insert, get_or_from_slice_get, map-set_same, Claim, Mode, MOST_CLAIMS, Inside, IsRising, kept, from_list, ids_of, IsCanonical, claims_with, mask_of}
 use Rattle.std.specs.List.Sorted.{IsStrictlyIncreasing}
-use Rattle.std.proofs.lemmas.List.{length-replicate, length-map, map-append, take-map, drop-map, set_split, take-append-le, drop-append-le, take-take, drop-replicate}
-use Rattle.std.proofs.lemmas.List.Edits.{length-insert}
-use Rattle.std.proofs.lemmas.Option.{get_or_from_slice_get}
-use Rattle.std.proofs.Math.Seq.{map-set_same}
-use Rattle.vll_record.specs.declared.claim.Claim.{Claim}
-use Rattle.vll_record.specs.declared.claim.Mode.{Mode}
-use Rattle.vll_record.specs.declared.claims.TheConstants.{MOST_CLAIMS}
-use Rattle.vll_record.specs.declared.claims.Claims.TheInside.{Inside}
 use Rattle.vll_record.specs.Headline.Canon.{laid}
-use Rattle.vll_record.specs.Claim.{IsRising}
-use Rattle.vll_record.specs.Private.Kept.{kept, from_list, ids_of, IsCanonical}
-use Rattle.vll_record.specs.Private.Masks.{claims_with, mask_of}
 use Rattle.vll_record.proofs.Masks.{claims_with-mask_of}
 
 length-ids_of : (cs : List Claim) → length (ids_of cs) ≡ length cs

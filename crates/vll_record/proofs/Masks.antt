@@ -1,19 +1,9 @@
 -- The modes of claims in one word: what is read at a place, and what a write and an insert leave.
 use Rattle.std.proofs.Common.{◌≡◌, ◌≢◌, ℕ, zero, suc, ◌+◌, ◌-◌, ◌*◌, ◌/◌, ◌%◌, ◌^◌, ◌<◌, ◌≤◌, Bool, true, false, if◌then◌else◌, ◌==◌, List, [], ◌∷◌, ◌++◌, length, map, take, drop, set, insert, get_or, refl, subst, sym, ap, ap₂, ◌∙◌, arith, Some, slice_get, ⊎_elim, bit_and, bit_or, w32}
+use Rattle.vll_record.proofs.Common.{cases_eq, cond-false, ne_eqb, map-set, get_or-set_same, get_or-set_other, take-append-drop, length-take-le, length-map, set-get_or, length-insert, or_shifted, and_mask, shr_high, mod_low, pow_pos, pow_below, Claim, Mode, Read, Write, slice_get_within, get_or_from_slice_get, is_write, stronger, claims_with, mask_of, ids_of}
 use Rattle.std.specs.Int.{bit_at}
 use Rattle.std.proofs.Math.Nat.{two-pow-succ, mul-add, mod-eq_of_lt, pow-le-pow_right, le-mul_of_pos_right}
-use Rattle.std.proofs.lemmas.Bool.{cases_eq, cond-false, ne_eqb}
-use Rattle.std.proofs.lemmas.List.{map-set, get_or-set_same, get_or-set_other, take-append-drop, length-take-le, length-map, set-get_or}
-use Rattle.std.proofs.lemmas.List.Edits.{length-insert}
-use Rattle.std.proofs.lemmas.Nat.{or_shifted, and_mask, shr_high, mod_low, pow_pos, pow_below}
 use Rattle.std.proofs.lemmas.Nat.Bits.{bit_at-zero, bit_at_lowest, bit_at-suc, same_from_bits, bit_at_set_same, bit_at_set_other, shr_and_one}
-use Rattle.vll_record.specs.declared.claim.Claim.{Claim}
-use Rattle.vll_record.specs.declared.claim.Mode.{Mode}
-use Rattle.vll_record.specs.declared.claim.Mode.TheVariants.{Read, Write}
-use Rattle.std.proofs.lemmas.Option.{slice_get_within, get_or_from_slice_get}
-use Rattle.vll_record.specs.Headline.Claim.{is_write, stronger}
-use Rattle.vll_record.specs.Private.Masks.{claims_with, mask_of}
-use Rattle.vll_record.specs.Private.Kept.{ids_of}
 
 abbrev pub bit : Bool → ℕ
 bit b = if b then 1 else 0

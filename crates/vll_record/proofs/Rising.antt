@@ -1,10 +1,6 @@
 -- Rising claims: rising by recursion, and which claim stands at which place.
 use Rattle.std.proofs.Common.{◌≡◌, ℕ, zero, suc, ◌+◌, ◌<◌, ◌≤◌, List, [], ◌∷◌, Some, None, refl, sym, ap, ◌∙◌, subst, slice_get, arith, ⊎_elim}
-use Rattle.std.proofs.lemmas.Bool.{eq-eqb, ne_eqb, cond-true, cond-false, cases_eq}
-use Rattle.std.proofs.lemmas.Option.{same_Some, none-some}
-use Rattle.vll_record.specs.declared.claim.Claim.{Claim}
-use Rattle.vll_record.specs.declared.claim.Mode.{Mode}
-use Rattle.vll_record.specs.Claim.{IsRising, stronger_of, mode_on}
+use Rattle.vll_record.proofs.Common.{eq-eqb, ne_eqb, cond-true, cond-false, cases_eq, same_Some, none-some, Claim, Mode, IsRising, stronger_of, mode_on}
 
 -- rising, and no record number below n
 abbrev pub RisesFrom : ℕ → List Claim → Type 0

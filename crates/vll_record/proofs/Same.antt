@@ -1,18 +1,9 @@
 -- When two lists of claims are the same: decided by their fields, and by a test of each claim.
 use Rattle.std.proofs.Common.{◌≡◌, ◌↔◌, ℕ, Bool, true, false, IsTrue, List, refl, sym, ap, ◌∙◌, subst, ◌&&◌, ◌==◌}
+use Rattle.vll_record.proofs.Common.{false≢true, Decides-eqb, slice_eq-Decides, Claim, Mode, Read, Write, Inside, is_write, is_same_claim, kept, IsCanonical}
 use Rattle.std.specs.Bool.{Decides, beq}
 use Rattle.std.specs.Cmp.{booleans_Decides}
 use Rattle.std.specs.Cmp.Lexicographic.{pointwise}
-use Rattle.std.proofs.lemmas.Bool.{false≢true}
-use Rattle.std.proofs.lemmas.Bool.Decides.{Decides-eqb}
-use Rattle.std.proofs.lemmas.Slice.Eq.{slice_eq-Decides}
-use Rattle.vll_record.specs.declared.claim.Claim.{Claim}
-use Rattle.vll_record.specs.declared.claim.Mode.{Mode}
-use Rattle.vll_record.specs.declared.claim.Mode.TheVariants.{Read, Write}
-use Rattle.vll_record.specs.declared.claims.Claims.TheInside.{Inside}
-use Rattle.vll_record.specs.Headline.Claim.{is_write}
-use Rattle.vll_record.specs.Claim.{is_same_claim}
-use Rattle.vll_record.specs.Private.Kept.{kept, IsCanonical}
 use Rattle.vll_record.proofs.Laid.{lies-kept}
 
 -- what has the same fields is the same list

@@ -1,12 +1,6 @@
 -- A claim put in its place among rising claims: what it keeps, and where it goes.
 use Rattle.std.proofs.Common.{◌≡◌, ◌≢◌, ℕ, zero, suc, ◌<◌, ◌≤◌, ◌⊎◌, List, [], ◌∷◌, length, Some, None, Option, eqb, false, IsSome, refl, ap, ◌∙◌, subst, sym, inl, inr, ◌==◌, nat_lt, nat_le, not, Bool, slice_get, set, insert, unwrap_or, arith, ⊎_elim}
-use Rattle.std.proofs.lemmas.Bool.{false≢true, ltb-true, ltb-false, leb-true, leb-false, eqb-false, lt-ltb, le-ltb, eq-eqb, ne_eqb, cond_both, cond-true, cond-false, cases_order, cases_lt}
-use Rattle.std.specs.List.{position, position_or_len}
-use Rattle.std.proofs.lemmas.List.Sums.{fails_before_first, passes_at_first, prefix_len-le-length}
-use Rattle.std.proofs.lemmas.Option.{none-some, same_Some, get_or_from_slice_get, slice_get_within}
-use Rattle.vll_record.specs.declared.claim.Claim.{Claim}
-use Rattle.vll_record.specs.Headline.Claim.{stronger, with_claim}
-use Rattle.vll_record.specs.Claim.{IsRising, mode_on}
+use Rattle.vll_record.proofs.Common.{false≢true, ltb-true, ltb-false, leb-true, leb-false, eqb-false, lt-ltb, le-ltb, eq-eqb, ne_eqb, cond_both, cond-true, cond-false, cases_order, cases_lt, position, position_or_len, fails_before_first, passes_at_first, prefix_len-le-length, none-some, same_Some, get_or_from_slice_get, slice_get_within, Claim, stronger, with_claim, IsRising, mode_on}
 use Rattle.vll_record.specs.Private.Place.{place_in}
 use Rattle.vll_record.proofs.Rising.{RisesFrom, RisesFrom-zero, IsRising-from_rises, mode_on_below, mode_on-other}
 

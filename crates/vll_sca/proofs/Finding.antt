@@ -1,16 +1,7 @@
 -- The first entry that may run, as a loop over the entries finds it by the marks.
 use Rattle.std.proofs.Common.{◌≡◌, ℕ, ◌+◌, ◌<◌, ◌≤◌, Bool, true, false, not, ◌&&◌, List, [], length, map, take, get_or, Option, Some, None, unwrap_or, sym, ap, ◌∙◌, zero-add, arith, lt-ltb, le-ltb, inl, inr}
-use Rattle.std.specs.List.{list_any, enumerate_from, position_or_len}
-use Rattle.std.proofs.lemmas.Bool.{cases_eq, cond-true, cond-false}
-use Rattle.std.proofs.lemmas.List.{get_or_default}
-use Rattle.std.proofs.lemmas.List.FromFn.{length-enumerate_from, get_or-enumerate_from}
+use Rattle.vll_sca.proofs.Common.{list_any, enumerate_from, position_or_len, cases_eq, cond-true, cond-false, get_or_default, length-enumerate_from, get_or-enumerate_from, Entry, ClaimMarks, Gone, is_waiting, hashed, may_run, scan, HasRoom, IsClear, meets, with_claims, claims_left}
 use Rattle.std.proofs.lemmas.List.Sums.{position_or_len_is}
-use Rattle.vll_sca.specs.declared.entry.Entry.{Entry}
-use Rattle.vll_sca.specs.declared.claim_marks.ClaimMarks.{ClaimMarks}
-use Rattle.vll_sca.specs.declared.status.Status.TheVariants.{Gone}
-use Rattle.vll_sca.specs.Headline.Status.{is_waiting}
-use Rattle.vll_sca.specs.Scan.{hashed, may_run, scan}
-use Rattle.vll_sca.specs.Private.ClaimMarks.{HasRoom, IsClear, meets, with_claims, claims_left}
 use Rattle.vll_sca.proofs.Meeting.{meets_is_held}
 use Rattle.vll_sca.proofs.Scanning.{scanned_within}
 

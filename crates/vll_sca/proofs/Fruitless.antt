@@ -1,14 +1,7 @@
 -- A scan that finds nothing still finds nothing once a waiting entry runs, or once one that does not wait is added at
 -- the end.
 use Rattle.std.proofs.Common.{◌≡◌, ℕ, zero, suc, Bool, true, false, not, ◌&&◌, ◌||◌, cond, List, [], ◌∷◌, ◌++◌, slice_get, slice_set, Option, Some, None, refl, sym, ap, ◌∙◌, subst}
-use Rattle.std.proofs.lemmas.Bool.{true≢false}
-use Rattle.std.proofs.lemmas.Option.{none-some, same_Some}
-use Rattle.vll_sca.specs.declared.entry.Entry.{Entry}
-use Rattle.vll_sca.specs.declared.status.Status.{Status}
-use Rattle.vll_sca.specs.declared.status.Status.TheVariants.{Running, Waiting, Gone}
-use Rattle.vll_sca.specs.Headline.Status.{is_waiting}
-use Rattle.vll_sca.specs.Status.{is_gone}
-use Rattle.vll_sca.specs.Scan.{hash_conflict, scan_numbered}
+use Rattle.vll_sca.proofs.Common.{true≢false, none-some, same_Some, Entry, Status, Running, Waiting, Gone, is_waiting, is_gone, hash_conflict, scan_numbered}
 use Rattle.vll_sca.proofs.Leaving.{past, first_number, first_is_scanned, held_alike}
 
 -- an entry that runs

@@ -1,11 +1,6 @@
 -- Entries that are gone can be left out of a scan wherever they are: it finds the same entry.
 use Rattle.std.proofs.Common.{◌≡◌, ℕ, suc, ◌+◌, Bool, true, false, not, ◌&&◌, ◌||◌, cond, List, [], ◌∷◌, map, take, slice_get, Option, Some, None, option_map, position, refl, sym, ap, ap₂, ◌∙◌}
-use Rattle.std.proofs.lemmas.Bool.{and_left}
-use Rattle.std.specs.List.{list_any, enumerate_from, filter}
-use Rattle.vll_sca.specs.declared.entry.Entry.{Entry}
-use Rattle.vll_sca.specs.Headline.Status.{is_waiting}
-use Rattle.vll_sca.specs.Status.{is_gone}
-use Rattle.vll_sca.specs.Scan.{holds_back, scan_numbered}
+use Rattle.vll_sca.proofs.Common.{and_left, list_any, enumerate_from, filter, Entry, is_waiting, is_gone, holds_back, scan_numbered}
 use Rattle.vll_sca.proofs.Scanning.{Shifted, position-first, position-next, position-shifted, gone_holds_none_back, not_waiting}
 
 or_joined : (a b c : Bool) → (a || (b || c)) ≡ ((a || b) || c)

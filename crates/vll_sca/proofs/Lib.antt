@@ -1,3 +1,4 @@
+mod Common
 pub mod Scanning
 pub mod Leaving
 pub mod Fruitless

@@ -1,24 +1,9 @@
 -- What an entry's claims meet among the marks of the entries before it is what holds it back; and marks that are
 -- taken back are gone.
 use Rattle.std.proofs.Common.{◌≡◌, ℕ, zero, suc, ◌+◌, ◌<◌, Bool, true, false, not, cond, ◌&&◌, ◌||◌, ◌==◌, List, [], ◌∷◌, ◌++◌, length, map, take, get_or, set, slice_get, Some, None, refl, sym, ap, ap₂, ◌∙◌, subst, arith, length-set, get_or-set_same, get_or-set_other, eq-eqb, ne_eqb, inl, inr}
-use Rattle.std.specs.Prelude.{All}
-use Rattle.std.specs.List.{list_any, filter}
+use Rattle.vll_sca.proofs.Common.{All, list_any, filter, cases_eq, map-append, append_assoc, take_more, slice_get_within, get_or_from_slice_get, none-some, same_Some, Claim, Mode, Read, Write, is_write, conflicts, conflict, Entry, ClaimMarks, Status, is_gone, hashed, holds_back, HasRoom, IsClear, meets, with_bits, written, read, with_claims, claims_left}
 use Rattle.std.specs.Option.{option_map}
-use Rattle.std.proofs.lemmas.Bool.{cases_eq}
-use Rattle.std.proofs.lemmas.List.{map-append, append_assoc, take_more}
-use Rattle.std.proofs.lemmas.Option.{slice_get_within, get_or_from_slice_get, none-some, same_Some}
 use Rattle.std.proofs.lemmas.List.Elements.{All-from_get_or}
-use Rattle.vll_record.specs.declared.claim.Claim.{Claim}
-use Rattle.vll_record.specs.declared.claim.Mode.{Mode}
-use Rattle.vll_record.specs.declared.claim.Mode.TheVariants.{Read, Write}
-use Rattle.vll_record.specs.Headline.Claim.{is_write}
-use Rattle.vll_record.specs.Claim.{conflicts, conflict}
-use Rattle.vll_sca.specs.declared.entry.Entry.{Entry}
-use Rattle.vll_sca.specs.declared.claim_marks.ClaimMarks.{ClaimMarks}
-use Rattle.vll_sca.specs.declared.status.Status.{Status}
-use Rattle.vll_sca.specs.Status.{is_gone}
-use Rattle.vll_sca.specs.Scan.{hashed, holds_back}
-use Rattle.vll_sca.specs.Private.ClaimMarks.{HasRoom, IsClear, meets, with_bits, written, read, with_claims, claims_left}
 
 -- ---- one of a list passes a test
 

@@ -1,13 +1,8 @@
 -- What scans find in some short lists, and some places: worked out by hand, and computed here.
 use Rattle.std.proofs.Common.{◌≡◌, ℕ, List, [], ◌∷◌, Some, None, refl}
-use Rattle.vll_record.specs.declared.claim.Mode.{Mode}
-use Rattle.vll_record.specs.declared.claim.Mode.TheVariants.{Read, Write}
-use Rattle.vll_sca.specs.declared.entry.Entry.{Entry}
+use Rattle.vll_sca.proofs.Common.{Mode, Read, Write, Entry, Status, Running, Waiting, Gone, scan}
 use Rattle.vll_sca.specs.declared.place.Placing.TheVariants.{Modulo, Spread}
-use Rattle.vll_sca.specs.declared.status.Status.{Status}
-use Rattle.vll_sca.specs.declared.status.Status.TheVariants.{Running, Waiting, Gone}
 use Rattle.vll_sca.specs.Placing.{placing}
-use Rattle.vll_sca.specs.Scan.{scan}
 
 -- an entry with one claim
 abbrev entry : Status → Mode → ℕ → Entry

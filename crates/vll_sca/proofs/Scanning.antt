@@ -1,19 +1,7 @@
 -- What the scan finds: it waits and is clear, and entries at the front that are gone only move its index.
 use Rattle.std.proofs.Common.{◌≡◌, ℕ, zero, suc, ◌+◌, ◌<◌, ◌%◌, Bool, true, false, not, ◌&&◌, ◌||◌, ◌==◌, nat_lt, cond, List, [], ◌∷◌, ◌++◌, length, map, take, slice_get, Option, Some, None, option_map, position, All, refl, sym, ap, ap₂, ◌∙◌, zero-add, subst, arith, eq-eqb, lt-ltb, le-ltb, ltb-true, ltb-false}
-use Rattle.std.proofs.lemmas.Bool.{true≢false, both_ways, and_parts, and_from, and_left, or_left, or_right, not-true, false_from_ne_true, eqb-true, cond-true, cond-false}
-use Rattle.std.proofs.lemmas.List.FromFn.{length-enumerate_from, get_or-enumerate_from}
+use Rattle.vll_sca.proofs.Common.{true≢false, both_ways, and_parts, and_from, and_left, or_left, or_right, not-true, false_from_ne_true, eqb-true, cond-true, cond-false, length-enumerate_from, get_or-enumerate_from, slice_get_within, get_or_from_slice_get, none-some, same_Some, list_any, enumerate_from, position_or_len, Claim, is_write, conflict, conflicts, Entry, Status, Running, Waiting, Gone, is_waiting, is_gone, hashed, hash_conflict, holds_back, may_run, scan}
 use Rattle.std.proofs.lemmas.List.Quantifiers.{position-Some}
-use Rattle.std.proofs.lemmas.Option.{slice_get_within, get_or_from_slice_get, none-some, same_Some}
-use Rattle.std.specs.List.{list_any, enumerate_from, position_or_len}
-use Rattle.vll_record.specs.declared.claim.Claim.{Claim}
-use Rattle.vll_record.specs.Headline.Claim.{is_write}
-use Rattle.vll_record.specs.Claim.{conflict, conflicts}
-use Rattle.vll_sca.specs.declared.entry.Entry.{Entry}
-use Rattle.vll_sca.specs.declared.status.Status.{Status}
-use Rattle.vll_sca.specs.declared.status.Status.TheVariants.{Running, Waiting, Gone}
-use Rattle.vll_sca.specs.Headline.Status.{is_waiting}
-use Rattle.vll_sca.specs.Status.{is_gone}
-use Rattle.vll_sca.specs.Scan.{hashed, hash_conflict, holds_back, may_run, scan}
 
 one_in_map : {X Y : Type 0} (p : X → Bool) (q : Y → Bool) (h : X → Y) (x : X) (xs : List X) → (p x ≡ true → q (h x) ≡ true)
     → (list_any p xs ≡ true → list_any q (map h xs) ≡ true) → (b : Bool) → p x ≡ b → (b || list_any p xs) ≡ true → list_any q (map h (x ∷ xs)) ≡ true

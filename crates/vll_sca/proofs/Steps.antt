@@ -1,8 +1,6 @@
 -- Whether one of a list passes, as a loop finds it item by item.
 use Rattle.std.proofs.Common.{◌≡◌, ℕ, zero, suc, ◌+◌, Bool, true, false, List, [], ◌∷◌, map, take, slice_get, Some, None, refl, sym, ap, ◌∙◌, subst, arith}
-use Rattle.std.specs.List.{list_any}
-use Rattle.std.proofs.lemmas.Bool.{or_left, or_right, or_from, or_parts}
-use Rattle.std.proofs.lemmas.Option.{none-some, same_Some}
+use Rattle.vll_sca.proofs.Common.{list_any, or_left, or_right, or_from, or_parts, none-some, same_Some}
 
 module _ {X Y : Type 0} (p : Y → Bool) (h : X → Y) where
   pub any_at : (xs : List X) (i : ℕ) (x : X) → Some x ≡ slice_get xs i → true ≡ p (h x) → true ≡ list_any p (map h xs)

@@ -1,12 +1,8 @@
 -- The bits of words as a list, and what a write of one bit makes of them.
 use Rattle.std.proofs.Common.{◌≡◌, ℕ, ◌*◌, ◌/◌, ◌%◌, ◌^◌, ◌<◌, Bool, true, false, not, eqb, List, length, replicate, get_or, set, sym, ◌∙◌, ap, inl, inr, arith, ext_get_or, length-set, get_or-set_same, get_or-set_other, eq-eqb, ne_eqb, w64}
-use Rattle.std.proofs.lemmas.List.{length-replicate, get_or-replicate}
-use Rattle.std.proofs.lemmas.List.FromFn.{length-map-range_with_len, get_or-map-range_with_len}
-use Rattle.std.proofs.lemmas.Bool.{cases_eq}
+use Rattle.vll_sca.proofs.Common.{length-replicate, get_or-replicate, length-map-range_with_len, get_or-map-range_with_len, cases_eq, All, bit_and, bit_or, bit_at, bit_not}
 use Rattle.std.proofs.lemmas.Nat.{one_shl, pow_pos}
 use Rattle.std.proofs.lemmas.Nat.Bits.{bit_at_set_same, bit_at_set_other, bit_at_clear_same, bit_at_clear_other, bit_at-zero, and_pow}
-use Rattle.std.specs.Prelude.{All, bit_and, bit_or}
-use Rattle.std.specs.Int.{bit_at, bit_not}
 use Rattle.vll_sca.specs.Private.Marks.{bit_of, bits_of}
 
 pub length-bits_of : (words : List ℕ) → length (bits_of words) ≡ 64 * length words

@@ -1,6 +1,5 @@
 use Rattle.std.proofs.Common.{◌≡◌, ℕ, true, ◌<◌, ◌^◌, None, rules}
-use Rattle.std.specs.List.{list_all}
-use Rattle.vll_check.specs.Calls.{place_is_there}
+use Rattle.vll_check.proofs.Common.{list_all, place_is_there}
 use Rattle.vll_check.proofs.Passed.{all_placed}
 use Rattle.vll_check.proofs.call.call_to.Goals as goal
 

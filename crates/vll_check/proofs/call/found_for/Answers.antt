@@ -1,5 +1,5 @@
 use Rattle.std.proofs.Common.{rules}
-use Rattle.vll_proc.specs.Headline.Meaning.{source_of}
+use Rattle.vll_check.proofs.Common.{source_of}
 use Rattle.vll_check.proofs.Fitting.{placed_found, is_there}
 use Rattle.vll_check.proofs.call.found_for.Goals as goal
 

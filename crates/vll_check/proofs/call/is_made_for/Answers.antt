@@ -1,5 +1,5 @@
 use Rattle.std.proofs.Common.{◌≡◌, ◌∙◌, Some, Ok, ap, sym, take, rules}
-use Rattle.vll_check.specs.Calls.{call_to}
+use Rattle.vll_check.proofs.Common.{call_to}
 use Rattle.vll_check.proofs.Fitting.{made_for}
 use Rattle.vll_check.proofs.call.is_made_for.Goals as goal
 

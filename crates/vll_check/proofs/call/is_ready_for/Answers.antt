@@ -1,7 +1,5 @@
 use Rattle.std.proofs.Common.{◌≡◌, ◌∙◌, ℕ, Some, Ok, Err, ap, sym, take, rules}
-use Rattle.std.proofs.lemmas.Bool.{false≢true}
-use Rattle.vll_check.specs.Headline.Calls.{found_by}
-use Rattle.vll_check.specs.Calls.{call_to}
+use Rattle.vll_check.proofs.Common.{false≢true, found_by, call_to}
 use Rattle.vll_check.proofs.Fitting.{any, any_is, fault_made, made_number, ready_own, same_Ok}
 use Rattle.vll_check.proofs.call.is_ready_for.Goals as goal
 

@@ -1,8 +1,5 @@
 use Rattle.std.proofs.Common.{ap, ◌∙◌, arith}
-use Rattle.std.proofs.lemmas.Grind.{common_steps}
-use Rattle.vll_proc.specs.declared.syntax.Stmt.{Stmt}
-use Rattle.vll_proc.specs.WellFormed.{reads_set, set_behind}
-use Rattle.vll_proc.proofs.Lists.{reads_set_if, reads_set_repeat, set_behind_if, set_behind_repeat}
+use Rattle.vll_check.proofs.Common.{common_steps, Stmt, reads_set, set_behind, reads_set_if, reads_set_repeat, set_behind_if, set_behind_repeat}
 use Rattle.vll_check.proofs.locals.+set_behind.Goals as goal
 use Rattle.vll_check.proofs.locals.+set_behind.Goals.{set_behind-then-turns-eq0, set_behind-else-turns-eq0}
 

@@ -1,6 +1,6 @@
 -- What the list reads and sets turns on what is set so far and what is still to come.
 use Rattle.std.proofs.Common.{◌≡◌, drop}
-use Rattle.vll_proc.specs.WellFormed.{body_reads_set, body_set_behind}
+use Rattle.vll_check.proofs.Common.{body_reads_set, body_set_behind}
 use Rattle.vll_check.proofs.locals.+set_behind.Given as goal
 
 abbrev pub invariant-list_set_behind-loop-statement : goal.invariant-list_set_behind-loop-statement

@@ -1,7 +1,6 @@
 use Rattle.std.proofs.Common.{arith, inl, length, ap, take, drop, ◌-◌, length-take, length-drop}
-use Rattle.std.proofs.lemmas.Grind.{common_steps}
+use Rattle.vll_check.proofs.Common.{common_steps, asked_by}
 use Rattle.vll_record.proofs.ClaimsOf.{length-claims_of-le}
-use Rattle.vll_proc.specs.Headline.Made.{asked_by}
 use Rattle.vll_check.proofs.Fitting.{length-asked_by-le}
 use Rattle.vll_check.proofs.making.+claims_of.Goals as goal
 

@@ -1,5 +1,5 @@
 use Rattle.std.proofs.Common.{◌∙◌, ap, set, get_or, refl, arith}
-use Rattle.vll_proc.specs.declared.limits.TheConstants.{MOST_ARGS}
+use Rattle.vll_check.proofs.Common.{MOST_ARGS}
 use Rattle.vll_check.proofs.ShortLists.{laid-next}
 use Rattle.vll_check.proofs.making.args_of.Goals as goal
 

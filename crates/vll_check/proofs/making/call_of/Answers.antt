@@ -1,12 +1,5 @@
 use Rattle.std.proofs.Common.{◌∙◌, ap, ap₂, map, List, ℕ, length}
-use Rattle.vll_record.specs.declared.claims.TheConstants.{MOST_CLAIMS}
-use Rattle.vll_proc.specs.declared.limits.TheConstants.{MOST_ARGS}
-use Rattle.vll_record.specs.Headline.Canon.{laid}
-use Rattle.vll_record.specs.Headline.Claim.{claims_of}
-use Rattle.vll_record.specs.declared.claim.Claim.{Claim}
-use Rattle.vll_proc.specs.declared.call.Call.{Call}
-use Rattle.vll_proc.specs.Headline.Made.{asked_by}
-use Rattle.vll_check.specs.Private.Making.{cell_of}
+use Rattle.vll_check.proofs.Common.{MOST_CLAIMS, MOST_ARGS, laid, claims_of, Claim, Call, asked_by, cell_of}
 use Rattle.vll_check.proofs.making.call_of.Goals as goal
 
 pub returns : goal.returns

@@ -1,7 +1,5 @@
 use Rattle.std.proofs.Common.{◌∙◌, ap, set, arith}
-use Rattle.vll_record.specs.declared.claims.TheConstants.{MOST_CLAIMS}
-use Rattle.vll_proc.specs.Headline.Made.{place_for}
-use Rattle.vll_check.specs.Private.Making.{cell_of}
+use Rattle.vll_check.proofs.Common.{MOST_CLAIMS, place_for, cell_of}
 use Rattle.vll_check.proofs.ShortLists.{laid-mapped}
 use Rattle.vll_check.proofs.making.cells_of.Goals as goal
 

@@ -1,7 +1,5 @@
 use Rattle.std.proofs.Common.{◌≡◌, map, take}
-use Rattle.vll_record.specs.declared.claims.TheConstants.{MOST_CLAIMS}
-use Rattle.vll_record.specs.Headline.Canon.{laid}
-use Rattle.vll_check.specs.Private.Making.{cell_of}
+use Rattle.vll_check.proofs.Common.{MOST_CLAIMS, laid, cell_of}
 use Rattle.vll_check.proofs.making.cells_of.Given as goal
 
 abbrev pub invariant-loop-i : goal.invariant-loop-i

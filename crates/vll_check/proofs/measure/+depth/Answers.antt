@@ -1,7 +1,5 @@
 use Rattle.std.proofs.Common.{ap, ◌∙◌, arith}
-use Rattle.std.proofs.lemmas.Grind.{common_steps}
-use Rattle.vll_proc.specs.WellFormed.{stmt_depth}
-use Rattle.vll_proc.proofs.Lists.{stmt_depth_if, stmt_depth_repeat}
+use Rattle.vll_check.proofs.Common.{common_steps, stmt_depth, stmt_depth_if, stmt_depth_repeat}
 use Rattle.vll_check.proofs.Counts.{stmt_depth_positive}
 use Rattle.vll_check.proofs.measure.+depth.Goals as goal
 use Rattle.vll_check.proofs.measure.+depth.Goals.{statement_is_within-then-expression_is_within, statement_is_within-else-expression_is_within}

@@ -1,6 +1,5 @@
 use Rattle.std.proofs.Common.{arith}
-use Rattle.std.proofs.lemmas.Grind.{common_steps}
-use Rattle.vll_proc.proofs.Noted.{is_operation}
+use Rattle.vll_check.proofs.Common.{common_steps, is_operation}
 use Rattle.vll_check.proofs.measure.+expression_is_within.Goals as goal
 
 pub returns-then-expression_is_within : goal.returns-then-expression_is_within

@@ -1,6 +1,5 @@
 use Rattle.std.proofs.Common.{arith}
-use Rattle.std.proofs.lemmas.Grind.{common_steps}
-use Rattle.vll_proc.proofs.Noted.{is_operation}
+use Rattle.vll_check.proofs.Common.{common_steps, is_operation}
 use Rattle.vll_check.proofs.measure.+expression_nodes_left.Goals as goal
 
 pub returns-in_ok-left-in-Add-clause-enough : goal.returns-in_ok-left-in-Add-clause-enough

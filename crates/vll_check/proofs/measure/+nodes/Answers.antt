@@ -1,7 +1,5 @@
 use Rattle.std.proofs.Common.{ap, ◌∙◌, arith}
-use Rattle.std.proofs.lemmas.Grind.{common_steps}
-use Rattle.vll_proc.specs.WellFormed.{stmt_nodes}
-use Rattle.vll_proc.proofs.Lists.{stmt_nodes_if, stmt_nodes_repeat}
+use Rattle.vll_check.proofs.Common.{common_steps, stmt_nodes, stmt_nodes_if, stmt_nodes_repeat}
 use Rattle.vll_check.proofs.Counts.{stmt_nodes_positive}
 use Rattle.vll_check.proofs.measure.+nodes.Goals as goal
 

@@ -1,7 +1,5 @@
 use Rattle.std.proofs.Common.{ap, ◌∙◌, arith}
-use Rattle.std.proofs.lemmas.Grind.{common_steps}
-use Rattle.vll_proc.specs.WellFormed.{replies}
-use Rattle.vll_proc.proofs.Lists.{replies_if, replies_repeat}
+use Rattle.vll_check.proofs.Common.{common_steps, replies, replies_if, replies_repeat}
 use Rattle.vll_check.proofs.Shares.{shares-enough, shares-over}
 use Rattle.vll_check.proofs.measure.+replies.Goals as goal
 

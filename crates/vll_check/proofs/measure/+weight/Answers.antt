@@ -1,7 +1,5 @@
 use Rattle.std.proofs.Common.{ap, ◌∙◌, arith}
-use Rattle.std.proofs.lemmas.Grind.{common_steps}
-use Rattle.vll_proc.specs.WellFormed.{weight}
-use Rattle.vll_proc.proofs.Lists.{weight_if, weight_repeat}
+use Rattle.vll_check.proofs.Common.{common_steps, weight, weight_if, weight_repeat}
 use Rattle.vll_check.proofs.Counts.{weight_positive}
 use Rattle.vll_check.proofs.Shares.{shares-enough, shares-over}
 use Rattle.vll_check.proofs.measure.+weight.Goals as goal

@@ -1,6 +1,6 @@
 -- What is left, with the weight that is still to come.
 use Rattle.std.proofs.Common.{◌≡◌, ◌+◌, drop, sum_by}
-use Rattle.vll_proc.specs.WellFormed.{weight}
+use Rattle.vll_check.proofs.Common.{weight}
 use Rattle.vll_check.proofs.measure.+weight.Given as goal
 
 abbrev pub invariant-weight_left-loop-statement : goal.invariant-weight_left-loop-statement

@@ -1,5 +1,5 @@
 use Rattle.std.proofs.Common.{arith, sym, ap₂, ◌∙◌}
-use Rattle.std.specs.Str.{bytes_eq}
+use Rattle.vll_check.proofs.Common.{bytes_eq}
 use Rattle.vll_check.proofs.Twice.{twice_read, less_more, once_from_rising, rising_from_less}
 use Rattle.vll_check.proofs.order.has_equal_neighbours.Goals as goal
 

@@ -1,7 +1,5 @@
 use Rattle.std.proofs.Common.{◌≡◌, ◌<◌, ◌+◌, ℕ, slice_index_or}
-use Rattle.std.specs.declared.cmp.Ordering.TheVariants.{Less}
-use Rattle.vll_check.specs.Entry.{Entry}
-use Rattle.vll_check.specs.Private.Order.{by_name}
+use Rattle.vll_check.proofs.Common.{Less, Entry, by_name}
 use Rattle.vll_check.proofs.order.has_equal_neighbours.Given as goal
 
 abbrev pub invariant-loop-i : goal.invariant-loop-i

@@ -1,5 +1,5 @@
 use Rattle.std.proofs.Common.{◌<◌, length, arith}
-use Rattle.std.proofs.lemmas.Grind.{common_steps}
+use Rattle.vll_check.proofs.Common.{common_steps}
 use Rattle.vll_check.proofs.Numbering.{numbers_more, passed_more}
 use Rattle.vll_check.proofs.order.set_numbers.Goals as goal
 

@@ -1,6 +1,5 @@
 use Rattle.std.proofs.Common.{◌≡◌, ◌<◌, ◌≤◌, ℕ, None, slice_index_or}
-use Rattle.vll_check.specs.Entry.{Entry}
-use Rattle.vll_check.specs.Faults.{check_fault}
+use Rattle.vll_check.proofs.Common.{Entry, check_fault}
 use Rattle.vll_check.proofs.order.set_numbers.Given as goal
 
 abbrev pub invariant-loop-i : goal.invariant-loop-i

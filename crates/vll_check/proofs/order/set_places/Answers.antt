@@ -1,5 +1,5 @@
 use Rattle.std.proofs.Common.{◌≡◌, ◌<◌, length, get_or, arith}
-use Rattle.vll_check.specs.Entry.{Entry}
+use Rattle.vll_check.proofs.Common.{Entry}
 use Rattle.vll_check.proofs.Numbering.{number_read, places_more, kept_more}
 use Rattle.vll_check.proofs.order.set_places.Goals as goal
 

@@ -1,5 +1,5 @@
 use Rattle.std.proofs.Common.{◌≡◌, ◌<◌, ℕ, slice_index_or, length}
-use Rattle.vll_check.specs.Entry.{Entry}
+use Rattle.vll_check.proofs.Common.{Entry}
 use Rattle.vll_check.proofs.order.set_places.Given as goal
 
 abbrev pub invariant-loop-i : goal.invariant-loop-i

@@ -1,10 +1,6 @@
 use Rattle.std.proofs.Common.{rules}
-use Rattle.std.specs.Cmp.Lexicographic.{nat_list_cmp_total}
-use Rattle.std.specs.Ordering.{is_lt}
+use Rattle.vll_check.proofs.Common.{nat_list_cmp_total, is_lt, answers_always, Entry, by_name}
 use Rattle.std.proofs.lemmas.List.MinMax.{ranks_by}
-use Rattle.std.proofs.lemmas.List.Sorted.{answers_always}
-use Rattle.vll_check.specs.Entry.{Entry}
-use Rattle.vll_check.specs.Private.Order.{by_name}
 use Rattle.vll_check.proofs.order.sort_by_name.Goals as goal
 
 -- the closure compares the names

@@ -1,7 +1,5 @@
 use Rattle.std.proofs.Common.{ap, ◌∙◌, arith}
-use Rattle.std.proofs.lemmas.Grind.{common_steps}
-use Rattle.vll_proc.specs.WellFormed.{turns_are_few}
-use Rattle.vll_proc.proofs.Lists.{turns_are_few_if, turns_are_few_repeat}
+use Rattle.vll_check.proofs.Common.{common_steps, turns_are_few, turns_are_few_if, turns_are_few_repeat}
 use Rattle.vll_check.proofs.turns.+turns.Goals as goal
 
 pub turns_are_few-returns-then-list_turns_are_few : goal.turns_are_few-returns-then-list_turns_are_few

@@ -1,7 +1,6 @@
 -- The statements before the current one in the list pass.
 use Rattle.std.proofs.Common.{◌≡◌, true, take}
-use Rattle.std.specs.List.{list_all}
-use Rattle.vll_proc.specs.WellFormed.{turns_are_few}
+use Rattle.vll_check.proofs.Common.{list_all, turns_are_few}
 use Rattle.vll_check.proofs.turns.+turns.Given as goal
 
 abbrev pub invariant-list_turns_are_few-loop-statement : goal.invariant-list_turns_are_few-loop-statement

@@ -1,6 +1,5 @@
 use Rattle.std.proofs.Common.{arith}
-use Rattle.std.proofs.lemmas.Grind.{common_steps}
-use Rattle.vll_proc.proofs.Noted.{is_operation}
+use Rattle.vll_check.proofs.Common.{common_steps, is_operation}
 use Rattle.vll_check.proofs.walk.+all_leaves.Goals as goal
 
 pub returns-then-all_leaves : goal.returns-then-all_leaves

@@ -1,9 +1,6 @@
 use Rattle.std.proofs.Common.{Bool, ap, ◌∙◌, arith}
-use Rattle.std.proofs.lemmas.Grind.{common_steps}
+use Rattle.vll_check.proofs.Common.{common_steps, Stmt, throughout, branches, throughout_repeat}
 use Rattle.vll_proc.specs.declared.syntax.Expr.{Expr}
-use Rattle.vll_proc.specs.declared.syntax.Stmt.{Stmt}
-use Rattle.vll_proc.specs.WellFormed.{throughout}
-use Rattle.vll_proc.proofs.Lists.{branches, throughout_repeat}
 use Rattle.vll_check.proofs.walk.+throughout.Goals as goal
 use Rattle.vll_check.proofs.walk.+throughout.Goals.{throughout-then-all_leaves, throughout-else-all_leaves}
 

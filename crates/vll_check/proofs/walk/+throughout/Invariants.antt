@@ -1,7 +1,6 @@
 -- The statements before the current one in the list pass.
 use Rattle.std.proofs.Common.{◌≡◌, true, take}
-use Rattle.std.specs.List.{list_all}
-use Rattle.vll_proc.specs.WellFormed.{throughout}
+use Rattle.vll_check.proofs.Common.{list_all, throughout}
 use Rattle.vll_check.proofs.walk.+throughout.Given as goal
 
 abbrev pub invariant-list_throughout-loop-statement : goal.invariant-list_throughout-loop-statement

@@ -1,6 +1,5 @@
 use Rattle.std.proofs.Common.{◌≡◌, true, false, length, slice_get, ap, arith}
-use Rattle.std.specs.Option.{option_map_or}
-use Rattle.vll_record.specs.Headline.Claim.{is_write}
+use Rattle.vll_core.proofs.Common.{option_map_or, is_write}
 use Rattle.vll_core.proofs.AtWork.{write_counted, write_passed, none_left, few_writes}
 use Rattle.vll_core.proofs.execution.count_of_writes.Goals as goal
 use Rattle.vll_core.proofs.execution.count_of_writes.Goals.{then-is_write, else-is_write}

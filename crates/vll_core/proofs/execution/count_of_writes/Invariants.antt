@@ -1,5 +1,5 @@
 use Rattle.std.proofs.Common.{◌≡◌, ◌+◌, filter, drop, length}
-use Rattle.vll_record.specs.Headline.Claim.{is_write}
+use Rattle.vll_core.proofs.Common.{is_write}
 use Rattle.vll_core.proofs.execution.count_of_writes.Given as goal
 
 -- the Write claims before this one are counted

@@ -1,6 +1,5 @@
 use Rattle.std.proofs.Common.{◌≡◌, suc, true, false, filter, drop, slice_get, refl, sym, ap, ◌∙◌, arith}
-use Rattle.std.specs.Option.{option_map_or}
-use Rattle.vll_record.specs.Headline.Claim.{is_write}
+use Rattle.vll_core.proofs.Common.{option_map_or, is_write}
 use Rattle.vll_core.proofs.AtWork.{write_here, write_behind, write_passed, none_left}
 use Rattle.vll_core.proofs.execution.index_of_write.Goals as goal
 use Rattle.vll_core.proofs.execution.index_of_write.Goals.{then-is_write+else-left-eq0, else-is_write}

@@ -1,5 +1,5 @@
 use Rattle.std.proofs.Common.{◌≡◌, filter, drop, slice_get}
-use Rattle.vll_record.specs.Headline.Claim.{is_write}
+use Rattle.vll_core.proofs.Common.{is_write}
 use Rattle.vll_core.proofs.execution.index_of_write.Given as goal
 
 -- the Write claim that is sought is number `left` of those from here on

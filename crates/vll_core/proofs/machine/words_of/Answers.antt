@@ -1,5 +1,5 @@
 use Rattle.std.proofs.Common.{ap, ◌∙◌, ◌++◌, ◌∷◌, [], sym, arith, get_or}
-use Rattle.std.proofs.lemmas.List.{take_all}
+use Rattle.vll_core.proofs.Common.{take_all}
 use Rattle.vll_core.proofs.FirstWords.{laid, laid_more, first_words}
 use Rattle.vll_core.proofs.machine.words_of.Goals as goal
 

@@ -1,7 +1,7 @@
 use Rattle.std.proofs.Common.{◌≡◌, ℕ, zero, suc, ◌+◌, ◌≤◌, List, [], ◌∷◌, ◌++◌, take, sym, ap, ◌∙◌, subst, add-one}
+use Rattle.vll_counters.proofs.Common.{slots_items, slots_len}
 use mathlib.Core.Option.{some, some-injective, some-ne-none}
 use lib.ListN.{get_elem?}
-use Rattle.std.specs.Mem.Slots.{slots_items, slots_len}
 use Rattle.vll_counters.proofs.words.gathered.Goals as goal
 
 take_at : (l : List ℕ) (i x : ℕ) → get_elem? l i ≡ some x → take i l ++ x ∷ [] ≡ take (suc i) l

@@ -1,5 +1,5 @@
 use Rattle.std.proofs.Common.{◌≡◌, ◌≤◌, take, vec_len, vec_capacity}
-use Rattle.std.specs.Mem.Slots.{slots_items, slots_len}
+use Rattle.vll_counters.proofs.Common.{slots_items, slots_len}
 use Rattle.vll_counters.proofs.words.gathered.Given as goal
 
 abbrev pub invariant-loop-i : goal.invariant-loop-i

@@ -1,7 +1,5 @@
 use Rattle.std.proofs.Common.{◌≡◌, ℕ, List, refl, ap, ◌∙◌, ◌++◌, ◌∷◌, [], sym, arith, get_or}
-use Rattle.std.proofs.lemmas.List.{take_all}
-use Rattle.vll_core.proofs.FirstWords.{laid, laid_more, first_words}
-use Rattle.vll_counters.specs.Laid.{record_words}
+use Rattle.vll_counters.proofs.Common.{take_all, laid, laid_more, first_words, record_words}
 use Rattle.vll_counters.proofs.words.lay.Goals as goal
 
 pub loop-value-preserved : goal.loop-value-preserved

@@ -1,5 +1,5 @@
 use Rattle.std.proofs.Common.{◌≡◌, ◌+◌, ◌*◌, ◌∷◌, take, vec_capacity, vec_len}
-use Rattle.vll_core.proofs.FirstWords.{laid}
+use Rattle.vll_counters.proofs.Common.{laid}
 use Rattle.vll_counters.proofs.words.lay.Given as goal
 
 abbrev pub invariant-loop-value : goal.invariant-loop-value

@@ -1,6 +1,6 @@
 use Rattle.std.proofs.Common.{take}
+use Rattle.vll_proc.proofs.Common.{flat_map}
 use Rattle.std.specs.Fmt.{HasWritten, IsPlainFormatter}
-use Rattle.std.specs.List.{flat_map}
 use Rattle.vll_proc.specs.Headline.Text.{output_text}
 use Rattle.vll_proc.proofs.display.write_each.Given as goal
 

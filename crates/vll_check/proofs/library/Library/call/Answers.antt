@@ -1,5 +1,5 @@
 use Rattle.std.proofs.Common.{ap, ◌∙◌}
-use Rattle.vll_check.specs.Faults.{check_fault}
+use Rattle.vll_check.proofs.Common.{check_fault}
 use Rattle.vll_check.proofs.Fitting.{found_passed}
 use Rattle.vll_check.proofs.library.Library.call.Goals as goal
 

@@ -1,9 +1,6 @@
 use Rattle.std.proofs.Common.{◌≡◌, List, Some, rules, sym, ap, ◌∙◌, subst, ◌<◌, length, get_or, slice_get}
-use Rattle.std.specs.declared.cmp.Ordering.TheVariants.{Equal}
+use Rattle.vll_check.proofs.Common.{Equal, Catalog, Entry, number_named}
 use Rattle.std.proofs.lemmas.Fn.{always_returns_same}
-use Rattle.vll_check.specs.Headline.Catalog.{Catalog}
-use Rattle.vll_check.specs.Entry.{Entry}
-use Rattle.vll_check.specs.Names.{number_named}
 use Rattle.vll_check.proofs.Finding.{to_name, number_named-found, number_named-none, slice_get-numbered, IsNonDecreasingBy-rising, none_equal}
 use Rattle.vll_check.proofs.library.Library.find.Goals as goal
 

@@ -1,7 +1,5 @@
 use Rattle.std.proofs.Common.{◌≡◌, ℕ, List, Some, Ok, ap, sym, subst, ◌∙◌}
-use Rattle.std.specs.Prelude.{IsTrue, ◌↔◌}
-use Rattle.vll_check.specs.Calls.{call_to}
-use Rattle.vll_check.specs.Faults.{check_fault}
+use Rattle.vll_check.proofs.Common.{IsTrue, ◌↔◌, call_to, check_fault}
 use Rattle.vll_check.proofs.Fitting.{found_passed, fits_iff_made}
 use Rattle.vll_check.proofs.library.Library.fits.Goals as goal
 

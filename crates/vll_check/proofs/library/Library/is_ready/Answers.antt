@@ -1,9 +1,5 @@
 use Rattle.std.proofs.Common.{◌≡◌, ◌∙◌, ℕ, Some, ap, sym, subst, IsTrue}
-use Rattle.std.specs.Prelude.{◌↔◌}
-use Rattle.vll_proc.specs.declared.call.Call.{Call}
-use Rattle.vll_check.specs.Headline.Calls.{found_by}
-use Rattle.vll_check.specs.Faults.{check_fault}
-use Rattle.vll_check.specs.Private.Making.{IsMadeFor}
+use Rattle.vll_check.proofs.Common.{◌↔◌, Call, found_by, check_fault, IsMadeFor}
 use Rattle.vll_check.proofs.Fitting.{found_passed, ready_iff_made}
 use Rattle.vll_check.proofs.library.Library.is_ready.Goals as goal
 

@@ -1,9 +1,6 @@
 use Rattle.std.proofs.Common.{◌≡◌, List, length, map, false, sym, ap, subst, ◌∙◌}
+use Rattle.vll_check.proofs.Common.{with_items_is, Entry, procedure_of, has_name_twice, AreArranged, AllPassed}
 use Rattle.std.specs.Vec.{with_items}
-use Rattle.std.proofs.lemmas.List.{with_items_is}
-use Rattle.vll_check.specs.Entry.{Entry, procedure_of}
-use Rattle.vll_check.specs.Names.{has_name_twice}
-use Rattle.vll_check.specs.Private.Order.{AreArranged, AllPassed}
 use Rattle.vll_check.proofs.Indexed.{IsCatalog-arranged}
 use Rattle.vll_check.proofs.library.Library.new.Goals as goal
 

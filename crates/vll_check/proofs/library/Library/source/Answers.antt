@@ -1,7 +1,5 @@
 use Rattle.std.proofs.Common.{◌≡◌, ℕ, Option, Some, None, IfNone, slice_get, subst, refl, ap, sym, ◌∙◌, rules}
-use Rattle.vll_check.specs.Faults.{check_fault}
-use Rattle.vll_check.specs.Headline.Calls.{source, source_by, named_by, key_at}
-use Rattle.vll_check.specs.Calls.{IsReady}
+use Rattle.vll_check.proofs.Common.{check_fault, source, source_by, named_by, key_at, IsReady}
 use Rattle.vll_check.proofs.Fitting.{found_passed, ready_without}
 use Rattle.vll_check.proofs.library.Library.source.Goals as goal
 

@@ -1,5 +1,5 @@
 use Rattle.std.proofs.Common.{◌≡◌, length, ap, sym, ◌∙◌, arith}
-use Rattle.vll_proc.specs.declared.limits.TheConstants.{MOST_LOCALS}
+use Rattle.vll_check.proofs.Common.{MOST_LOCALS}
 use Rattle.vll_check.proofs.Both.{IsBothBelow-step, IsBothBelow-end}
 use Rattle.vll_check.proofs.locals.Locals.both.Goals as goal
 

@@ -1,7 +1,5 @@
 use Rattle.std.proofs.Common.{◌<◌, ◌^◌, arith, subst, rules}
-use Rattle.vll_core.specs.Machine.{step}
-use Rattle.vll_core.specs.Private.Draining.{left}
-use Rattle.vll_core.specs.Shown.{Shown, opening_of}
+use Rattle.vll_core.proofs.Common.{step, left, Shown, opening_of}
 use Rattle.vll_core.proofs.Draining.{left_most}
 use Rattle.vll_core.proofs.Drained.{less_seen, drained_seen, fixed_seen, few_first}
 use Rattle.vll_core.proofs.core_machine.Core.drain.Goals as goal

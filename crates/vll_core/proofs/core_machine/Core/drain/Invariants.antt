@@ -1,7 +1,5 @@
 use Rattle.std.proofs.Common.{◌≡◌, ◌≤◌, ◌<◌, ◌+◌, ◌^◌}
-use Rattle.vll_core.specs.Drain.{IsDrained}
-use Rattle.vll_core.specs.Private.Draining.{left}
-use Rattle.vll_core.specs.Shown.{opening_of}
+use Rattle.vll_core.proofs.Common.{IsDrained, left, opening_of}
 use Rattle.vll_core.proofs.core_machine.Core.drain.Given as goal
 
 abbrev pub invariant-loop-event : goal.invariant-loop-event

@@ -1,5 +1,5 @@
 use Rattle.std.proofs.Common.{refl, arith}
-use Rattle.vll_proc.proofs.Called.{claims_few}
+use Rattle.vll_core.proofs.Common.{claims_few}
 use Rattle.vll_core.proofs.AtWork.{loading_of, loading_next}
 use Rattle.vll_core.proofs.execution.Execution.load.Goals as goal
 

@@ -1,7 +1,5 @@
 use Rattle.std.proofs.Common.{◌≡◌, length, Some, ap, sym, ◌∙◌, arith}
-use Rattle.std.proofs.lemmas.Map.Views.{exact_unsigned_eq}
-use Rattle.vll_proc.specs.Cells.{Holds}
-use Rattle.vll_proc.specs.Headline.Serial.{applied_at}
+use Rattle.vll_core.proofs.Common.{exact_unsigned_eq, Holds, applied_at}
 use Rattle.vll_core.proofs.AtWork.{holds_all}
 use Rattle.vll_core.proofs.execution.Execution.run_if_loaded.Goals as goal
 

@@ -1,8 +1,6 @@
 use Rattle.vll_core.proofs.machine.Machine.admit.Given.{Over}
 use Rattle.std.proofs.Common.{◌≡◌, ◌∙◌, sym, ap, subst, arith, refl, length, None, Ok}
-use Rattle.vll_core.specs.Queue.{Queued}
-use Rattle.vll_core.specs.Private.View.{shown}
-use Rattle.vll_core.specs.Private.MachineKept.{IsMachine}
+use Rattle.vll_core.proofs.Common.{Queued, shown, IsMachine}
 use Rattle.vll_core.proofs.Admitting.{HasWork, ticket_seen, turn_procedure, made_among, turn_room, turn_idle, taken_admit, core_admit}
 use Rattle.vll_core.proofs.MachineSteps.{taken_told, taken_shown}
 use Rattle.vll_core.proofs.machine.Machine.admit.Goals.{then-turn, else-turn}

@@ -1,9 +1,7 @@
 use Rattle.vll_core.proofs.machine.Machine.claim.Given.{Over}
 use Rattle.std.proofs.Common.{◌≡◌, ◌&&◌, Bool, Some, ℕ, ◌+◌, slice_get, slice_set, ap, sym, ◌∙◌, arith}
-use Rattle.vll_record.specs.Headline.Word.{pair_word_of_record}
+use Rattle.vll_core.proofs.Common.{pair_word_of_record, step, answer_of, Shown, after, opening_of}
 use Rattle.vll_core.specs.declared.event.Event.TheVariants as event
-use Rattle.vll_core.specs.Machine.{step, answer_of}
-use Rattle.vll_core.specs.Shown.{Shown, after, opening_of}
 use Rattle.vll_core.proofs.Claiming.{Finds, finds, read_counter, sum_fits, granted_right, kept_claimed, claimed_shown, claimed_told}
 use Rattle.vll_core.proofs.machine.Machine.claim.Goals.{In-Some-get, then-turn, else-turn}
 use Rattle.vll_core.proofs.machine.Machine.claim.Goals as goal

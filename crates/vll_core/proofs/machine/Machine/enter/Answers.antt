@@ -1,6 +1,6 @@
 use Rattle.std.proofs.Common.{refl, subst}
+use Rattle.vll_core.proofs.Common.{IsReady}
 use Rattle.vll_core.proofs.MachineSteps.{closed_turn, library_same}
-use Rattle.vll_check.specs.Calls.{IsReady}
 use Rattle.vll_core.proofs.Entering.{room_inside, core_handed}
 use Rattle.vll_core.proofs.machine.Machine.enter.Goals as goal
 

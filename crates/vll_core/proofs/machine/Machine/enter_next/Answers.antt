@@ -1,7 +1,6 @@
 use Rattle.vll_core.proofs.machine.Machine.enter_next.Given.{Over}
 use Rattle.std.proofs.Common.{◌≡◌, ◌<◌, arith, length, refl, Some, slice_get, subst}
-use Rattle.std.proofs.lemmas.Option.{slice_get_read, slice_get_within}
-use Rattle.vll_check.specs.Calls.{IsReady}
+use Rattle.vll_core.proofs.Common.{slice_get_read, slice_get_within, IsReady}
 use Rattle.vll_core.proofs.Entering.{CanEnter, StandsNext, stands_next, next_seen, ready_seen, client_kept, client_there, place_fits, room_inside, taken_enter, core_enter}
 use Rattle.vll_core.proofs.MachineSteps.{closed_turn, library_same, taken_shown}
 use Rattle.vll_core.proofs.machine.Machine.enter_next.Goals.{In-Some, In-Some-ready, After-index_mut}

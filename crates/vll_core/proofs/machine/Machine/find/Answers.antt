@@ -1,9 +1,6 @@
 use Rattle.vll_core.proofs.machine.Machine.find.Given.{Over}
 use Rattle.std.proofs.Common.{◌<◌, ◌∙◌, ap, arith, refl, sym}
-use Rattle.vll_check.specs.Headline.Calls.{source}
-use Rattle.vll_check.specs.Headline.Catalog.{Catalog}
-use Rattle.vll_core.specs.Machine.{is_turn_of}
-use Rattle.vll_core.specs.Shown.{Shown, library_of}
+use Rattle.vll_core.proofs.Common.{source, Catalog, is_turn_of, Shown, library_of}
 use Rattle.vll_core.proofs.Entering.{stands_next, next_seen, client_there, client_kept}
 use Rattle.vll_core.proofs.FindingValues.{HasNext, Sees, value_read, core_find}
 use Rattle.vll_core.proofs.MachineSteps.{library_same}

@@ -1,12 +1,7 @@
 use Rattle.vll_core.proofs.machine.Machine.finish.Given.{Over}
 use Rattle.std.proofs.Common.{◌≡◌, sym, ap, ◌∙◌, subst, arith, Option, Some, is_some, Bor}
-use Rattle.std.specs.Option.{option_copied}
-use Rattle.vll_proc.specs.declared.call.Reply.{Reply}
+use Rattle.vll_core.proofs.Common.{option_copied, Reply, OutOfStep, Queued, shown, IsMachine}
 use Rattle.vll_core.specs.declared.event.Event.TheVariants as event
-use Rattle.vll_core.specs.declared.refusal.Refusal.TheVariants.{OutOfStep}
-use Rattle.vll_core.specs.Queue.{Queued}
-use Rattle.vll_core.specs.Private.View.{shown}
-use Rattle.vll_core.specs.Private.MachineKept.{IsMachine}
 use Rattle.vll_core.proofs.RunningCalls.{RunsAt, runs_told, read_work, work_there, read_at_work}
 use Rattle.vll_core.proofs.MachineSteps.{closed_turn, Refuses, refused_told, refused_stays, taken_told, taken_shown}
 use Rattle.vll_core.proofs.Finishing.{Ends, refused_stores, refused_releases, ends_of, status_runs, reply_there, with_queue, taken_finish, core_finish}

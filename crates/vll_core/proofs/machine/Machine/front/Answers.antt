@@ -1,8 +1,7 @@
 use Rattle.vll_core.proofs.machine.Machine.front.Given.{Over}
 use Rattle.std.proofs.Common.{◌≡◌, ◌∙◌, sym, ap, subst}
+use Rattle.vll_core.proofs.Common.{Queued, started_if, shown}
 use Rattle.vll_core.specs.declared.event.Event.TheVariants as event
-use Rattle.vll_core.specs.Queue.{Queued, started_if}
-use Rattle.vll_core.specs.Private.View.{shown}
 use Rattle.vll_core.proofs.Waking.{Wakes, wakes_front, refused_wake, taken_wake, some_woken, none_woken, core_woken}
 use Rattle.vll_core.proofs.MachineSteps.{closed_turn, refused_told, refused_stays, taken_told, taken_shown}
 use Rattle.vll_core.proofs.machine.Machine.front.Goals.{in-Some, in-None}

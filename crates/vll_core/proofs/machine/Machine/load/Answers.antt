@@ -1,13 +1,8 @@
 use Rattle.vll_core.proofs.machine.Machine.load.Given.{Over}
 use Rattle.std.proofs.Common.{◌≡◌, ℕ, sym, ap, ◌∙◌, subst, arith, slice_get, Ok, Bor}
-use Rattle.std.specs.Option.{option_map}
-use Rattle.vll_proc.specs.declared.syntax.Proc.{Proc}
+use Rattle.vll_core.proofs.Common.{option_map, Proc, OutOfStep, Loaded, shown, IsMachine}
 use Rattle.vll_core.specs.declared.event.Event.TheVariants as event
-use Rattle.vll_core.specs.declared.refusal.Refusal.TheVariants.{OutOfStep}
-use Rattle.vll_core.specs.declared.seen.Seen.TheVariants.{Loaded}
 use Rattle.vll_core.specs.State.{value as value_of}
-use Rattle.vll_core.specs.Private.View.{shown}
-use Rattle.vll_core.specs.Private.MachineKept.{IsMachine}
 use Rattle.vll_core.proofs.RunningCalls.{RunsAt, runs_told, read_work, work_there, read_at_work, lent_here, procedure_lent, procedure_is, made_now}
 use Rattle.vll_core.proofs.MachineSteps.{Refuses, refused_told, refused_stays, taken_told, taken_shown}
 use Rattle.vll_core.proofs.Loading.{LoadsNext, HasLoaded, refused_load, value_there, read_value, sees_serial, next_again, load_left, with_work, taken_load, core_load}

@@ -1,6 +1,6 @@
 use Rattle.vll_core.proofs.machine.Machine.next_call.Given.{Over}
 use Rattle.std.proofs.Common.{◌≡◌, ◌∙◌, sym, refl, Some, slice_get}
-use Rattle.std.proofs.lemmas.Option.{slice_get_read, slice_get_within}
+use Rattle.vll_core.proofs.Common.{slice_get_read, slice_get_within}
 use Rattle.vll_core.proofs.Entries.{lent_item}
 use Rattle.vll_core.proofs.Entering.{next_at, next_none, next_told, some_fits}
 use Rattle.vll_core.proofs.machine.Machine.next_call.Goals.{After-copied}

@@ -1,11 +1,5 @@
 use Rattle.std.proofs.Common.{◌<◌, ◌^◌, ◌∙◌, ap, is_some, Option, subst, sym}
-use Rattle.vll_core.specs.Drain.{IsAtEnd}
-use Rattle.vll_core.specs.Private.Draining.{IsNext, left}
-use Rattle.vll_core.specs.Private.View.{turn_of}
-use Rattle.vll_core.specs.Shown.{Shown, opening_of}
-use Rattle.std.specs.Option.{option_map}
-use Rattle.vll_core.specs.Machine.{running}
-use Rattle.vll_core.specs.State.{Entered, Turn}
+use Rattle.vll_core.proofs.Common.{IsAtEnd, IsNext, left, turn_of, Shown, opening_of, option_map, running, Entered, Turn}
 use Rattle.vll_core.proofs.Ending.{seen_next, none_kept, turn_goes, front_next, ends_here, few_left}
 use Rattle.vll_core.proofs.machine.Machine.next_event.Goals.{in-Some-running_call, in-None}
 use Rattle.vll_core.proofs.machine.Machine.next_event.Goals as goal

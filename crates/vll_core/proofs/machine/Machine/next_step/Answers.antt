@@ -1,5 +1,5 @@
 use Rattle.std.proofs.Common.{◌∙◌, ℕ, ap, arith, is_some, slice_index_or, sym}
-use Rattle.vll_core.specs.Shown.{Shown}
+use Rattle.vll_core.proofs.Common.{Shown}
 use Rattle.vll_core.proofs.Ending.{seen_next, load_next, store_next, release_next, finish_next}
 use Rattle.vll_core.proofs.RunningWorks.{runs_of, work_within}
 use Rattle.vll_core.proofs.machine.Machine.next_step.Goals as goal

@@ -1,5 +1,5 @@
 use Rattle.std.proofs.Common.{◌∙◌, arith, refl}
-use Rattle.vll_core.specs.Moves.{entry_store}
+use Rattle.vll_core.proofs.Common.{entry_store}
 use Rattle.vll_core.proofs.NextClaims.{store_next, none_next}
 use Rattle.vll_core.proofs.RunningWorks.{work_within}
 use Rattle.vll_core.proofs.machine.Machine.next_store.Goals as goal

@@ -1,12 +1,7 @@
 use Rattle.vll_core.proofs.machine.Machine.ready.Given.{Over}
 use Rattle.std.proofs.Common.{◌≡◌, ◌∙◌, Option, Some, ap, sym, arith, slice_get, is_some, refl}
-use Rattle.std.specs.Option.{option_map}
-use Rattle.std.proofs.lemmas.Option.{slice_get_read}
-use Rattle.vll_proc.specs.declared.call.Call.{Call}
-use Rattle.vll_check.specs.Headline.Calls.{with_found}
-use Rattle.vll_core.specs.Machine.{ready}
+use Rattle.vll_core.proofs.Common.{option_map, slice_get_read, Call, with_found, ready, ready_without}
 use Rattle.vll_core.proofs.Entering.{client_kept, catalog_handed, none_there, found_told}
-use Rattle.vll_check.proofs.Fitting.{ready_without}
 use Rattle.vll_core.proofs.machine.Machine.ready.Goals.{After-branch-value}
 use Rattle.vll_core.proofs.machine.Machine.ready.Goals as goal
 

@@ -1,11 +1,7 @@
 use Rattle.vll_core.proofs.machine.Machine.release.Given.{Over}
 use Rattle.std.proofs.Common.{◌≡◌, ℕ, ◌-◌, true, Some, Ok, slice_get, slice_index_or, refl, sym, ap, ◌∙◌, arith}
-use Rattle.std.specs.Vec.{with_item}
-use Rattle.vll_core.specs.declared.execution.Execution.{Execution}
+use Rattle.vll_core.proofs.Common.{with_item, Execution, Released, shown, has_stored}
 use Rattle.vll_core.specs.declared.event.Event.TheVariants as event
-use Rattle.vll_core.specs.declared.seen.Seen.TheVariants.{Released}
-use Rattle.vll_core.specs.Private.View.{shown}
-use Rattle.vll_core.specs.Machine.{has_stored}
 use Rattle.vll_core.proofs.RunningWorks.{Runs, runs_of, work_within}
 use Rattle.vll_core.proofs.MachineSteps.{refused_told, refused_stays, taken_told, taken_shown}
 use Rattle.vll_core.proofs.Releasing.{finds, entry_of, read_counter, read_again, put_again, word_less, refused_stores, refused_releases, taken_release, core_release}

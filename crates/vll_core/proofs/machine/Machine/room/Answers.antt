@@ -1,6 +1,6 @@
 use Rattle.vll_core.proofs.machine.Machine.room.Given.{Over}
 use Rattle.std.proofs.Common.{◌<◌, length, Err, Ok}
-use Rattle.vll_core.specs.declared.refusal.Refusal.TheVariants.{Spent, Busy}
+use Rattle.vll_core.proofs.Common.{Spent, Busy}
 use Rattle.vll_core.proofs.Entering.{IsRoom, room_spent, room_busy, room_ok, unspent, is_spent, full_shown, left_shown, many_shown, few_shown}
 use Rattle.vll_core.proofs.machine.Machine.room.Goals.{Then-is_spent, Else-is_spent, Then-is_busy, Else-is_busy}
 use Rattle.vll_core.proofs.machine.Machine.room.Goals as goal

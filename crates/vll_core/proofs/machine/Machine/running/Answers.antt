@@ -1,4 +1,4 @@
-use Rattle.vll_sca.specs.Status.{is_running}
+use Rattle.vll_core.proofs.Common.{is_running}
 use Rattle.vll_core.proofs.Entering.{count_told}
 use Rattle.vll_core.proofs.machine.Machine.running.Goals as goal
 

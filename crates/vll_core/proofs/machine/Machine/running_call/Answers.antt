@@ -1,11 +1,5 @@
 use Rattle.std.proofs.Common.{◌≡◌, sym, ap, ◌∙◌, ℕ, Option, option_map, Some, None}
-use Rattle.vll_proc.specs.declared.call.Call.{Call}
-use Rattle.vll_sca.specs.declared.status.Status.{Status}
-use Rattle.vll_core.specs.Machine.{running}
-use Rattle.vll_core.specs.State.{Entered}
-use Rattle.vll_core.specs.Shown.{Shown}
-use Rattle.vll_core.specs.declared.machine.Machine.TheInside.{Inside}
-use Rattle.vll_core.specs.Private.View.{shown}
+use Rattle.vll_core.proofs.Common.{Call, Status, running, Entered, Shown, Inside, shown}
 use Rattle.vll_core.proofs.RunningCalls.{none_runs, other_runs_not, line_runs, line_there}
 use Rattle.vll_core.proofs.machine.Machine.running_call.Goals as goal
 

@@ -1,12 +1,7 @@
 use Rattle.vll_core.proofs.machine.Machine.store.Given.{Over}
 use Rattle.std.proofs.Common.{◌≡◌, ℕ, ◌+◌, ◌<◌, length, sym, ap, ◌∙◌, arith, slice_get, slice_index_or, Option, Some}
-use Rattle.std.specs.Option.{option_map}
-use Rattle.std.proofs.lemmas.Map.Views.{exact_unsigned_eq}
-use Rattle.vll_record.specs.declared.claim.Claim.{Claim}
+use Rattle.vll_core.proofs.Common.{option_map, exact_unsigned_eq, Claim, OutOfStep, Execution, writes}
 use Rattle.vll_core.specs.declared.event.Event.TheVariants as event
-use Rattle.vll_core.specs.declared.refusal.Refusal.TheVariants.{OutOfStep}
-use Rattle.vll_core.specs.declared.execution.Execution.{Execution}
-use Rattle.vll_core.specs.State.{writes}
 use Rattle.vll_core.proofs.RunningWorks.{Runs, work_within, runs_of, same_work}
 use Rattle.vll_core.proofs.MachineSteps.{Refuses, refused_told, refused_stays, taken_told, taken_shown}
 use Rattle.vll_core.proofs.Storing.{Stores, refused_unloaded, refused_aborted, refused_stored, taken_store, core_store, word_within, few_stores}

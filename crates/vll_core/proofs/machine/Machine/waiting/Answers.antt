@@ -1,4 +1,4 @@
-use Rattle.vll_sca.specs.Headline.Status.{is_waiting}
+use Rattle.vll_core.proofs.Common.{is_waiting}
 use Rattle.vll_core.proofs.Entering.{count_told}
 use Rattle.vll_core.proofs.machine.Machine.waiting.Goals as goal
 

@@ -1,16 +1,7 @@
 use Rattle.vll_core.proofs.Faults.{openable}
 use Rattle.vll_core.proofs.machine.Machine.with_room.Given.{Over}
 use Rattle.std.proofs.Common.{rules, ℕ, ap, ◌∙◌, refl, List, ◌≡◌, ◌≤◌, length, None, vec_capacity, sym, subst, All}
-use Rattle.vll_proc.specs.declared.call.Call.{Call}
-use Rattle.std.specs.Global.{Vec}
-use Rattle.vll_check.specs.Calls.{Fits}
-use Rattle.vll_check.specs.Headline.Catalog.{Catalog}
-use Rattle.vll_check.specs.Catalog.{IsCatalog}
-use Rattle.vll_core.specs.declared.config.TheConstants.{MOST_RECORDS}
-use Rattle.vll_core.specs.declared.machine.Machine.TheInside.{Inside}
-use Rattle.vll_core.specs.Faults.{open_fault}
-use Rattle.vll_core.specs.Queue.{empty}
-use Rattle.vll_core.specs.Private.FirstWords.{AreFirstWords}
+use Rattle.vll_core.proofs.Common.{Call, Vec, Fits, Catalog, IsCatalog, MOST_RECORDS, Inside, open_fault, empty, AreFirstWords}
 use Rattle.vll_core.specs.Shown.{begun}
 use Rattle.vll_core.proofs.Entries.{shown_queued}
 use Rattle.vll_core.proofs.Begun.{IsFresh, filled, none_alone, shown_begun, core_begun}

@@ -1,8 +1,5 @@
 use Rattle.std.proofs.Common.{length, ◌∙◌, ap, sym, Bool, refl, arith, if◌then◌else◌}
-use Rattle.std.proofs.lemmas.Bool.{true≢false}
-use Rattle.vll_sca.specs.Headline.Status.{is_waiting}
-use Rattle.vll_sca.specs.Status.{is_gone}
-use Rattle.vll_sca.specs.declared.status.Status.TheVariants.{Running, Waiting}
+use Rattle.vll_core.proofs.Common.{true≢false, is_waiting, is_gone, Running, Waiting}
 use Rattle.vll_core.proofs.Entries.{shown_length, shown_room, shown_idle}
 use Rattle.vll_core.proofs.QueueChanges.{IsPushed, pushed_next, kept_counted, shown_entered}
 use Rattle.vll_core.proofs.queue.Queue.admit.Given.{Over}

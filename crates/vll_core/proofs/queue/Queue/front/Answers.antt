@@ -1,6 +1,5 @@
 use Rattle.std.proofs.Common.{◌≡◌, ◌∙◌, sym, ap, Option, Some, None, ℕ, Bool, if◌then◌else◌}
-use Rattle.vll_sca.specs.declared.status.Status.{Status}
-use Rattle.vll_core.specs.Queue.{statuses, front_among, started_if, waiting_ticket}
+use Rattle.vll_core.proofs.Common.{Status, statuses, front_among, started_if, waiting_ticket}
 use Rattle.vll_core.proofs.Entries.{front_none, front_some, waits}
 use Rattle.vll_core.proofs.queue.Queue.front.Given.{Over}
 use Rattle.vll_core.proofs.queue.Queue.front.Goals.{After-from_residual, After-from_residual-in_err-status, Then-not-is_waiting, After-start}

@@ -1,7 +1,5 @@
 use Rattle.std.proofs.Common.{◌≡◌, count_by, arith}
-use Rattle.std.proofs.lemmas.Grind.{common_steps}
-use Rattle.vll_sca.specs.Headline.Status.{is_waiting}
-use Rattle.vll_core.specs.Queue.{statuses}
+use Rattle.vll_core.proofs.Common.{common_steps, is_waiting, statuses}
 use Rattle.vll_core.proofs.Entries.{shown_queued, shown_waiting, shown_cap}
 use Rattle.vll_core.proofs.queue.Queue.is_busy.Goals as goal
 

@@ -1,5 +1,5 @@
 use Rattle.std.proofs.Common.{◌≡◌, length, arith}
-use Rattle.std.proofs.lemmas.Grind.{common_steps}
+use Rattle.vll_core.proofs.Common.{common_steps}
 use Rattle.vll_core.proofs.Entries.{shown_queued, shown_length, shown_limit}
 use Rattle.vll_core.proofs.queue.Queue.is_spent.Goals as goal
 

@@ -1,8 +1,5 @@
 use Rattle.std.proofs.Common.{◌<◌, List, length, vec_capacity, ap, subst, ◌∙◌, arith}
-use Rattle.std.proofs.lemmas.Option.{slice_get_within}
-use Rattle.vll_sca.specs.declared.status.Status.{Status}
-use Rattle.vll_core.specs.declared.queue.window.Window.{Window}
-use Rattle.vll_core.specs.Private.Window.{IsWindow}
+use Rattle.vll_core.proofs.Common.{slice_get_within, Status, Window, IsWindow}
 use Rattle.vll_core.proofs.Entries.{Ends, ends, shown_status}
 use Rattle.vll_core.proofs.QueueChanges.{kept_finished, shown_finished, window_finished, window_passed}
 use Rattle.vll_core.proofs.queue.Queue.remove.Goals as goal

@@ -1,5 +1,5 @@
 use Rattle.std.proofs.Common.{◌≡◌, ◌∙◌, sym, ap, Some, slice_get}
-use Rattle.vll_core.specs.Queue.{statuses, found_by, started, started_if}
+use Rattle.vll_core.proofs.Common.{statuses, found_by, started, started_if}
 use Rattle.vll_core.proofs.QueueScan.{found_shown, found_waits, shown_bits, kept_scanned}
 use Rattle.vll_core.proofs.queue.Queue.scan.Given.{Over}
 use Rattle.vll_core.proofs.queue.Queue.scan.Goals as goal

@@ -1,5 +1,5 @@
 use Rattle.std.proofs.Common.{arith}
-use Rattle.std.proofs.lemmas.Option.{slice_get_within}
+use Rattle.vll_core.proofs.Common.{slice_get_within}
 use Rattle.vll_core.proofs.Entries.{Starts, starts, shown_status}
 use Rattle.vll_core.proofs.QueueChanges.{kept_started, shown_started}
 use Rattle.vll_core.proofs.queue.Queue.start.Goals as goal

@@ -1,5 +1,5 @@
 use Rattle.std.proofs.Common.{◌∙◌, not, arith, ap}
-use Rattle.vll_core.specs.Private.Window.{is_left_at}
+use Rattle.vll_core.proofs.Common.{is_left_at}
 use Rattle.vll_core.proofs.Windows.{first_here, first_past, first_within, left_read}
 use Rattle.vll_core.proofs.queue.window.first_left.Goals as goal
 

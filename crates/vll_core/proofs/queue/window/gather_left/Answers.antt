@@ -1,7 +1,5 @@
 use Rattle.std.proofs.Common.{◌≡◌, ◌<◌, ℕ, length, get_or, ◌∙◌, ap, not, arith}
-use Rattle.std.proofs.lemmas.List.{get_or_default}
-use Rattle.std.proofs.lemmas.List.Filters.{FiltersInPlace-more_set, FiltersInPlace-more_no}
-use Rattle.vll_core.specs.Private.Window.{is_left_at}
+use Rattle.vll_core.proofs.Common.{get_or_default, FiltersInPlace-more_set, FiltersInPlace-more_no, is_left_at}
 use Rattle.vll_core.proofs.Windows.{gathers_from_first, still_there, left_read}
 use Rattle.vll_core.proofs.queue.window.gather_left.Goals.{then-not-is_gone, else-not-is_gone}
 use Rattle.vll_core.proofs.queue.window.gather_left.Goals as goal

@@ -1,5 +1,4 @@
-use Rattle.std.proofs.lemmas.List.Filters.{FiltersInPlace}
-use Rattle.vll_core.specs.Private.Window.{is_left_at}
+use Rattle.vll_core.proofs.Common.{FiltersInPlace, is_left_at}
 use Rattle.vll_core.proofs.queue.window.gather_left.Given as goal
 
 abbrev pub invariant-loop-i : goal.invariant-loop-i

@@ -1,5 +1,5 @@
 use Rattle.std.proofs.Common.{ap}
-use Rattle.vll_counters.specs.Shown.{WordsShown, queue_view}
+use Rattle.vll_counters.proofs.Common.{WordsShown, queue_view}
 use Rattle.vll_counters.proofs.Seats.{queue_me, closes_at, closes_history}
 use Rattle.vll_counters.proofs.words.Words.close.Goals as goal
 

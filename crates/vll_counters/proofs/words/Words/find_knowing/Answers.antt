@@ -1,5 +1,5 @@
 use Rattle.std.proofs.Common.{ap, sym, ◌∙◌}
-use Rattle.vll_counters.specs.Shown.{WordsShown, SessionShown}
+use Rattle.vll_counters.proofs.Common.{WordsShown, SessionShown}
 use Rattle.vll_counters.proofs.Seats.{session_me, value_there, finds_at}
 use Rattle.vll_counters.proofs.words.Words.find_knowing.Goals as goal
 

@@ -1,5 +1,5 @@
 use Rattle.std.proofs.Common.{[], None}
-use Rattle.vll_counters.specs.Shown.{no_claim}
+use Rattle.vll_counters.proofs.Common.{no_claim}
 use Rattle.vll_counters.proofs.words.Words.give_pass.Given as goal
 
 abbrev pub ghosts-give_pass_knowing : goal.ghosts-give_pass_knowing

@@ -1,5 +1,5 @@
 use Rattle.std.proofs.Common.{ap, sym, ◌∙◌, arith}
-use Rattle.vll_counters.specs.Shown.{WordsShown, QueueShown, queue_view}
+use Rattle.vll_counters.proofs.Common.{WordsShown, QueueShown, queue_view}
 use Rattle.vll_counters.proofs.Seats.{queue_me, gives_at, given_pass}
 use Rattle.vll_counters.proofs.words.Words.give_pass_knowing.Goals as goal
 

@@ -1,6 +1,5 @@
 use Rattle.std.proofs.Common.{ap, sym, ◌∙◌, arith}
-use Rattle.vll_counters.specs.News.{NewsShown}
-use Rattle.vll_counters.specs.Shown.{WordsShown, SessionShown}
+use Rattle.vll_counters.proofs.Common.{NewsShown, WordsShown, SessionShown}
 use Rattle.vll_counters.proofs.Seats.{session_me}
 use Rattle.vll_counters.proofs.Hearing.{news_me, joined_news, news_comes_at, hears_at}
 use Rattle.vll_counters.proofs.words.Words.hear.Goals as goal

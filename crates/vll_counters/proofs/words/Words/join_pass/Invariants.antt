@@ -1,5 +1,5 @@
 use Rattle.std.proofs.Common.{None}
-use Rattle.vll_counters.specs.Shown.{no_claim}
+use Rattle.vll_counters.proofs.Common.{no_claim}
 use Rattle.vll_counters.proofs.words.Words.join_pass.Given as goal
 
 abbrev pub ghosts-join_pass_knowing : goal.ghosts-join_pass_knowing

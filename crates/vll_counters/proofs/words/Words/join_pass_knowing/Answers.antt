@@ -1,5 +1,5 @@
 use Rattle.std.proofs.Common.{ap, sym, ◌∙◌, arith, refl}
-use Rattle.vll_counters.specs.Shown.{WordsShown, QueueShown, PassShown, queue_view}
+use Rattle.vll_counters.proofs.Common.{WordsShown, QueueShown, PassShown, queue_view}
 use Rattle.vll_counters.proofs.Seats.{queue_me, pass_me, joined_pass, comes_pass_at, ends_at, told_pass}
 use Rattle.vll_counters.proofs.words.Words.join_pass_knowing.Goals as goal
 

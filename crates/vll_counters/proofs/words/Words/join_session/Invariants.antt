@@ -1,6 +1,5 @@
 use Rattle.std.proofs.Common.{None}
-use Rattle.std.specs.Option.{option_map}
-use Rattle.vll_counters.specs.Shown.{no_claim}
+use Rattle.vll_counters.proofs.Common.{option_map, no_claim}
 use Rattle.vll_counters.proofs.words.Words.join_session.Given as goal
 
 abbrev pub ghosts-join_session_knowing : goal.ghosts-join_session_knowing

@@ -1,7 +1,5 @@
 use Rattle.std.proofs.Common.{ap, sym, ◌∙◌, arith, Bor}
-use Rattle.std.specs.Option.{option_map}
-use Rattle.vll_proc.specs.declared.call.Call.{Call}
-use Rattle.vll_counters.specs.Shown.{WordsShown, QueueShown, SessionShown, queue_view}
+use Rattle.vll_counters.proofs.Common.{option_map, Call, WordsShown, QueueShown, SessionShown, queue_view}
 use Rattle.vll_counters.proofs.Seats.{queue_me, session_me, joined_session, comes_session_at, opens_at, may_open, library_is, told_session}
 use Rattle.vll_counters.proofs.words.Words.join_session_knowing.Goals as goal
 

@@ -1,5 +1,5 @@
 use Rattle.std.proofs.Common.{None}
-use Rattle.vll_counters.specs.Shown.{no_claim}
+use Rattle.vll_counters.proofs.Common.{no_claim}
 use Rattle.vll_counters.proofs.words.Words.load.Given as goal
 
 abbrev pub ghosts-load_knowing : goal.ghosts-load_knowing

@@ -1,5 +1,5 @@
 use Rattle.std.proofs.Common.{ap, sym, ◌∙◌}
-use Rattle.vll_counters.specs.Shown.{WordsShown, PassShown}
+use Rattle.vll_counters.proofs.Common.{WordsShown, PassShown}
 use Rattle.vll_counters.proofs.Seats.{pass_me, value_there, loads_at}
 use Rattle.vll_counters.proofs.words.Words.load_knowing.Goals as goal
 

@@ -1,6 +1,5 @@
 use Rattle.std.proofs.Common.{◌≡◌, ℕ, suc, [], ◌+◌, ◌≤◌, ap, sym, ◌∙◌, arith, subst, add-one}
-use Rattle.vll_counters.specs.Shown.{QueueShown, shown_queue}
-use Rattle.vll_counters.specs.Steps.{first_queue, new_session}
+use Rattle.vll_counters.proofs.Common.{QueueShown, shown_queue, first_queue, new_session}
 use Rattle.vll_counters.proofs.Seats.{sessions_more, sessions_none, sessions_all}
 use Rattle.vll_counters.proofs.words.Words.open.Goals as goal
 

@@ -1,6 +1,5 @@
 use Rattle.std.proofs.Common.{◌≡◌, ◌≤◌, [], vec_len, vec_capacity}
-use Rattle.vll_counters.specs.Shown.{shown_queue, AreNewSessions}
-use Rattle.vll_counters.specs.Steps.{first_queue}
+use Rattle.vll_counters.proofs.Common.{shown_queue, AreNewSessions, first_queue}
 use Rattle.vll_counters.proofs.words.Words.open.Given as goal
 
 abbrev pub invariant-loop-client : goal.invariant-loop-client

@@ -1,5 +1,5 @@
 use Rattle.std.proofs.Common.{ap, sym, ◌∙◌}
-use Rattle.vll_counters.specs.Shown.{WordsShown, PassShown}
+use Rattle.vll_counters.proofs.Common.{WordsShown, PassShown}
 use Rattle.vll_counters.proofs.Seats.{pass_me, pair_there, releases_at}
 use Rattle.vll_counters.proofs.words.Words.release_knowing.Goals as goal
 

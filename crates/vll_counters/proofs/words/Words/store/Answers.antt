@@ -1,5 +1,5 @@
 use Rattle.std.proofs.Common.{ap, sym, ◌∙◌, rules}
-use Rattle.vll_counters.specs.Shown.{WordsShown, PassShown}
+use Rattle.vll_counters.proofs.Common.{WordsShown, PassShown}
 use Rattle.vll_counters.proofs.Seats.{pass_me, value_there, stores_at}
 use Rattle.vll_counters.proofs.words.Words.store.Goals as goal
 

@@ -1,5 +1,5 @@
 use Rattle.std.proofs.Common.{ap, sym, ◌∙◌, arith}
-use Rattle.vll_counters.specs.Shown.{WordsShown, SessionShown}
+use Rattle.vll_counters.proofs.Common.{WordsShown, SessionShown}
 use Rattle.vll_counters.proofs.Seats.{session_me}
 use Rattle.vll_counters.proofs.Hearing.{tells_at}
 use Rattle.vll_counters.proofs.words.Words.tell.Goals as goal

@@ -1,6 +1,6 @@
 -- The body may run on the cells, and what it ends with there is what it ends with on the records.
 use Rattle.std.proofs.Common.{drop, sym, ap, ◌∙◌}
-use Rattle.vll_record.specs.declared.claims.TheConstants.{MOST_CLAIMS}
+use Rattle.vll_proc.proofs.Common.{MOST_CLAIMS}
 use Rattle.vll_proc.proofs.Called.{HasCells-made, HasCellsBelow-made}
 use Rattle.vll_proc.proofs.Kept.{length-ended}
 use Rattle.vll_proc.proofs.Runs.{begins_on, put_back, keys_known, args_known, told}

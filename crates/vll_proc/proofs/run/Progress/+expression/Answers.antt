@@ -1,10 +1,6 @@
 -- Each operator of two operands requires of both what it requires of the whole, and gives what is noted after both.
 use Rattle.std.proofs.Common.{arith, sym, ap, ◌∙◌}
-use Rattle.vll_record.specs.declared.claims.TheConstants.{MOST_CLAIMS}
-use Rattle.vll_proc.specs.declared.limits.TheConstants.{MOST_ARGS}
-use Rattle.vll_proc.specs.Headline.Meaning.{Scene, value_of}
-use Rattle.vll_proc.specs.Private.Running.{scene_of, behind, operation_of}
-use Rattle.vll_proc.specs.WellFormed.{key_is_below, arg_is_below, local_is_known}
+use Rattle.vll_proc.proofs.Common.{MOST_CLAIMS, MOST_ARGS, Scene, value_of, scene_of, behind, operation_of, key_is_below, arg_is_below, local_is_known}
 use Rattle.vll_proc.proofs.Noted.{is_operation, leaves_left, leaves_right, smaller_left, smaller_right, noted_both}
 use Rattle.vll_proc.proofs.run.Progress.+expression.Goals as goal
 

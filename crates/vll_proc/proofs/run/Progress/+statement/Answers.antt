@@ -1,11 +1,7 @@
 -- An `If` does what the list that it chooses does, and a `Repeat` what the turns of its list do.
 use Rattle.std.proofs.Common.{rules, arith, map, sum_by, sym, ◌∙◌}
+use Rattle.vll_proc.proofs.Common.{MOST_CLAIMS, MOST_ARGS, effect, in_turn, scene_of, replies, key_is_below, set_is_below, arg_is_below, any_stmt, local_is_known, let_is_known}
 use Rattle.std.proofs.lemmas.Grind.{common_steps}
-use Rattle.vll_record.specs.declared.claims.TheConstants.{MOST_CLAIMS}
-use Rattle.vll_proc.specs.declared.limits.TheConstants.{MOST_ARGS}
-use Rattle.vll_proc.specs.Headline.Meaning.{effect, in_turn}
-use Rattle.vll_proc.specs.Private.Running.{scene_of}
-use Rattle.vll_proc.specs.WellFormed.{replies, key_is_below, set_is_below, arg_is_below, any_stmt, local_is_known, let_is_known}
 use Rattle.vll_proc.proofs.Lists.{effect_if, effect_repeat, throughout_if, throughout_repeat, replies_if, replies_repeat, stmt_nodes_if, stmt_nodes_repeat}
 use Rattle.vll_proc.proofs.Turns.{repeated-left, product-left}
 use Rattle.vll_proc.proofs.run.Progress.+statement.Goals as goal

@@ -1,9 +1,7 @@
 -- Running the rest, from the present scene, has the same result as running all of it from the start.
 -- A list has more nodes than each of its statements, and a statement more than each of its lists.
 use Rattle.std.proofs.Common.{◌≡◌, ◌+◌, ◌-◌, ◌*◌, ℕ, ◌≤◌, length, map, drop, sum_by}
-use Rattle.vll_proc.specs.Headline.Meaning.{effect, in_turn, repeated}
-use Rattle.vll_proc.specs.Private.Running.{scene_of, HasCellsBelow}
-use Rattle.vll_proc.specs.WellFormed.{replies, stmt_nodes}
+use Rattle.vll_proc.proofs.Common.{effect, in_turn, repeated, scene_of, HasCellsBelow, replies, stmt_nodes}
 use Rattle.vll_proc.proofs.run.Progress.+statement.Given as goal
 
 abbrev pub invariant-steps-loop-statement : goal.invariant-steps-loop-statement

@@ -1,7 +1,5 @@
 use Rattle.std.proofs.Common.{◌≡◌, ◌≢◌, slice_get, Some, subst, sym, ◌∙◌, eqb-true}
-use Rattle.vll_record.specs.declared.claim.Claim.{Claim}
-use Rattle.vll_record.specs.declared.claims.TheConstants.{MOST_CLAIMS}
-use Rattle.vll_record.specs.Claim.{IsRising}
+use Rattle.vll_record.proofs.Common.{Claim, MOST_CLAIMS, IsRising}
 use Rattle.vll_record.proofs.WithClaim.{IsRising-with_claim, with_claim-set, with_claim-insert, apart_from_other, apart_from_none, room_from_absent, IsPlaceOf-is}
 use Rattle.vll_record.proofs.claims.Claims.add.Goals.{in_default-via-in-Some+else-eq, in_default-via-in_default}
 use Rattle.vll_record.proofs.claims.Claims.add.Goals as goal

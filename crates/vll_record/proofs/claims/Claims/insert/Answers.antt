@@ -1,6 +1,5 @@
 use Rattle.std.proofs.Common.{◌≤◌, arith, insert, length}
-use Rattle.std.proofs.lemmas.List.Edits.{length-insert}
-use Rattle.vll_record.specs.declared.claims.TheConstants.{MOST_CLAIMS}
+use Rattle.vll_record.proofs.Common.{length-insert, MOST_CLAIMS}
 use Rattle.vll_record.proofs.Laid.{IsCanonical-lies, kept-lies, lies-kept, lies-insert, writes-kept}
 use Rattle.vll_record.proofs.claims.Claims.insert.Goals as goal
 

@@ -1,9 +1,8 @@
 use Rattle.std.proofs.Common.{◌≡◌, ◌∙◌, ℕ, ap₂, rules, List, unwrap_or, nat_le, Option}
-use Rattle.std.specs.List.{position}
+use Rattle.vll_record.proofs.Common.{position, Claim}
 use Rattle.std.proofs.lemmas.Iterator.Consumers.{YieldsList-from_first}
 use Rattle.std.proofs.lemmas.Iterator.Search.{position_from_yields_List}
 use borrow.Author.Tests.{tests}
-use Rattle.vll_record.specs.declared.claim.Claim.{Claim}
 use Rattle.vll_record.proofs.WithClaim.{unwrap_or-position}
 use Rattle.vll_record.proofs.claims.Claims.place_of.Goals as goal
 

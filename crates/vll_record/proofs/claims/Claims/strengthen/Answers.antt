@@ -1,8 +1,5 @@
 use Rattle.std.proofs.Common.{◌≡◌, Some, slice_get, get_or}
-use Rattle.std.proofs.lemmas.Option.{slice_get-get_or}
-use Rattle.vll_record.specs.declared.claim.Claim.{Claim}
-use Rattle.vll_record.specs.declared.claim.Mode.TheVariants.{Read}
-use Rattle.vll_record.specs.Headline.Claim.{stronger}
+use Rattle.vll_record.proofs.Common.{slice_get-get_or, Claim, Read, stronger}
 use Rattle.vll_record.proofs.Laid.{IsCanonical-set, kept-set, writes-kept}
 use Rattle.vll_record.proofs.claims.Claims.strengthen.Goals as goal
 

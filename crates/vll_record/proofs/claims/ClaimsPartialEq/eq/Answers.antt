@@ -1,6 +1,5 @@
 use Rattle.std.proofs.Common.{◌≡◌, ◌↔◌, IsTrue, rules, sym, ap, ◌∙◌, eqb-true}
-use Rattle.std.proofs.lemmas.Bool.Decides.{Decides-eqb}
-use Rattle.std.proofs.lemmas.Slice.Eq.{slice_eq-Decides}
+use Rattle.vll_record.proofs.Common.{Decides-eqb, slice_eq-Decides}
 use Rattle.vll_record.proofs.Same.{same_answer, same-from_fields, fields_from_same}
 use Rattle.vll_record.proofs.claims.ClaimsPartialEq.eq.Goals.{then-self-other, else-self-other}
 use Rattle.vll_record.proofs.claims.ClaimsPartialEq.eq.Goals as goal

@@ -1,7 +1,6 @@
 -- The marks that were made are those that are taken back, whether an entry was found or not.
 use Rattle.std.proofs.Common.{◌≡◌, ℕ, ◌≤◌, Option, true, false, map, take, length, unwrap_or, ◌∙◌, ap, sym, subst, arith}
-use Rattle.vll_sca.specs.Scan.{hashed}
-use Rattle.vll_sca.specs.Private.ClaimMarks.{HasRoom, IsClear, with_claims, claims_left, passed}
+use Rattle.vll_sca.proofs.Common.{hashed, HasRoom, IsClear, with_claims, claims_left, passed}
 use Rattle.vll_sca.proofs.Finding.{passed_within}
 use Rattle.vll_sca.proofs.Meeting.{HasRoom-with_claims, IsClear-taken_back}
 use Rattle.vll_sca.proofs.bits.Bits.scan_among.Goals as goal

@@ -1,7 +1,6 @@
 -- An entry that may run is clear of the marks, and one that is passed is marked.
 use Rattle.std.proofs.Common.{◌<◌, true, length, ◌∙◌, sym, arith}
-use Rattle.vll_sca.specs.declared.entry.Entry.{Entry}
-use Rattle.vll_sca.specs.Scan.{hashed}
+use Rattle.vll_sca.proofs.Common.{Entry, hashed}
 use Rattle.vll_sca.proofs.Meeting.{entry_at, entry_is_marked}
 use Rattle.vll_sca.proofs.Finding.{found_here, none_found, none_before_next, clear_may_run}
 use Rattle.vll_sca.proofs.claim_marks.ClaimMarks.first_clear.Goals as goal

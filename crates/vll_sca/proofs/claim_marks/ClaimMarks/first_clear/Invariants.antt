@@ -1,7 +1,6 @@
 -- None of the entries so far may run, and the places of those that are left are marked.
 use Rattle.std.proofs.Common.{◌≡◌, true, take, map}
-use Rattle.vll_sca.specs.Scan.{hashed}
-use Rattle.vll_sca.specs.Private.ClaimMarks.{HasRoom, with_claims, claims_left}
+use Rattle.vll_sca.proofs.Common.{hashed, HasRoom, with_claims, claims_left}
 use Rattle.vll_sca.proofs.Finding.{NoneBefore}
 use Rattle.vll_sca.proofs.claim_marks.ClaimMarks.first_clear.Given as goal
 

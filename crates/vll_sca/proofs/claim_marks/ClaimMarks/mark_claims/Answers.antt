@@ -1,6 +1,6 @@
 -- One more claim.
 use Rattle.std.proofs.Common.{true}
-use Rattle.vll_sca.specs.Scan.{hashed}
+use Rattle.vll_sca.proofs.Common.{hashed}
 use Rattle.vll_sca.proofs.Meeting.{claim_is_marked, no_claim_is_left}
 use Rattle.vll_sca.proofs.claim_marks.ClaimMarks.mark_claims.Goals as goal
 use Rattle.vll_sca.proofs.claim_marks.ClaimMarks.mark_claims.Goals.{in-Some, in_default}

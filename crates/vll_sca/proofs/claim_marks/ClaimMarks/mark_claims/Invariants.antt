@@ -1,7 +1,6 @@
 -- The places of the claims so far are marked.
 use Rattle.std.proofs.Common.{◌≡◌, true, map, take}
-use Rattle.vll_sca.specs.Scan.{hashed}
-use Rattle.vll_sca.specs.Private.ClaimMarks.{HasRoom, with_claims}
+use Rattle.vll_sca.proofs.Common.{hashed, HasRoom, with_claims}
 use Rattle.vll_sca.proofs.claim_marks.ClaimMarks.mark_claims.Given as goal
 
 abbrev pub invariant-loop-i : goal.invariant-loop-i

@@ -1,6 +1,5 @@
 -- A claim that meets a mark decides the answer; one that meets none is passed over.
-use Rattle.vll_sca.specs.Scan.{hashed}
-use Rattle.vll_sca.specs.Private.ClaimMarks.{meets}
+use Rattle.vll_sca.proofs.Common.{hashed, meets}
 use Rattle.vll_sca.proofs.Steps.{any_at, none_at, none_past}
 use Rattle.vll_sca.proofs.claim_marks.ClaimMarks.meets.Goals as goal
 use Rattle.vll_sca.proofs.claim_marks.ClaimMarks.meets.Goals.{in-Some+else-meets_at, in_default}

@@ -1,8 +1,6 @@
 -- None of the claims so far meets a mark.
 use Rattle.std.proofs.Common.{◌≡◌, false, map, take}
-use Rattle.std.specs.List.{list_any}
-use Rattle.vll_sca.specs.Scan.{hashed}
-use Rattle.vll_sca.specs.Private.ClaimMarks.{meets}
+use Rattle.vll_sca.proofs.Common.{list_any, hashed, meets}
 use Rattle.vll_sca.proofs.claim_marks.ClaimMarks.meets.Given as goal
 
 abbrev pub invariant-loop-i : goal.invariant-loop-i

@@ -1,6 +1,6 @@
 -- What the bits of the place say, by the mode.
 use Rattle.std.proofs.Common.{◌∙◌, sym}
-use Rattle.std.proofs.lemmas.Bool.{or_left}
+use Rattle.vll_sca.proofs.Common.{or_left}
 use Rattle.vll_sca.proofs.Meeting.{or_false}
 use Rattle.vll_sca.proofs.claim_marks.ClaimMarks.meets_at.Goals as goal
 

@@ -1,6 +1,6 @@
 -- One more entry.
 use Rattle.std.proofs.Common.{◌<◌, false, length, arith}
-use Rattle.vll_sca.specs.Scan.{hashed}
+use Rattle.vll_sca.proofs.Common.{hashed}
 use Rattle.vll_sca.proofs.Meeting.{entry_at, entry_is_marked}
 use Rattle.vll_sca.proofs.claim_marks.ClaimMarks.take_back.Goals as goal
 

@@ -1,7 +1,6 @@
 -- The places of the entries so far are cleared.
 use Rattle.std.proofs.Common.{◌≡◌, false, map, take}
-use Rattle.vll_sca.specs.Scan.{hashed}
-use Rattle.vll_sca.specs.Private.ClaimMarks.{HasRoom, with_claims, claims_left}
+use Rattle.vll_sca.proofs.Common.{hashed, HasRoom, with_claims, claims_left}
 use Rattle.vll_sca.proofs.claim_marks.ClaimMarks.take_back.Given as goal
 
 abbrev pub invariant-loop-i : goal.invariant-loop-i

@@ -1,6 +1,6 @@
 -- The bit of the place in its word is 0 from now on.
 use Rattle.std.proofs.Common.{◌≡◌, ◌*◌, ◌/◌, ◌<◌, length, get_or, ap, arith}
-use Rattle.std.proofs.lemmas.List.{get_or_read}
+use Rattle.vll_sca.proofs.Common.{get_or_read}
 use Rattle.vll_sca.proofs.Words.{length-bits_of, bits_of-clear}
 use Rattle.vll_sca.proofs.marks.Marks.clear.Goals as goal
 

@@ -1,7 +1,6 @@
 -- The bit of the place in its word.
 use Rattle.std.proofs.Common.{◌≡◌, ◌*◌, ◌/◌, ◌%◌, ◌<◌, ◌∙◌, length, get_or, sym, ap, eqb, arith}
-use Rattle.std.proofs.lemmas.List.{get_or_read}
-use Rattle.std.specs.Int.{bit_at}
+use Rattle.vll_sca.proofs.Common.{get_or_read, bit_at}
 use Rattle.vll_sca.proofs.Words.{length-bits_of, get_or-bits_of, bit_set}
 use Rattle.vll_sca.proofs.marks.Marks.is_set.Goals as goal
 

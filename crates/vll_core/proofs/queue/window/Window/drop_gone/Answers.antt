@@ -1,6 +1,5 @@
 use Rattle.std.proofs.Common.{◌≡◌, ℕ, ◌++◌, List, length, take, drop, ◌∙◌, ap, sym, arith}
-use Rattle.std.proofs.lemmas.List.{append-nil, drop_all, take_all}
-use Rattle.vll_core.specs.Private.Window.{left_among}
+use Rattle.vll_core.proofs.Common.{append-nil, drop_all, take_all, left_among}
 use Rattle.vll_core.proofs.queue.window.Window.drop_gone.Goals as goal
 
 -- what stands in a list that was written over, of the same length

@@ -1,7 +1,5 @@
 use Rattle.std.proofs.Common.{◌<◌, length, get_or, arith}
-use Rattle.std.proofs.lemmas.List.{length-map}
-use Rattle.std.proofs.lemmas.Option.{slice_get-get_or}
-use Rattle.vll_core.specs.Private.Window.{entry_at}
+use Rattle.vll_core.proofs.Common.{length-map, slice_get-get_or, entry_at}
 use Rattle.vll_core.proofs.WindowEntries.{claims_at}
 use Rattle.vll_core.proofs.queue.window_entries.WindowEntriesEntries.claims.Goals as goal
 

@@ -1,6 +1,5 @@
 use Rattle.std.proofs.Common.{◌∙◌, sym, ap, suc, ◌∷◌, drop, add-one}
-use Rattle.std.proofs.lemmas.Option.{get_or_from_slice_get, slice_get_within}
-use Rattle.std.proofs.Math.Seq.{drop-cons}
+use Rattle.vll_record.proofs.Common.{get_or_from_slice_get, slice_get_within, drop-cons}
 use Rattle.vll_record.proofs.claims.iter.ClaimsIterIterator.next.Goals as goal
 
 pub returns-clause-steps : goal.returns-clause-steps

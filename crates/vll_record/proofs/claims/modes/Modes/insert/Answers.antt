@@ -1,6 +1,5 @@
 use Rattle.std.proofs.Common.{◌≡◌, arith, refl}
-use Rattle.vll_record.specs.declared.claim.Claim.{Claim}
-use Rattle.vll_record.specs.Headline.Claim.{is_write}
+use Rattle.vll_record.proofs.Common.{Claim, is_write}
 use Rattle.vll_record.proofs.Masks.{bit, mask_of-insert}
 use Rattle.vll_record.proofs.claims.modes.Modes.insert.Goals.{in-Read, in-Write}
 use Rattle.vll_record.proofs.claims.modes.Modes.insert.Goals as goal

@@ -1,5 +1,5 @@
 use Rattle.std.proofs.Common.{◌≡◌, rules, arith}
-use Rattle.vll_record.specs.declared.claim.Mode.TheVariants.{Read, Write}
+use Rattle.vll_record.proofs.Common.{Read, Write}
 use Rattle.vll_record.proofs.Masks.{mask_of-stronger_write, mask_of-stronger_read}
 use Rattle.vll_record.proofs.claims.modes.Modes.strengthen.Goals as goal
 
