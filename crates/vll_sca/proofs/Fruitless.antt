@@ -1,7 +1,7 @@
 -- A scan that finds nothing still finds nothing once a waiting entry runs, or once one that does not wait is added at
 -- the end.
 use Rattle.std.proofs.Common.{◌≡◌, ℕ, zero, suc, Bool, true, false, not, ◌&&◌, ◌||◌, cond, List, [], ◌∷◌, ◌++◌, slice_get, slice_set, Option, Some, None, refl, sym, ap, ◌∙◌, subst}
-use Rattle.vll_sca.proofs.Common.{true≢false, none-some, same_Some, Entry, Status, Running, Waiting, Gone, is_waiting, is_gone, hash_conflict, scan_numbered}
+use Rattle.vll_sca.proofs.Common.{true≢false, none-some, same_Some, Entry, Status, Running, Waiting, is_waiting, is_gone, hash_conflict, scan_numbered}
 use Rattle.vll_sca.proofs.Leaving.{past, first_number, first_is_scanned, held_alike}
 
 -- an entry that runs
@@ -17,9 +17,8 @@ none_with true n o p later none = absurd (none-some n (sym none))
 none_with false n o p later none = later none
 
 left_while_waiting : (s : Status) → is_waiting s ≡ true → true ≡ not (is_gone s)
-left_while_waiting Running waits = absurd (true≢false (sym waits))
 left_while_waiting Waiting waits = refl
-left_while_waiting Gone waits = absurd (true≢false (sym waits))
+left_while_waiting other waits = absurd (true≢false (sym waits))
 
 module _ (place : ℕ → ℕ) (bits : ℕ) where
   -- an entry holds back the same entries while it waits and while it runs

@@ -1,6 +1,6 @@
 -- What the scan finds: it waits and is clear, and entries at the front that are gone only move its index.
 use Rattle.std.proofs.Common.{◌≡◌, ℕ, zero, suc, ◌+◌, ◌<◌, ◌%◌, Bool, true, false, not, ◌&&◌, ◌||◌, ◌==◌, nat_lt, cond, List, [], ◌∷◌, ◌++◌, length, map, take, slice_get, Option, Some, None, option_map, position, All, refl, sym, ap, ap₂, ◌∙◌, zero-add, subst, arith, eq-eqb, lt-ltb, le-ltb, ltb-true, ltb-false}
-use Rattle.vll_sca.proofs.Common.{true≢false, both_ways, and_parts, and_from, and_left, or_left, or_right, not-true, false_from_ne_true, eqb-true, cond-true, cond-false, length-enumerate_from, get_or-enumerate_from, slice_get_within, get_or_from_slice_get, none-some, same_Some, list_any, enumerate_from, position_or_len, Claim, is_write, conflict, conflicts, Entry, Status, Running, Waiting, Gone, is_waiting, is_gone, hashed, hash_conflict, holds_back, may_run, scan}
+use Rattle.vll_sca.proofs.Common.{true≢false, both_ways, and_parts, and_from, and_left, or_left, or_right, not-true, false_from_ne_true, eqb-true, cond-true, cond-false, length-enumerate_from, get_or-enumerate_from, slice_get_within, get_or_from_slice_get, none-some, same_Some, list_any, enumerate_from, position_or_len, Claim, is_write, conflict, conflicts, Entry, Status, Gone, is_waiting, is_gone, hashed, hash_conflict, holds_back, may_run, scan}
 use Rattle.std.proofs.lemmas.List.Quantifiers.{position-Some}
 
 one_in_map : {X Y : Type 0} (p : X → Bool) (q : Y → Bool) (h : X → Y) (x : X) (xs : List X) → (p x ≡ true → q (h x) ≡ true)
@@ -59,9 +59,8 @@ moved_by_none None = refl
 moved_by_none (Some i) = ap Some (sym (zero-add i))
 
 pub not_waiting : (s : Status) → is_gone s ≡ true → is_waiting s ≡ false
-not_waiting Running h = absurd (true≢false (sym h))
-not_waiting Waiting h = absurd (true≢false (sym h))
 not_waiting Gone h = refl
+not_waiting other h = absurd (true≢false (sym h))
 
 module _ (place : ℕ → ℕ) (bits : ℕ) where
   -- claims on one record are claims on one place

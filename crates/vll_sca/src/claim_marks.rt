@@ -55,7 +55,7 @@ impl ClaimMarks {
             if self.is_clear(hash, bits, status, claims) {
                 return Some(i);
             }
-            self.mark(hash, bits, status, claims);
+            self.mark(hash, bits, status, claims, true);
         }
         None
     }
@@ -74,7 +74,7 @@ impl ClaimMarks {
             (map (hashed (H.place_of hash.now) bits) (claims_left (take passed (E.entries_of entries.now)))) self.old }
     {
         for i in 0..passed {
-            self.unmark(hash, bits, entries.status(i), entries.claims(i));
+            self.mark(hash, bits, entries.status(i), entries.claims(i), false);
         }
     }
 
@@ -97,25 +97,14 @@ impl ClaimMarks {
         matches!(status, Status::Waiting) && !self.meets(hash, bits, claims)
     }
 
-    // Marks the claims of an entry that runs or waits. One that is gone holds no entry back.
-    fn mark<H: Place>(&mut self, hash: &H, bits: u32, status: Status, claims: &Claims)
+    // Marks the claims of an entry that runs or waits, or clears their marks. One that is gone holds no entry back.
+    fn mark<H: Place>(&mut self, hash: &H, bits: u32, status: Status, claims: &Claims, marked: bool)
         requires { HasRoom bits self.old }
-        ensures { self.new ≡ with_claims true
+        ensures { self.new ≡ with_claims marked
             (map (hashed (H.place_of hash.now) bits) (claims_left (record { claims = claims.now; status = status } ∷ []))) self.old }
     {
         if !matches!(status, Status::Gone) {
-            self.mark_claims(hash, bits, claims);
-        }
-    }
-
-    // Clears what `mark` has marked.
-    fn unmark<H: Place>(&mut self, hash: &H, bits: u32, status: Status, claims: &Claims)
-        requires { HasRoom bits self.old }
-        ensures { self.new ≡ with_claims false
-            (map (hashed (H.place_of hash.now) bits) (claims_left (record { claims = claims.now; status = status } ∷ []))) self.old }
-    {
-        if !matches!(status, Status::Gone) {
-            self.unmark_claims(hash, bits, claims);
+            self.mark_claims(hash, bits, claims, marked);
         }
     }
 
@@ -134,24 +123,13 @@ impl ClaimMarks {
         false
     }
 
-    fn mark_claims<H: Place>(&mut self, hash: &H, bits: u32, claims: &Claims)
+    fn mark_claims<H: Place>(&mut self, hash: &H, bits: u32, claims: &Claims, marked: bool)
         requires { HasRoom bits self.old }
-        ensures { self.new ≡ with_claims true (map (hashed (H.place_of hash.now) bits) claims.now) self.old }
+        ensures { self.new ≡ with_claims marked (map (hashed (H.place_of hash.now) bits) claims.now) self.old }
     {
         for i in 0..claims.len() {
             if let Some(claim) = claims.get(i) {
-                self.mark_at(place_modulo(hash, bits, claim.id), claim.mode);
-            }
-        }
-    }
-
-    fn unmark_claims<H: Place>(&mut self, hash: &H, bits: u32, claims: &Claims)
-        requires { HasRoom bits self.old }
-        ensures { self.new ≡ with_claims false (map (hashed (H.place_of hash.now) bits) claims.now) self.old }
-    {
-        for i in 0..claims.len() {
-            if let Some(claim) = claims.get(i) {
-                self.unmark_at(place_modulo(hash, bits, claim.id), claim.mode);
+                self.mark_at(place_modulo(hash, bits, claim.id), claim.mode, marked);
             }
         }
     }
@@ -167,25 +145,14 @@ impl ClaimMarks {
         }
     }
 
-    fn mark_at(&mut self, place: usize, mode: Mode)
+    fn mark_at(&mut self, place: usize, mode: Mode, marked: bool)
         requires writes { place < length self.old.writes }
         requires reads { place < length self.old.reads }
-        ensures { self.new ≡ with_claims true (record { id = place; mode = mode } ∷ []) self.old }
+        ensures { self.new ≡ with_claims marked (record { id = place; mode = mode } ∷ []) self.old }
     {
         match mode {
-            Mode::Write => self.writes.set(place),
-            Mode::Read => self.reads.set(place),
-        }
-    }
-
-    fn unmark_at(&mut self, place: usize, mode: Mode)
-        requires writes { place < length self.old.writes }
-        requires reads { place < length self.old.reads }
-        ensures { self.new ≡ with_claims false (record { id = place; mode = mode } ∷ []) self.old }
-    {
-        match mode {
-            Mode::Write => self.writes.clear(place),
-            Mode::Read => self.reads.clear(place),
+            Mode::Write => self.writes.put(place, marked),
+            Mode::Read => self.reads.put(place, marked),
         }
     }
 }

@@ -38,8 +38,19 @@ impl Marks {
         self.words[place / 64] & (1 << (place % 64)) != 0
     }
 
-    /// Marks the place.
-    pub(crate) fn set(&mut self, place: usize)
+    /// Marks the place, or clears its mark, if it has one.
+    pub(crate) fn put(&mut self, place: usize, marked: bool)
+        requires { place < length self.old }
+        ensures { self.new ≡ slice_set self.old place marked }
+    {
+        if marked {
+            self.set(place);
+        } else {
+            self.clear(place);
+        }
+    }
+
+    fn set(&mut self, place: usize)
         requires { place < length self.old }
         ensures { self.new ≡ slice_set self.old place true }
     {
@@ -47,8 +58,7 @@ impl Marks {
         self.words[place / 64] = word | (1 << (place % 64));
     }
 
-    /// Clears the mark of the place, if it has one.
-    pub(crate) fn clear(&mut self, place: usize)
+    fn clear(&mut self, place: usize)
         requires { place < length self.old }
         ensures { self.new ≡ slice_set self.old place false }
     {
