@@ -2,7 +2,7 @@ use Rattle.std.proofs.Common.{◌≡◌, List, Some, rules, sym, ap, ◌∙◌, 
 use Rattle.vll_check.proofs.Common.{Equal, Catalog, Entry, number_named}
 use Rattle.std.proofs.lemmas.Fn.{always_returns_same}
 use Rattle.vll_check.proofs.Finding.{to_name, number_named-found, number_named-none, slice_get-numbered, IsNonDecreasingBy-rising, none_equal}
-use Rattle.vll_check.proofs.library.Library.find.Goals as goal
+use Rattle.vll_check.proofs.library.Library.named.Goals as goal
 
 pub returns-in-Ok-clause-number : goal.returns-in-Ok-clause-number
 returns-in-Ok-clause-number c =
