@@ -280,7 +280,7 @@ impl<H: Place> Queue<H> {
         line.reply = Some(*reply);
         self.running -= 1;
         self.is_fruitless = false;
-        self.window.pass_gone(&self.statuses);
+        self.window.skip_gone(&self.statuses);
         let left = self.waiting as usize + self.running as usize;
         self.window.shrink(2 * left, &self.statuses);
     }

@@ -83,7 +83,7 @@ impl Window {
     }
 
     /// Moves `first` on to the first ticket whose call is left, after a call is gone.
-    pub(crate) fn pass_gone(&mut self, statuses: &[Status])
+    pub(crate) fn skip_gone(&mut self, statuses: &[Status])
         requires below { All (λ t. t < length statuses.now) self.old.tickets.items }
         requires gone { self.old.first ≤ first_left statuses.now self.old.tickets.items }
         ensures { self.new ≡ record self.old { first = first_left statuses.now self.old.tickets.items } }

@@ -19,8 +19,8 @@ overflow_sub-self g c =
     in
     omega (arith, c.self.invariant.running, change.running)
 
-pub pass_gone-requires : goal.pass_gone-requires
-pass_gone-requires g c =
+pub skip_gone-requires : goal.skip_gone-requires
+skip_gone-requires g c =
     let within : c.ticket.inside.0 < length c.self.inside.statuses.items =
     slice_get_within c.self.inside.statuses.items _ _ (shown_status _ _ _ _ _ c.self.invariant c.self.view_is c.ticket.view_is c.requires)
     in
@@ -33,14 +33,14 @@ shrink-requires g c =
     slice_get_within c.self.inside.statuses.items _ _ (shown_status _ _ _ _ _ c.self.invariant c.self.view_is c.ticket.view_is c.requires)
     in
     rw c.deref-2.ensures.value
-    (window_passed c.self.inside.statuses.items _ c.self.inside.window _ c.ticket.inside.0 c.self.invariant.window within c.deref.ensures.value c.pass_gone.ensures)
+    (window_passed c.self.inside.statuses.items _ c.self.inside.window _ c.ticket.inside.0 c.self.invariant.window within c.deref.ensures.value c.skip_gone.ensures)
 
 pub invariant_of-self : goal.invariant_of-self
 invariant_of-self g c =
     kept_finished c.self.inside c.shrink.new.self c.ticket.inside.0 c.args.reply.now c.index_mut-line.result.now c.self.invariant
     (shown_status _ _ _ _ _ c.self.invariant c.self.view_is c.ticket.view_is c.requires) c.index_mut-line.ensures.value
     (subst (λ (ss : List Status). IsWindow ss c.shrink.new.self) c.deref-2.ensures.value c.shrink.ensures.kept)
-    (c.shrink.ensures.room ∙ ap (λ (w : Window). vec_capacity w.tickets) c.pass_gone.ensures)
+    (c.shrink.ensures.room ∙ ap (λ (w : Window). vec_capacity w.tickets) c.skip_gone.ensures)
 
 pub returns : goal.returns
 returns g c =
