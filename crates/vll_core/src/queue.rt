@@ -1,5 +1,5 @@
 //! The queue: the entered calls in order of entry, with their lines, their statuses and their contention analysis.
-ghost use Rattle.std.specs.Prelude.{◌≡◌, ◌<◌, ◌≤◌, ◌↔◌, Some, length, count_by, position, slice_get, slice_set, vec_capacity, IfOk, IsTrue};
+ghost use Rattle.std.specs.Prelude.{◌≡◌, ◌<◌, ◌≤◌, ◌↔◌, Some, None, length, count_by, position, slice_get, slice_set, vec_capacity, IfOk, IsTrue};
 ghost use Rattle.std.specs.Option.{option_copied};
 ghost use Rattle.vll_sca.specs.Headline.Status.{is_waiting as waiting};
 ghost use Rattle.vll_sca.specs.Status.{is_running as running};
@@ -257,6 +257,14 @@ impl<H: Place> Queue<H> {
         let ticket = Ticket(found?);
         self.start(ticket);
         Some(ticket)
+    }
+
+    /// Reports whether the queue remembers that a scan finds none, so that it would walk over nothing. It is a hint of
+    /// what the next scan costs: `false` says nothing of what it finds.
+    pub fn is_fruitless(&self) -> bool
+        ensures { IsTrue result → found_by H.place_of self.now ≡ None }
+    {
+        self.is_fruitless
     }
 
     // Starts a waiting call.
