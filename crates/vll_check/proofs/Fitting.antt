@@ -90,9 +90,6 @@ pub made_args : (records n : ℕ) (p : Proc) (args : List ℕ) (call : Call) →
 made_args records n p args call e =
     ap (λ (c : Call). take c.arg_count c.args) (made_of records n p args call e).made ∙ take_at args (replicate (MOST_ARGS - length args) 0) (length args) refl
 
-pub made_count : (records n : ℕ) (p : Proc) (args : List ℕ) (call : Call) → call_to records n (Some p) args ≡ Ok call → call.arg_count ≡ p.args
-made_count records n p args call e = let m = made_of records n p args call e in ap (λ (c : Call). c.arg_count) m.made ∙ m.count
-
 pub made_number : (records n : ℕ) (p : Proc) (args : List ℕ) (call : Call) → call_to records n (Some p) args ≡ Ok call → call.number ≡ n
 made_number records n p args call e = ap (λ (c : Call). c.number) (made_of records n p args call e).made
 
@@ -175,10 +172,9 @@ source_there p i sources is = from 0 p.keys sources is
     direct (Some k) e d = (k, e, d)
 
     here : (at : KeyAt) (mode : Mode) (place : ℕ) (rest : Option ℕ) → formed.has_source p.keys place (record { mode = mode; at = at }) ≡ true → or_else (source_at at) rest ≡ Some i → (rest ≡ Some i → There) → There
-    here (at.Fixed r) mode place rest h e behind = behind e
-    here (at.Arg a) mode place rest h e behind = behind e
     here (at.Through j) mode place rest h e behind =
         direct (slice_get p.keys i) refl (subst (λ (n : ℕ). formed.is_direct (slice_get p.keys n) ≡ true) (same_Some j i e) (both_true _ _ h).1)
+    here other mode place rest h e behind = behind e
 
     from : (place : ℕ) (keys : List KeyDecl) → formed.have_sources p.keys place keys ≡ true → source_of keys ≡ Some i → There
     from place [] h e = absurd (none-some i e)

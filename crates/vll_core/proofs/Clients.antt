@@ -1,7 +1,7 @@
 -- A machine has as many scripts at any time as at its opening.
 use Rattle.std.proofs.Common.{◌≡◌, ℕ, refl, ap, ◌∙◌, List, length, slice_get, slice_set, Option, Some, None, Ok, Err, length-set}
 use Rattle.vll_core.proofs.Common.{Call, Outcome, rest_of, used, state_after, Move, move, Shown, after, Opening, State}
-use Rattle.vll_core.proofs.Changes.{Change, change_of, sourced, entered_by, handed, requested, admitted, fronted, picked, woken, loaded, stored, released, finished}
+use Rattle.vll_core.proofs.Changes.{Change, change_of, entered_by}
 
 length-used : (s : State) (client : ℕ) → length (used s client) ≡ length s.scripts
 length-used s client = by_script (slice_get s.scripts client)
@@ -11,18 +11,8 @@ length-used s client = by_script (slice_get s.scripts client)
     by_script (Some script) = length-set s.scripts client (rest_of script)
 
 change_stays : (o : Opening) (s : State) (m : Move) (next : State) → Change o s m next → length next.scripts ≡ length s.scripts
-change_stays o s m next (sourced client call r at from) = refl
 change_stays o s m next (entered_by client first call none at is room waits) = length-used s client
-change_stays o s m next (handed client call none room waits) = refl
-change_stays o s m next (requested turn c is at) = refl
-change_stays o s m next (admitted turn status is all here free) = refl
-change_stays o s m next (fronted t f) = refl
-change_stays o s m next (picked t p) = refl
-change_stays o s m next (woken t e at waits clear) = refl
-change_stays o s m next (loaded t e c at runs left) = refl
-change_stays o s m next (stored t e at runs all left) = refl
-change_stays o s m next (released t e c at runs all left) = refl
-change_stays o s m next (finished t e at runs all) = refl
+change_stays o s m next other = refl
 
 -- a move, also a refused one, leaves the number of scripts
 pub scripts_stay : (o : Opening) (s : State) (m : Move) → length (state_after s (move o s m)).scripts ≡ length s.scripts

@@ -1,6 +1,6 @@
 -- Lists of events that lead from a state to another, none of them Find, Enter or Scan and none refused.
 use Rattle.std.proofs.Common.{◌≡◌, ℕ, ◌+◌, ◌<◌, ◌^◌, true, false, List, [], ◌∷◌, ◌++◌, length, All, Ok, Err, Result, is_ok, refl, sym, ap, ◌∙◌, subst, arith, length-append}
-use Rattle.vll_core.proofs.Common.{All-nil, All-push, Event, Refusal, Seen, Opening, State, Outcome, step, state_after, answer_of, answers, run, begins_or_scans, IsDrained, IsNext, left, IsReached, Shown, opening_of, after}
+use Rattle.vll_core.proofs.Common.{All-push, Event, Refusal, Seen, Opening, State, Outcome, step, state_after, answer_of, answers, run, begins_or_scans, IsDrained, IsNext, left, IsReached, Shown, opening_of, after}
 use Rattle.vll_core.proofs.Draining.{less_left}
 
 -- one more event after a list
@@ -15,10 +15,6 @@ answers_more o s (d ∷ events) e = ap (λ (xs : List (Result Seen Refusal)). an
 answer_of_ok : (out : Outcome) → is_ok out ≡ true → is_ok (answer_of out) ≡ true
 answer_of_ok (Ok x) h = refl
 answer_of_ok (Err why) h = absurd (cc h)
-
--- no event
-pub drained_none : (o : Opening) (s : State) → IsDrained o s s 0
-drained_none o s = record { events = []; number = refl; others = All-nil _; taken = All-nil _; leads = refl }
 
 -- and one more
 pub drained_more : (o : Opening) (s mid : State) (made : ℕ) (e : Event) → IsDrained o s mid made → IsNext o mid e → IsDrained o s (state_after mid (step o mid e)) (made + 1)

@@ -19,9 +19,8 @@ waits_left e waits = by_status e.status waits
     steps s = steps_left (record e { status = s })
 
     by_status : (s : Status) → is_waiting s ≡ true → steps s ≡ 1 + (length e.call.claims - e.loads) + (length (writes e.call) - e.stores) + (length e.call.claims - e.releases) + 1
-    by_status Running h = absurd (cc h)
     by_status Waiting h = refl
-    by_status Gone h = absurd (cc h)
+    by_status other h = absurd (cc h)
 
 runs_left : (e : Entered) → is_running e.status ≡ true
     → steps_left e ≡ (length e.call.claims - e.loads) + (length (writes e.call) - e.stores) + (length e.call.claims - e.releases) + 1
@@ -32,8 +31,7 @@ runs_left e runs = by_status e.status runs
 
     by_status : (s : Status) → is_running s ≡ true → steps s ≡ (length e.call.claims - e.loads) + (length (writes e.call) - e.stores) + (length e.call.claims - e.releases) + 1
     by_status Running h = omega arith
-    by_status Waiting h = absurd (cc h)
-    by_status Gone h = absurd (cc h)
+    by_status other h = absurd (cc h)
 
 -- where one entry has less left, less is left
 less_put : (s : State) (t : ℕ) (e f : Entered) → slice_get s.entries t ≡ Some e → steps_left f < steps_left e → left (with_entry s t f) < left s
@@ -44,9 +42,8 @@ less_put s t e f at less =
 
 -- what a new call has left
 new_left : (call : Call) (client : ℕ) (status : Status) → steps_left (record { client = client; call = call; status = status; loads = 0; stores = 0; releases = 0 }) ≤ 3 * length call.claims + 2
-new_left call client Running = omega (arith, few_writes call)
-new_left call client Waiting = omega (arith, few_writes call)
 new_left call client Gone = omega arith
+new_left call client other = omega (arith, few_writes call)
 
 abbrev other : Move → Bool
 other (by_event e) = begins_or_scans e
@@ -99,9 +96,8 @@ pub entry_most : (e : Entered) → steps_left e ≤ most_of e
 entry_most e = by_status e.status
   where
     by_status : (s : Status) → steps_left (record e { status = s }) ≤ most_of (record e { status = s })
-    by_status Running = omega (arith, few_writes e.call)
-    by_status Waiting = omega (arith, few_writes e.call)
     by_status Gone = omega arith
+    by_status other = omega (arith, few_writes e.call)
 
 turn_most : (x : Option Turn) → turn_left x ≤ most_of_turn x
 turn_most None = omega arith

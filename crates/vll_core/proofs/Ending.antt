@@ -113,9 +113,8 @@ pub lowest_is : (ss : List Status) (t : ℕ) → position is_left ss ≡ Some t 
 lowest_is ss t some = by_test (nat_lt (position_or_len is_left ss) (length ss)) refl some
   where
     gone_not : (x : Status) → is_left x ≡ true → is_gone x ≡ false
-    gone_not Running h = refl
-    gone_not Waiting h = refl
     gone_not Gone h = absurd (cc h)
+    gone_not other h = refl
 
     by_test : (b : Bool) → nat_lt (position_or_len is_left ss) (length ss) ≡ b → ◌≡◌ {A = Option ℕ} (cond b (Some (position_or_len is_left ss)) None) (Some t) → IsLowest ss t
     by_test false is k = absurd (cc k)
@@ -175,9 +174,8 @@ few_steps : (e : Entered) → length e.call.claims ≤ MOST_CLAIMS → steps_lef
 few_steps e few = let most = entry_most e in let fit = most_fits e.status in omega (arith, most, fit)
   where
     most_fits : (s : Status) → most_of (record e { status = s }) ≤ 3 * MOST_CLAIMS + 2
-    most_fits Running = omega (arith, few)
-    most_fits Waiting = omega (arith, few)
     most_fits Gone = omega arith
+    most_fits other = omega (arith, few)
 
 pub few_left : {H : Type 0} (places : H → ℕ → ℕ) (a : Inside H) → IsMachine places a → left (shown a).state < 2 ^ 32
 few_left {H} places a core =

@@ -306,11 +306,6 @@ core_enter {H} {places} a client n next call can is_ready =
       is_ready,
     )
 
--- the next call of a client's script is one that the library makes
-pub next_fits : {H : Type 0} {places : H → ℕ → ℕ} (a : Inside H) (client : ℕ) (call : Call) → IsMachine places a → StandsNext a client call → Fits a.library.value call
-next_fits a client call core s =
-    all_at (Fits a.library.value) s.script.items s.place call (all_at (λ (v : Vec Call). All (Fits a.library.value) v.items) a.scripts.items client s.script core.scripts_fit s.at) s.next
-
 -- the fields of a machine once a turn is open for a call that is handed in
 abbrev pub handed_turn : {H : Type 0} → Inside H → ℕ → Call → Inside H
 handed_turn a client call = record a { turn = Some (record { client = client; call = call; requested = 0; granted = true }) }

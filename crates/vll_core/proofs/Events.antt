@@ -9,14 +9,12 @@ use Rattle.vll_core.proofs.Clear.{clear_admit, none_open}
 use Rattle.vll_core.proofs.Kept.{has_stored_on, IsEntryKept, IsTurnKept, IsKept, kept_entry}
 
 pub running_not_waiting : (x : Status) → is_running x ≡ true → is_waiting x ≡ false
-running_not_waiting Running h = refl
 running_not_waiting Waiting h = absurd (cc h)
-running_not_waiting Gone h = refl
+running_not_waiting other h = refl
 
 running_not_gone : (x : Status) → is_running x ≡ true → is_gone x ≡ true → ⊥
 running_not_gone Running h k = cc k
-running_not_gone Waiting h k = cc h
-running_not_gone Gone h k = cc h
+running_not_gone other h k = cc h
 
 -- a load
 pub kept_load : (o : Opening) (s : State) (t : ℕ) (e : Entered) (c : Claim) → IsKept o s → slice_get s.entries t ≡ Some e → is_running e.status ≡ true
@@ -169,9 +167,8 @@ pub proper_next : (o : Base) (s : State) (client : ℕ) (call : Call) → ArePro
 proper_next o s client call all h = step (slice_get s.scripts client) refl h
   where
     step : (x : Option (List Call)) → slice_get s.scripts client ≡ x → first_call x ≡ Some call → EntersProper o call
-    step None at k = absurd (cc k)
-    step (Some []) at k = absurd (cc k)
     step (Some (c ∷ more)) at k = all_at (EntersProper o) (c ∷ more) 0 call (all_at (All (EntersProper o)) s.scripts client (c ∷ more) all at) k
+    step other at k = absurd (cc k)
 
 -- such a call is proper with the value that is kept for it
 pub proper_entering : (o : Base) (s : State) (client : ℕ) (next call : Call) → EntersProper o next → ready o s client next ≡ Some call → IsProper o call

@@ -1,6 +1,6 @@
 -- The end of a running call of a machine: what it finds, and what the machine is after it.
 use Rattle.std.proofs.Common.{◌≡◌, ℕ, ◌||◌, Bool, true, false, not, nat_lt, refl, sym, ap, ◌∙◌, arith, ⊎_elim, List, length, slice_get, Option, Some, is_some, Ok}
-use Rattle.vll_core.proofs.Common.{option_map, or_right, nat_tests, same_Some, slice_get-map, slice_get_cases, Claim, Call, Reply, apply, Inside, TurnOpen, NotRunning, OutOfStep, Replied, Status, Running, Waiting, Gone, Execution, is_running, Entered, Opening, State, reply_at, Outcome, step, refuse_if, or_refuse, running, has_stored, with_entry, QueueEntry, Queued, statuses, finished, opening_of, entered_of, shown, IsMachine}
+use Rattle.vll_core.proofs.Common.{option_map, or_right, nat_tests, same_Some, slice_get-map, slice_get_cases, Claim, Call, Reply, apply, Inside, TurnOpen, NotRunning, OutOfStep, Replied, Status, Running, Gone, Execution, is_running, Entered, Opening, State, reply_at, Outcome, step, refuse_if, or_refuse, running, has_stored, with_entry, QueueEntry, Queued, statuses, finished, opening_of, entered_of, shown, IsMachine}
 use Rattle.vll_core.specs.declared.event.Event.TheVariants as event
 use Rattle.vll_core.proofs.MachineState.{entry_changed, made_changed, ready_same, at_work_same, replied_changed, queued_finished, length_changed}
 use Rattle.vll_core.proofs.MachineSteps.{Refuses, Takes, taken_reached, taken_words}
@@ -78,8 +78,7 @@ status_runs a t call r =
   where
     only : (s : Status) → is_running s ≡ true → s ≡ Running
     only Running runs = refl
-    only Waiting runs = absurd (cc runs)
-    only Gone runs = absurd (cc runs)
+    only other runs = absurd (cc runs)
 
 -- its execution has the reply, and that is what the machine answers
 pub reply_there : {H : Type 0} (a : Inside H) (t : ℕ) (call : Call) (w : Execution) → Ends a t call w → w.reply ≡ Some (apply a.library.value.procs call (now_at a t)).reply

@@ -1,6 +1,6 @@
 -- A load of a running call of a machine: what it finds, and what the machine is after it.
 use Rattle.std.proofs.Common.{◌≡◌, ℕ, ◌+◌, ◌<◌, true, refl, sym, ap, ◌∙◌, subst, arith, List, length, slice_get, slice_set, slice_index, slice_index_or, Option, Some, None, Ok, Err, length-set}
-use Rattle.vll_core.proofs.Common.{with_item, get_or_default, same_Some, slice_get_within, Claim, value_word_of, Call, Inside, NotRunning, OutOfStep, Loaded, Execution, is_gone, is_running, Status, Running, Waiting, Gone, Entered, Opening, State, value, Outcome, step, or_refuse, running, with_entry, QueueEntry, opening_of, entered_of, shown, IsAtWork, IsMachine}
+use Rattle.vll_core.proofs.Common.{with_item, get_or_default, same_Some, slice_get_within, Claim, value_word_of, Call, Inside, NotRunning, OutOfStep, Loaded, Execution, is_gone, is_running, Status, Gone, Entered, Opening, State, value, Outcome, step, or_refuse, running, with_entry, QueueEntry, opening_of, entered_of, shown, IsAtWork, IsMachine}
 use Rattle.vll_core.specs.declared.event.Event.TheVariants as event
 use Rattle.vll_core.proofs.Places.{all_at}
 use Rattle.vll_core.proofs.Reached.{load_reached}
@@ -108,9 +108,8 @@ taken_load {H} {places} a t call w c new l h =
 
 -- a call that runs is not gone
 running_not_gone : (s : Status) → is_running s ≡ true → is_gone s ≡ true → ⊥
-running_not_gone Running runs gone = cc gone
-running_not_gone Waiting runs gone = cc gone
 running_not_gone Gone runs gone = cc runs
+running_not_gone other runs gone = cc gone
 
 pub core_load : {H : Type 0} {places : H → ℕ → ℕ} (a : Inside H) (t : ℕ) (call : Call) (w : Execution) (c : Claim) (new : Execution) → IsMachine places a → LoadsNext a t call w c → HasLoaded w new
     → IsAtWork a.library.value.procs call (now_at a t) new → IsMachine places (with_work a t new)

@@ -2,7 +2,7 @@
 use Rattle.std.proofs.Common.{◌≡◌, ◌≢◌, ℕ, Bool, true, false, refl, sym, ap, ◌∙◌, subst, ⊎_elim, slice_get, slice_set, Option, Some, None, if◌then◌else◌}
 use Rattle.vll_core.proofs.Common.{cases_eq, same_Some, Status, Running, Waiting, Gone, is_waiting, is_running, is_gone, Opening, Entered, State, if_running, with_entry, Move, Leads, stays, goes, GoneTicketsStay, StartedTicketsDoNotWait, TicketsStartOnce}
 use Rattle.vll_core.proofs.Places.{get_set, get_set_other, get_pushed}
-use Rattle.vll_core.proofs.Changes.{Change, change_of, sourced, entered_by, handed, requested, admitted, fronted, picked, woken, loaded, stored, released, finished}
+use Rattle.vll_core.proofs.Changes.{Change, change_of, admitted, fronted, picked, woken, loaded, stored, released, finished}
 
 -- an entry goes on to another: one that is gone stays, and one that has started does not wait
 record GoesOn (e f : Entered) : Type 0 where
@@ -36,9 +36,8 @@ starting : (d : Entered) → is_waiting d.status ≡ true → GoesOn d (record d
 starting d waits = record { gone = λ h. absurd (apart d.status waits h); started = λ h. refl }
   where
     apart : (x : Status) → is_waiting x ≡ true → is_gone x ≡ true → ⊥
-    apart Running h k = cc h
     apart Waiting h k = cc k
-    apart Gone h k = cc h
+    apart other h k = cc h
 
 -- a ticket that runs makes a step
 running_on : (d f : Entered) → is_running d.status ≡ true → is_waiting f.status ≡ false → GoesOn d f
@@ -46,19 +45,13 @@ running_on d f runs not_waiting = record { gone = λ h. absurd (apart d.status r
   where
     apart : (x : Status) → is_running x ≡ true → is_gone x ≡ true → ⊥
     apart Running h k = cc k
-    apart Waiting h k = cc h
-    apart Gone h k = cc h
+    apart other h k = cc h
 
 not_waiting : (x : Status) → is_running x ≡ true → is_waiting x ≡ false
-not_waiting Running h = refl
 not_waiting Waiting h = absurd (cc h)
-not_waiting Gone h = refl
+not_waiting other h = refl
 
 change_on : (o : Opening) (s : State) (m : Move) (next : State) (t : ℕ) (e : Entered) → Change o s m next → slice_get s.entries t ≡ Some e → IsGoneOn next t e
-change_on o s m next t e (sourced client call r at from) here = same_on _ t e here
-change_on o s m next t e (entered_by client first call none at is room waits) here = same_on _ t e here
-change_on o s m next t e (handed client call none room waits) here = same_on _ t e here
-change_on o s m next t e (requested turn c is at) here = same_on _ t e here
 change_on o s m next t e (admitted turn status is all left free) here = same_on _ t e (get_pushed s.entries _ t e here)
 change_on o s m next t e (fronted u f) here = put_on s u t f.entry _ e f.at (starting f.entry f.waits) here
 change_on o s m next t e (picked u p) here = put_on s u t p.entry _ e p.at (starting p.entry p.waits) here
@@ -67,6 +60,7 @@ change_on o s m next t e (loaded u d c at runs left) here = put_on s u t d _ e a
 change_on o s m next t e (stored u d at runs all left) here = put_on s u t d _ e at (running_on d _ runs (not_waiting d.status runs)) here
 change_on o s m next t e (released u d c at runs all left) here = put_on s u t d _ e at (running_on d _ runs (not_waiting d.status runs)) here
 change_on o s m next t e (finished u d at runs all) here = put_on s u t d _ e at (running_on d _ runs refl) here
+change_on o s m next t e other here = same_on _ t e here
 
 -- what is gone stays
 pub gone_stays : GoneTicketsStay
@@ -110,9 +104,8 @@ gone_still : (f : Entered) → is_gone f.status ≡ true → if_running (Some f)
 gone_still f gone = by_status f.status refl
   where
     by_status : (x : Status) → f.status ≡ x → (if is_running f.status then Some f else None) ≡ None
-    by_status Running is = absurd (cc (sym (ap is_gone is) ∙ gone))
-    by_status Waiting is = absurd (cc (sym (ap is_gone is) ∙ gone))
     by_status Gone is = ap (λ (x : Status). if is_running x then Some f else None) is
+    by_status other is = absurd (cc (sym (ap is_gone is) ∙ gone))
 
 -- a ticket that has run is not started again
 pub once_started : TicketsStartOnce

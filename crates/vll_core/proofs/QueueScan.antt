@@ -1,6 +1,6 @@
 -- A scan of the window finds what the contention analysis of the whole queue finds.
 use Rattle.std.proofs.Common.{◌≡◌, ℕ, ◌+◌, ◌<◌, true, List, [], ◌∷◌, length, map, refl, sym, ap, ap₂, ◌∙◌, arith, slice_get, get_or, Option, Some, None, suc, zero, zero-add, Bool, subst}
-use Rattle.vll_core.proofs.Common.{enumerate_from, range_with_len, option_map, true≢false, slice_get-map, slice_get-get_or, Entry, Status, Running, Waiting, Gone, is_waiting, scan, scan_numbered, scanned_within, scanned_waits, Queued, statuses, found_by, Line, seen, left_among, numbered, kept, IsKept}
+use Rattle.vll_core.proofs.Common.{enumerate_from, range_with_len, option_map, true≢false, slice_get-map, slice_get-get_or, Entry, Status, Waiting, Gone, is_waiting, scan, scan_numbered, scanned_within, scanned_waits, Queued, statuses, found_by, Line, seen, left_among, numbered, kept, IsKept}
 use Rattle.vll_sca.proofs.Leaving.{gone_entries_do_not_matter}
 use Rattle.vll_core.specs.declared.queue.Queue.TheInside.{Inside}
 use Rattle.vll_core.proofs.Entries.{shown_statuses}
@@ -51,9 +51,8 @@ found_shown place a q ls ss o h is same_lines same_statuses found =
         ∙ gone_entries_do_not_matter (place a.hash) a.bits (numbered ms rs ts))))
 
 waits_alone : (s : Status) → is_waiting s ≡ true → s ≡ Waiting
-waits_alone Running is = absurd (true≢false (sym is))
 waits_alone Waiting is = refl
-waits_alone Gone is = absurd (true≢false (sym is))
+waits_alone other is = absurd (true≢false (sym is))
 
 -- the call that is found waits
 pub found_waits : {H : Type 0} (place : H → ℕ → ℕ) (a : Inside H) (q : Queued H) (t : ℕ) → IsKept place a → kept a ≡ q

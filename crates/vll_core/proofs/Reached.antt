@@ -95,10 +95,6 @@ load_reached o s next t v e c reached at left is =
 
 -- the records before a ticket stay
 serial_change : (o : Opening) (s : State) (m : Move) (next : State) (t : ℕ) → Change o s m next → t ≤ length s.entries → records_before o.base next t ≡ records_before o.base s t
-serial_change o s m next t (sourced client call r at from) within = refl
-serial_change o s m next t (entered_by client first call none at is room waits) within = refl
-serial_change o s m next t (handed client call none room waits) within = refl
-serial_change o s m next t (requested turn c is at) within = refl
 serial_change o s m next t (admitted turn status is all here free) within = records_pushed o.base s _ None t within
 serial_change o s m next t (fronted u f) within = records_same o.base s u f.entry _ t f.at refl
 serial_change o s m next t (picked u p) within = records_same o.base s u p.entry _ t p.at refl
@@ -107,6 +103,7 @@ serial_change o s m next t (loaded u e c at runs left) within = records_same o.b
 serial_change o s m next t (stored u e at runs all left) within = records_same o.base s u e _ t at refl
 serial_change o s m next t (released u e c at runs all left) within = records_same o.base s u e _ t at refl
 serial_change o s m next t (finished u e at runs all) within = records_same o.base s u e _ t at refl
+serial_change o s m next t other within = refl
 
 pub serial_stays : SerialStatesStay
 serial_stays o s next m seen t is within = serial_change o s m next t (change_of o s m (seen, next) is) within

@@ -1,6 +1,6 @@
 -- What is known of a running call of a machine.
 use Rattle.std.proofs.Common.{◌≡◌, ℕ, ◌<◌, ◌==◌, ◌&&◌, ◌||◌, Bool, true, false, refl, sym, ap, ◌∙◌, subst, arith, List, [], ◌∷◌, length, take, slice_get, slice_index_or, Option, Some, None, All, Bor, if◌then◌else◌}
-use Rattle.vll_core.proofs.Common.{option_map, IsSome, same_Some, slice_get-map, slice_get_within, get_or_from_slice_get, exact_unsigned_eq, Claim, Call, Proc, IsCallOf, Made, After, apply, applied_at, before, end, IsWellFormed, length-applied, IsReady, CallsProcedure, Catalog, ready_well, Line, Inside, Status, Running, Waiting, Gone, Execution, is_running, Entered, writes, is_aborted, records_before, running, if_running, has_stored, Shown, library_of, QueueEntry, lines, statuses, entered_of, shown, IsAtWork, IsMachine, made_of}
+use Rattle.vll_core.proofs.Common.{option_map, IsSome, same_Some, slice_get-map, slice_get_within, get_or_from_slice_get, exact_unsigned_eq, Claim, Call, Proc, IsCallOf, Made, After, apply, applied_at, before, end, IsWellFormed, length-applied, IsReady, CallsProcedure, Catalog, ready_well, Line, Inside, Status, Running, Execution, is_running, Entered, writes, is_aborted, records_before, running, if_running, has_stored, Shown, library_of, QueueEntry, lines, statuses, entered_of, shown, IsAtWork, IsMachine, made_of}
 use Rattle.vll_core.proofs.Tests.{both_true}
 use Rattle.vll_core.proofs.Places.{all_at, entry_at}
 use Rattle.vll_core.proofs.MachineState.{entry_shown, none_shown, made_shown}
@@ -54,8 +54,7 @@ other_runs_not a t s same is not =
   where
     still : (x : Status) → (x ≡ Running → ⊥) → is_running x ≡ false
     still Running other = absurd (other refl)
-    still Waiting other = refl
-    still Gone other = refl
+    still x other = refl
 
 -- a ticket that runs has the call of its line
 pub line_runs : {H : Type 0} (a : Inside H) (t : ℕ) (l : Line) → length a.execution.items ≡ length a.queue.entries → slice_get (statuses a.queue) t ≡ Some Running → slice_get (lines a.queue) t ≡ Some l

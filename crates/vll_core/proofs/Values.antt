@@ -9,7 +9,7 @@ use Rattle.vll_core.proofs.Unstored.{below_first, at_first, first_le, will_here,
 use Rattle.vll_core.proofs.Sound.{not_below, stored_sees}
 use Rattle.vll_core.proofs.Kept.{IsKept, sound_of}
 use Rattle.vll_core.proofs.Events.{running_not_waiting, kept_load, kept_store}
-use Rattle.vll_core.proofs.Changes.{Change, store_is, change_of, sourced, entered_by, handed, requested, admitted, fronted, picked, woken, loaded, stored, released, finished}
+use Rattle.vll_core.proofs.Changes.{Change, store_is, change_of, admitted, fronted, picked, woken, loaded, stored, released, finished}
 use Rattle.vll_core.proofs.Reached.{kept_reached}
 
 abbrev pushed : State → Entered → Option Turn → State
@@ -151,10 +151,6 @@ store_reached o s next t e c seen reached at write is =
     (ap (λ (x : Entered). nat_lt x.loads (length x.call.claims)) (sym same) ∙ l.loaded) (ap (has_stored o.base s t) (sym same) ∙ l.left) write)
 
 other_values : (o : Opening) (s : State) (m : Move) (next : State) (r : ℕ) → IsKept o s → Change o s m next → is_on r (stored_by s m) ≡ false → value o.base next r ≡ value o.base s r
-other_values o s m next r kept (sourced client call n at from) other = refl
-other_values o s m next r kept (entered_by client first call none at is room waits) other = refl
-other_values o s m next r kept (handed client call none room waits) other = refl
-other_values o s m next r kept (requested turn c is at) other = refl
 other_values o s m next r kept (admitted turn status is all here free) other =
     value_admit o.base s (record { client = turn.client; call = turn.call; status = status; loads = 0; stores = 0; releases = 0 }) None r refl
     (λ records many none. proper_keeps o.base turn.call records r many (kept.turn turn is).proper none)
@@ -170,6 +166,7 @@ other_values o s m next r kept (stored t e at runs all left) other =
     value_store_other o.base s t e c.0 r at c.1 apart
 other_values o s m next r kept (released t e c at runs all left) other = value_same o.base s t e e.status (e.releases + 1) r at
 other_values o s m next r kept (finished t e at runs all) other = value_same o.base s t e Gone e.releases r at
+other_values o s m next r kept change other = refl
 
 pub others_stay : OtherValuesStay
 others_stay o s next m seen r reached is other = other_values o s m next r (kept_reached o s reached) (change_of o s m (seen, next) is) other

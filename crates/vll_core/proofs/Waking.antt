@@ -1,6 +1,6 @@
 -- A waiting call begins to run: the front of the queue, or the one that the contention analysis finds.
 use Rattle.std.proofs.Common.{◌≡◌, ℕ, true, false, Bool, refl, sym, ap, ◌∙◌, subst, List, map, slice_get, Option, Some, None, is_some, Ok}
-use Rattle.vll_core.proofs.Common.{slice_get-map, option_map, Event, Inside, TurnOpen, Idle, Run, Execution, Entry, Status, Running, Waiting, Gone, scan, is_waiting, Entered, State, Outcome, refuse_if, or_refuse, front, with_entry, with_status, step, by_event, requested_by, released_by, stored_by, QueueEntry, Queued, statuses, front_among, started_if, started, analysed, found_by, opening_of, turn_of, shown, IsMachine, made_of}
+use Rattle.vll_core.proofs.Common.{slice_get-map, option_map, Event, Inside, TurnOpen, Idle, Run, Execution, Entry, Status, Running, Waiting, scan, is_waiting, Entered, State, Outcome, refuse_if, or_refuse, front, with_entry, with_status, step, by_event, requested_by, released_by, stored_by, QueueEntry, Queued, statuses, front_among, started_if, started, analysed, found_by, opening_of, turn_of, shown, IsMachine, made_of}
 use Rattle.vll_core.specs.declared.event.Event.TheVariants as event
 use Rattle.vll_core.specs.Machine.{scanned as scanned_entry}
 use Rattle.vll_core.proofs.Events.{front_is}
@@ -87,9 +87,8 @@ core_woken {H} {places} a e q (Some t) core wakes new =
     subst (λ (p : Queued H). IsMachine places (record a { queue = p })) (sym (some_woken a.queue q (Some t) t refl new)) (core_wake a e (Some t) t core wakes refl)
 
 only_waiting : (x : Status) → is_waiting x ≡ true → x ≡ Waiting
-only_waiting Running waits = absurd (cc waits)
 only_waiting Waiting waits = refl
-only_waiting Gone waits = absurd (cc waits)
+only_waiting other waits = absurd (cc waits)
 
 -- a ticket of which a waiting entry is shown waits
 waits_at : {H : Type 0} (a : Inside H) (t : ℕ) (e : Entered) → slice_get (shown a).state.entries t ≡ Some e → is_waiting e.status ≡ true → Waits a t

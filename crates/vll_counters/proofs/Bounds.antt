@@ -1,6 +1,6 @@
 -- The rule at the opening, while sessions are made, and at the end.
 use Rattle.std.proofs.Common.{◌≡◌, ℕ, zero, suc, ◌+◌, Bool, true, List, [], ◌∷◌, length, map, set, refl, sym, ap, ◌∙◌, subst, arith, Some, None, slice_get, slice_index, count_by, cond}
-use Rattle.vll_counters.proofs.Common.{option_map, fold, slice_get-map, slice_get_within, Splits, opening, set_here, at_longer, Made, end, Status, Running, Waiting, Gone, is_waiting, is_running, is_gone, Line, Base, Entered, opened, begun, AreWords, AreLaid, entry_at, QueueView, View, Queue, Session, calls_in, pass_in, session_in, news_in, widest, pass_of, Rule, first_queue, first_view, new_session, IsAtEnd}
+use Rattle.vll_counters.proofs.Common.{option_map, fold, slice_get-map, slice_get_within, Splits, opening, set_here, at_longer, Made, end, Status, Gone, is_waiting, is_running, is_gone, Line, Base, Entered, opened, begun, AreWords, AreLaid, entry_at, QueueView, View, Queue, Session, calls_in, pass_in, session_in, news_in, widest, pass_of, Rule, first_queue, first_view, new_session, IsAtEnd}
 use mathlib.Core.Option.{some, some-injective, some-ne-none}
 use lib.ListN.{get_elem?}
 use Rattle.atomic_table.specs.Table as table
@@ -70,9 +70,8 @@ counted p es = from es 0
     from (e ∷ es) n = from es (n + cond (p e.status) 1 0)
 
 gone_only : (x : Status) → is_gone x ≡ true → x ≡ Gone
-gone_only Running h = absurd (cc h)
-gone_only Waiting h = absurd (cc h)
 gone_only Gone h = refl
+gone_only other h = absurd (cc h)
 
 -- the words at the end
 pub closes : {S : Type 0} (base : Base) (q : QueueView) (words : List ℕ) (t : table.State S View) → SeenBy (Rule base) 0 (Queue q) t → t.words ≡ words → q.turn ≡ None

@@ -1,6 +1,6 @@
 -- A pass or a session comes to the queue's seat, a pass that has come ends, and a session that has come leaves.
 use Rattle.std.proofs.Common.{◌≡◌, ◌≢◌, ℕ, suc, true, false, List, [], ◌∷◌, ◌++◌, length, take, set, refl, sym, ap, ◌∙◌, subst, arith, Option, Some, None, slice_get, slice_index, slice_set, nat_lt, ⊎_elim}
-use Rattle.vll_counters.proofs.Common.{option_map, cases_eq, set-set, same_Some, step, keeps, Allows, Splits, Joins, set_here, set_else, at_longer, Made, apply, Status, Running, Waiting, Gone, is_running, Line, Base, Entered, entered, with_entry, by_event, moved, AreWords, words_stay, get_set, at_push, TurnView, PassView, SessionView, QueueView, View, Queue, Pass, Session, Spent, calls_in, widest, pass_of, IsHosted, AreSessions, Rule, new_status, told, admitted, turn_ended, leaving, session_left, answered, finished, finished_by, ended, KnowsPass, has_stored_pass, EndTells, MayLeave, IsGivenOut}
+use Rattle.vll_counters.proofs.Common.{option_map, cases_eq, set-set, same_Some, step, keeps, Allows, Splits, Joins, set_here, set_else, at_longer, Made, apply, Status, Running, Gone, is_running, Line, Base, Entered, entered, with_entry, by_event, moved, AreWords, words_stay, get_set, at_push, TurnView, PassView, SessionView, QueueView, View, Queue, Pass, Session, Spent, calls_in, widest, pass_of, IsHosted, AreSessions, Rule, new_status, told, admitted, turn_ended, leaving, session_left, answered, finished, finished_by, ended, KnowsPass, has_stored_pass, EndTells, MayLeave, IsGivenOut}
 use mathlib.Core.Option.{some}
 use lib.ListN.{get_elem?}
 use Rattle.vll_core.specs.declared.event.Event.TheVariants as event
@@ -17,8 +17,7 @@ use Rattle.vll_counters.proofs.Entry.{enters_blocked}
 
 runs_only : (x : Status) → is_running x ≡ true → x ≡ Running
 runs_only Running h = refl
-runs_only Waiting h = absurd (cc h)
-runs_only Gone h = absurd (cc h)
+runs_only other h = absurd (cc h)
 
 -- a session leaves a queue without an open turn, and knows all its calls
 leaving_seen : (given : Option ℕ) (q : QueueView) (g : SessionView) → (leaving given q g).seen ≡ calls_in q.lines

@@ -1,7 +1,7 @@
 -- The names that most proofs of this crate cite, passed on from one place. Declares nothing.
 pub use Rattle.atomic_table.proofs.Lists.{at_last, at_longer, at_map, at_set, at_snoc, set_else, set_here}
 pub use Rattle.atomic_table.specs.Seated.{TableId}
-pub use Rattle.atomic_table.specs.Table.{Act, Allows, Final, Joins, Me, Splits, Step, carried_after, homes_after, keeps, opening, step, stepped}
+pub use Rattle.atomic_table.specs.Table.{Allows, Final, Joins, Me, Splits, carried_after, keeps, opening, step}
 pub use Rattle.std.proofs.lemmas.Bool.{cases_eq, cond-false, ne_eqb}
 pub use Rattle.std.proofs.lemmas.Bool.Decides.{nat_tests}
 pub use Rattle.std.proofs.lemmas.List.{append-nil, length-map, length-set, map-append, map-set, set-get_or, set-set, take-append-le, take_all}
@@ -11,7 +11,7 @@ pub use Rattle.std.specs.List.{enumerate_from, flat_map, fold, list_any}
 pub use Rattle.std.specs.Mem.Slots.{slots_items, slots_len}
 pub use Rattle.std.specs.Option.{option_map}
 pub use Rattle.std.specs.Prelude.{Bool, false, filter, if◌then◌else◌, length, map, nat_lt, slice_get, slice_set, true, ◌==◌}
-pub use Rattle.vll_core.proofs.Changes.{Change, change_of, entered_by, entry_runs, fronted, handed, picked, sourced, woken}
+pub use Rattle.vll_core.proofs.Changes.{Change, change_of, entry_runs, fronted, picked, woken}
 pub use Rattle.vll_core.proofs.Claiming.{after_request, counter_asked, counter_fits, delta_elsewhere, delta_here, request_reached, words_asked}
 pub use Rattle.vll_core.proofs.Deltas.{counter_release, word_on, word_on-append}
 pub use Rattle.vll_core.proofs.Events.{running_not_waiting}

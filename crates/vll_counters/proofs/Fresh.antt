@@ -1,8 +1,8 @@
 -- A call that waits has made no step, in every state that lawful moves reach.
 use Rattle.std.proofs.Common.{◌≡◌, ◌⊎◌, ℕ, true, false, refl, sym, ap, ◌∙◌, inl, inr, slice_get, Some, length}
-use Rattle.vll_counters.proofs.Common.{Running, Gone, is_waiting, Opening, Entered, State, with_entry, Move, IsReached, begun, moved, at_push, running_not_waiting, Change, change_of, sourced, entered_by, handed, fronted, picked, woken}
+use Rattle.vll_counters.proofs.Common.{Running, Gone, is_waiting, Opening, Entered, State, with_entry, Move, IsReached, begun, moved, at_push, running_not_waiting, Change, change_of, fronted, picked, woken}
 use Rattle.vll_core.proofs.Places.{at_set}
-use Rattle.vll_core.proofs.Changes.{requested, admitted, loaded, stored, released, finished}
+use Rattle.vll_core.proofs.Changes.{admitted, loaded, stored, released, finished}
 
 pub record IsFresh (e : Entered) : Type 0 where
   pub loads : e.loads ≡ 0
@@ -21,10 +21,6 @@ fresh_set s t f busy fresh n d at waits = by_place (at_set s.entries t f n d at)
     by_place (inr h) = fresh n d h waits
 
 fresh_change : (o : Opening) (s : State) (m : Move) (next : State) → Change o s m next → AreFresh s → AreFresh next
-fresh_change o s m next (sourced client call r at from) fresh = fresh
-fresh_change o s m next (entered_by client first call none at is room waits) fresh = fresh
-fresh_change o s m next (handed client call none room waits) fresh = fresh
-fresh_change o s m next (requested turn c is at) fresh = fresh
 fresh_change o s m next (admitted turn status is all here free) fresh = λ t e at waits. by_place t e (at_push s.entries new t e at) waits
   where
     new : Entered
@@ -40,6 +36,7 @@ fresh_change o s m next (loaded t e c at runs left) fresh = fresh_set s t _ (run
 fresh_change o s m next (stored t e at runs all left) fresh = fresh_set s t _ (running_not_waiting e.status runs) fresh
 fresh_change o s m next (released t e c at runs all left) fresh = fresh_set s t _ (running_not_waiting e.status runs) fresh
 fresh_change o s m next (finished t e at runs all) fresh = fresh_set s t (record e { status = Gone }) refl fresh
+fresh_change o s m next other fresh = fresh
 
 pub fresh_reached : (o : Opening) (s : State) → IsReached o s → AreFresh s
 fresh_reached o s (begun scripts proper) = λ t e at waits. absurd (cc at)

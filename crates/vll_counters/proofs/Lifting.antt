@@ -1,6 +1,6 @@
 -- A step that keeps the rule keeps the rule with the history: how the past of its seat and the history go on.
 use Rattle.std.proofs.Common.{◌≡◌, ℕ, List, [], ◌∷◌, ◌++◌, map, set, refl, sym, ap, ◌∙◌, subst, ⊎_elim, slice_index, slice_set}
-use Rattle.vll_counters.proofs.Common.{map-set, map-append, Me, Act, carried_after, Allows, Splits, Joins, Final, at_set, set_else, at_snoc, at_map, Base, SeatView, View, laid_words, Rule, Write, written, IsPastOf, longer, IsOfItsStep, IsOfItsLoad, plain, seat_view, without_pasts, RuleWithHistory}
+use Rattle.vll_counters.proofs.Common.{map-set, map-append, Me, carried_after, Allows, Splits, Joins, Final, at_set, set_else, at_snoc, at_map, Base, SeatView, View, laid_words, Rule, Write, written, IsPastOf, longer, IsOfItsStep, IsOfItsLoad, plain, seat_view, without_pasts, RuleWithHistory}
 use mathlib.Core.Option.{some}
 use lib.ListN.{get_elem?}
 use Rattle.atomic_table.specs.Table as table

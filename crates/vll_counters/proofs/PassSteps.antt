@@ -1,6 +1,6 @@
 -- The steps of a pass's seat keep the rule: loads, stores and releases.
 use Rattle.std.proofs.Common.{◌≡◌, ◌≢◌, ℕ, zero, suc, ◌+◌, ◌-◌, ◌<◌, ◌%◌, ◌&&◌, ◌||◌, ◌==◌, Bool, true, false, List, [], ◌∷◌, ◌++◌, length, take, refl, sym, ap, ◌∙◌, subst, arith, Option, Some, Ok, slice_get, slice_index, slice_set, nat_lt, add-one}
-use Rattle.vll_counters.proofs.Common.{map-append, slice_get_within, nat_tests, Me, Step, step, keeps, stepped, Allows, homes_after, set_else, Claim, delta_of, pair_word_of_record, value_word_of, Made, apply, before, end, is_running, is_gone, Seen, Base, Entered, State, made, entered, records_before, writes, is_aborted, counter, value, with_entry, has_stored, Move, move, by_event, IsLawful, moved, is_on, entry_store, AreWords, words_stay, counters_stay, counter_fits, delta_here, delta_elsewhere, counter_release, take_next, load_reached, before_more, made_at, ne_eqb, PassView, View, Pass, widest, values_before, pass_for, pass_of, Moment, Rule, loaded, stored, released, records_before_pass, reply_of_pass, PassMoment, IsCountedNow, has_stored_pass, LoadTells, StoreTells, ReleaseDoes, ReleaseTells}
+use Rattle.vll_counters.proofs.Common.{map-append, slice_get_within, nat_tests, step, keeps, Allows, set_else, Claim, delta_of, pair_word_of_record, value_word_of, Made, apply, before, end, is_running, is_gone, Seen, Base, Entered, State, made, entered, records_before, writes, is_aborted, counter, value, with_entry, has_stored, Move, move, by_event, IsLawful, moved, is_on, entry_store, AreWords, words_stay, counters_stay, counter_fits, delta_here, delta_elsewhere, counter_release, take_next, load_reached, before_more, made_at, ne_eqb, PassView, View, Pass, widest, values_before, pass_for, pass_of, Moment, Rule, loaded, stored, released, records_before_pass, reply_of_pass, PassMoment, IsCountedNow, has_stored_pass, LoadTells, StoreTells, ReleaseDoes, ReleaseTells}
 use mathlib.Core.Option.{some}
 use lib.ListN.{get_elem?}
 use Rattle.atomic_table.specs.Table as table

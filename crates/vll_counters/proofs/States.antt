@@ -54,9 +54,6 @@ line_by base calls (t, e) = record {
   reply = if is_gone e.status then Some (apply base.procs e.call (before base.procs calls base.records t)).reply else None;
 }
 
-abbrev line_call : Line → Made
-line_call l = (l.client, l.call)
-
 calls_numbered : (base : Base) (calls : List Made) (n : ℕ) (es : List Entered) → calls_in (map (line_by base calls) (enumerate_from n es)) ≡ map made es
 calls_numbered base calls n [] = refl
 calls_numbered base calls n (e ∷ es) = ap (λ (l : List Made). made e ∷ l) (calls_numbered base calls (n + 1) es)

@@ -151,11 +151,9 @@ still_set_by_choice false set behind i before later = later
 mutual
   still_set : (st : Stmt) (set : Locals) (i : ℕ) → get_or set i false ≡ true → get_or (set_behind st set) i false ≡ true
   still_set (Let j e) set i h = still_set_by_let set j i h
-  still_set (Set j e) set i h = h
   still_set (If' e m first n second) set i h = both_set-in (list_set_behind first set) (list_set_behind second set) i (list_still_set first set i h) (list_still_set second set i h)
-  still_set (Abort code) set i h = h
-  still_set (Reply e) set i h = h
   still_set (Repeat' turns m list) set i h = still_set_by_choice (turns == 0) set (list_set_behind list set) i h (list_still_set list set i h)
+  still_set other set i h = h
 
   list_still_set : {m : _} → (row : Row_of-Stmt m) (set : Locals) (i : ℕ) → get_or set i false ≡ true → get_or (list_set_behind row set) i false ≡ true
   list_still_set end_of-Stmt set i h = h

@@ -102,9 +102,8 @@ record_named-take : (count n : ℕ) (args : List ℕ) (found : Option ℕ) (k : 
 record_named-take count n args found k h = named k.at h
   where
     named : (at : KeyAt) → argument_is_declared n (record k { at = at }) ≡ true → record_named count (take n args) found at ≡ record_named count args found at
-    named (at.Fixed r) h = refl
     named (at.Arg i) h = slice_get-take n args i (ltb-true i n h)
-    named (at.Through i) h = refl
+    named other h = refl
 
 -- the claims of a made call
 pub claims_made : (n : ℕ) (p : Proc) (c : Call) → IsCallOf n p c → c.claims ≡ claims_of (asked n p (take c.arg_count c.args) c.found)
@@ -207,9 +206,8 @@ source_within p i formed is = within p.keys 0 p.keys formed.sources is
     direct (k ∷ ks) (suc i) h = let lt = direct ks i h in omega arith
 
     here : (at : KeyAt) (mode : Mode) (all : List KeyDecl) (place : ℕ) (rest : Option ℕ) → has_source all place (record { mode = mode; at = at }) ≡ true → or_else (source_at at) rest ≡ Some i → (rest ≡ Some i → i < length all) → i < length all
-    here (at.Fixed r) mode all place rest h is behind = behind is
-    here (at.Arg a) mode all place rest h is behind = behind is
     here (at.Through j) mode all place rest h is behind = let lt = direct all j (both_true _ _ h).1 in let same = same_some j i is in omega arith
+    here other mode all place rest h is behind = behind is
 
     within : (all : List KeyDecl) (place : ℕ) (keys : List KeyDecl) → have_sources all place keys ≡ true → source_of keys ≡ Some i → i < length all
     within all place [] h is = absurd (none-some i is)

@@ -4,8 +4,8 @@ pub use Rattle.std.proofs.lemmas.Bool.{cases_eq, cases_lt, cases_order, cond-fal
 pub use Rattle.std.proofs.lemmas.Bool.Decides.{Decides-eqb}
 pub use Rattle.std.proofs.lemmas.List.{drop-append-le, drop-map, drop-replicate, get_or-set_other, get_or-set_same, length-map, length-replicate, length-take-le, map-append, map-set, set-get_or, set_split, take-append-drop, take-append-le, take-map, take-take}
 pub use Rattle.std.proofs.lemmas.List.Edits.{length-insert}
-pub use Rattle.std.proofs.lemmas.List.Sums.{count_by-le-length, fails_before_first, length-filter, passes_at_first, prefix_len-le-length, sum_by-append}
-pub use Rattle.std.proofs.lemmas.Nat.{and_mask, div-mul-add, mod-mul-add, mod_low, or_shifted, pow_below, pow_pos, shr_high}
+pub use Rattle.std.proofs.lemmas.List.Sums.{count_by-le-length, fails_before_first, passes_at_first, prefix_len-le-length, sum_by-append}
+pub use Rattle.std.proofs.lemmas.Nat.{and_mask, mod_low, or_shifted, pow_below, pow_pos, shr_high}
 pub use Rattle.std.proofs.lemmas.Option.{get_or_from_slice_get, none-some, same_Some, slice_get-get_or, slice_get_within}
 pub use Rattle.std.proofs.lemmas.Slice.Eq.{slice_eq-Decides}
 pub use Rattle.std.specs.List.{copy_within, position, position_or_len}

@@ -1,7 +1,6 @@
 -- The pair word of open claims: what one claim adds to it, what its halves count, and which requests it grants.
-use Rattle.std.proofs.Common.{◌≡◌, ℕ, zero, suc, ◌+◌, ◌*◌, ◌/◌, ◌%◌, ◌^◌, ◌<◌, ◌≤◌, Bool, true, false, ◌==◌, nat_lt, ◌||◌, ◌&&◌, not, cond, if◌then◌else◌, List, [], ◌∷◌, ◌++◌, length, count_by, refl, sym, ap, ◌∙◌, arith}
-use Rattle.vll_record.proofs.Common.{lt-ltb, le-ltb, ne_eqb, sum_by-append, count_by-le-length, length-filter, div-mul-add, mod-mul-add, Claim, Mode, Read, Write, is_write, conflict}
-use Rattle.std.proofs.lemmas.List.Elements.{filter-append}
+use Rattle.std.proofs.Common.{◌≡◌, ℕ, zero, suc, ◌+◌, ◌*◌, ◌/◌, ◌%◌, ◌^◌, ◌<◌, ◌≤◌, Bool, true, false, ◌==◌, nat_lt, ◌||◌, ◌&&◌, not, cond, if◌then◌else◌, List, [], ◌∷◌, ◌++◌, length, count_by, refl, sym, ◌∙◌, arith}
+use Rattle.vll_record.proofs.Common.{lt-ltb, le-ltb, ne_eqb, sum_by-append, count_by-le-length, Claim, Mode, Read, Write, is_write, conflict}
 use Rattle.vll_record.proofs.Rising.{claim_of}
 use Rattle.vll_record.specs.Headline.Counter.{claims_on, pair_word_of}
 use Rattle.vll_record.specs.Counter.{delta_of, is_granted}
@@ -16,46 +15,10 @@ count_by-append p xs ys = sum_by-append (λ (x : Claim). cond (p x) 1 0) xs ys
 pub pair_word_of-append : (xs ys : List Claim) → pair_word_of (xs ++ ys) ≡ pair_word_of xs + pair_word_of ys
 pair_word_of-append xs ys = omega (arith, count_by-append is_write xs ys, count_by-append (λ c. not (is_write c)) xs ys)
 
--- the pair word of two lists on one record is the sum of theirs
-pub pair_word_on-append : (r : ℕ) (xs ys : List Claim) → pair_word_of (claims_on r (xs ++ ys)) ≡ pair_word_of (claims_on r xs) + pair_word_of (claims_on r ys)
-pair_word_on-append r xs ys = ap pair_word_of (filter-append (λ (c : Claim). c.id == r) xs ys) ∙ pair_word_of-append (claims_on r xs) (claims_on r ys)
-
 one_claim : (hit : Bool) (i : ℕ) (m : Mode) → pair_word_of (if hit then claim_of i m ∷ [] else []) ≡ (if hit then delta_of m else 0)
 one_claim true i Read = refl
 one_claim true i Write = refl
 one_claim false i m = refl
-
--- one claim counts its delta on its record, and nothing on another
-pub pair_word_on-one : (r : ℕ) (c : Claim) → pair_word_of (claims_on r (c ∷ [])) ≡ (if c.id == r then delta_of c.mode else 0)
-pair_word_on-one r c = one_claim (c.id == r) c.id c.mode
-
-pub pair_word_on-request : (r : ℕ) (cs : List Claim) (c : Claim) → pair_word_of (claims_on r (cs ++ c ∷ [])) ≡ pair_word_of (claims_on r cs) + (if c.id == r then delta_of c.mode else 0)
-pair_word_on-request r cs c = pair_word_on-append r cs (c ∷ []) ∙ ap (λ (n : ℕ). pair_word_of (claims_on r cs) + n) (pair_word_on-one r c)
-
-pub pair_word_on-release : (r : ℕ) (xs ys : List Claim) (c : Claim) → pair_word_of (claims_on r (xs ++ c ∷ ys)) ≡ pair_word_of (claims_on r (xs ++ ys)) + (if c.id == r then delta_of c.mode else 0)
-pair_word_on-release r xs ys c =
-    let whole = pair_word_on-append r xs (c ∷ ys) in
-    let first = pair_word_on-append r (c ∷ []) ys in
-    let one = pair_word_on-one r c in
-    let rest = pair_word_on-append r xs ys in
-    omega (arith, whole, first, one, rest)
-
-pub length-claims_on-le : (r : ℕ) (cs : List Claim) → length (claims_on r cs) ≤ length cs
-length-claims_on-le r cs =
-    let kept = length-filter (λ (c : Claim). c.id == r) cs in
-    let few = count_by-le-length (λ (c : Claim). c.id == r) cs in
-    omega arith
-
--- CX is the number of the Write claims, CS that of the Read claims
-pub pair_word_of-div : (cs : List Claim) → length cs < 2 ^ 32 → pair_word_of cs / 2 ^ 32 ≡ count_by is_write cs
-pair_word_of-div cs few =
-    let reads = count_by-le-length (λ c. not (is_write c)) cs in
-    div-mul-add (count_by is_write cs) (2 ^ 32) (count_by (λ c. not (is_write c)) cs) (omega arith)
-
-pub pair_word_of-mod : (cs : List Claim) → length cs < 2 ^ 32 → pair_word_of cs % 2 ^ 32 ≡ count_by (λ c. not (is_write c)) cs
-pair_word_of-mod cs few =
-    let reads = count_by-le-length (λ c. not (is_write c)) cs in
-    mod-mul-add (count_by is_write cs) (2 ^ 32) (count_by (λ c. not (is_write c)) cs) (omega arith)
 
 pub pair_word_of-below : (cs : List Claim) → length cs < 2 ^ 32 → pair_word_of cs < 2 ^ 64
 pair_word_of-below cs few =

@@ -1,6 +1,6 @@
 -- Rising claims: rising by recursion, and which claim stands at which place.
-use Rattle.std.proofs.Common.{◌≡◌, ℕ, zero, suc, ◌+◌, ◌<◌, ◌≤◌, List, [], ◌∷◌, Some, None, refl, sym, ap, ◌∙◌, subst, slice_get, arith, ⊎_elim}
-use Rattle.vll_record.proofs.Common.{eq-eqb, ne_eqb, cond-true, cond-false, cases_eq, same_Some, none-some, Claim, Mode, IsRising, stronger_of, mode_on}
+use Rattle.std.proofs.Common.{◌≡◌, ℕ, zero, suc, ◌+◌, ◌<◌, ◌≤◌, List, [], ◌∷◌, Some, None, refl, ap, ◌∙◌, subst, slice_get, arith, ⊎_elim}
+use Rattle.vll_record.proofs.Common.{eq-eqb, ne_eqb, cond-true, cond-false, same_Some, none-some, Claim, Mode, IsRising, stronger_of, mode_on}
 
 -- rising, and no record number below n
 abbrev pub RisesFrom : ℕ → List Claim → Type 0
@@ -25,12 +25,11 @@ RisesFrom-zero [] h = tt
 RisesFrom-zero (c ∷ cs) h = (omega arith, (RisesFrom-from_rising c cs h).1)
 
 pub IsRising-from_rises : (n : ℕ) (cs : List Claim) → RisesFrom n cs → IsRising cs
-IsRising-from_rises n [] h k l = absurd (omega arith)
-IsRising-from_rises n (c ∷ []) h k l = absurd (omega arith)
 IsRising-from_rises n (c ∷ d ∷ ds) h zero l = h.1.0
 IsRising-from_rises n (c ∷ d ∷ ds) h (suc k) l =
     let step : suc k + 1 ≡ suc (k + 1) = omega arith in
     rw step (IsRising-from_rises (suc c.id) (d ∷ ds) h.1 k (omega arith))
+IsRising-from_rises n other h k l = absurd (omega arith)
 
 pub mode_on-same : (c : Claim) (cs : List Claim) (r : ℕ) → c.id ≡ r → mode_on (c ∷ cs) r ≡ stronger_of c.mode (mode_on cs r)
 mode_on-same c cs r e = cond-true _ _ _ (eq-eqb c.id r e)
@@ -66,10 +65,6 @@ at_place n (d ∷ ds) (suc i) c h e =
     let low = RisesFrom-at (suc d.id) ds i c h.1 e in
     mode_on-other d ds c.id (λ q. omega arith) ∙ at_place (suc d.id) ds i c h.1 e
 
--- a claim that stands in a rising list is its record's
-pub mode_on_at : (cs : List Claim) (i : ℕ) (c : Claim) → IsRising cs → slice_get cs i ≡ Some c → mode_on cs c.id ≡ Some c.mode
-mode_on_at cs i c h e = at_place 0 cs i c (RisesFrom-zero cs h) e
-
 one_place : (n : ℕ) (cs : List Claim) (i j : ℕ) (c d : Claim) → RisesFrom n cs → slice_get cs i ≡ Some c → slice_get cs j ≡ Some d → c.id ≡ d.id → i ≡ j
 one_place n [] i j c d h p q e = absurd (none-some c p)
 one_place n (b ∷ bs) zero zero c d h p q e = refl
@@ -89,20 +84,3 @@ same_place cs i j c d h p q e = one_place 0 cs i j c d (RisesFrom-zero cs h) p q
 
 abbrev pub claim_of : ℕ → Mode → Claim
 claim_of r m = record { id = r; mode = m }
-
-place_from : (n : ℕ) (cs : List Claim) (r : ℕ) (m : Mode) → RisesFrom n cs → mode_on cs r ≡ Some m → (i : ℕ) × (slice_get cs i ≡ Some (claim_of r m))
-place_from n [] r m h e = absurd (none-some m e)
-place_from n (c ∷ cs) r m h e =
-    ⊎_elim
-    (λ (same : c.id ≡ r).
-    let first : mode_on (c ∷ cs) r ≡ Some c.mode = subst (λ (x : ℕ). mode_on (c ∷ cs) x ≡ Some c.mode) same (mode_on_first c cs h.1) in
-    let mode : c.mode ≡ m = same_Some c.mode m (sym first ∙ e) in
-    (zero, ap (λ (x : ℕ). Some (claim_of x c.mode)) same ∙ ap (λ (x : Mode). Some (claim_of r x)) mode))
-    (λ (other : c.id ≡ r → ⊥).
-    let rest = place_from (suc c.id) cs r m h.1 (sym (mode_on-other c cs r other) ∙ e) in
-    (suc rest.0, rest.1))
-    (cases_eq c.id r)
-
--- where a rising list claims a record, that claim stands at a place
-pub place_from_mode : (cs : List Claim) (r : ℕ) (m : Mode) → IsRising cs → mode_on cs r ≡ Some m → (i : ℕ) × (slice_get cs i ≡ Some (claim_of r m))
-place_from_mode cs r m h e = place_from 0 cs r m (RisesFrom-zero cs h) e

@@ -1,6 +1,6 @@
 -- A claim put in its place among rising claims: what it keeps, and where it goes.
 use Rattle.std.proofs.Common.{◌≡◌, ◌≢◌, ℕ, zero, suc, ◌<◌, ◌≤◌, ◌⊎◌, List, [], ◌∷◌, length, Some, None, Option, eqb, false, IsSome, refl, ap, ◌∙◌, subst, sym, inl, inr, ◌==◌, nat_lt, nat_le, not, Bool, slice_get, set, insert, unwrap_or, arith, ⊎_elim}
-use Rattle.vll_record.proofs.Common.{false≢true, ltb-true, ltb-false, leb-true, leb-false, eqb-false, lt-ltb, le-ltb, eq-eqb, ne_eqb, cond_both, cond-true, cond-false, cases_order, cases_lt, position, position_or_len, fails_before_first, passes_at_first, prefix_len-le-length, none-some, same_Some, get_or_from_slice_get, slice_get_within, Claim, stronger, with_claim, IsRising, mode_on}
+use Rattle.vll_record.proofs.Common.{false≢true, ltb-true, ltb-false, leb-true, leb-false, eqb-false, lt-ltb, le-ltb, eq-eqb, ne_eqb, cond_both, cond-true, cond-false, cases_lt, position, position_or_len, fails_before_first, passes_at_first, prefix_len-le-length, none-some, same_Some, get_or_from_slice_get, slice_get_within, Claim, stronger, with_claim, IsRising, mode_on}
 use Rattle.vll_record.specs.Private.Place.{place_in}
 use Rattle.vll_record.proofs.Rising.{RisesFrom, RisesFrom-zero, IsRising-from_rises, mode_on_below, mode_on-other}
 
@@ -109,31 +109,6 @@ absent_from n r (d ∷ ds) (suc at) h p apart =
 -- a record that is not at its place is not claimed
 pub mode_on-absent : (r : ℕ) (cs : List Claim) (at : ℕ) → IsRising cs → IsPlaceOf r cs at → ((d : Claim) → slice_get cs at ≡ Some d → d.id ≢ r) → mode_on cs r ≡ None
 mode_on-absent r cs at h p apart = absent_from 0 r cs at (RisesFrom-zero cs h) p apart
-
-same_length : (n : ℕ) (c : Claim) (cs : List Claim) → RisesFrom n cs → IsSome (mode_on cs c.id) → length (with_claim c cs) ≡ length cs
-same_length n c [] h s = absurd (false≢true s)
-same_length n c (d ∷ ds) h s =
-    ⊎_elim
-    (λ (e : c.id ≡ d.id). ap length (with_claim-same c d ds e))
-    (λ (o : (c.id < d.id) ⊎ (d.id < c.id)).
-    ⊎_elim
-    (λ (lt : c.id < d.id).
-    let none : mode_on (d ∷ ds) c.id ≡ None = mode_on_below d.id (d ∷ ds) c.id (omega arith, h.1) lt in
-    absurd (false≢true (subst IsSome none s)))
-    (λ (gt : d.id < c.id).
-    let rest : IsSome (mode_on ds c.id) = subst IsSome (mode_on-other d ds c.id (λ e. omega arith)) s in
-    ap length (with_claim-after c d ds gt) ∙ ap suc (same_length (suc d.id) c ds h.1 rest))
-    o)
-    (cases_order c.id d.id)
-
--- no claim is added for a record that has one
-pub length-with_claim-held : (c : Claim) (cs : List Claim) → IsRising cs → IsSome (mode_on cs c.id) → length (with_claim c cs) ≡ length cs
-length-with_claim-held c cs h s = same_length 0 c cs (RisesFrom-zero cs h) s
-
--- with room for one more claim, or a claim of its record there, the claims stay within n
-pub length-with_claim-few : (n : ℕ) (c : Claim) (cs : List Claim) → IsRising cs → length cs ≤ n → (length cs < n) ⊎ IsSome (mode_on cs c.id) → length (with_claim c cs) ≤ n
-length-with_claim-few n c cs h le (inl room) = let most = length-with_claim-le c cs in omega arith
-length-with_claim-few n c cs h le (inr held) = let same = length-with_claim-held c cs h held in omega arith
 
 -- a place that holds another record's claim, or none, does not hold the record's
 pub apart_from_other : (r : ℕ) (o : Option Claim) (c : Claim) → o ≡ Some c → eqb c.id r ≡ false → (d : Claim) → o ≡ Some d → d.id ≢ r
