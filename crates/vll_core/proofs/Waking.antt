@@ -1,13 +1,13 @@
 -- A waiting call begins to run: the front of the queue, or the one that the contention analysis finds.
 use Rattle.std.proofs.Common.{◌≡◌, ℕ, true, false, Bool, refl, sym, ap, ◌∙◌, subst, List, map, slice_get, Option, Some, None, is_some, Ok}
-use Rattle.vll_core.proofs.Common.{slice_get-map, option_map, Event, Inside, TurnOpen, Idle, Run, Execution, Entry, Status, Running, Waiting, scan, is_waiting, Entered, State, Outcome, refuse_if, or_refuse, front, with_entry, with_status, step, by_event, requested_by, released_by, stored_by, QueueEntry, Queued, statuses, front_among, started_if, started, analysed, found_by, opening_of, turn_of, shown, IsMachine, made_of}
+use Rattle.vll_core.proofs.Common.{slice_get-map, option_map, Event, Inside, TurnOpen, Idle, Run, Execution, Entry, Status, Running, Waiting, scan, is_waiting, Entered, State, Outcome, refuse_if, or_refuse, front, with_entry, with_status, step, by_event, requested_by, released_by, stored_by, QueueEntry, Queued, statuses, front_among, started_if, started, analysed, found_by, opening_of, turn_of, shown, IsMachine, made_of, Shown, after}
 use Rattle.vll_core.specs.declared.event.Event.TheVariants as event
 use Rattle.vll_core.specs.Machine.{scanned as scanned_entry}
 use Rattle.vll_core.proofs.Events.{front_is}
 use Rattle.vll_core.proofs.Picked.{picked_is}
 use Rattle.vll_core.proofs.QueueLaws.{machine_front}
 use Rattle.vll_core.proofs.MachineState.{shown_at, entry_shown, map_shown, statuses_shown, entry_changed, length_changed, made_changed, ready_same, at_work_same, replied_changed, queued_started}
-use Rattle.vll_core.proofs.MachineSteps.{Refuses, Takes, taken_reached, taken_words}
+use Rattle.vll_core.proofs.MachineSteps.{Refuses, Takes, refused_stays, taken_shown, taken_reached, taken_words}
 
 -- ---- an event that finds a waiting ticket, or none
 
@@ -85,6 +85,14 @@ core_woken {H} {places} a e q None core wakes new =
     subst (λ (p : Queued H). IsMachine places (record a { queue = p })) (sym (none_woken a.queue q None refl new)) core
 core_woken {H} {places} a e q (Some t) core wakes new =
     subst (λ (p : Queued H). IsMachine places (record a { queue = p })) (sym (some_woken a.queue q (Some t) t refl new)) (core_wake a e (Some t) t core wakes refl)
+
+-- what is shown of it
+pub woken_shown : {H : Type 0} {places : H → ℕ → ℕ} (a : Inside H) (s : Shown H) (e : Event) (q : Queued H) (found : Option ℕ) → shown a ≡ s → Wakes places a e found → q ≡ started_if a.queue found
+    → shown (record a { queue = q }) ≡ after s (step (opening_of places s) s.state e)
+woken_shown {H} a s e q None view wakes new =
+    ap (λ (p : Queued H). shown (record a { queue = p })) new ∙ (view ∙ refused_stays a s e Idle view (refused_wake a e None wakes refl))
+woken_shown {H} a s e q (Some t) view wakes new =
+    ap (λ (p : Queued H). shown (record a { queue = p })) new ∙ taken_shown a (run_at a t) s e (Run t) view (taken_wake a e (Some t) t wakes refl)
 
 only_waiting : (x : Status) → is_waiting x ≡ true → x ≡ Waiting
 only_waiting Waiting waits = refl

@@ -1,9 +1,9 @@
 use Rattle.vll_core.proofs.machine.Machine.scan.Given.{Over}
 use Rattle.std.proofs.Common.{◌≡◌, ◌∙◌, sym, ap, subst}
-use Rattle.vll_core.proofs.Common.{Queued, started_if, shown}
+use Rattle.vll_core.proofs.Common.{started_if}
 use Rattle.vll_core.specs.declared.event.Event.TheVariants as event
-use Rattle.vll_core.proofs.Waking.{Wakes, wakes_scan, refused_wake, taken_wake, some_woken, none_woken, core_woken}
-use Rattle.vll_core.proofs.MachineSteps.{closed_turn, refused_told, refused_stays, taken_told, taken_shown}
+use Rattle.vll_core.proofs.Waking.{Wakes, wakes_scan, refused_wake, taken_wake, core_woken, woken_shown}
+use Rattle.vll_core.proofs.MachineSteps.{closed_turn, refused_told, taken_told}
 use Rattle.vll_core.proofs.machine.Machine.scan.Goals.{in-Some, in-None}
 use Rattle.vll_core.proofs.machine.Machine.scan.Goals as goal
 
@@ -30,12 +30,4 @@ returns-clause-answer g c =
     ]
 
 pub returns-clause-state : goal.returns-clause-state
-returns-clause-state g c =
-    elim c.match-scan.branch [
-      | in-Some w ↦
-          ap (λ (q : Queued _). shown (record c.self.inside { queue = q })) (some_woken _ _ _ _ w.in-Some.is (starts g c))
-          ∙ taken_shown c.self.inside _ _ _ _ c.self.view_is (taken_wake c.self.inside event.Scan _ _ (wakes g c) w.in-Some.is)
-      | in-None w ↦
-          ap (λ (q : Queued _). shown (record c.self.inside { queue = q })) (none_woken _ _ _ w.in-None.is (starts g c))
-          ∙ (c.self.view_is ∙ refused_stays c.self.inside _ _ _ c.self.view_is (refused_wake c.self.inside event.Scan _ (wakes g c) w.in-None.is))
-    ]
+returns-clause-state g c = woken_shown c.self.inside _ event.Scan _ _ c.self.view_is (wakes g c) (starts g c)
