@@ -41,16 +41,11 @@ kept_store o s t e kept at runs loaded unstored =
     let some : e.stores ≢ length (writes e.call) =
     eq_no e.stores (length (writes e.call)) (or_parts (has_aborted o.base s t e) (e.stores == length (writes e.call)) (and_rest _ _ unstored (eq_same e.loads (length e.call.claims) all))).1 in
     let stores : e.stores + 1 ≤ length (writes e.call) = (let b = own.stores in omega (arith, some, b)) in
+    let waiting : is_waiting e.status ≡ true → e.stores + 1 ≡ 0 = λ w. absurd (cc (sym w ∙ running_not_waiting e.status runs)) in
+    let stored : 0 < e.stores + 1 → e.loads ≡ length e.call.claims = λ z. all in
+    let released : 0 < e.releases → has_stored_on o.base now (record e { stores = e.stores + 1 }) ≡ true = λ z. absurd (cc (sym (own.released z) ∙ unstored)) in
     kept_entry o s t e (record e { stores = e.stores + 1 }) kept at refl
-    (record {
-      proper = own.proper;
-      loads = own.loads;
-      stores = stores;
-      waiting = λ w. absurd (cc (sym w ∙ running_not_waiting e.status runs));
-      stored = λ z. all;
-      released = λ z. absurd (cc (sym (own.released z) ∙ unstored));
-      gone = own.gone;
-    })
+    (assumption (stores, waiting, stored, released, own))
     (λ p h. h) (λ busy. kept.clear t e at busy)
 
 -- a release
@@ -58,16 +53,10 @@ pub kept_release : (o : Opening) (s : State) (t : ℕ) (e : Entered) (c : Claim)
     → has_stored o.base s t e ≡ true → slice_get e.call.claims e.releases ≡ Some c → IsKept o (with_entry s t (record e { releases = e.releases + 1 }))
 kept_release o s t e c kept at runs stored next =
     let own = kept.entries t e at in
+    let released : 0 < e.releases + 1 → has_stored o.base s t e ≡ true = λ z. stored in
+    let gone : is_gone e.status ≡ true → length e.call.claims ≤ e.releases + 1 = λ g. absurd (running_not_gone e.status runs g) in
     kept_entry o s t e (record e { releases = e.releases + 1 }) kept at refl
-    (record {
-      proper = own.proper;
-      loads = own.loads;
-      stores = own.stores;
-      waiting = own.waiting;
-      stored = own.stored;
-      released = λ z. stored;
-      gone = λ g. absurd (running_not_gone e.status runs g);
-    })
+    (assumption (released, gone, own))
     (λ p h. (or_parts (p c) (list_any p (drop (e.releases + 1) e.call.claims)) (ap (list_any p) (sym (drop_next e.call.claims e.releases c next)) ∙ h)).1) (λ busy. kept.clear t e at busy)
 
 -- a call that has released all is gone
@@ -75,16 +64,10 @@ pub kept_finish : (o : Opening) (s : State) (t : ℕ) (e : Entered) → IsKept o
     → nat_lt e.releases (length e.call.claims) ≡ false → IsKept o (with_entry s t (record e { status = Gone }))
 kept_finish o s t e kept at runs released =
     let own = kept.entries t e at in
+    let waiting : is_waiting Gone ≡ true → e.stores ≡ 0 = λ w. absurd (cc w) in
+    let gone : is_gone Gone ≡ true → length e.call.claims ≤ e.releases = λ g. lt_no e.releases (length e.call.claims) released in
     kept_entry o s t e (record e { status = Gone }) kept at refl
-    (record {
-      proper = own.proper;
-      loads = own.loads;
-      stores = own.stores;
-      waiting = λ w. absurd (cc w);
-      stored = own.stored;
-      released = own.released;
-      gone = λ g. lt_no e.releases (length e.call.claims) released;
-    })
+    (assumption (waiting, gone, own))
     (λ p h. h) (λ busy. kept.clear t e at (running_not_waiting e.status runs))
 
 -- a clear ticket begins to run
@@ -92,16 +75,10 @@ pub kept_run : (o : Opening) (s : State) (t : ℕ) (e : Entered) → IsKept o s 
     → is_clear s t e.call.claims ≡ true → IsKept o (with_entry s t (record e { status = Running }))
 kept_run o s t e kept at clear =
     let own = kept.entries t e at in
+    let waiting : is_waiting Running ≡ true → e.stores ≡ 0 = λ w. absurd (cc w) in
+    let gone : is_gone Running ≡ true → length e.call.claims ≤ e.releases = λ g. absurd (cc g) in
     kept_entry o s t e (record e { status = Running }) kept at refl
-    (record {
-      proper = own.proper;
-      loads = own.loads;
-      stores = own.stores;
-      waiting = λ w. absurd (cc w);
-      stored = own.stored;
-      released = own.released;
-      gone = λ g. absurd (cc g);
-    })
+    (assumption (waiting, gone, own))
     (λ p h. h) (λ busy. clear)
 
 -- a ticket below which each entry is gone is clear

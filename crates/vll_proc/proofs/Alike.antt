@@ -191,28 +191,14 @@ mutual
       (λ v. Ok (record s { locals = slice_set s.locals i v }))
       (λ v. Ok (record t { locals = slice_set t.locals i v }))
       (same_value b set s t e h k)
-      (λ v. record {
-        args = h.args;
-        named = h.named;
-        locals = AgreeOnSet-set set s.locals t.locals i v h.as_many h.locals;
-        as_many = length-set s.locals i v ∙ h.as_many ∙ sym (length-set t.locals i v);
-        values = h.values;
-        outputs = h.outputs;
-      })
+      (λ v. assumption (AgreeOnSet-set set s.locals t.locals i v h.as_many h.locals, length-set s.locals i v ∙ h.as_many ∙ sym (length-set t.locals i v), h))
   alike_effect b set (Set i e) s t h k =
       let keys = both_true _ _ k.0 in
       alike_value b set (value_of e s) (value_of e t)
       (λ v. Ok (record s { records = slice_set s.records (slice_index s.named i) v }))
       (λ v. Ok (record t { records = slice_set t.records (slice_index t.named i) v }))
       (same_value b set s t e h (keys.1, k.1, k.2))
-      (λ v. record {
-        args = h.args;
-        named = h.named;
-        locals = h.locals;
-        as_many = h.as_many;
-        values = b.store s.records t.records _ _ v h.values (h.named i (ltb-true i b.keys keys.0));
-        outputs = h.outputs;
-      })
+      (λ v. assumption (b.store s.records t.records _ _ v h.values (h.named i (ltb-true i b.keys keys.0)), h))
   alike_effect b set (If' e m first n second) s t h k =
       let keys = both_true _ _ k.0 in
       let args = both_true _ _ k.1 in
@@ -238,14 +224,7 @@ mutual
       (λ v. Ok (record s { outputs = s.outputs ++ v ∷ [] }))
       (λ v. Ok (record t { outputs = t.outputs ++ v ∷ [] }))
       (same_value b set s t e h k)
-      (λ v. record {
-        args = h.args;
-        named = h.named;
-        locals = h.locals;
-        as_many = h.as_many;
-        values = h.values;
-        outputs = ap (λ (l : List ℕ). l ++ v ∷ []) h.outputs;
-      })
+      (λ v. assumption (ap (λ (l : List ℕ). l ++ v ∷ []) h.outputs, h))
   alike_effect b set (Repeat' turns m list) s t h k =
       alike_turns b set (list_set_behind list set) (list_effect list) turns s t
       (record {
