@@ -12,6 +12,7 @@
 //! ```
 #![tactic(auto)]
 
+mod capacity;
 mod config;
 mod core_machine;
 mod event;
@@ -22,7 +23,6 @@ mod machine;
 mod opening;
 mod queue;
 mod refusal;
-mod room;
 mod seen;
 mod ticket;
 

@@ -10,6 +10,7 @@ ghost use Rattle.vll_core.specs.Private.FirstWords.{AreFirstWords};
 ghost use Rattle.vll_core.specs.Shown.{AreWords, after, begun, library_of, opening_of};
 ghost use Rattle.vll_core.specs.State.{Entered};
 
+use crate::capacity::list_with_capacity;
 use crate::config::{Config, MOST_CALLS, MOST_RECORDS, OpenFault};
 use crate::event::Event;
 use crate::execution::Execution;
@@ -17,7 +18,6 @@ use crate::line::Line;
 use crate::opening::open_fault;
 use crate::queue::Queue;
 use crate::refusal::Refusal;
-use crate::room::list_with_room;
 use crate::seen::Seen;
 use crate::ticket::Ticket;
 use std::alloc::{AllocError, Global};
@@ -102,12 +102,12 @@ impl<H: Place + Drop> Machine<H> {
     {
         match open_fault(library.records() as usize, config) {
             Some(fault) => Err(fault),
-            None => Ok(Machine::with_room(alloc, &records, library, scripts, config, hash)?),
+            None => Ok(Machine::open_allowed(alloc, &records, library, scripts, config, hash)?),
         }
     }
 
-    // Opens a machine with no call entered. Fails only if an allocation fails.
-    fn with_room(
+    // Opens a machine with no call entered, if nothing refuses it. Fails only if an allocation fails.
+    fn open_allowed(
         alloc: Global,
         records: &Vec<u64>,
         library: &Library,
@@ -121,9 +121,9 @@ impl<H: Place + Drop> Machine<H> {
         requires fits { All (λ script. All (Fits library.now) script.items) scripts.items }
         ensures { IfOk result (λ c. c ≡ begun library.now records.now.items scripts.items config hash) }
     {
-        let queue = Queue::with_room(alloc, config, hash)?;
+        let queue = Queue::open_allowed(alloc, config, hash)?;
         let words = words_of(alloc, records)?;
-        let execution = list_with_room(alloc, config.limit as usize, Execution::blank())?;
+        let execution = list_with_capacity(alloc, config.limit as usize, Execution::blank())?;
         let next = vec![in alloc; 0; scripts.len()].map_err(|_| AllocError)?;
         let kept = vec![in alloc; None; scripts.len()].map_err(|_| AllocError)?;
         Ok(Machine {

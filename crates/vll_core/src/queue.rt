@@ -7,18 +7,18 @@ ghost use Rattle.vll_sca.specs.declared.status.Status.TheVariants as Status;
 ghost use Rattle.vll_core.specs.Faults.{Refuses, config_fault};
 ghost use Rattle.vll_core.specs.Queue.{IsQueued, empty, emptied, entry, admitted, lines, statuses, is_left, started, finished, front_among, fronted, found_by, scanned};
 
+use crate::capacity::list_with_capacity;
 use crate::config::{Config, OpenFault};
 use crate::line::Line;
 use crate::opening::config_fault;
 use crate::queue::window::Window;
-use crate::room::list_with_room;
 use crate::ticket::Ticket;
 use std::alloc::{AllocError, Global};
 use std::marker::Model;
 use vll_proc::{Call, Reply};
 use vll_sca::{Bits, Place, Status};
 
-/// The entered calls in order of entry, each with its line and its status, and their contention analysis. All room is
+/// The entered calls in order of entry, each with its line and its status, and their contention analysis. All memory is
 /// allocated in `open`. Contracts see what was chosen at the opening, and the list of entries.
 #[derive(Drop)]
 pub struct Queue<H: Place> {
@@ -54,7 +54,7 @@ impl<H: Place> Model for Queue<H> {
 }
 
 impl<H: Place + Drop> Queue<H> {
-    /// Opens an empty queue with room for `config.limit` calls. Each slot is written once, so that the system has
+    /// Opens an empty queue with capacity for `config.limit` calls. Each slot is written once, so that the system has
     /// mapped it before the first call. Fails with the first fault that applies: `Limit`, `Cap` or `Bits`, before any
     /// memory is requested; if none applies, only with `NoMemory`.
     pub fn open(alloc: Global, config: Config, hash: H) -> Result<Queue<H>, OpenFault>
@@ -63,20 +63,24 @@ impl<H: Place + Drop> Queue<H> {
     {
         match config_fault(config) {
             Some(fault) => Err(fault),
-            None => Ok(Queue::with_room(alloc, config, hash)?),
+            None => Ok(Queue::open_allowed(alloc, config, hash)?),
         }
     }
 
     // Opens an empty queue, for a configuration without a fault.
-    pub(crate) fn with_room(alloc: Global, config: Config, hash: H) -> Result<Queue<H>, AllocError>
+    pub(crate) fn open_allowed(
+        alloc: Global,
+        config: Config,
+        hash: H,
+    ) -> Result<Queue<H>, AllocError>
         requires { config_fault config ≡ None }
         ensures { IfOk result (λ q. q ≡ empty config hash) }
     {
         let bits = Bits::new(alloc, config.bits).map_err(|_| AllocError)?;
-        let room = config.limit as usize;
-        let journal = list_with_room(alloc, room, Line::blank())?;
-        let statuses = list_with_room(alloc, room, Status::Gone)?;
-        let window = Window::with_room(alloc, config.limit)?;
+        let capacity = config.limit as usize;
+        let journal = list_with_capacity(alloc, capacity, Line::blank())?;
+        let statuses = list_with_capacity(alloc, capacity, Status::Gone)?;
+        let window = Window::with_capacity(alloc, config.limit)?;
         Ok(Queue {
             journal,
             statuses,

@@ -4,9 +4,9 @@ ghost use Rattle.vll_sca.specs.Status.{is_gone as gone};
 ghost use Rattle.vll_sca.specs.Scan.{scan_numbered};
 ghost use Rattle.vll_core.specs.Private.Window.{left_among, first_left, numbered, IsWindow};
 
+use crate::capacity::list_with_capacity;
 use crate::line::Line;
 use crate::queue::window_entries::WindowEntries;
-use crate::room::list_with_room;
 use std::alloc::{AllocError, Global};
 use vll_sca::{Bits, Place, Status};
 
@@ -20,19 +20,19 @@ pub(crate) struct Window {
 }
 
 impl Window {
-    /// Returns a window without tickets, with room for `room` tickets.
-    pub(crate) fn with_room(alloc: Global, room: u32) -> Result<Window, AllocError>
+    /// Returns a window without tickets, with capacity for at least `capacity` tickets.
+    pub(crate) fn with_capacity(alloc: Global, capacity: u32) -> Result<Window, AllocError>
         ensures tickets { IfOk result (λ w. w.tickets.items ≡ []) }
         ensures first { IfOk result (λ w. w.first ≡ 0) }
-        ensures room { IfOk result (λ w. room ≤ vec_capacity w.tickets) }
+        ensures capacity { IfOk result (λ w. capacity ≤ vec_capacity w.tickets) }
     {
         Ok(Window {
-            tickets: list_with_room(alloc, room as usize, 0)?,
+            tickets: list_with_capacity(alloc, capacity as usize, 0)?,
             first: 0,
         })
     }
 
-    /// Drops all tickets, and keeps the room.
+    /// Drops all tickets, and keeps the capacity.
     pub(crate) fn clear(&mut self)
         ensures tickets { self.new.tickets.items ≡ [] }
         ensures first { self.new.first ≡ 0 }

@@ -1,11 +1,11 @@
 use Rattle.vll_core.proofs.Faults.{openable}
-use Rattle.vll_core.proofs.machine.Machine.with_room.Given.{Over}
+use Rattle.vll_core.proofs.machine.Machine.open_allowed.Given.{Over}
 use Rattle.std.proofs.Common.{rules, ℕ, ap, ◌∙◌, refl, List, ◌≡◌, ◌≤◌, length, None, vec_capacity, sym, subst, All}
 use Rattle.vll_core.proofs.Common.{Call, Vec, Fits, Catalog, IsCatalog, MOST_RECORDS, Inside, open_fault, empty, AreFirstWords}
 use Rattle.vll_core.specs.Shown.{begun}
 use Rattle.vll_core.proofs.Entries.{shown_queued}
 use Rattle.vll_core.proofs.Begun.{IsFresh, filled, none_alone, shown_begun, core_begun}
-use Rattle.vll_core.proofs.machine.Machine.with_room.Goals as goal
+use Rattle.vll_core.proofs.machine.Machine.open_allowed.Goals as goal
 
 abbrev made : (g : Over) → goal.After-of-2 g → Inside g.row.H.Denot
 made g c = record {
