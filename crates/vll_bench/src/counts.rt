@@ -1,6 +1,6 @@
 //! The outcomes of the calls of a scenario in the engine, and what the workers that made them did.
 ghost use Rattle.std.specs.Prelude.{◌≤◌};
-ghost use Rattle.vll_tokens.specs.declared.pool.TheConstants.{MOST_WORKERS};
+ghost use Rattle.vll_core.specs.declared.config.TheConstants.{MOST_WORKERS};
 
 use crate::adding::Adding;
 use crate::fault::Fault;

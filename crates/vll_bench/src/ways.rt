@@ -1,6 +1,6 @@
 //! The ways of making the calls of a scenario, with the engine and without it.
 ghost use Rattle.std.specs.Prelude.{◌≤◌, ◌<◌};
-ghost use Rattle.vll_tokens.specs.declared.pool.TheConstants.{MOST_WORKERS};
+ghost use Rattle.vll_core.specs.declared.config.TheConstants.{MOST_WORKERS};
 
 use crate::calls::time_calls;
 use crate::fault::Fault;

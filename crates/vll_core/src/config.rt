@@ -1,4 +1,4 @@
-//! The settings chosen at an opening, the limits of records and calls, and why an opening can fail.
+//! The settings chosen at an opening, the limits of records, calls and workers, and why an opening can fail.
 use std::alloc::AllocError;
 
 /// The most records that a machine can have.
@@ -10,12 +10,17 @@ pub const MOST_CALLS: u32 = 65_536;
 /// The most entered calls that can be allowed to wait at a time.
 pub const MOST_WAITING: u32 = 65_536;
 
+/// The most worker threads of a run.
+pub const MOST_WORKERS: u32 = 64;
+
 // As docs/SCENARIO.md says.
 const _: () = prove!(MOST_RECORDS == 65_536);
 
 const _: () = prove!(MOST_CALLS == 65_536);
 
 const _: () = prove!(MOST_WAITING == 65_536);
+
+const _: () = prove!(MOST_WORKERS == 64);
 
 /// The settings chosen at the opening.
 #[derive(Clone, Copy, PartialEq, Eq, Debug)]

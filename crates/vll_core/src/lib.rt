@@ -26,7 +26,7 @@ mod refusal;
 mod seen;
 mod ticket;
 
-pub use config::{Config, MOST_CALLS, MOST_RECORDS, MOST_WAITING, OpenFault};
+pub use config::{Config, MOST_CALLS, MOST_RECORDS, MOST_WAITING, MOST_WORKERS, OpenFault};
 pub use core_machine::Core;
 pub use event::Event;
 pub use laws::{

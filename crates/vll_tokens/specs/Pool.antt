@@ -5,7 +5,7 @@ use lib.ListN.{get_elem?}
 use Rattle.atomic_table.specs.Seated.{TableId}
 use Rattle.crossbeam_queue.specs.Passes.{Pass, view}
 use Rattle.vll_tokens.specs.declared.pool.Hand.{Hand}
-use Rattle.vll_tokens.specs.declared.pool.TheConstants.{MOST_WORKERS}
+use Rattle.vll_core.specs.declared.config.TheConstants.{MOST_WORKERS}
 use Rattle.vll_tokens.specs.Shown.{TokenShown}
 use Rattle.vll_tokens.specs.Tokens.{clients_of}
 

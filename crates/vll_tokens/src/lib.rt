@@ -12,10 +12,11 @@ mod tally;
 mod token;
 mod worker;
 
-pub use pool::{Hand, MOST_WORKERS, Pool, PoolPass};
+pub use pool::{Hand, Pool, PoolPass};
 pub use roster::Roster;
 pub use stack::{MOST_BATCH, Stack};
 pub use taken::Taken;
 pub use tally::Tally;
 pub use token::Token;
+pub use vll_core::MOST_WORKERS;
 pub use worker::{Shelf, Worker};

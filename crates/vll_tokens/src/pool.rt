@@ -13,12 +13,6 @@ use std::collections::LinkedList;
 use std::marker::{Model, PhantomData};
 use std::sync::Wait;
 
-/// The most worker threads of a run.
-pub const MOST_WORKERS: u32 = 64;
-
-// As docs/SCENARIO.md says.
-const _: () = prove!(MOST_WORKERS == 64);
-
 /// What a pass knows: the clients of the tokens that it has in hand, and its parts of the right to know the whole. No
 /// value of this type is made.
 pub struct Hand {

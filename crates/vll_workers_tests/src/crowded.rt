@@ -1,6 +1,6 @@
 //! Tests of runs whose clients all use one record.
 ghost use Rattle.std.specs.Prelude.{◌≡◌, ◌≤◌};
-ghost use Rattle.vll_tokens.specs.declared.pool.TheConstants.{MOST_WORKERS};
+ghost use Rattle.vll_core.specs.declared.config.TheConstants.{MOST_WORKERS};
 ghost use Rattle.vll_queue.specs.Shown.{name_of};
 ghost use Rattle.vll_sca.specs.Placing.{placing};
 
