@@ -125,7 +125,7 @@ impl<'a, N: Name, H: Place + Drop> Hold<'a, N, H> {
         ensures given { session.new.session.given ≡ session.old.session.given ++ released.pass.ticket ∷ [] }
         ensures session { (session.new.table ≡ session.old.table) × SawOthers session.old.session session.new.session }
     {
-        self.guard.finish_for(self.words, session, released);
+        self.guard.finish_own(self.words, session, released);
     }
 
     // Returns the reply in the ticket's line, if there is one yet, as `Engine::reply`.
@@ -137,7 +137,7 @@ impl<'a, N: Name, H: Place + Drop> Hold<'a, N, H> {
         ensures ever { (k : _) → slice_get session.old.session.given k ≡ Some ticket → IsSome result }
         ensures session { (session.new.table ≡ session.old.table) × SawOthers session.old.session session.new.session }
     {
-        self.guard.reply_to(self.words, session, ticket)
+        self.guard.reply(self.words, session, ticket)
     }
 
     // Appends the lines of finished calls from a ticket on, as `Engine::lines_from`.
@@ -149,7 +149,7 @@ impl<'a, N: Name, H: Place + Drop> Hold<'a, N, H> {
         ensures given { session.new.session.given ≡ session.old.session.given }
         ensures session { (session.new.table ≡ session.old.table) × SawOthers session.old.session session.new.session }
     {
-        self.guard.lines_to(self.words, session, from, lines);
+        self.guard.lines_from(self.words, session, from, lines);
     }
 }
 

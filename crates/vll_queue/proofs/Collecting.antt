@@ -18,8 +18,7 @@ use Rattle.vll_counters.specs.Headline.Views.{calls_in}
 use Rattle.vll_counters.specs.declared.views.SessionView.{SessionView}
 use Rattle.vll_counters.specs.Shown.{QueueShown, queue_view}
 use Rattle.vll_counters.specs.Told.{KnowsSession, AreReplied}
-use Rattle.vll_queue.specs.Finished.{AppendsFinished, AreFinished}
-use Rattle.vll_queue.specs.Private.Finished.{finished, finished_from}
+use Rattle.vll_queue.specs.Finished.{AppendsFinished, AreFinished, finished, finished_from}
 use Rattle.vll_queue.specs.Private.Kept.{AreOwn, IsKept}
 use Rattle.vll_queue.specs.Replied.{reply_in}
 use Rattle.vll_queue.specs.Shown.{Named, library_of}

@@ -1,8 +1,10 @@
 -- Lines of finished calls, as an engine that goes on hands them out.
+use Rattle.std.specs.List.{take_while}
 use Rattle.std.specs.Prelude.{◌≡◌, ℕ, ◌+◌, ◌<◌, List, ◌++◌, drop, length, take, All, Some, slice_get}
 use Rattle.vll_proc.specs.Headline.Serial.{Made, answer}
 use Rattle.vll_check.specs.Calls.{IsReady}
 use Rattle.vll_core.specs.declared.line.Line.{Line}
+use Rattle.vll_core.specs.Queue.{Queued, has_reply, lines}
 use Rattle.vll_counters.specs.Headline.Views.{calls_in}
 use Rattle.vll_queue.specs.Headline.Found.{AreFoundThere}
 use Rattle.vll_queue.specs.Shown.{Named, library_of}
@@ -22,3 +24,11 @@ pub record AppendsFinished (e : Named) (seen : List Made) (from : ℕ) (old new 
   pub lines : List Line
   pub items : new ≡ old ++ lines
   pub finished : AreFinished e seen from lines
+
+-- the lines at the front, as far as they have a reply and there is room for them
+abbrev pub finished : ℕ → List Line → List Line
+finished room ls = take_while has_reply (take room ls)
+
+-- the queue's lines from a ticket on, as far as their calls are gone and there is room for them
+abbrev pub finished_from : {H : Type 0} → Queued H → ℕ → ℕ → List Line
+finished_from q from room = finished room (drop from (lines q))

@@ -1,5 +1,4 @@
 -- Cited by private contracts and by the views and invariants of types; no contract of an exported item cites it.
 pub mod Divided
 pub mod Kept
-pub mod Finished
 pub mod Worked

@@ -9,13 +9,12 @@ use vll_core::Queue;
 use vll_counters::QueueSeat;
 use vll_sca::Place;
 
-mod begin;
+mod admit;
 pub(crate) mod close;
 mod finish;
 mod lines;
 mod next;
 mod reply;
-mod sessions;
 
 /// What is behind the lock: the queue, and its seat of the words. To a contract it is the queue. The contracts of the
 /// methods say exactly what they return for that queue.

@@ -10,8 +10,9 @@ ghost use Rattle.vll_queue.specs.Shown.{words_of};
 use super::Locked;
 use crate::name::Name;
 use crate::pass::Released;
+use crate::session::Session;
 use vll_core::Ticket;
-use vll_counters::{SessionSeat, Words};
+use vll_counters::Words;
 use vll_proc::Reply;
 use vll_sca::Place;
 
@@ -36,23 +37,22 @@ impl<N: Name, H: Place> Locked<N, H> {
         ticket
     }
 
-    // As `finish`, and gives the session the ticket: it sees all calls that have entered.
+    /// As `finish`, and gives the session the ticket. The session sees all calls that have entered.
     #[inline(always)]
-    pub(crate) fn finish_own(
-        &mut self,
-        words: &Words,
-        session: SessionSeat,
-        released: Released,
-    ) -> SessionSeat
+    pub fn finish_own(&mut self, words: &Words, session: &mut Session, released: Released)
         requires words { words.now ≡ words_of N.engine }
-        requires session { session.table ≡ N.engine.table }
+        requires session { session.old.table ≡ N.engine.table }
         requires released { IsReleased N.engine released }
-        ensures reply { answer N.engine.base.procs result.session.seen N.engine.base.records released.pass.ticket ≡ Some released.reply }
-        ensures given { result.session.given ≡ session.session.given ++ released.pass.ticket ∷ [] }
-        ensures session { (result.table ≡ session.table) × SawOthers session.session result.session }
+        ensures reply { answer N.engine.base.procs session.new.session.seen N.engine.base.records released.pass.ticket ≡ Some released.reply }
+        ensures given { session.new.session.given ≡ session.old.session.given ++ released.pass.ticket ∷ [] }
+        ensures session { (session.new.table ≡ session.old.table) × SawOthers session.old.session session.new.session }
+        ensures queue { self.new ≡ finished self.old released.pass.ticket released.reply }
     {
+        let Some(seat) = session.seat.take() else {
+            unreachable!()
+        };
         let ticket = self.finish(words, released);
-        words.join_session(&mut self.seat, session, None);
-        words.give_session(&mut self.seat, Some(ticket))
+        words.join_session(&mut self.seat, seat, None);
+        session.seat = Some(words.give_session(&mut self.seat, Some(ticket)));
     }
 }

@@ -31,7 +31,7 @@ impl<N: Name, H: Place> Locked<N, H> {
     }
 
     // Starts the ticket that the contention analysis finds, and returns its seat.
-    pub(crate) fn next_scan(&mut self, words: &Words) -> Option<(PassSeat, Ticket)>
+    fn next_scan(&mut self, words: &Words) -> Option<(PassSeat, Ticket)>
         requires words { words.now ≡ words_of N.engine }
         ensures ticket { option_map (λ p. p.1) result ≡ found_by H.place_of self.old }
         ensures pass { IfSome result (λ p. IsFresh N.engine p.0) }

@@ -8,34 +8,34 @@ ghost use Rattle.vll_queue.specs.Shown.{words_of};
 
 use super::Locked;
 use crate::name::Name;
+use crate::session::Session;
 use vll_core::Ticket;
-use vll_counters::{SessionSeat, Words};
+use vll_counters::Words;
 use vll_proc::Reply;
 use vll_sca::Place;
 
 impl<N: Name, H: Place> Locked<N, H> {
-    // Returns the reply in the line of a ticket, if there is one. The session sees all calls that have entered, and is
-    // given the ticket if there is a reply.
-    pub(crate) fn reply(
-        &mut self,
-        words: &Words,
-        session: SessionSeat,
-        ticket: Ticket,
-    ) -> (Option<Reply>, SessionSeat)
+    /// Returns the reply in the ticket's line, if there is one. The session sees all calls that have entered, and is
+    /// given the ticket if there is a reply.
+    pub fn reply(&mut self, words: &Words, session: &mut Session, ticket: Ticket) -> Option<Reply>
         requires words { words.now ≡ words_of N.engine }
-        requires session { session.table ≡ N.engine.table }
-        ensures line { result.0 ≡ reply_in (slice_get (lines self.old) ticket) }
-        ensures reply { IfSome result.0 (λ reply. answer N.engine.base.procs result.1.session.seen N.engine.base.records ticket ≡ Some reply) }
-        ensures given { IfSome result.0 (λ _. result.1.session.given ≡ session.session.given ++ ticket ∷ []) }
-        ensures none { IfNone result.0 (result.1.session.given ≡ session.session.given) }
-        ensures ever { (k : _) → slice_get session.session.given k ≡ Some ticket → IsSome result.0 }
-        ensures session { (result.1.table ≡ session.table) × SawOthers session.session result.1.session }
+        requires session { session.old.table ≡ N.engine.table }
+        ensures line { result ≡ reply_in (slice_get (lines self.old) ticket) }
+        ensures reply { IfSome result (λ reply. answer N.engine.base.procs session.new.session.seen N.engine.base.records ticket ≡ Some reply) }
+        ensures given { IfSome result (λ _. session.new.session.given ≡ session.old.session.given ++ ticket ∷ []) }
+        ensures none { IfNone result (session.new.session.given ≡ session.old.session.given) }
+        ensures ever { (k : _) → slice_get session.old.session.given k ≡ Some ticket → IsSome result }
+        ensures session { (session.new.table ≡ session.old.table) × SawOthers session.old.session session.new.session }
         ensures queue { self.new ≡ self.old }
     {
+        let Some(seat) = session.seat.take() else {
+            unreachable!()
+        };
         let reply = self.reply_of(ticket);
-        words.join_session(&mut self.seat, session, None);
+        words.join_session(&mut self.seat, seat, None);
         let given = reply.is_some().then_some(ticket);
-        (reply, words.give_session(&mut self.seat, given))
+        session.seat = Some(words.give_session(&mut self.seat, given));
+        reply
     }
 
     // The reply in the line of a ticket, if there is one.

@@ -1,6 +1,6 @@
 use Rattle.std.proofs.Common.{◌+◌, ◌-◌, ◌++◌, ◌<◌, ◌≤◌, ℕ, drop, length, vec_capacity, refl, sym, ap, ◌∙◌, arith}
 use Rattle.std.proofs.lemmas.Option.{slice_get_read}
-use Rattle.vll_queue.specs.Private.Finished.{finished}
+use Rattle.vll_queue.specs.Finished.{finished}
 use Rattle.vll_queue.proofs.Collecting.{collected_more, collected_up_to, collected_into_all_room}
 use Rattle.vll_queue.proofs.locked.lines.push_finished.Goals as goal
 use Rattle.vll_queue.proofs.locked.lines.push_finished.Goals.{then-is_none-via-then-is_none, then-is_none-via-else-is_none+then-len-capacity}

@@ -1,5 +1,5 @@
 use Rattle.std.proofs.Common.{◌≡◌, ◌++◌, ◌-◌, drop, length, vec_capacity}
-use Rattle.vll_queue.specs.Private.Finished.{finished}
+use Rattle.vll_queue.specs.Finished.{finished}
 use Rattle.vll_queue.proofs.locked.lines.push_finished.Given as goal
 
 -- what is still to be appended to what is there is all

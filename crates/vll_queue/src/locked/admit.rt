@@ -15,37 +15,37 @@ ghost use Rattle.vll_queue.specs.Shown.{library_of, words_of};
 use super::Locked;
 use crate::begun::{Admission, BeginRefusal};
 use crate::name::Name;
+use crate::session::Session;
 use vll_counters::{QueueSeat, SessionSeat, Words};
 use vll_proc::Call;
 use vll_record::granted;
 use vll_sca::Place;
 
 impl<N: Name, H: Place> Locked<N, H> {
-    // Enters a call of the session's client, which requests all its claims and gets a ticket, or refuses it.
-    pub(crate) fn begin(
-        &mut self,
-        words: &Words,
-        session: SessionSeat,
-        client: u32,
-        call: &Call,
-    ) -> (Admission, SessionSeat)
+    /// Enters a ready call of the session's client, which requests all its claims and gets a ticket, or refuses it.
+    #[inline(always)]
+    pub fn admit(&mut self, words: &Words, session: &mut Session, call: &Call) -> Admission
         requires words { words.now ≡ words_of N.engine }
-        requires session { session.table ≡ N.engine.table }
-        requires client { session.session.client ≡ client }
+        requires session { session.old.table ≡ N.engine.table }
         requires catalog { IsCatalog (library_of N.engine) }
         requires ready { IsReady (library_of N.engine) call.now }
-        requires looked_up { IsLookedUp N.engine session.session call.now }
-        ensures answer { Begins N.engine session.session result.1.session call.now (begun result.0) }
-        ensures seat { IsSeatOf call.now result.0 }
-        ensures queue { self.new ≡ begun_by self.old client call.now (begun result.0) }
-        ensures refused { IsRefusedBy (refusal self.old) (begun result.0) }
-        ensures given { result.1.session.given ≡ session.session.given }
-        ensures session { result.1.table ≡ session.table }
+        requires looked_up { IsLookedUp N.engine session.old.session call.now }
+        ensures answer { Begins N.engine session.old.session session.new.session call.now (begun result) }
+        ensures seat { IsSeatOf call.now result }
+        ensures queue { self.new ≡ begun_by self.old session.old.session.client call.now (begun result) }
+        ensures refused { IsRefusedBy (refusal self.old) (begun result) }
+        ensures given { session.new.session.given ≡ session.old.session.given }
+        ensures session { session.new.table ≡ session.old.table }
     {
-        match self.refusal() {
-            Some(why) => (Admission::Refused(why), self.visit(words, session)),
-            None => self.enter(words, session, client, call),
-        }
+        let Some(seat) = session.seat.take() else {
+            unreachable!()
+        };
+        let (admission, seat) = match self.refusal() {
+            Some(why) => (Admission::Refused(why), self.visit(words, seat)),
+            None => self.enter(words, seat, session.client, call),
+        };
+        session.seat = Some(seat);
+        admission
     }
 
     // Returns why no call may begin, if none may.

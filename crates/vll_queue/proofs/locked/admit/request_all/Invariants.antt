@@ -1,5 +1,5 @@
 use Rattle.std.proofs.Common.{◌≡◌, ◌++◌, Some, length}
-use Rattle.vll_queue.proofs.locked.begin.request_all.Given as goal
+use Rattle.vll_queue.proofs.locked.admit.request_all.Given as goal
 
 abbrev pub invariant-loop-claim : goal.invariant-loop-claim
 invariant-loop-claim l = record {
