@@ -106,7 +106,6 @@ impl<N: Name, H: Place> Locked<N, H> {
         let free = request_all(words, &mut self.seat, client, call);
         let ticket = self.queue.admit(client, call, free);
         if !free {
-            self.patience.blocked();
             let session = words.give_session(&mut self.seat, None);
             return (Admission::Blocked(ticket), session);
         }

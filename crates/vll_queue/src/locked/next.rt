@@ -56,10 +56,17 @@ impl<N: Name, H: Place> Locked<N, H> {
         ensures line { IfSome result (λ p. IsPassAt (lines self.new) p.0 p.1) }
         ensures queue { self.new ≡ started_if self.old (option_map (λ p. p.1) result) }
     {
-        if may_be_put_off && !self.patience.is_due(self.queue.waiting()) {
+        if may_be_put_off && self.puts_off_a_scan() {
             return None;
         }
         self.next_scan(words)
+    }
+
+    // Returns whether a scan is put off now. One that walks over nothing is not.
+    fn puts_off_a_scan(&mut self) -> bool
+        ensures { self.new ≡ self.old }
+    {
+        !self.queue.is_fruitless() && !self.patience.is_due(self.queue.waiting())
     }
 
     /// Appends the pass of a seat, with the call in its ticket's line.
@@ -100,8 +107,11 @@ fn scan<H: Place>(queue: &mut Queue<H>, patience: &mut Patience) -> Option<Ticke
     ensures ticket { result ≡ found_by H.place_of queue.old }
     ensures scanned { queue.new ≡ scanned H.place_of queue.old }
 {
+    let walks = !queue.is_fruitless();
     let found = queue.scan();
-    patience.scanned(found.is_some(), queue.waiting());
+    if walks && found.is_none() {
+        patience.found_none(queue.waiting());
+    }
     found
 }
 
