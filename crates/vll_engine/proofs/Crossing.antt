@@ -9,7 +9,7 @@ use Rattle.vll_check.specs.contracts.checked.Checked as Checked
 use Rattle.vll_check.specs.contracts.library.Library as Library
 use Rattle.vll_counters.proofs.words.Words.TheSendSync as words
 use Rattle.vll_queue.proofs.locked.Locked.TheSendSync as locked
-use Rattle.vll_queue.proofs.room.Room.TheSendSync as room
+use Rattle.vll_queue.proofs.closing_memory.ClosingMemory.TheSendSync as memory
 use Rattle.vll_engine.specs.contracts.engine.Engine as Engine
 use Rattle.vll_queue.specs.declared.name.Name as name
 use Rattle.vll_sca.specs.declared.place.Place as place
@@ -50,4 +50,4 @@ library : IsSync Library.the_row
 library = let c = checked in search (sendable, crosses) depth 30
 
 pub engine : (N H : RattleType) (n : name.Ghosts N.Denot) (p : place.Ghosts H.Denot) → IsSend N → IsSync N → IsSend H → IsSync (Engine.the_row N H n p)
-engine N H n p sn yn sh = search (library, words.the_sync, locked.the_send, room.the_sync, sendable, crosses) depth 40
+engine N H n p sn yn sh = search (library, words.the_sync, locked.the_send, memory.the_sync, sendable, crosses) depth 40

@@ -25,7 +25,7 @@ impl<N: Name, H: Place + Drop> NotClosed<N, H> {
     pub(crate) fn of(left: NotEnded<N, H>) -> NotClosed<N, H>
         requires library { left.library ≡ library_of N.engine }
         requires words { left.words ≡ words_of N.engine }
-        requires room { left.room ≡ length N.engine.base.records }
+        requires memory { left.memory ≡ length N.engine.base.records }
         requires few { N.engine.clients < 4294967296 }
         ensures sessions { result.sessions ≡ left.sessions }
         ensures running { result.running ≡ left.running }
@@ -35,13 +35,13 @@ impl<N: Name, H: Place + Drop> NotClosed<N, H> {
             locked,
             library,
             words,
-            room,
+            memory,
             sessions,
             running,
             waiting,
         } = left;
         NotClosed {
-            engine: Engine::new(library, words, locked, room),
+            engine: Engine::new(library, words, locked, memory),
             sessions,
             running,
             waiting,

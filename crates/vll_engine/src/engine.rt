@@ -24,7 +24,7 @@ use vll_check::Library;
 use vll_core::{Line, Ticket};
 use vll_counters::{PassSeat, Words};
 use vll_proc::{Call, Reply};
-use vll_queue::{Begun, Closed, Done, Locked, Name, Pass, Released, Room, Session, find};
+use vll_queue::{Begun, Closed, ClosingMemory, Done, Locked, Name, Pass, Released, Session, find};
 use vll_sca::Place;
 
 /// The engine. Many threads may share it. Only a function that takes `wait` takes the lock: `hold` keeps it for several
@@ -33,7 +33,7 @@ use vll_sca::Place;
 pub struct Engine<N: Name, H: Place + Drop> {
     pub(crate) library: Library,
     pub(crate) words: Words,
-    room: Room,
+    memory: ClosingMemory,
     // What each hold changes starts on its own cache line.
     locked: CachePadded<Mutex<Locked<N, H>>>,
     // Waiting threads read it all the time, so it is kept apart from what a hold changes.
@@ -41,21 +41,21 @@ pub struct Engine<N: Name, H: Place + Drop> {
     ghost library_is: { library ≡ library_of N.engine },
     ghost catalog: { IsCatalog library },
     ghost words_are: { words ≡ words_of N.engine },
-    ghost room_is: { room ≡ length N.engine.base.records },
+    ghost memory_is: { memory ≡ length N.engine.base.records },
     ghost few_clients: { N.engine.clients < 4294967296 },
 }
 
 impl<N: Name, H: Place + Drop> Engine<N, H> {
-    // An engine of the library, the words, the queue behind its lock, and the room for what closing leaves.
+    // An engine of the library, the words, the queue behind its lock, and the memory for what closing leaves.
     pub(crate) fn new(
         library: Library,
         words: Words,
         locked: Locked<N, H>,
-        room: Room,
+        memory: ClosingMemory,
     ) -> Engine<N, H>
         requires library { library ≡ library_of N.engine }
         requires words { words ≡ words_of N.engine }
-        requires room { room ≡ length N.engine.base.records }
+        requires memory { memory ≡ length N.engine.base.records }
         requires few { N.engine.clients < 4294967296 }
     {
         // A contract knows that the procedures passed their checks only if the library is read.
@@ -63,7 +63,7 @@ impl<N: Name, H: Place + Drop> Engine<N, H> {
         Engine {
             library,
             words,
-            room,
+            memory,
             locked: CachePadded::new(Mutex::new(locked)),
             latch: CachePadded::new(Latch::new()),
         }
@@ -278,12 +278,12 @@ impl<N: Name, H: Place + Drop> Engine<N, H> {
         let Engine {
             library,
             words,
-            room,
+            memory,
             locked,
             latch: _,
         } = self;
         let locked = locked.into_inner().into_inner();
-        match locked.close(library, words, room, sessions) {
+        match locked.close(library, words, memory, sessions) {
             Ok(ended) => Ok(ended.into_closed::<N>()),
             Err(open) => Err(NotClosed::of(open)),
         }
@@ -319,12 +319,12 @@ impl<N: Name, H: Place + Drop> Engine<N, H> {
         let Engine {
             library,
             words,
-            room,
+            memory,
             locked,
             latch: _,
         } = self;
         let locked = locked.into_inner().into_inner();
-        match locked.close(library, words, room, sessions) {
+        match locked.close(library, words, memory, sessions) {
             Ok(ended) => reopen::<N, H>(ended, alloc, journal),
             Err(open) => Err(NotReopened {
                 left: Err(NotClosed::of(open)),

@@ -14,7 +14,7 @@ use std::marker::Model;
 use vll_check::Library;
 use vll_core::{Config, OpenFault, Queue, open_fault};
 use vll_counters::{QueueSeat, SessionSeat, Words};
-use vll_queue::{Locked, Name, Room, Session};
+use vll_queue::{ClosingMemory, Locked, Name, Session};
 use vll_sca::Place;
 
 /// An engine that has no name yet. Contracts see which words it has, and what it was opened with.
@@ -25,7 +25,7 @@ pub struct Opening<H: Place> {
     queue: Queue<H>,
     library: Library,
     sessions: Vec<Session>,
-    room: Room,
+    memory: ClosingMemory,
 }
 
 impl<H: Place> Model for Opening<H> {
@@ -65,7 +65,7 @@ impl<H: Place + Drop> Opening<H> {
             return Err(fault);
         }
         let queue = Queue::open(alloc, config, hash)?;
-        let room = Room::new(alloc, records.len() as u32)?;
+        let memory = ClosingMemory::new(alloc, records.len() as u32)?;
         let (words, seat, seats) = Words::open(alloc, records.as_slice(), &library, clients)?;
         let sessions = sessions(alloc, seats)?;
         Ok(Opening {
@@ -74,7 +74,7 @@ impl<H: Place + Drop> Opening<H> {
             queue,
             library,
             sessions,
-            room,
+            memory,
         })
     }
 
@@ -84,14 +84,14 @@ impl<H: Place + Drop> Opening<H> {
         words: Words,
         seat: QueueSeat,
         queue: Queue<H>,
-        room: Room,
+        memory: ClosingMemory,
         sessions: Vec<Session>,
     ) -> Opening<H>
         requires library { library ≡ catalog_of words.base }
         requires queue { queue ≡ emptied queue }
         requires seat { seat ≡ shown_queue words.table [] (first_queue seat.clients) }
         requires few { seat.clients < 4294967296 }
-        requires room { room ≡ length words.base.records }
+        requires memory { memory ≡ length words.base.records }
         requires sessions { AreNewSessions words.table seat.clients sessions.items }
         ensures { result ≡ opening words.table library words.base.records (config_of queue) queue.hash seat.clients }
     {
@@ -101,7 +101,7 @@ impl<H: Place + Drop> Opening<H> {
             queue,
             library,
             sessions,
-            room,
+            memory,
         }
     }
 }
@@ -119,10 +119,10 @@ impl<H: Place + Drop> Opening<H> {
             queue,
             library,
             sessions,
-            room,
+            memory,
         } = self;
         (
-            Engine::new(library, words, Locked::new(queue, seat), room),
+            Engine::new(library, words, Locked::new(queue, seat), memory),
             sessions,
         )
     }

@@ -12,7 +12,7 @@ use crate::opening::Opening;
 use std::alloc::Global;
 use vll_core::Line;
 use vll_counters::{QueueSeat, Words};
-use vll_queue::{Closed, Ended, Name, Room, Session};
+use vll_queue::{Closed, ClosingMemory, Ended, Name, Session};
 use vll_sca::Place;
 
 // Returns the journal and the next opening.
@@ -55,10 +55,10 @@ pub(crate) fn reopen<N: Name, H: Place + Drop>(
     };
     let (queue, lines) = queue.reopen(journal);
     let sessions = new_sessions(&words, &mut seat, sessions, clients as u32);
-    let room = Room::of(library.records(), records, pairs);
+    let memory = ClosingMemory::of(library.records(), records, pairs);
     Ok(Reopened {
         journal: lines,
-        opening: Opening::of(library, words, seat, queue, room, sessions),
+        opening: Opening::of(library, words, seat, queue, memory, sessions),
     })
 }
 

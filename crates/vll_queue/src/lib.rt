@@ -6,6 +6,7 @@
 
 mod begun;
 mod closed;
+mod closing_memory;
 mod ended;
 mod execution;
 mod finding;
@@ -15,11 +16,11 @@ mod name;
 mod news;
 mod pass;
 mod patience;
-mod room;
 mod session;
 
 pub use begun::{Admission, BeginRefusal, Begun};
 pub use closed::Closed;
+pub use closing_memory::ClosingMemory;
 pub use ended::Ended;
 pub use execution::{execute, look, release, run_at, run_in_place};
 pub use finding::find;
@@ -29,5 +30,4 @@ pub use locked::close::NotEnded;
 pub use name::Name;
 pub use news::News;
 pub use pass::{Done, Pass, Released};
-pub use room::Room;
 pub use session::Session;

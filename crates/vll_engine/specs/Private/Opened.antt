@@ -26,4 +26,4 @@ pub record IsOpening {H : Type 0} (a : Inside H) : Type 0 where
   pub seat : a.seat ≡ shown_queue a.words.table [] (first_queue a.seat.clients)
   pub few : a.seat.clients < 4294967296
   pub sessions : AreNewSessions a.words.table a.seat.clients a.sessions.items
-  pub room : a.room ≡ length a.words.base.records
+  pub memory : a.memory ≡ length a.words.base.records

@@ -10,9 +10,9 @@ ghost use Rattle.vll_queue.specs.Sessions.{HasItsCalls};
 ghost use Rattle.vll_queue.specs.Shown.{library_of, words_of};
 
 use super::Locked;
+use crate::closing_memory::ClosingMemory;
 use crate::ended::Ended;
 use crate::name::Name;
-use crate::room::Room;
 use crate::session::Session;
 use vll_check::Library;
 use vll_counters::{QueueSeat, SessionSeat, Words};
@@ -25,7 +25,7 @@ pub struct NotEnded<N: Name, H: Place + Drop> {
     pub locked: Locked<N, H>,
     pub library: Library,
     pub words: Words,
-    pub room: Room,
+    pub memory: ClosingMemory,
     pub sessions: Vec<Session>,
     pub running: u32,
     pub waiting: u32,
@@ -38,12 +38,12 @@ impl<N: Name, H: Place + Drop> Locked<N, H> {
         self,
         library: Library,
         words: Words,
-        room: Room,
+        memory: ClosingMemory,
         mut sessions: Vec<Session>,
     ) -> Result<Ended<H>, NotEnded<N, H>>
         requires library { library ≡ library_of N.engine }
         requires words { words ≡ words_of N.engine }
-        requires room { room ≡ length N.engine.base.records }
+        requires memory { memory ≡ length N.engine.base.records }
         requires few { N.engine.clients < 4294967296 }
         requires sessions { All (λ s. s.table ≡ N.engine.table) sessions.items }
         ensures ended { IfOk result (λ x. IsEnded H.place_of N.engine x) }
@@ -53,7 +53,7 @@ impl<N: Name, H: Place + Drop> Locked<N, H> {
         ensures back { IfErr result (λ n. n.sessions ≡ sessions) }
         ensures library { IfErr result (λ n. n.library ≡ library) }
         ensures words { IfErr result (λ n. n.words ≡ words) }
-        ensures room { IfErr result (λ n. n.room ≡ room) }
+        ensures memory { IfErr result (λ n. n.memory ≡ memory) }
         ensures locked { IfErr result (λ n. n.locked ≡ self) }
         ensures running { IfErr result (λ n. n.running ≡ count_by is_running (statuses self)) }
         ensures waiting { IfErr result (λ n. n.waiting ≡ count_by is_waiting (statuses self)) }
@@ -66,7 +66,7 @@ impl<N: Name, H: Place + Drop> Locked<N, H> {
                 locked: self,
                 library,
                 words,
-                room,
+                memory,
                 sessions,
                 running,
                 waiting,
@@ -81,7 +81,7 @@ impl<N: Name, H: Place + Drop> Locked<N, H> {
         let clients = sessions.len();
         visit_all(&words, &mut seat, &mut sessions);
         let words = words.close(seat);
-        let (records, pairs) = divided(words.as_slice(), room);
+        let (records, pairs) = divided(words.as_slice(), memory);
         Ok(Ended {
             library,
             words,
@@ -126,16 +126,16 @@ fn visit(words: &Words, queue: &mut QueueSeat, session: SessionSeat)
 }
 
 // Divides the words into the records' values and their pair words.
-fn divided(words: &[u64], room: Room) -> (Vec<u64>, Vec<u64>)
-    requires long { length words.now ≡ 1 + 2 * room }
-    ensures words { AreDivided room words.now result.0.items result.1.items }
-    ensures room { (room ≤ vec_capacity result.0) × (room ≤ vec_capacity result.1) }
+fn divided(words: &[u64], memory: ClosingMemory) -> (Vec<u64>, Vec<u64>)
+    requires long { length words.now ≡ 1 + 2 * memory }
+    ensures words { AreDivided memory words.now result.0.items result.1.items }
+    ensures room { (memory ≤ vec_capacity result.0) × (memory ≤ vec_capacity result.1) }
 {
-    let Room {
+    let ClosingMemory {
         count,
         mut records,
         mut pairs,
-    } = room;
+    } = memory;
     for r in 0..count {
         records.push_reserved(words[value_word(RecordId(r))]);
         pairs.push_reserved(words[pair_word(RecordId(r))]);

@@ -23,8 +23,8 @@ of-requires-clause-library g c =
     ap (λ (l : Catalog). l.records) c.requires.ended.library ∙ sym (end_is_as_long g.N.Name.engine (lines c.args.ended.queue) c.as_slice.result.now (c.as_slice.ensures.value ∙ c.requires.ended.records)) in
     (λ i. record { records = count i; procs = c.args.ended.library.procs }) ∙ sym (ap catalog_of c.in-Ok.ensures.words)
 
-pub of-requires-clause-room : goal.of-requires-clause-room
-of-requires-clause-room g c =
+pub of-requires-clause-memory : goal.of-requires-clause-memory
+of-requires-clause-memory g c =
     let count : c.args.ended.library.records ≡ length c.as_slice.result.now =
     ap (λ (l : Catalog). l.records) c.requires.ended.library ∙ sym (end_is_as_long g.N.Name.engine (lines c.args.ended.queue) c.as_slice.result.now (c.as_slice.ensures.value ∙ c.requires.ended.records)) in
-    c.of-room.ensures ∙ c.records.ensures.records ∙ count ∙ sym (ap (λ (b : Base). length b.records) c.in-Ok.ensures.words)
+    c.of-memory.ensures ∙ c.records.ensures.records ∙ count ∙ sym (ap (λ (b : Base). length b.records) c.in-Ok.ensures.words)

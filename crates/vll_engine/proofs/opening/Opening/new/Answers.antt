@@ -8,8 +8,8 @@ sessions-requires-clause-clients g c = new_sessions_are_clients c.in_ok-words.wo
 pub returns-in_err-queue-clause-refused : goal.returns-in_err-queue-clause-refused
 returns-in_err-queue-clause-refused g c = search rules
 
-pub returns-in_err-room-clause-refused : goal.returns-in_err-room-clause-refused
-returns-in_err-room-clause-refused g c = search rules
+pub returns-in_err-memory-clause-refused : goal.returns-in_err-memory-clause-refused
+returns-in_err-memory-clause-refused g c = search rules
 
 pub returns-in_err-words-clause-refused : goal.returns-in_err-words-clause-refused
 returns-in_err-words-clause-refused g c = search rules

@@ -1,4 +1,4 @@
-//! Room for what closing an engine leaves, so that closing allocates nothing.
+//! The memory for what closing an engine leaves, so that closing allocates nothing.
 ghost use Rattle.std.specs.Prelude.{◌≡◌, ◌≤◌, [], IfOk, vec_capacity};
 
 use std::alloc::{AllocError, Global};
@@ -7,13 +7,13 @@ use std::marker::Model;
 /// Lists for what closing leaves, so that closing allocates nothing. Contracts see the number of records they have room
 /// for.
 #[derive(Drop)]
-pub struct Room {
+pub struct ClosingMemory {
     pub(crate) count: u32,
     pub(crate) records: Vec<u64>,
     pub(crate) pairs: Vec<u64>,
 }
 
-impl Model for Room {
+impl Model for ClosingMemory {
     ghost use Rattle.std.specs.Prelude.{◌≡◌, ◌≤◌, ℕ, [], vec_capacity};
 
     ghost Value = { ℕ };
@@ -24,27 +24,27 @@ impl Model for Room {
         × (r.count ≤ vec_capacity r.records) × (r.count ≤ vec_capacity r.pairs) };
 }
 
-impl Room {
-    /// Room for `count` records. Fails if the system has no memory for it.
-    pub fn new(alloc: Global, count: u32) -> Result<Room, AllocError>
+impl ClosingMemory {
+    /// Memory for `count` records. Fails if the system has no memory for it.
+    pub fn new(alloc: Global, count: u32) -> Result<ClosingMemory, AllocError>
         ensures { IfOk result (λ r. r ≡ count) }
     {
-        Ok(Room {
+        Ok(ClosingMemory {
             count,
             records: touched(alloc, count as usize)?,
             pairs: touched(alloc, count as usize)?,
         })
     }
 
-    /// Room for `count` records in these lists. What they hold is dropped.
-    pub fn of(count: u32, mut records: Vec<u64>, mut pairs: Vec<u64>) -> Room
+    /// Memory for `count` records in these lists. What they hold is dropped.
+    pub fn of(count: u32, mut records: Vec<u64>, mut pairs: Vec<u64>) -> ClosingMemory
         requires records { count ≤ vec_capacity records }
         requires pairs { count ≤ vec_capacity pairs }
         ensures { result ≡ count }
     {
         records.clear();
         pairs.clear();
-        Room {
+        ClosingMemory {
             count,
             records,
             pairs,

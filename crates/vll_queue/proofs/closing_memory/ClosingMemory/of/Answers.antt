@@ -1,5 +1,5 @@
 use Rattle.std.proofs.Common.{rules}
-use Rattle.vll_queue.proofs.room.Room.of.Goals as goal
+use Rattle.vll_queue.proofs.closing_memory.ClosingMemory.of.Goals as goal
 
 pub invariant_of-result : goal.invariant_of-result
 invariant_of-result c = search rules
