@@ -11,30 +11,36 @@ use Rattle.vll_check.specs.Catalog.{IsCatalog}
 use Rattle.vll_counters.specs.declared.views.SessionView.{SessionView}
 use Rattle.vll_counters.specs.Shown.{PassShown}
 use Rattle.vll_engine.specs.declared.passes.BegunOnto.{BegunOnto}
-use Rattle.vll_engine.specs.Onto.{FindsAndBeginsOnto}
+use Rattle.vll_engine.specs.Onto.{FindsAndBeginsOnto, IsOnto}
 use Rattle.vll_queue.specs.Pass.{IsFresh}
 use Rattle.vll_queue.specs.Looked.{HasLooked}
-use Rattle.vll_engine.specs.Private.Onto.{BeginsOnto}
+use Rattle.vll_queue.specs.Begin.{Begins}
+use Rattle.vll_queue.specs.declared.begun.Begun.{Begun}
+use Rattle.vll_queue.specs.declared.begun.Begun.TheVariants.{Free}
 use Rattle.vll_queue.specs.Shown.{Named, library_of}
 use Rattle.vll_queue.proofs.Looking.{begins_found, begins_without}
 
 -- a session looks, and then its call begins
-pub begins_found_onto : (e : Named) (old mid new : SessionView) (call entering : Call) (answer : BegunOnto) (before after : List PassShown) → HasLooked e old mid call entering
-    → BeginsOnto e mid new entering answer before after → new.given ≡ mid.given → FindsAndBeginsOnto e old new call answer before after
-begins_found_onto e old mid new call entering answer before after looked h same = record {
-  begun = h.begun;
-  begins = begins_found e old mid new call entering h.begun looked h.begins same;
-  onto = h.onto;
+pub begins_found_onto : (e : Named) (old mid new : SessionView) (call entering : Call) (begun : Begun) (answer : BegunOnto) (before after : List PassShown) → HasLooked e old mid call entering
+    → Begins e mid new entering begun → IsOnto begun answer before after → new.given ≡ mid.given → FindsAndBeginsOnto e old new call answer before after
+begins_found_onto e old mid new call entering begun answer before after looked begins onto same = record {
+  begun = begun;
+  begins = begins_found e old mid new call entering begun looked begins same;
+  onto = onto;
 }
 
 -- a call without a source begins as it is
-pub begins_without_onto : (e : Named) (old new : SessionView) (call : Call) (answer : BegunOnto) (before after : List PassShown) → IsCatalog (library_of e) → Fits (library_of e) call → source (library_of e) call ≡ None
-    → BeginsOnto e old new call answer before after → new.given ≡ old.given → FindsAndBeginsOnto e old new call answer before after
-begins_without_onto e old new call answer before after catalog fits none h same = record {
-  begun = h.begun;
-  begins = begins_without e old new call h.begun catalog fits none h.begins same;
-  onto = h.onto;
+pub begins_without_onto : (e : Named) (old new : SessionView) (call : Call) (begun : Begun) (answer : BegunOnto) (before after : List PassShown) → IsCatalog (library_of e) → Fits (library_of e) call → source (library_of e) call ≡ None
+    → Begins e old new call begun → IsOnto begun answer before after → new.given ≡ old.given → FindsAndBeginsOnto e old new call answer before after
+begins_without_onto e old new call begun answer before after catalog fits none begins onto same = record {
+  begun = begun;
+  begins = begins_without e old new call begun catalog fits none begins same;
+  onto = onto;
 }
+
+-- the pass of a call that begins has made no step
+pub begins_fresh : (e : Named) (old new : SessionView) (call : Call) (begun : Begun) → Begins e old new call begun → (p : PassShown) → begun ≡ Free p → IsFresh e p
+begins_fresh e old new call begun begins p is = (subst (Begins e old new call) is begins).1.fresh
 
 -- the last of a list, once another was put in its place and taken off
 pub off_last : (before left mid : List PassShown) (count len : ℕ) (last p : PassShown) → count ≡ length before → len ≡ length before → ¬ count ≡ 0 → mid ≡ set before (count - 1) p → left ≡ take (len - 1) mid → last ≡ get_or before (count - 1) last

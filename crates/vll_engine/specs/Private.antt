@@ -1,5 +1,4 @@
 -- Cited by private contracts and by the views and invariants of types; no contract of an exported item cites it.
 pub mod Opened
 pub mod Seats
-pub mod Onto
 pub mod Attempt

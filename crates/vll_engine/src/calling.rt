@@ -1,5 +1,5 @@
 //! Calls from entry to reply.
-ghost use Rattle.std.specs.Prelude.{◌≡◌, ◌<◌, ◌++◌, ◌∷◌, [], IfErr, IfOk, Some};
+ghost use Rattle.std.specs.Prelude.{◌≡◌, ◌<◌, ◌++◌, ◌∷◌, [], IfErr, IfOk, IfSome, Some};
 ghost use Rattle.vll_check.specs.Headline.Calls.{source as source_in};
 ghost use Rattle.vll_check.specs.Calls.{Fits, IsReady};
 ghost use Rattle.vll_proc.specs.Headline.Serial.{answer};
@@ -136,14 +136,14 @@ impl<N: Name, H: Place + Drop> Engine<N, H> {
         ensures session { session.new.table ≡ session.old.table }
     {
         let mut hold = hold;
-        match hold.admit(session, ready) {
+        match hold.guard.admit(&self.words, session, ready) {
             Admission::Free(seat, ticket) => {
                 drop(hold);
                 let mut seat = seat;
                 self.run_at(&mut seat, ready, reply);
                 let released = Released::of(seat, ticket, *reply);
                 let mut hold = self.hold_of_a_caller(wait, rest);
-                hold.finish_own(session, released);
+                hold.guard.finish_own(&self.words, session, released);
                 Ok(Some(ticket))
             }
             Admission::Blocked(ticket) => {
@@ -177,7 +177,7 @@ impl<N: Name, H: Place + Drop> Engine<N, H> {
         rest.found();
         let mut hold = hold;
         for _ in wait.forever() {
-            if let Some(reply) = hold.reply(session, ticket) {
+            if let Some(reply) = hold.guard.reply(&self.words, session, ticket) {
                 return reply;
             }
             hold = self.help(wait, hold, rest);
@@ -193,10 +193,7 @@ impl<N: Name, H: Place + Drop> Engine<N, H> {
         rest: &mut Rest,
     ) -> Hold<'a, N, H> {
         let mut hold = hold;
-        let found = match hold.next_front() {
-            Some(pass) => Some(pass),
-            None => hold.next_scan(true),
-        };
+        let found = next(&mut hold);
         drop(hold);
         match found {
             Some(pass) => {
@@ -224,4 +221,16 @@ impl<N: Name, H: Place + Drop> Engine<N, H> {
         hold.finish(released);
         hold
     }
+}
+
+// Returns a pass for the front, if it waits, or else for what the scan finds, unless the scan is put off.
+#[inline(always)]
+fn next<N: Name, H: Place + Drop>(hold: &mut Hold<'_, N, H>) -> Option<Pass>
+    ensures { IfSome result (IsFresh N.engine) }
+{
+    let (seat, ticket) = match hold.guard.next_front(hold.words) {
+        Some(front) => front,
+        None => hold.guard.next_scan_if_due(hold.words, true)?,
+    };
+    Some(hold.guard.pass(seat, ticket))
 }

@@ -138,10 +138,17 @@ impl<N: Name, H: Place + Drop> Engine<N, H> {
         ensures session { session.new.table ≡ session.old.table }
     {
         match self.library.source(call) {
-            None => self.hold(wait).begin_ready(session, call),
+            None => {
+                let mut hold = self.hold(wait);
+                hold.guard
+                    .admit(&self.words, session, call)
+                    .into_begun(call)
+            }
             Some(source) => {
                 let call = find::<N>(&self.words, &self.library, session, call, source);
-                self.hold(wait).begin_ready(session, &call)
+                let mut hold = self.hold(wait);
+                let admission = hold.guard.admit(&self.words, session, &call);
+                admission.into_begun(&call)
             }
         }
     }
@@ -150,7 +157,9 @@ impl<N: Name, H: Place + Drop> Engine<N, H> {
     pub fn next_front(&self, wait: &impl Wait) -> Option<Pass>
         ensures { IfSome result (IsFresh N.engine) }
     {
-        self.hold(wait).next_front()
+        let mut hold = self.hold(wait);
+        let (seat, ticket) = hold.guard.next_front(&self.words)?;
+        Some(hold.guard.pass(seat, ticket))
     }
 
     /// Returns a pass for the first waiting ticket that has no hash conflict with an earlier one that runs or waits, by
@@ -158,7 +167,9 @@ impl<N: Name, H: Place + Drop> Engine<N, H> {
     pub fn next_scan(&self, wait: &impl Wait) -> Option<Pass>
         ensures { IfSome result (IsFresh N.engine) }
     {
-        self.hold(wait).next_scan(false)
+        let mut hold = self.hold(wait);
+        let (seat, ticket) = hold.guard.next_scan_if_due(&self.words, false)?;
+        Some(hold.guard.pass(seat, ticket))
     }
 
     /// Loads each claim's record, runs the body, and stores each Write claim's record unless the call aborts. Takes no
@@ -238,7 +249,8 @@ impl<N: Name, H: Place + Drop> Engine<N, H> {
         ensures ever { (k : _) → slice_get session.old.session.given k ≡ Some ticket → IsSome result }
         ensures session { (session.new.table ≡ session.old.table) × SawOthers session.old.session session.new.session }
     {
-        self.hold(wait).reply(session, ticket)
+        let mut hold = self.hold(wait);
+        hold.guard.reply(&self.words, session, ticket)
     }
 
     /// Appends the journal's lines from ticket `from` on, in order, as far as their calls have finished: it stops before
@@ -260,7 +272,8 @@ impl<N: Name, H: Place + Drop> Engine<N, H> {
         ensures given { session.new.session.given ≡ session.old.session.given }
         ensures session { (session.new.table ≡ session.old.table) × SawOthers session.old.session session.new.session }
     {
-        self.hold(wait).lines_from(session, from, lines);
+        let mut hold = self.hold(wait);
+        hold.guard.lines_from(&self.words, session, from, lines);
     }
 
     /// Returns the records, their pair words and the journal, if no call runs or waits: each line has its reply, the

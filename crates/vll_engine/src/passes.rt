@@ -2,11 +2,12 @@
 ghost use Rattle.std.specs.Prelude.{◌≡◌, ◌<◌, ◌≤◌, ◌-◌, [], IfNone, IfOk, IfSome, MatchBool, Some, length, slice_get};
 ghost use Rattle.std.specs.Option.{option_map};
 ghost use Rattle.vll_check.specs.Headline.Calls.{source as source_in};
-ghost use Rattle.vll_check.specs.Calls.{Fits, IsReady};
-ghost use Rattle.vll_engine.specs.Onto.{FindsAndBeginsOnto, HasOneMore, IsOfLast};
-ghost use Rattle.vll_queue.specs.Pass.{IsReleased};
-ghost use Rattle.vll_queue.specs.Looked.{IsLookedUp};
-ghost use Rattle.vll_engine.specs.Private.Onto.{BeginsOnto};
+ghost use Rattle.vll_check.specs.Calls.{Fits};
+ghost use Rattle.vll_counters.specs.Shown.{PassShown};
+ghost use Rattle.vll_engine.specs.Onto.{FindsAndBeginsOnto, HasOneMore, IsOfLast, IsOnto};
+ghost use Rattle.vll_queue.specs.Admission.{IsSeatOf, begun};
+ghost use Rattle.vll_queue.specs.Pass.{IsFresh, IsReleased};
+ghost use Rattle.vll_queue.specs.declared.begun.Begun.TheVariants as Begun;
 ghost use Rattle.vll_queue.specs.Shown.{library_of};
 
 use crate::engine::Engine;
@@ -98,7 +99,10 @@ impl<N: Name> Passes<N> {
         ensures session { session.new.table ≡ session.old.table }
     {
         match hold.library.source(call) {
-            None => self.begin_ready(hold, session, call),
+            None => {
+                let admission = hold.guard.admit(hold.words, session, call);
+                self.push_admitted(call, admission)
+            }
             Some(source) => self.find_and_begin(hold, session, call, source),
         }
     }
@@ -122,28 +126,21 @@ impl<N: Name> Passes<N> {
         ensures session { session.new.table ≡ session.old.table }
     {
         let call = find::<N>(hold.words, hold.library, session, call, source);
-        self.begin_ready(hold, session, &call)
+        let admission = hold.guard.admit(hold.words, session, &call);
+        self.push_admitted(&call, admission)
     }
 
-    // As `begin`, for a ready call.
+    // Appends the pass of a call that was admitted and may run. Returns what `begin` does.
     #[inline(always)]
-    fn begin_ready<H: Place + Drop>(
-        &mut self,
-        hold: &mut Hold<'_, N, H>,
-        session: &mut Session,
-        ready: &Call,
-    ) -> BegunOnto
-        requires session { session.old.table ≡ N.engine.table }
-        requires ready { IsReady (library_of N.engine) ready.now }
-        requires looked_up { IsLookedUp N.engine session.old.session ready.now }
+    fn push_admitted(&mut self, call: &Call, admission: Admission) -> BegunOnto
+        requires seat { IsSeatOf call.now admission }
+        requires fresh { (p : PassShown) → begun admission ≡ Begun.Free p → IsFresh N.engine p }
         requires room { length self.old < MOST_PASSES }
-        ensures answer { BeginsOnto N.engine session.old.session session.new.session ready.now result self.old self.new }
-        ensures given { session.new.session.given ≡ session.old.session.given }
-        ensures session { session.new.table ≡ session.old.table }
+        ensures { IsOnto (begun admission) result self.old self.new }
     {
-        match hold.admit(session, ready) {
+        match admission {
             Admission::Free(seat, ticket) => {
-                self.items.push_reserved(Pass::of(ready, seat, ticket));
+                self.items.push_reserved(Pass::of(call, seat, ticket));
                 BegunOnto::Free
             }
             Admission::Blocked(ticket) => BegunOnto::Blocked(ticket),

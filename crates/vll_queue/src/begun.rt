@@ -1,7 +1,11 @@
 //! The results of beginning a call, and why a call may not begin.
+ghost use Rattle.std.specs.Prelude.{◌≡◌};
+ghost use Rattle.vll_queue.specs.Admission.{IsSeatOf, begun};
+
 use crate::pass::Pass;
 use vll_core::Ticket;
 use vll_counters::PassSeat;
+use vll_proc::Call;
 
 /// The result of beginning a call.
 pub enum Begun {
@@ -13,8 +17,8 @@ pub enum Begun {
     Refused(BeginRefusal),
 }
 
-/// The result of beginning a call at the lock, where a free call has only a seat: whoever has the call can make the pass
-/// of both.
+/// The result of beginning a call at the lock, where a free call has only a seat: whoever has the call makes the pass of
+/// both where it is to stay, since each move would copy the call.
 pub enum Admission {
     /// Each claim was granted: the call may run.
     Free(PassSeat, Ticket),
@@ -22,6 +26,21 @@ pub enum Admission {
     Blocked(Ticket),
     /// The call has not entered, and has no claim.
     Refused(BeginRefusal),
+}
+
+impl Admission {
+    /// The result of beginning this call, of which this is the result at the lock.
+    #[inline(always)]
+    pub fn into_begun(self, call: &Call) -> Begun
+        requires { IsSeatOf call.now self }
+        ensures { result ≡ begun self }
+    {
+        match self {
+            Admission::Free(seat, ticket) => Begun::Free(Pass::of(call, seat, ticket)),
+            Admission::Blocked(ticket) => Begun::Blocked(ticket),
+            Admission::Refused(why) => Begun::Refused(why),
+        }
+    }
 }
 
 /// Why a call may not begin: the first of these that holds, in this order.
