@@ -36,6 +36,7 @@ pub use fault::EngineFault;
 pub use hold::Hold;
 pub use opening::Opening;
 pub use passes::{BegunOnto, MOST_PASSES, Passes};
+pub use rest::rest_for;
 pub use service::Service;
 pub use vll_queue::{
     BeginRefusal, Begun, Closed, Done, Name, News, Pass, Released, Session, news_orders_calls,

@@ -58,12 +58,17 @@ impl Rest {
     // Waits while there is nothing to do: each time about twice as long.
     pub(crate) fn rest(&mut self) {
         self.rest = LONGEST.min(self.rest.saturating_mul(2).saturating_add(FIRST_REST));
-        for spin in 0..self.rest {
-            if spin % SPINS_A_YIELD == SPINS_A_YIELD - 1 {
-                yield_now();
-            } else {
-                spin_loop();
-            }
+        rest_for(self.rest);
+    }
+}
+
+/// Rests for so many spins of a loop, and yields to other threads once in 64 of them.
+pub fn rest_for(spins: u32) {
+    for spin in 0..spins {
+        if spin % SPINS_A_YIELD == SPINS_A_YIELD - 1 {
+            yield_now();
+        } else {
+            spin_loop();
         }
     }
 }

@@ -18,7 +18,6 @@ mod fault;
 mod gate;
 mod laws;
 mod pace;
-mod rest;
 mod running;
 mod shared;
 mod solo;

@@ -1,6 +1,6 @@
 //! A worker's pace: how many tokens it takes and calls it begins, how long it rests, and when it leaves.
-use crate::rest::rest_for;
 use crate::solo::{Conflicts, Solo};
+use vll_engine::rest_for;
 use vll_tokens::{MOST_BATCH, Tally};
 
 // The longest pause of few workers, in spins of a loop.

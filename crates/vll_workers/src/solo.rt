@@ -1,6 +1,6 @@
 //! Whether a worker goes on alone, and when it does.
-use crate::rest::rest_for;
 use std::sync::atomic::{AtomicBool, Ordering};
+use vll_engine::rest_for;
 
 // A worker judges how calls conflict by this many rounds that began calls.
 const ROUNDS_JUDGED: u32 = 64;
