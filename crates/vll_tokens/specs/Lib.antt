@@ -1,6 +1,5 @@
 pub mod Shown
 pub mod Tokens
-pub mod Tallies
 pub mod Begin
 pub mod Pool
 pub mod Settled

@@ -8,7 +8,6 @@ mod pool;
 mod roster;
 mod stack;
 mod taken;
-mod tally;
 mod token;
 mod worker;
 
@@ -16,7 +15,6 @@ pub use pool::{Hand, Pool, PoolPass};
 pub use roster::Roster;
 pub use stack::{MOST_BATCH, Stack};
 pub use taken::Taken;
-pub use tally::Tally;
 pub use token::Token;
 pub use vll_core::MOST_WORKERS;
 pub use worker::{Shelf, Worker};

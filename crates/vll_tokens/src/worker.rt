@@ -12,7 +12,7 @@ use std::alloc::{AllocError, Global};
 use std::marker::{Model, PhantomData};
 use std::sync::Wait;
 
-/// RunMemory for the tokens that a worker keeps to its end.
+/// Memory for the tokens that a worker keeps to its end.
 #[derive(Drop)]
 pub struct Shelf<T: Roster> {
     tokens: Vec<Token>,

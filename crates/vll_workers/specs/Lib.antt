@@ -1,3 +1,4 @@
 pub mod Headline
 pub mod Merge
+pub mod Tallies
 pub mod Private

@@ -1,6 +1,6 @@
 //! Gates: observers of the calls that a run executes, and of its workers as they leave.
+use crate::tally::Tally;
 use vll_core::Ticket;
-use vll_tokens::Tally;
 
 /// An observer of each call that a run executes, and of each worker that leaves. Its functions are called outside the
 /// engine's lock, by the thread that executes the call, and the call waits for as long as they take. If the gate may

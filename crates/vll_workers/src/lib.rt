@@ -21,6 +21,7 @@ mod pace;
 mod running;
 mod shared;
 mod solo;
+mod tally;
 mod work;
 
 pub use fault::{RunError, RunFault};
@@ -29,4 +30,5 @@ pub use laws::{
     journals_merge_the_scripts, sessions_gain_found_calls, spent_engines_took_fewer_calls,
 };
 pub use running::{run, run_limited};
-pub use vll_tokens::{MOST_WORKERS, Tally, Token};
+pub use tally::Tally;
+pub use vll_tokens::{MOST_WORKERS, Token};

@@ -1,7 +1,8 @@
 //! A worker's pace: how many tokens it takes and calls it begins, how long it rests, and when it leaves.
 use crate::solo::{Conflicts, Solo};
+use crate::tally::Tally;
 use vll_engine::rest_for;
-use vll_tokens::{MOST_BATCH, Tally};
+use vll_tokens::MOST_BATCH;
 
 // The longest pause of few workers, in spins of a loop.
 const LONGEST_OF_FEW: u32 = 1_024;

@@ -1,6 +1,6 @@
 //! Counts of what the workers of a run did.
 ghost use Rattle.std.specs.Prelude.{◌≡◌};
-ghost use Rattle.vll_tokens.specs.Tallies.{both, nothing};
+ghost use Rattle.vll_workers.specs.Tallies.{both, nothing};
 
 /// What one worker, or several together, did in a run. It helps to understand a run's speed: no contract says what a
 /// worker counts. A count that reaches the largest number stays there.

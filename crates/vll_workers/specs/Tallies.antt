@@ -1,6 +1,6 @@
 -- The counts of several workers, added.
 use Rattle.std.specs.Prelude.{ℕ, ◌+◌, ◌-◌, ◌^◌, min}
-use Rattle.vll_tokens.specs.declared.tally.Tally.{Tally}
+use Rattle.vll_workers.specs.declared.tally.Tally.{Tally}
 
 -- the sum of two counts, or the largest number if that is less
 abbrev pub added : ℕ → ℕ → ℕ
