@@ -145,7 +145,7 @@ impl<'a, N: Name, H: Place + Send + Drop, T: Roster, W: Wait, G: Gate> Work<'a, 
         batch.pace.takes_hold();
         let mut hold = self.engine.hold(self.wait);
         self.finish_all(&mut hold, &mut batch.released, &mut batch.finished);
-        let had_token = self.find(
+        let had_token = self.next_runnable(
             worker,
             &mut hold,
             &mut batch.taken,
@@ -188,5 +188,5 @@ impl<'a, N: Name, H: Place + Send + Drop, T: Roster, W: Wait, G: Gate> Work<'a, 
 }
 
 mod beginning;
-mod ending;
+mod executing;
 mod taking;

@@ -27,7 +27,7 @@ impl<N: Name, H: Place + Send + Drop, T: Roster, W: Wait, G: Gate> Work<'_, N, H
     // Finds the calls to execute: the call at the front, if it waits. Else begins the tokens' next calls, and finds
     // those that are free; if there is none, the one that the scan finds. So no worker rests or leaves while a waiting
     // call may run. Reports whether there was a token.
-    pub(super) fn find(
+    pub(super) fn next_runnable(
         self,
         worker: &mut Worker<T>,
         hold: &mut Hold<'_, N, H>,
