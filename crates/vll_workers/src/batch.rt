@@ -1,4 +1,4 @@
-//! A batch: what a worker has under way, and the room for it.
+//! A batch: what a worker has under way, and the memory for it.
 ghost use Rattle.std.specs.Prelude.{◌≡◌, [], IfOk};
 
 use crate::pace::Pace;
@@ -17,8 +17,8 @@ pub(crate) struct Batch<N: Name> {
     pub(crate) pace: Pace,
 }
 
-// The room for a batch.
-pub(crate) struct BatchRoom<N: Name> {
+// The memory for a batch.
+pub(crate) struct BatchMemory<N: Name> {
     batch: Batch<N>,
     ghost untried: { batch.taken.untried ≡ [] },
     ghost tried: { batch.taken.tried ≡ [] },
@@ -27,18 +27,18 @@ pub(crate) struct BatchRoom<N: Name> {
     ghost finished: { batch.finished ≡ [] },
 }
 
-impl<N: Name> BatchRoom<N> {
-    // Allocates room for what one of `workers` workers has under way, which takes at most `most` tokens before a hold.
+impl<N: Name> BatchMemory<N> {
+    // Allocates memory for what one of `workers` workers has under way, which takes at most `most` tokens before a hold.
     pub(crate) fn new(
         alloc: Global,
         workers: u32,
         most: usize,
-    ) -> Result<BatchRoom<N>, AllocError> {
+    ) -> Result<BatchMemory<N>, AllocError> {
         let taken = Taken::new(alloc)?;
         let finished = Stack::new(alloc)?;
         let passes = Passes::new(alloc)?;
         match Stack::new(alloc) {
-            Ok(released) => Ok(BatchRoom {
+            Ok(released) => Ok(BatchMemory {
                 batch: Batch {
                     taken,
                     passes,
@@ -62,14 +62,14 @@ impl<N: Name> BatchRoom<N> {
         ensures released { result.released ≡ [] }
         ensures finished { result.finished ≡ [] }
     {
-        let BatchRoom { batch } = self;
+        let BatchMemory { batch } = self;
         batch
     }
 }
 
-impl<N: Name> Drop for BatchRoom<N> {
+impl<N: Name> Drop for BatchMemory<N> {
     fn drop(self) {
-        let BatchRoom { batch } = self;
+        let BatchMemory { batch } = self;
         batch.end();
     }
 }

@@ -6,7 +6,7 @@ ghost use Rattle.vll_tokens.specs.Pool.{AreSame, HasInHand, all_parts};
 ghost use Rattle.vll_workers.specs.Private.Work.{IsAtWork};
 ghost use Rattle.vll_tokens.specs.Tokens.{AreFit, IsFit, clients_of};
 
-use crate::batch::{Batch, BatchRoom};
+use crate::batch::{Batch, BatchMemory};
 use crate::gate::Gate;
 use crate::pace::Pace;
 use crate::solo::Solo;
@@ -29,7 +29,7 @@ pub(crate) struct Work<'a, N: Name, H: Place + Send + Drop, T: Roster, W: Wait, 
 
 impl<'a, N: Name, H: Place + Send + Drop, T: Roster, W: Wait, G: Gate> Work<'a, N, H, T, W, G> {
     // Waits until the tokens are in the pool, and works until there is nothing to do.
-    pub(crate) fn come_and_run(self, worker: Worker<T>, room: BatchRoom<N>) -> Worker<T>
+    pub(crate) fn come_and_run(self, worker: Worker<T>, memory: BatchMemory<N>) -> Worker<T>
         requires fit { AreFit N.engine T.tokens }
         requires limit { T.limit ≡ N.engine.config.limit }
         requires hand { HasInHand self.pool.now worker.pass worker.kept }
@@ -38,7 +38,7 @@ impl<'a, N: Name, H: Place + Send + Drop, T: Roster, W: Wait, G: Gate> Work<'a, 
         ensures parts { (view result.pass).parts ≡ (view worker.pass).parts }
     {
         let mut worker = worker;
-        let mut batch = self.open(room);
+        let mut batch = self.open(memory);
         drop(self.door.lock(self.wait));
         self.run(&mut worker, &mut batch);
         self.gate.left(batch.pace.tally());
@@ -47,7 +47,7 @@ impl<'a, N: Name, H: Place + Send + Drop, T: Roster, W: Wait, G: Gate> Work<'a, 
     }
 
     // Works until the worker, which has all parts, keeps all tokens.
-    pub(crate) fn run_to_the_end(self, worker: Worker<T>, room: BatchRoom<N>) -> Worker<T>
+    pub(crate) fn run_to_the_end(self, worker: Worker<T>, memory: BatchMemory<N>) -> Worker<T>
         requires fit { AreFit N.engine T.tokens }
         requires limit { T.limit ≡ N.engine.config.limit }
         requires hand { HasInHand self.pool.now worker.pass worker.kept }
@@ -55,7 +55,7 @@ impl<'a, N: Name, H: Place + Send + Drop, T: Roster, W: Wait, G: Gate> Work<'a, 
         ensures { AreSame (clients_of T.tokens) (clients_of result.kept) }
     {
         let mut worker = worker;
-        let mut batch = self.open(room);
+        let mut batch = self.open(memory);
         for _ in self.wait.forever() {
             let Some(token) = worker.take_last(self.wait, self.pool) else {
                 self.gate.left(batch.pace.tally());
@@ -70,14 +70,14 @@ impl<'a, N: Name, H: Place + Send + Drop, T: Roster, W: Wait, G: Gate> Work<'a, 
 
     // Opens a batch with nothing under way. If the gate may wait for calls, they begin one by one, and no token stays
     // in hand after a hold.
-    fn open(self, room: BatchRoom<N>) -> Batch<N>
+    fn open(self, memory: BatchMemory<N>) -> Batch<N>
         ensures untried { result.taken.untried ≡ [] }
         ensures tried { result.taken.tried ≡ [] }
         ensures passes { result.passes ≡ [] }
         ensures released { result.released ≡ [] }
         ensures finished { result.finished ≡ [] }
     {
-        let mut batch = room.open();
+        let mut batch = memory.open();
         if self.gate.may_wait() {
             batch.pace.take_under_holds();
         } else {

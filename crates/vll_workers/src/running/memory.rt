@@ -3,7 +3,7 @@ ghost use Rattle.std.specs.Prelude.{◌≡◌, ◌<◌, [], IfOk, length};
 ghost use Rattle.crossbeam_queue.specs.Passes.{view};
 ghost use Rattle.vll_tokens.specs.Pool.{HasInHand, all_parts};
 
-use crate::batch::BatchRoom;
+use crate::batch::BatchMemory;
 use std::alloc::{AllocError, Global};
 use vll_engine::Name;
 use vll_tokens::{Pool, Roster, Shelf, Worker};
@@ -12,7 +12,7 @@ use vll_tokens::{Pool, Roster, Shelf, Worker};
 #[derive(Drop)]
 pub(super) struct Desk<N: Name, T: Roster> {
     pub(super) shelf: Shelf<T>,
-    pub(super) room: BatchRoom<N>,
+    pub(super) memory: BatchMemory<N>,
 }
 
 impl<N: Name, T: Roster> Desk<N, T> {
@@ -21,17 +21,17 @@ impl<N: Name, T: Roster> Desk<N, T> {
         requires { count ≡ length T.tokens }
     {
         let shelf = Shelf::new(alloc, count)?;
-        let room = BatchRoom::new(alloc, workers, share_of(count, workers))?;
-        Ok(Desk { shelf, room })
+        let memory = BatchMemory::new(alloc, workers, share_of(count, workers))?;
+        Ok(Desk { shelf, memory })
     }
 }
 
-// What a run needs memory for: the pool, the calling thread's own worker, which has all tokens in hand, with room for
-// what it has under way, and what each other worker needs.
+// What a run needs memory for: the pool, the calling thread's own worker, which has all tokens in hand, what that has
+// under way, and what each other worker needs.
 pub(super) struct RunMemory<N: Name, T: Roster> {
     pub(super) pool: Pool<T>,
     pub(super) own: Worker<T>,
-    pub(super) own_room: BatchRoom<N>,
+    pub(super) own_memory: BatchMemory<N>,
     pub(super) desks: Vec<Desk<N, T>>,
 }
 
@@ -41,7 +41,7 @@ fn share_of(count: usize, workers: u32) -> usize {
     if share < 2 { 0 } else { share }
 }
 
-// Allocates the room for a run of `count` tokens by `workers` workers.
+// Allocates the memory of a run of `count` tokens by `workers` workers.
 pub(super) fn memory_for<N: Name, T: Roster>(
     alloc: Global,
     count: usize,
@@ -59,11 +59,11 @@ pub(super) fn memory_for<N: Name, T: Roster>(
         desks.push_reserved(Desk::new(alloc, count, workers)?);
     }
     let (pool, pass) = Pool::new(alloc, count)?;
-    let Desk { shelf, room } = Desk::new(alloc, count, workers)?;
+    let Desk { shelf, memory } = Desk::new(alloc, count, workers)?;
     Ok(RunMemory {
         pool,
         own: Worker::new(shelf, pass),
-        own_room: room,
+        own_memory: memory,
         desks,
     })
 }

@@ -10,7 +10,7 @@ use super::ending::outcome_of;
 use super::memory::{RunMemory, memory_for};
 use super::start::{Ready, start};
 use super::workplace::{Workplace, work_at};
-use crate::batch::BatchRoom;
+use crate::batch::BatchMemory;
 use crate::fault::{RunError, RunFault};
 use crate::gate::Gate;
 use crate::shared::Shared;
@@ -63,7 +63,7 @@ pub(super) fn run_named<
     let RunMemory {
         pool,
         own,
-        own_room,
+        own_memory,
         desks,
     } = room;
     let door = Mutex::new(());
@@ -82,7 +82,7 @@ pub(super) fn run_named<
         tokens,
         starts,
     };
-    match work_through::<N, H, X, T, R, W, G>(rt, workplace, ready, own_room) {
+    match work_through::<N, H, X, T, R, W, G>(rt, workplace, ready, own_memory) {
         Ok(worker) => outcome_of(worker),
         Err(tokens) => Err(RunError::new(RunFault::Spawn, tokens)),
     }
@@ -102,7 +102,7 @@ fn work_through<
     rt: &R,
     workplace: Workplace<'a, X, T, W, G>,
     ready: Ready<N, T>,
-    own_room: BatchRoom<N>,
+    own_memory: BatchMemory<N>,
 ) -> Result<Worker<T>, Vec<Token>>
     requires roster { T.tokens ≡ ready.tokens.items }
     requires fit { AreFit N.engine T.tokens }
@@ -134,5 +134,5 @@ fn work_through<
             ensures parts { IfOk result (λ w. (view w.pass).parts ≡ all_parts) }
         { start::<_, N, H, X, T, R, W, G>(scope, rt, workplace, closed, ready, false) },
     )?;
-    Ok(work_at::<N, H, X, T, W, G>(workplace).run_to_the_end(worker, own_room))
+    Ok(work_at::<N, H, X, T, W, G>(workplace).run_to_the_end(worker, own_memory))
 }

@@ -70,7 +70,7 @@ pub(super) fn start<
 {
     let mut ready = ready;
     let pool = workplace.pool;
-    let Some(Desk { shelf, room }) = ready.desks.pop() else {
+    let Some(Desk { shelf, memory }) = ready.desks.pop() else {
         return hand_out(workplace.wait, pool, ready, is_started);
     };
     let next = ready.own.another(pool, shelf);
@@ -87,7 +87,7 @@ pub(super) fn start<
             requires new { view next.pass ≡ new_hand }
             ensures hand { HasInHand workplace.entry.pool.now result.pass result.kept }
             ensures part { (view result.pass).parts ≡ 1 }
-        { work_at::<N, H, X, T, W, G>(workplace).come_and_run(next, room) },
+        { work_at::<N, H, X, T, W, G>(workplace).come_and_run(next, memory) },
     );
     let is_started = is_started || thread.is_ok();
     let mut own = match start(scope, rt, workplace, closed, ready, is_started) {
