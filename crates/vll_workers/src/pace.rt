@@ -213,3 +213,9 @@ impl Pace {
         true
     }
 }
+
+// How many tokens a worker may take before a hold: its share, or none if that is less than two.
+pub(crate) fn share_of(count: usize, workers: u32) -> usize {
+    let share = count / workers.max(1) as usize;
+    if share < 2 { 0 } else { share }
+}

@@ -4,6 +4,7 @@ ghost use Rattle.crossbeam_queue.specs.Passes.{view};
 ghost use Rattle.vll_tokens.specs.Pool.{HasInHand, all_parts};
 
 use crate::batch::BatchMemory;
+use crate::pace::share_of;
 use std::alloc::{AllocError, Global};
 use vll_engine::Name;
 use vll_tokens::{Pool, Roster, Shelf, Worker};
@@ -33,12 +34,6 @@ pub(super) struct RunMemory<N: Name, T: Roster> {
     pub(super) own: Worker<T>,
     pub(super) own_memory: BatchMemory<N>,
     pub(super) desks: Vec<Desk<N, T>>,
-}
-
-// How many tokens a worker may take before a hold: its share, or none if that is less than two.
-fn share_of(count: usize, workers: u32) -> usize {
-    let share = count / workers.max(1) as usize;
-    if share < 2 { 0 } else { share }
 }
 
 // Allocates the memory of a run of `count` tokens by `workers` workers.
