@@ -57,7 +57,9 @@ pub fn run<
     ensures spawn { IfErr result (λ e. e.fault ≡ RunFault.Spawn → e.tokens ≡ tokens) }
     ensures spent { IfErr result (λ e. e.fault ≡ RunFault.Spent → AreBack tokens.items e.tokens.items × OneIsSpent N.engine.config.limit e.tokens.items) }
 {
-    run_limited(rt, wait, alloc, engine, tokens, workers, workers, gate)
+    named::run_named::<N, H, Engine<N, H>, Brand, R, W, G>(
+        rt, wait, alloc, engine, tokens, workers, workers, gate,
+    )
 }
 
 /// As `run`, but tries to start at most `starts` threads: the workers beyond these count as refused, and the calling
@@ -93,9 +95,6 @@ pub fn run_limited<
     ensures spent_started { IfErr result (λ e. e.fault ≡ RunFault.Spent → 0 < starts) }
     ensures some { IfErr result (λ _. 0 < length tokens.items) }
 {
-    if tokens.is_empty() {
-        return Ok(tokens);
-    }
     named::run_named::<N, H, Engine<N, H>, Brand, R, W, G>(
         rt, wait, alloc, engine, tokens, workers, starts, gate,
     )

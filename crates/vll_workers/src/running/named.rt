@@ -23,7 +23,7 @@ use vll_engine::Name;
 use vll_sca::Place;
 use vll_tokens::{MOST_WORKERS, Roster, Token, Worker};
 
-// Runs tokens that have a name, and tries at most `starts` starts.
+// Runs tokens that have a name, as `run_limited`.
 pub(super) fn run_named<
     'a,
     N: Name + Send + Sync + 'a,
@@ -45,7 +45,6 @@ pub(super) fn run_named<
 ) -> Result<Vec<Token>, RunError>
     requires roster { T.tokens ≡ tokens.items }
     requires limit { T.limit ≡ N.engine.config.limit }
-    requires some { 0 < length tokens.items }
     requires workers { workers ≤ MOST_WORKERS }
     requires fit { AreFit N.engine tokens.items }
     requires distinct { IsDistinct nat_eq (clients_of tokens.items) }
@@ -53,11 +52,15 @@ pub(super) fn run_named<
     ensures no_memory { IfErr result (λ e. e.fault ≡ RunFault.NoMemory → e.tokens ≡ tokens) }
     ensures spawn { IfErr result (λ e. e.fault ≡ RunFault.Spawn → e.tokens ≡ tokens) }
     ensures spent { IfErr result (λ e. e.fault ≡ RunFault.Spent → AreBack tokens.items e.tokens.items × OneIsSpent N.engine.config.limit e.tokens.items) }
-    ensures started { IfOk result (λ _. 0 < starts) }
+    ensures started { IfOk result (λ _. 0 < length tokens.items → 0 < starts) }
     ensures spent_started { IfErr result (λ e. e.fault ≡ RunFault.Spent → 0 < starts) }
+    ensures some { IfErr result (λ _. 0 < length tokens.items) }
 {
-    let room = match memory_for::<N, T>(alloc, tokens.len(), workers) {
-        Ok(room) => room,
+    if tokens.is_empty() {
+        return Ok(tokens);
+    }
+    let memory = match memory_for::<N, T>(alloc, tokens.len(), workers) {
+        Ok(memory) => memory,
         Err(AllocError) => return Err(RunError::new(RunFault::NoMemory, tokens)),
     };
     let RunMemory {
@@ -65,7 +68,7 @@ pub(super) fn run_named<
         own,
         own_memory,
         desks,
-    } = room;
+    } = memory;
     let door = Mutex::new(());
     let solo = Solo::new();
     let workplace = Workplace {

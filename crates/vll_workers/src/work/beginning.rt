@@ -53,7 +53,11 @@ impl<N: Name, H: Place + Send + Drop, T: Roster, W: Wait, G: Gate> Work<'_, N, H
             self.take_some(worker, taken, MOST_BATCH, 1);
         }
         let had_token = !taken.untried.is_empty();
-        self.begin_all(worker, hold, taken, passes, pace);
+        let mut was_held = false;
+        for _ in 0..taken.untried.len() {
+            was_held |= !self.begin_next(worker, hold, taken, passes, pace);
+        }
+        pace.began(passes.len() as u32, was_held);
         // A worker that takes tokens only under a hold leaves once it finds the pool empty there.
         if !pace.takes_ahead() {
             self.put_back(worker, taken);
@@ -62,31 +66,6 @@ impl<N: Name, H: Place + Send + Drop, T: Roster, W: Wait, G: Gate> Work<'_, N, H
             pace.saw_scan(passes.next_scan(hold, false));
         }
         had_token
-    }
-
-    // Begins the tokens' next calls.
-    fn begin_all(
-        self,
-        worker: &mut Worker<T>,
-        hold: &mut Hold<'_, N, H>,
-        taken: &mut Taken,
-        passes: &mut Passes<N>,
-        pace: &mut Pace,
-    )
-        requires fit { AreFit N.engine T.tokens }
-        requires limit { T.limit ≡ N.engine.config.limit }
-        requires old { IsAtWork T.tokens self.pool.now worker.old (taken.old.untried ++ taken.old.tried) }
-        requires few { length taken.old.untried + length taken.old.tried ≤ MOST_BATCH }
-        requires passes { passes.old ≡ [] }
-        ensures new { IsAtWork T.tokens self.entry.pool.now worker.new (taken.new.untried ++ taken.new.tried) }
-        ensures few { length taken.new.untried + length taken.new.tried ≤ MOST_BATCH }
-        ensures parts { (view worker.new.pass).parts ≡ (view worker.old.pass).parts }
-    {
-        let mut was_held = false;
-        for _ in 0..taken.untried.len() {
-            was_held |= !self.begin_next(worker, hold, taken, passes, pace);
-        }
-        pace.began(passes.len() as u32, was_held);
     }
 
     // Begins the next calls of the last token, and reports whether all that began are free. The token is set aside, or

@@ -3,7 +3,7 @@ use Rattle.std.proofs.Common.{◌≡◌, ◌≤◌, ◌+◌, ◌++◌, length}
 use Rattle.vll_tokens.specs.declared.stack.TheConstants.{MOST_BATCH}
 use Rattle.crossbeam_queue.specs.Passes.{view}
 use Rattle.vll_workers.specs.Private.Work.{IsAtWork}
-use Rattle.vll_workers.proofs.work.Work.begin_all.Given as goal
+use Rattle.vll_workers.proofs.work.Work.next_runnable.Given as goal
 
 abbrev pub invariant-loop : goal.invariant-loop
 invariant-loop g l =

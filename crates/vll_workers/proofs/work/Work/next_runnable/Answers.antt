@@ -1,5 +1,5 @@
 use Rattle.std.proofs.Common.{◌∙◌}
-use Rattle.vll_workers.proofs.work.Work.begin_all.Goals as goal
+use Rattle.vll_workers.proofs.work.Work.next_runnable.Goals as goal
 
 pub loop-preserved : goal.loop-preserved
 loop-preserved g c =
