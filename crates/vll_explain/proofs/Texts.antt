@@ -2,9 +2,9 @@
 use Rattle.std.proofs.Common.{◌≡◌, ◌∙◌, ◌++◌, ◌∷◌, IfOk, ℕ, List, Result, Ok, Err, codes, append_assoc, ap}
 use Rattle.serde_json.specs.Data.{Data}
 use Rattle.vll_scenario.specs.declared.fault.ScenarioFault.{ScenarioFault}
-use Rattle.vll_way.specs.declared.piece.Step.{Step}
+use Rattle.vll_fault_path.specs.declared.piece.Step.{Step}
 use Rattle.vll_scenario.specs.Line.{fault_words}
-use Rattle.vll_way.specs.Ways.{LeadsToFault}
+use Rattle.vll_fault_path.specs.Ways.{LeadsToFault}
 use Rattle.vll_explain.specs.Explained.{IsBegun, IsLocated, IsShown, line_of, way_words}
 
 spelled : (a w rest : List ℕ) → a ++ (w ++ (10 ∷ 97 ∷ 116 ∷ 58 ∷ 32 ∷ rest)) ≡ (a ++ w ++ codes "\n") ++ codes "at: " ++ rest

@@ -4,13 +4,13 @@ use Rattle.serde_json.specs.Data.{Data}
 use Rattle.vll_scenario.specs.declared.fault.ScenarioFault.{ScenarioFault}
 use Rattle.vll_scenario.specs.declared.fault.ScenarioFault.TheVariants as fault
 use Rattle.vll_scenario.specs.declared.limits.TheConstants.{MOST_BYTES}
-use Rattle.vll_way.specs.declared.piece.Step.{Step}
-use Rattle.vll_way.specs.declared.piece.Step.TheVariants as step
+use Rattle.vll_fault_path.specs.declared.piece.Step.{Step}
+use Rattle.vll_fault_path.specs.declared.piece.Step.TheVariants as step
 use Rattle.vll_scenario.specs.Line.{fault_words}
 use Rattle.vll_scenario.specs.Reading.{IsRead, Tells}
 use Rattle.vll_scenario.specs.Scenario.{scenario_at, tree_or_json}
 use Rattle.vll_scenario.specs.Headline.Setup.{Setup}
-use Rattle.vll_way.specs.Ways.{LeadsToFault, step_words, words_of}
+use Rattle.vll_fault_path.specs.Ways.{LeadsToFault, step_words, words_of}
 
 -- the line of a fault
 abbrev pub line_of : ScenarioFault → List ℕ

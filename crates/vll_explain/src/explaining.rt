@@ -14,12 +14,12 @@ ghost use Rattle.vll_explain.specs.Private.{IsToldOf};
 use crate::way::{push_way, shown_name};
 use serde_json::Value;
 use std::alloc::{AllocError, Global};
+use vll_fault_path::{Way, way_to_fault};
 use vll_reasons::{reason_of, summary_of, unread_explanation};
 use vll_scenario::{
     MOST_BYTES, Reading, Scenario, ScenarioFault, Sink, Source, WriteFault, read_bytes, reading_of,
     write_text,
 };
-use vll_way::{Way, way_to_fault};
 
 /// Reads a scenario as `read_scenario` does, and writes a report: if it is refused, the line of its fault, followed by
 /// an explanation that begins with `at: `; if not, `ok`, followed by what the scenario has. docs/SCENARIO.md describes

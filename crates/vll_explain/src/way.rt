@@ -1,12 +1,12 @@
 //! The way to a piece, in words.
 ghost use Rattle.std.specs.Prelude.{◌≡◌, ◌++◌, IfOk, OnOk, string_bytes};
 ghost use Rattle.vll_explain.specs.Explained.{IsShown, way_words};
-ghost use Rattle.vll_way.specs.Ways.{words_of};
+ghost use Rattle.vll_fault_path.specs.Ways.{words_of};
 
 use serde_json::Value;
 use std::alloc::{AllocError, Global};
+use vll_fault_path::Step;
 use vll_reasons::procedure_name;
-use vll_way::Step;
 
 // Appends the words of the steps from a scenario; `shown`, the name of the item, follows the second step.
 pub(crate) fn push_way(text: &mut String, steps: &[Step], shown: &str) -> Result<(), AllocError>

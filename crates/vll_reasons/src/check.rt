@@ -2,13 +2,13 @@
 use crate::asked::items_of;
 use serde_json::Value;
 use std::alloc::{AllocError, Global};
+use vll_fault_path::{Found, Kind, Step};
 use vll_proc::{
     FIRST_MOST_KEYS, MOST_ARGS, MOST_DEPTH, MOST_LOCALS, MOST_NODES, MOST_OUTPUTS, MOST_TURNS,
     MOST_WEIGHT,
 };
 use vll_record::MOST_CLAIMS;
 use vll_scenario::CheckFault;
-use vll_way::{Found, Kind, Step};
 
 // What is wrong with a piece of the procedure at an index.
 pub(crate) fn check_why(

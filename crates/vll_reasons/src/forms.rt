@@ -2,7 +2,7 @@
 use crate::shown::{Quoted, Shown};
 use serde_json::Value;
 use std::alloc::{AllocError, Global};
-use vll_way::Kind;
+use vll_fault_path::Kind;
 
 // What has a form, and the forms that there are.
 #[derive(Clone, Copy)]

@@ -7,8 +7,8 @@ use crate::shape::shape_why;
 use crate::size::size_why;
 use serde_json::Value;
 use std::alloc::{AllocError, Global};
+use vll_fault_path::Found;
 use vll_scenario::{MOST_BYTES, ScenarioFault};
-use vll_way::Found;
 
 const UNREADABLE: &str = "standard input\nwhy: it cannot be read; use a file or a pipe\n";
 

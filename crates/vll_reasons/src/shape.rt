@@ -4,7 +4,7 @@ use crate::members::member_why;
 use crate::shown::Shown;
 use serde_json::Value;
 use std::alloc::{AllocError, Global};
-use vll_way::{Found, Kind};
+use vll_fault_path::{Found, Kind};
 
 const MUST: [&str; 4] = ["version", "records", "procs", "clients"];
 

@@ -3,9 +3,9 @@ use crate::asked::items_of;
 use serde_json::Value;
 use std::alloc::{AllocError, Global};
 use vll_core::{MOST_CALLS, MOST_RECORDS, MOST_WAITING};
+use vll_fault_path::{Found, Step};
 use vll_sca::MOST_BITS;
 use vll_scenario::{MOST_CLIENTS, MOST_EVENTS, MOST_PROCS};
-use vll_way::{Found, Step};
 
 // The size of a part, and the limits on it.
 pub(crate) fn size_why(alloc: Global, piece: Option<Found<'_>>) -> Result<String, AllocError> {

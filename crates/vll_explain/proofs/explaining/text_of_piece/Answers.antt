@@ -1,6 +1,6 @@
 use Rattle.std.proofs.Common.{◌∙◌, ◌++◌, ◌∷◌, [], ap, subst, subst₂, sym, string_bytes}
 use Rattle.serde_json.specs.View.{view}
-use Rattle.vll_way.specs.Ways.{LeadsToFault}
+use Rattle.vll_fault_path.specs.Ways.{LeadsToFault}
 use Rattle.vll_explain.specs.Explained.{IsShown, way_words}
 use Rattle.vll_explain.proofs.Texts.{located_by}
 use Rattle.vll_explain.proofs.explaining.text_of_piece.Goals as goal

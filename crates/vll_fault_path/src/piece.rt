@@ -1,0 +1,300 @@
+//! The pieces of a scenario, and how they nest.
+ghost use Rattle.std.specs.Prelude.{◌≡◌};
+ghost use Rattle.vll_fault_path.specs.Pieces.{event_forms, expression_forms, form_of, item_kind, item_step, places, repeat_form, statement_form, word_form};
+
+use std::fmt;
+use vll_proc::Edition;
+
+/// What a piece of a scenario has to be.
+#[derive(Clone, Copy, PartialEq, Eq, Debug)]
+pub enum Kind {
+    Version,
+    /// Any whole number of 64 bits.
+    Number,
+    /// A whole number of 32 bits.
+    Whole,
+    /// An index or a count, of 8 bits.
+    Index,
+    /// The code of an abort.
+    Code,
+    Text,
+    Hash,
+    /// The list of the records' first values.
+    Records,
+    Procedures,
+    Procedure,
+    Keys,
+    Key,
+    Statements,
+    Statement,
+    Expression,
+    /// The list of the clients' scripts.
+    Scripts,
+    Script,
+    Call,
+    /// The list of a call's arguments.
+    Arguments,
+    Schedule,
+    Event,
+}
+
+/// A step from a piece of a scenario to a piece inside it. Its text is what an explanation prints for it.
+#[derive(Clone, Copy, PartialEq, Eq, Debug)]
+pub enum Step {
+    Version,
+    Records,
+    Procs,
+    Clients,
+    Cap,
+    Bits,
+    Limit,
+    Hash,
+    Schedule,
+    /// An item of a list that is a member of the scenario.
+    Item(usize),
+    Name,
+    Args,
+    Keys,
+    Key(usize),
+    Body,
+    Statement(usize),
+    Call(usize),
+    Proc,
+    Argument(usize),
+    Index,
+    Record,
+    Code,
+    Value,
+    Test,
+    FirstList,
+    SecondList,
+    Count,
+    List,
+    Operand,
+    LeftOperand,
+    RightOperand,
+    Number,
+}
+
+impl fmt::Display for Step {
+    ghost use Rattle.std.specs.Prelude.{Some};
+    ghost use Rattle.vll_fault_path.specs.Ways.{step_words};
+
+    ghost output = { λ step. Some (step_words step) };
+
+    fn fmt<W: fmt::Write>(&self, f: &mut fmt::Formatter<W>) -> fmt::Result {
+        f.write_str(match *self {
+            Step::Item(index) => return write!(f, " {index}"),
+            Step::Key(index) => return write!(f, ", key {index}"),
+            Step::Statement(index) => return write!(f, ", statement {index}"),
+            Step::Call(index) => return write!(f, ", call {index}"),
+            Step::Argument(index) => return write!(f, ", argument {index}"),
+            Step::Version => "version",
+            Step::Records => "records",
+            Step::Procs => "procs",
+            Step::Clients => "clients",
+            Step::Cap => "cap",
+            Step::Bits => "bits",
+            Step::Limit => "limit",
+            Step::Hash => "hash",
+            Step::Schedule => "schedule",
+            Step::Name => ", name",
+            Step::Args => ", args",
+            Step::Keys => ", keys",
+            Step::Body => ", body",
+            Step::Proc => ", proc",
+            Step::Index => ", index",
+            Step::Record => ", record",
+            Step::Code => ", code",
+            Step::Value => ", value",
+            Step::Test => ", test",
+            Step::FirstList => ", first list",
+            Step::SecondList => ", second list",
+            Step::Count => ", count",
+            Step::List => ", list",
+            Step::Operand => ", operand",
+            Step::LeftOperand => ", left operand",
+            Step::RightOperand => ", right operand",
+            Step::Number => ", number",
+        })
+    }
+}
+
+// A piece that follows the word of a form: the step to it, and what it has to be.
+#[derive(Clone, Copy)]
+pub(crate) struct Slot {
+    pub(crate) step: Step,
+    pub(crate) kind: Kind,
+}
+
+// What the items of a piece have to be, if it is a list of any length.
+pub(crate) fn item_kind(list: Kind) -> Option<Kind>
+    ensures { result ≡ item_kind list }
+{
+    match list {
+        Kind::Records | Kind::Arguments => Some(Kind::Number),
+        Kind::Procedures => Some(Kind::Procedure),
+        Kind::Scripts => Some(Kind::Script),
+        Kind::Schedule => Some(Kind::Event),
+        Kind::Script => Some(Kind::Call),
+        Kind::Keys => Some(Kind::Key),
+        Kind::Statements => Some(Kind::Statement),
+        _ => None,
+    }
+}
+
+// The step to an item of such a list.
+pub(crate) fn item_step(list: Kind, index: usize) -> Step
+    ensures { result ≡ item_step list index }
+{
+    match list {
+        Kind::Script => Step::Call(index),
+        Kind::Arguments => Step::Argument(index),
+        Kind::Keys => Step::Key(index),
+        Kind::Statements => Step::Statement(index),
+        _ => Step::Item(index),
+    }
+}
+
+const INDEX: &[Slot] = &[Slot {
+    step: Step::Index,
+    kind: Kind::Index,
+}];
+
+const OPERAND: &[Slot] = &[Slot {
+    step: Step::Operand,
+    kind: Kind::Expression,
+}];
+
+const OPERANDS: &[Slot] = &[
+    Slot {
+        step: Step::LeftOperand,
+        kind: Kind::Expression,
+    },
+    Slot {
+        step: Step::RightOperand,
+        kind: Kind::Expression,
+    },
+];
+
+const CODE: &[Slot] = &[Slot {
+    step: Step::Code,
+    kind: Kind::Code,
+}];
+
+const VALUE: &[Slot] = &[Slot {
+    step: Step::Value,
+    kind: Kind::Expression,
+}];
+
+const ASSIGNMENT: &[Slot] = &[
+    Slot {
+        step: Step::Index,
+        kind: Kind::Index,
+    },
+    Slot {
+        step: Step::Value,
+        kind: Kind::Expression,
+    },
+];
+
+const BRANCH: &[Slot] = &[
+    Slot {
+        step: Step::Test,
+        kind: Kind::Expression,
+    },
+    Slot {
+        step: Step::FirstList,
+        kind: Kind::Statements,
+    },
+    Slot {
+        step: Step::SecondList,
+        kind: Kind::Statements,
+    },
+];
+
+const REPEAT: &[Slot] = &[
+    Slot {
+        step: Step::Count,
+        kind: Kind::Index,
+    },
+    Slot {
+        step: Step::List,
+        kind: Kind::Statements,
+    },
+];
+
+const NUMBER: &[Slot] = &[Slot {
+    step: Step::Number,
+    kind: Kind::Whole,
+}];
+
+const RECORD: &[Slot] = &[Slot {
+    step: Step::Record,
+    kind: Kind::Whole,
+}];
+
+// The pieces that have to follow a word.
+pub(crate) fn form_of(edition: Edition, kind: Kind, word: &str) -> &'static [Slot]
+    ensures { result.now ≡ form_of edition kind word.now }
+{
+    match kind {
+        Kind::Statement => statement_form(edition, word),
+        Kind::Expression => expression_form(word),
+        Kind::Event => event_form(word),
+        _ => &[],
+    }
+}
+
+fn statement_form(edition: Edition, word: &str) -> &'static [Slot]
+    ensures { result.now ≡ statement_form edition word.now }
+{
+    match word {
+        "abort" => CODE,
+        "reply" => VALUE,
+        "let" | "set" => ASSIGNMENT,
+        "if" => BRANCH,
+        "repeat" => repeat_form(edition),
+        _ => &[],
+    }
+}
+
+fn repeat_form(edition: Edition) -> &'static [Slot]
+    ensures { result.now ≡ repeat_form edition }
+{
+    match edition {
+        Edition::One => &[],
+        Edition::Two => REPEAT,
+    }
+}
+
+fn expression_form(word: &str) -> &'static [Slot]
+    ensures { result.now ≡ word_form word.now expression_forms }
+{
+    match word {
+        "arg" | "key" | "local" => INDEX,
+        "not" => OPERAND,
+        "add" | "sub" | "mul" | "div" | "rem" | "min" | "max" | "equal" | "less" => OPERANDS,
+        _ => &[],
+    }
+}
+
+fn event_form(word: &str) -> &'static [Slot]
+    ensures { result.now ≡ word_form word.now event_forms }
+{
+    match word {
+        "find" | "enter" | "load" | "store" | "release" | "finish" => NUMBER,
+        _ => &[],
+    }
+}
+
+// What follows the word of a key's place.
+pub(crate) fn place_form(word: &str) -> &'static [Slot]
+    ensures { result.now ≡ word_form word.now places }
+{
+    match word {
+        "arg" | "through" => INDEX,
+        "fixed" => RECORD,
+        _ => &[],
+    }
+}

@@ -1,0 +1,420 @@
+//! The way to the piece of a scenario that is at fault. It is searched for only if there is a fault.
+ghost use Rattle.std.specs.Prelude.{◌≡◌, ◌++◌, List, Some, IfOk, OnOk, map, option_map};
+ghost use Rattle.serde_json.specs.View.{items_view, view};
+ghost use Rattle.vll_check.specs.Pieces.{nothing_before};
+ghost use Rattle.vll_fault_path.specs.Pieces.{items_from, member_piece, pieces_behind, pieces_of, pieces_of_call, pieces_of_form, pieces_of_key, pieces_of_place, pieces_of_procedure, pieces_of_scenario, pieces_of_slots, pieces_of_words};
+ghost use Rattle.vll_fault_path.specs.Private.{faulty_of, piece_of};
+ghost use Rattle.vll_fault_path.specs.Ways.{Leads, LeadsToFault, edition_in, first_faulty, procedure_in, records_in};
+ghost use Rattle.vll_scenario.specs.declared.fault.ScenarioFault.TheVariants.{Check};
+ghost use Rattle.vll_fault_path.specs.declared.piece.Step.{Step};
+
+use crate::piece::{Kind, Slot, Step, form_of, item_kind, item_step, place_form};
+use crate::piece_test::{PieceTest, count_in, if_read, is_some, note};
+use serde_json::Value;
+use std::alloc::{AllocError, Global};
+use vll_check::{Before, CheckFault, Piecewise};
+use vll_core::MOST_RECORDS;
+use vll_proc::{Edition, Proc};
+use vll_scenario::{
+    MAY_NAMES, MUST_NAMES, Reads, ScenarioFault, has_exactly, has_members, mode_of,
+};
+
+/// A piece of a scenario's JSON tree: the step to it from the enclosing piece, what it has to be, and its value.
+#[derive(Clone, Copy)]
+pub struct Found<'v> {
+    pub step: Step,
+    pub kind: Kind,
+    pub value: &'v Value,
+}
+
+/// The steps from a scenario to the piece at fault, and that piece; no piece if it is the scenario itself, a call, the
+/// names of all procedures or a procedure that is not there.
+#[derive(Drop)]
+pub struct Way<'v> {
+    pub steps: Vec<Step>,
+    pub piece: Option<Found<'v>>,
+}
+
+// The first piece that does not pass a test, and what came before it.
+#[derive(Clone, Copy)]
+pub(crate) struct Faulty<'v> {
+    pub(crate) before: Before,
+    pub(crate) piece: Found<'v>,
+}
+
+/// Finds the way from a scenario's JSON tree to the piece at fault, for the fault that reading it has returned. It has
+/// no step for a fault that lies in no tree, and ends at a procedure that is not there. `AllocError` means that memory
+/// ran out.
+pub fn way_to_fault<'v>(
+    alloc: Global,
+    tree: &'v Value,
+    why: ScenarioFault,
+) -> Result<Way<'v>, AllocError>
+    ensures { IfOk result (λ way. LeadsToFault (view tree.now) why way.steps.items) }
+{
+    match why {
+        ScenarioFault::Shape(_) => way_in_scenario(alloc, tree, &PieceTest::Shape),
+        ScenarioFault::Size => way_in_scenario(alloc, tree, &PieceTest::Sizes),
+        ScenarioFault::Check { index, fault } => way_in_procedure(alloc, tree, index, fault),
+        ScenarioFault::NameTwice => way_of(alloc, &[Step::Procs]),
+        ScenarioFault::Call { client, index, .. } => {
+            let client = Step::Item(client as usize);
+            way_of(alloc, &[Step::Clients, client, Step::Call(index as usize)])
+        }
+        _ => way_of(alloc, &[]),
+    }
+}
+
+// The way of these steps, whose piece no test has found.
+fn way_of<'v>(alloc: Global, steps: &[Step]) -> Result<Way<'v>, AllocError>
+    ensures { IfOk result (λ way. way.steps.items ≡ steps.now) }
+{
+    Ok(Way {
+        steps: Vec::from_slice(alloc, steps)?,
+        piece: None,
+    })
+}
+
+// The way to the first part of a scenario that does not pass a test, and on.
+fn way_in_scenario<'v>(
+    alloc: Global,
+    tree: &'v Value,
+    test: &PieceTest,
+) -> Result<Way<'v>, AllocError>
+    ensures { IfOk result (λ way. Leads (edition_in (view tree.now)) test.now nothing_before (pieces_of_scenario (view tree.now)) way.steps.items) }
+{
+    let pieces = pieces_of_scenario(alloc, tree)?;
+    way_on(alloc, edition_in(tree), test, pieces.as_slice(), &[])
+}
+
+// The way to a procedure that is refused, and on to the piece of it that does not pass the test.
+fn way_in_procedure<'v>(
+    alloc: Global,
+    tree: &'v Value,
+    index: u32,
+    fault: CheckFault,
+) -> Result<Way<'v>, AllocError>
+    ensures { IfOk result (λ way. LeadsToFault (view tree.now) (Check index fault) way.steps.items) }
+{
+    let edition = edition_in(tree);
+    let start = [Step::Procs, Step::Item(index as usize)];
+    let Some(value) = procedure_in(tree, index) else {
+        return way_of(alloc, &start);
+    };
+    let Some(procedure) = if_read(Proc::read(alloc, edition, value))? else {
+        return way_of(alloc, &start);
+    };
+    let test = PieceTest::Check(Piecewise {
+        procedure,
+        records: records_in(tree),
+        fault,
+    });
+    let pieces = pieces_of_procedure(alloc, value)?;
+    way_on(alloc, edition, &test, pieces.as_slice(), &start)
+}
+
+// The procedure at an index.
+fn procedure_in<'v>(tree: &'v Value, index: u32) -> Option<&'v Value>
+    ensures { option_map (λ v. view v.now) result ≡ procedure_in (view tree.now) index }
+{
+    tree.get("procs")?.get(index as usize)
+}
+
+// The number of records, no more than a scenario may have.
+fn records_in(tree: &Value) -> u32
+    ensures { result ≡ records_in (view tree.now) }
+{
+    match tree.get("records") {
+        Some(records) => count_in(records).min(MOST_RECORDS as usize) as u32,
+        None => 0,
+    }
+}
+
+// The way that begins with some steps and leads from some pieces into the first that does not pass a test, and on.
+fn way_on<'v>(
+    alloc: Global,
+    edition: Edition,
+    test: &PieceTest,
+    pieces: &[Found<'v>],
+    begun: &[Step],
+) -> Result<Way<'v>, AllocError>
+    ensures { IfOk result (λ way. (rest : List Step) × (way.steps.items ≡ begun.now ++ rest)
+        × Leads edition test.now nothing_before (map piece_of pieces.now) rest) }
+{
+    let mut steps = Vec::from_slice(alloc, begun)?;
+    let mut piece = None;
+    // `?` takes no value that has both a reference and locals
+    let mut next = match first_of(alloc, edition, test, Before::new(), pieces) {
+        Ok(next) => next,
+        Err(why) => return Err(why),
+    };
+    'steps: while let Some(faulty) = next {
+        let Faulty {
+            before,
+            piece: found,
+        } = faulty;
+        steps.push(found.step)?;
+        piece = Some(found);
+        next = match first_in(alloc, edition, test, before, found) {
+            Ok(next) => next,
+            Err(why) => return Err(why),
+        };
+    }
+    Ok(Way { steps, piece })
+}
+
+// The edition in which a scenario is read.
+fn edition_in(tree: &Value) -> Edition
+    ensures { result ≡ edition_in (view tree.now) }
+{
+    match tree.get("version").and_then(Value::as_u64) {
+        Some(2) => Edition::Two,
+        _ => Edition::One,
+    }
+}
+
+// The first piece inside another one that does not pass a test.
+fn first_in<'v>(
+    alloc: Global,
+    edition: Edition,
+    test: &PieceTest,
+    before: Before,
+    outer: Found<'v>,
+) -> Result<Option<Faulty<'v>>, AllocError>
+    ensures { IfOk result (λ found. option_map faulty_of found
+        ≡ first_faulty edition test.now before (pieces_of edition outer.entry.kind (view outer.entry.value.now))) }
+{
+    let Found { kind, value, .. } = outer;
+    match item_kind(kind) {
+        Some(item) => match value.as_array() {
+            Some(list) => first_of_items(alloc, edition, test, before, kind, item, list.as_slice()),
+            None => Ok(None),
+        },
+        None => {
+            let pieces = pieces_of_form(alloc, edition, kind, value)?;
+            first_of(alloc, edition, test, before, pieces.as_slice())
+        }
+    }
+}
+
+// The first one of some pieces that does not pass a test.
+fn first_of<'v>(
+    alloc: Global,
+    edition: Edition,
+    test: &PieceTest,
+    before: Before,
+    pieces: &[Found<'v>],
+) -> Result<Option<Faulty<'v>>, AllocError>
+    ensures { IfOk result (λ found. option_map faulty_of found ≡ first_faulty edition test.now before (map piece_of pieces.now)) }
+{
+    match pieces {
+        [] => Ok(None),
+        [piece, others @ ..] => {
+            if test.passes(alloc, edition, &before, piece)? {
+                let mut next = before;
+                note(alloc, edition, test, &mut next, piece)?;
+                first_of(alloc, edition, test, next, others)
+            } else {
+                Ok(Some(Faulty {
+                    before,
+                    piece: *piece,
+                }))
+            }
+        }
+    }
+}
+
+// The first item of a list that does not pass a test. No list is made of the others.
+fn first_of_items<'v>(
+    alloc: Global,
+    edition: Edition,
+    test: &PieceTest,
+    first: Before,
+    list: Kind,
+    kind: Kind,
+    values: &'v [Value],
+) -> Result<Option<Faulty<'v>>, AllocError>
+    ensures { IfOk result (λ found. option_map faulty_of found
+        ≡ first_faulty edition test.now first (items_from list kind 0 (items_view values.now))) }
+{
+    let mut before = first;
+    for (i, value) in values.iter().enumerate() {
+        let step = item_step(list, i);
+        let piece = Found { step, kind, value };
+        if !test.passes(alloc, edition, &before, &piece)? {
+            return Ok(Some(Faulty { before, piece }));
+        }
+        note(alloc, edition, test, &mut before, &piece)?;
+    }
+    Ok(None)
+}
+
+// The pieces of a scenario.
+fn pieces_of_scenario<'v>(alloc: Global, tree: &'v Value) -> Result<Vec<Found<'v>>, AllocError>
+    ensures { IfOk result (λ pieces. map piece_of pieces.items ≡ pieces_of_scenario (view tree.now)) }
+{
+    let mut pieces = Vec::new(alloc);
+    if has_members(tree, &MUST_NAMES, &MAY_NAMES) {
+        push_member(&mut pieces, tree, "version", Step::Version, Kind::Version)?;
+        push_member(&mut pieces, tree, "records", Step::Records, Kind::Records)?;
+        push_member(&mut pieces, tree, "procs", Step::Procs, Kind::Procedures)?;
+        push_member(&mut pieces, tree, "clients", Step::Clients, Kind::Scripts)?;
+        push_member(&mut pieces, tree, "cap", Step::Cap, Kind::Whole)?;
+        push_member(&mut pieces, tree, "bits", Step::Bits, Kind::Whole)?;
+        push_member(&mut pieces, tree, "limit", Step::Limit, Kind::Whole)?;
+        push_member(&mut pieces, tree, "hash", Step::Hash, Kind::Hash)?;
+        push_member(
+            &mut pieces,
+            tree,
+            "schedule",
+            Step::Schedule,
+            Kind::Schedule,
+        )?;
+    }
+    Ok(pieces)
+}
+
+// The pieces of a value that is not a list of any length.
+fn pieces_of_form<'v>(
+    alloc: Global,
+    edition: Edition,
+    kind: Kind,
+    value: &'v Value,
+) -> Result<Vec<Found<'v>>, AllocError>
+    ensures { IfOk result (λ pieces. map piece_of pieces.items
+        ≡ pieces_of_form edition kind (view value.now)) }
+{
+    match kind {
+        Kind::Procedure => pieces_of_procedure(alloc, value),
+        Kind::Call => pieces_of_call(alloc, value),
+        Kind::Key => pieces_of_key(alloc, value),
+        _ => pieces_of_words(alloc, edition, kind, value),
+    }
+}
+
+fn pieces_of_procedure<'v>(alloc: Global, value: &'v Value) -> Result<Vec<Found<'v>>, AllocError>
+    ensures { IfOk result (λ pieces. map piece_of pieces.items ≡ pieces_of_procedure (view value.now)) }
+{
+    let mut pieces = Vec::new(alloc);
+    if has_exactly(value, &["name", "args", "keys", "body"]) {
+        push_member(&mut pieces, value, "name", Step::Name, Kind::Text)?;
+        push_member(&mut pieces, value, "args", Step::Args, Kind::Index)?;
+        push_member(&mut pieces, value, "keys", Step::Keys, Kind::Keys)?;
+        push_member(&mut pieces, value, "body", Step::Body, Kind::Statements)?;
+    }
+    Ok(pieces)
+}
+
+fn pieces_of_call<'v>(alloc: Global, value: &'v Value) -> Result<Vec<Found<'v>>, AllocError>
+    ensures { IfOk result (λ pieces. map piece_of pieces.items ≡ pieces_of_call (view value.now)) }
+{
+    let mut pieces = Vec::new(alloc);
+    if has_exactly(value, &["proc", "args"]) {
+        push_member(&mut pieces, value, "proc", Step::Proc, Kind::Text)?;
+        push_member(&mut pieces, value, "args", Step::Args, Kind::Arguments)?;
+    }
+    Ok(pieces)
+}
+
+// Appends a member of an object, if it is there.
+fn push_member<'v>(
+    pieces: &mut Vec<Found<'v>>,
+    value: &'v Value,
+    name: &str,
+    step: Step,
+    kind: Kind,
+) -> Result<(), AllocError>
+    ensures { OnOk result (map piece_of pieces.new.items
+        ≡ map piece_of pieces.old.items ++ member_piece name.now step kind (view value.now)) }
+{
+    if let Some(value) = value.get(name) {
+        pieces.push(Found { step, kind, value })?;
+    }
+    Ok(())
+}
+
+fn pieces_of_key<'v>(alloc: Global, value: &'v Value) -> Result<Vec<Found<'v>>, AllocError>
+    ensures { IfOk result (λ pieces. map piece_of pieces.items ≡ pieces_of_key (view value.now)) }
+{
+    let mut pieces = Vec::new(alloc);
+    if let Value::Array(list) = value
+        && let [mode, others @ ..] = list.as_slice()
+        && let [word, behind @ ..] = others
+    {
+        push_place(&mut pieces, mode.as_str(), word.as_str(), behind)?;
+    }
+    Ok(pieces)
+}
+
+// Appends the pieces that follow the mode and the place of a key.
+fn push_place<'v>(
+    pieces: &mut Vec<Found<'v>>,
+    mode: Option<&str>,
+    word: Option<&str>,
+    values: &'v [Value],
+) -> Result<(), AllocError>
+    ensures { OnOk result (map piece_of pieces.new.items ≡ map piece_of pieces.old.items
+        ++ pieces_of_place (option_map (λ s. s.now) mode.entry) (option_map (λ s. s.now) word.entry) (items_view values.now)) }
+{
+    if let Some(mode) = mode
+        && let Some(word) = word
+        && is_some(mode_of(mode))?
+    {
+        push_slots(pieces, place_form(word), values)?;
+    }
+    Ok(())
+}
+
+// The pieces that follow the word of a form.
+fn pieces_of_words<'v>(
+    alloc: Global,
+    edition: Edition,
+    kind: Kind,
+    value: &'v Value,
+) -> Result<Vec<Found<'v>>, AllocError>
+    ensures { IfOk result (λ pieces. map piece_of pieces.items
+        ≡ pieces_of_words edition kind (view value.now)) }
+{
+    let mut pieces = Vec::new(alloc);
+    if let Value::Array(list) = value
+        && let [first, behind @ ..] = list.as_slice()
+        && let Some(word) = first.as_str()
+    {
+        push_slots(&mut pieces, form_of(edition, kind, word), behind)?;
+    }
+    Ok(pieces)
+}
+
+// Appends the pieces that follow a word, unless there are more or fewer than it takes.
+fn push_slots<'v>(
+    pieces: &mut Vec<Found<'v>>,
+    slots: &[Slot],
+    values: &'v [Value],
+) -> Result<(), AllocError>
+    ensures { OnOk result (map piece_of pieces.new.items
+        ≡ map piece_of pieces.old.items ++ pieces_of_slots slots.now (items_view values.now)) }
+{
+    if slots.len() == values.len() {
+        push_behind(pieces, slots, values)?;
+    }
+    Ok(())
+}
+
+// Appends the pieces that follow a word.
+fn push_behind<'v>(
+    pieces: &mut Vec<Found<'v>>,
+    slots: &[Slot],
+    values: &'v [Value],
+) -> Result<(), AllocError>
+    ensures { OnOk result (map piece_of pieces.new.items
+        ≡ map piece_of pieces.old.items ++ pieces_behind slots.now (items_view values.now)) }
+{
+    if let [slot, slots @ ..] = slots
+        && let [value, values @ ..] = values
+    {
+        let Slot { step, kind } = *slot;
+        pieces.push(Found { step, kind, value })?;
+        push_behind(pieces, slots, values)?;
+    }
+    Ok(())
+}

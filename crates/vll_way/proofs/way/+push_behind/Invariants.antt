@@ -1,5 +1,0 @@
-use Rattle.std.proofs.Common.{length}
-use Rattle.vll_way.proofs.way.+push_behind.Given as goal
-
-abbrev pub decreases-push_behind : goal.decreases-push_behind
-decreases-push_behind l = length l.slots.now

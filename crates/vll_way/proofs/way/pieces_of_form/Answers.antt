@@ -1,5 +1,0 @@
-use Rattle.std.proofs.Common.{rules}
-use Rattle.vll_way.proofs.way.pieces_of_form.Goals as goal
-
-pub returns-in-Procedure : goal.returns-in-Procedure
-returns-in-Procedure c = search rules
