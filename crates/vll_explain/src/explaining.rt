@@ -11,11 +11,12 @@ ghost use Rattle.serde_json.specs.View.{view};
 ghost use Rattle.vll_explain.specs.Explained.{Explains, IsBegun, IsLocated, IsTold, fault_in};
 ghost use Rattle.vll_explain.specs.Private.{IsToldOf};
 
+use crate::reason::{reason_of, unread_explanation};
+use crate::summary::summary_of;
 use crate::way::{push_way, shown_name};
 use serde_json::Value;
 use std::alloc::{AllocError, Global};
 use vll_fault_path::{Way, way_to_fault};
-use vll_reasons::{reason_of, summary_of, unread_explanation};
 use vll_scenario::{
     MOST_BYTES, Reading, Scenario, ScenarioFault, Sink, Source, WriteFault, read_bytes, reading_of,
     write_text,

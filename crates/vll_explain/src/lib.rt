@@ -1,6 +1,7 @@
 //! Explanations for a person: what is wrong with a scenario and where, or, if nothing is, what the scenario has. It is
 //! the whole of the program's `vll explain`. The crate proves that the text names the fault of the bytes that were
-//! read, and the way to the piece that is at fault; `vll_reasons` words the reasons. Start at `explain`.
+//! read, and the way to the piece that is at fault; nothing is proved about the wording of the reasons. Start at
+//! `explain`.
 //!
 //! ```rattle
 //! let mut reader = Plain::new(rt.reader());
@@ -10,7 +11,18 @@
 //! ```
 #![tactic(auto)]
 
+mod asked;
+mod check;
 mod explaining;
+mod forms;
+mod json_place;
+mod members;
+mod names;
+mod reason;
+mod shape;
+mod shown;
+mod size;
+mod summary;
 mod way;
 
 pub use explaining::explain;

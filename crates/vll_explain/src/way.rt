@@ -3,10 +3,10 @@ ghost use Rattle.std.specs.Prelude.{◌≡◌, ◌++◌, IfOk, OnOk, string_byte
 ghost use Rattle.vll_explain.specs.Explained.{IsShown, way_words};
 ghost use Rattle.vll_fault_path.specs.Ways.{words_of};
 
+use crate::names::procedure_name;
 use serde_json::Value;
 use std::alloc::{AllocError, Global};
 use vll_fault_path::Step;
-use vll_reasons::procedure_name;
 
 // Appends the words of the steps from a scenario; `shown`, the name of the item, follows the second step.
 pub(crate) fn push_way(text: &mut String, steps: &[Step], shown: &str) -> Result<(), AllocError>

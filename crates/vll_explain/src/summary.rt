@@ -11,8 +11,8 @@ use vll_scenario::{Scenario, ScenarioParts};
 // The number of procedures that are listed.
 const MOST_TOLD: u32 = 16;
 
-/// The size of each part of a scenario, its settings, and its procedures with their keys.
-pub fn summary_of(alloc: Global, scenario: Scenario) -> Result<String, AllocError> {
+// The size of each part of a scenario, its settings, and its procedures with their keys.
+pub(crate) fn summary_of(alloc: Global, scenario: Scenario) -> Result<String, AllocError> {
     let ScenarioParts {
         records,
         library,

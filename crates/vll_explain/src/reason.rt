@@ -15,9 +15,9 @@ const UNREADABLE: &str = "standard input\nwhy: it cannot be read; use a file or 
 const TOO_LITTLE_MEMORY: &str =
     "standard input\nwhy: there is not enough memory to read it; allow more, or make the scenario smaller\n";
 
-/// The explanation for bytes that were not read to their end, or are not a JSON text: where the mistake is, and what is
-/// wrong there. If the source was not read to its end, `bytes` may be empty.
-pub fn unread_explanation(
+// The explanation for bytes that were not read to their end, or are not a JSON text: where the mistake is, and what is
+// wrong there. If the source was not read to its end, `bytes` may be empty.
+pub(crate) fn unread_explanation(
     alloc: Global,
     why: ScenarioFault,
     bytes: &[u8],
@@ -32,8 +32,8 @@ pub fn unread_explanation(
     }
 }
 
-/// What is wrong with the piece of a tree that is at fault, or with the tree itself.
-pub fn reason_of(
+// What is wrong with the piece of a tree that is at fault, or with the tree itself.
+pub(crate) fn reason_of(
     alloc: Global,
     tree: &Value,
     why: ScenarioFault,

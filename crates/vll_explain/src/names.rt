@@ -4,9 +4,9 @@ use crate::shown::Quoted;
 use serde_json::Value;
 use std::alloc::{AllocError, Global};
 
-/// The name of the procedure at an index of a scenario's tree, in quotation marks; `None` if it has no name, or there is
-/// no such procedure.
-pub fn procedure_name(
+// The name of the procedure at an index of a scenario's tree, in quotation marks; `None` if it has no name, or there is
+// no such procedure.
+pub(crate) fn procedure_name(
     alloc: Global,
     tree: &Value,
     index: usize,
