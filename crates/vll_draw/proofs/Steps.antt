@@ -15,9 +15,9 @@ use Rattle.vll_core.specs.Next.{claim_of}
 use Rattle.vll_core.proofs.Counters.{counters_change}
 use Rattle.vll_core.proofs.Values.{others_stay}
 use Rattle.vll_replay.specs.Steps.{Step, step_of, steps}
-use Rattle.vll_picture.specs.Columns.{AreColumns, AreSteps, AreWordsOf, IsColumn, next_words, words_after, words_at}
-use Rattle.vll_picture.specs.declared.column.Column.{Column}
-use Rattle.vll_picture.specs.declared.column.RecordWords.{RecordWords}
+use Rattle.vll_draw.specs.Columns.{AreColumns, AreSteps, AreWordsOf, IsColumn, next_words, words_after, words_at}
+use Rattle.vll_draw.specs.declared.picture.column.Column.{Column}
+use Rattle.vll_draw.specs.declared.picture.column.RecordWords.{RecordWords}
 use Rattle.vll_draw.specs.Taped.{HasTaped, Stands, drawn}
 use Rattle.vll_draw.specs.declared.tape.Tape.{Tape}
 use Rattle.vll_draw.specs.declared.event_range.EventRange.{EventRange}

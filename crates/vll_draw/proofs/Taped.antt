@@ -2,9 +2,9 @@
 use Rattle.std.proofs.Common.{◌≡◌, ◌-◌, ◌<◌, ◌≤◌, List, [], ◌∷◌, ◌++◌, length, refl, sym, ◌∙◌, subst, arith, length-append}
 use Rattle.vll_core.specs.State.{Opening}
 use Rattle.vll_replay.specs.Steps.{Step}
-use Rattle.vll_picture.specs.Columns.{AreColumns, IsColumn, window}
-use Rattle.vll_picture.specs.declared.column.Column.{Column}
-use Rattle.vll_picture.specs.declared.drawing.Standing.{Standing}
+use Rattle.vll_draw.specs.Columns.{AreColumns, IsColumn, window}
+use Rattle.vll_draw.specs.declared.picture.column.Column.{Column}
+use Rattle.vll_draw.specs.declared.picture.drawing.Standing.{Standing}
 use Rattle.vll_draw.specs.Taped.{HasTaped, Stands, StandsBefore, drawn}
 use Rattle.vll_draw.specs.declared.tape.Tape.{Tape}
 use Rattle.vll_draw.specs.declared.event_range.EventRange.{EventRange}

@@ -3,8 +3,8 @@ use Rattle.std.proofs.Common.{◌≡◌, ℕ, ◌<◌, ◌≤◌, List, [], ◌�
 use Rattle.std.proofs.lemmas.List.{drop-append-le, drop_all, length-take, take-append-le, take_all}
 use Rattle.vll_core.specs.Headline.State.{Base}
 use Rattle.vll_replay.specs.Steps.{Step}
-use Rattle.vll_picture.specs.Columns.{AreColumns, IsColumn, window}
-use Rattle.vll_picture.specs.declared.column.Column.{Column}
+use Rattle.vll_draw.specs.Columns.{AreColumns, IsColumn, window}
+use Rattle.vll_draw.specs.declared.picture.column.Column.{Column}
 
 -- a step before the window
 pub window-ahead : (from count : ℕ) (ss : List Step) (s : Step) → length ss < from → window from count (ss ++ s ∷ []) ≡ window from count ss

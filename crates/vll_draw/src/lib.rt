@@ -15,6 +15,7 @@ mod drawing;
 mod event_range;
 mod fault;
 mod page;
+mod picture;
 mod tape;
 
 pub use drawing::draw;

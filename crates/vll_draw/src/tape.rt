@@ -5,14 +5,14 @@ ghost use Rattle.vll_core.specs.State.{Opening};
 ghost use Rattle.vll_core.specs.Shown.{opening_of};
 ghost use Rattle.vll_core.specs.Next.{claim_of};
 ghost use Rattle.vll_replay.specs.Steps.{Step};
-ghost use Rattle.vll_picture.specs.Columns.{AreWordsOf, IsColumn, ticket_in, ticket_seen};
+ghost use Rattle.vll_draw.specs.Columns.{AreWordsOf, IsColumn, ticket_in, ticket_seen};
 ghost use Rattle.vll_draw.specs.Taped.{HasTaped, Stands, StandsBefore};
 ghost use Rattle.vll_draw.specs.declared.event_range.EventRange.{EventRange};
 
 use crate::event_range::EventRange;
+use crate::picture::{Column, Phase, RecordWords, Standing};
 use std::alloc::{AllocError, Global};
 use vll_core::{Core, Event, Refusal, Seen, Ticket};
-use vll_picture::{Column, Phase, RecordWords, Standing};
 use vll_proc::Reply;
 use vll_record::{Claim, RecordId, pair_word, value_word};
 use vll_replay::Observer;

@@ -7,8 +7,8 @@ use Rattle.vll_core.specs.Headline.State.{Base}
 use Rattle.vll_core.specs.State.{State}
 use Rattle.vll_core.specs.Next.{claim_of}
 use Rattle.vll_replay.specs.Steps.{Step}
-use Rattle.vll_picture.specs.Columns.{AreWordsOf, ticket_of, ticket_seen}
-use Rattle.vll_picture.specs.declared.column.RecordWords.{RecordWords}
+use Rattle.vll_draw.specs.Columns.{AreWordsOf, ticket_of, ticket_seen}
+use Rattle.vll_draw.specs.declared.picture.column.RecordWords.{RecordWords}
 use Rattle.vll_draw.proofs.tape.column_of.Goals as goal
 
 -- the ticket and the claim of a step, by what it was answered

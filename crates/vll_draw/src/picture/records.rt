@@ -1,11 +1,11 @@
 //! The lane of a record: its value and its two counters over time.
 ghost use Rattle.std.specs.Prelude.{◌≡◌};
-ghost use Rattle.vll_picture.specs.Columns.{next_words};
+ghost use Rattle.vll_draw.specs.Columns.{next_words};
 
-use crate::band::Band;
-use crate::column::{Column, RecordWords};
-use crate::drawing::{Drawing, Standing, id_of};
-use crate::markup::{
+use crate::picture::band::Band;
+use crate::picture::column::{Column, RecordWords};
+use crate::picture::drawing::{Drawing, Standing, id_of};
+use crate::picture::markup::{
     Area, LABELS, STEP, close_mark, left_of, open_mark, push_area, push_escaped, push_words,
 };
 use std::alloc::{AllocError, Global};

@@ -1,8 +1,8 @@
 //! The lane of a call: its turn, when it waits and when it runs, and each of its steps.
-use crate::band::Band;
-use crate::column::Column;
-use crate::drawing::{Drawing, Phase, Standing, phase_after};
-use crate::markup::{
+use crate::picture::band::Band;
+use crate::picture::column::Column;
+use crate::picture::drawing::{Drawing, Phase, Standing, phase_after};
+use crate::picture::markup::{
     Area, STEP, close_mark, left_of, open_mark, push_area, push_escaped, push_words,
 };
 use std::alloc::{AllocError, Global};

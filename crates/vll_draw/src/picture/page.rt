@@ -1,16 +1,16 @@
 //! The page around the drawings.
-use crate::style;
+use crate::picture::style;
 use std::alloc::AllocError;
 
 /// What the page says about a replay above the drawings.
 #[derive(Clone, Copy)]
-pub struct Counts {
-    pub calls: usize,
-    pub records: usize,
-    pub events: usize,
+pub(crate) struct Counts {
+    pub(crate) calls: usize,
+    pub(crate) records: usize,
+    pub(crate) events: usize,
     /// The number of the first event that is drawn, and how many are drawn.
-    pub first: usize,
-    pub drawn: usize,
+    pub(crate) first: usize,
+    pub(crate) drawn: usize,
 }
 
 const LEGEND: &str = "<dl>
@@ -25,7 +25,7 @@ const LEGEND: &str = "<dl>
 ";
 
 /// Appends the page up to its drawings. After `AllocError` a prefix of it may have been appended.
-pub fn push_head(page: &mut String, counts: Counts) -> Result<(), AllocError> {
+pub(crate) fn push_head(page: &mut String, counts: Counts) -> Result<(), AllocError> {
     page.push_str("<!DOCTYPE html>\n<html lang=\"en\">\n<head>\n<meta charset=\"utf-8\"/>\n")?;
     page.push_str("<meta name=\"viewport\" content=\"width=device-width, initial-scale=1\"/>\n")?;
     page.push_str("<title>Replay: ")?;
@@ -75,6 +75,6 @@ fn push_window(page: &mut String, counts: Counts) -> Result<(), AllocError> {
 }
 
 /// Appends what is between the drawings and the list. After `AllocError` a prefix of it may have been appended.
-pub fn push_heading(page: &mut String) -> Result<(), AllocError> {
+pub(crate) fn push_heading(page: &mut String) -> Result<(), AllocError> {
     page.push_str("<h2>Lines</h2>\n")
 }

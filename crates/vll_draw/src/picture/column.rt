@@ -4,9 +4,9 @@ use vll_record::{Claim, Pair};
 
 /// A record's value and its pair word.
 #[derive(Clone, Copy)]
-pub struct RecordWords {
-    pub value: u64,
-    pub pair: u64,
+pub(crate) struct RecordWords {
+    pub(crate) value: u64,
+    pub(crate) pair: u64,
 }
 
 impl RecordWords {
@@ -18,14 +18,14 @@ impl RecordWords {
 
 /// An event of a replay, and what the machine showed for it.
 #[derive(Clone, Copy)]
-pub struct Column {
-    pub event: Event,
-    pub answer: Result<Seen, Refusal>,
+pub(crate) struct Column {
+    pub(crate) event: Event,
+    pub(crate) answer: Result<Seen, Refusal>,
     /// The ticket of the event's call, or the one that the call of the open turn gets. None if the event was refused,
     /// or belongs to no call that has begun to enter.
-    pub ticket: Option<usize>,
+    pub(crate) ticket: Option<usize>,
     /// The claim that the event concerned, if it concerned one and was not refused.
-    pub claim: Option<Claim>,
+    pub(crate) claim: Option<Claim>,
     /// The words of this claim's record after the event, 0 if there is no claim.
-    pub words: RecordWords,
+    pub(crate) words: RecordWords,
 }

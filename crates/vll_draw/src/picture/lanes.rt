@@ -1,6 +1,6 @@
 //! Which calls and records have a lane in a band.
-use crate::column::Column;
-use crate::drawing::{Phase, Standing, id_of, number_of};
+use crate::picture::column::Column;
+use crate::picture::drawing::{Phase, Standing, id_of, number_of};
 use std::alloc::{AllocError, Global};
 
 /// The most lanes of one kind in a band. A band has fewer columns, so those of its events always have one.

@@ -12,8 +12,8 @@ use Rattle.vll_core.specs.State.{State, counter, value}
 use Rattle.vll_core.specs.Moves.{is_on}
 use Rattle.vll_core.specs.Next.{claim_of}
 use Rattle.vll_replay.specs.Steps.{Step}
-use Rattle.vll_picture.specs.declared.column.Column.{Column}
-use Rattle.vll_picture.specs.declared.column.RecordWords.{RecordWords}
+use Rattle.vll_draw.specs.declared.picture.column.Column.{Column}
+use Rattle.vll_draw.specs.declared.picture.column.RecordWords.{RecordWords}
 
 -- the ticket that an event names
 abbrev pub ticket_in : Event → Option ℕ

@@ -1,12 +1,12 @@
 //! A band: some columns side by side, with the lanes that have a part in them.
-use crate::column::Column;
-use crate::drawing::{Drawing, Standing};
-use crate::markup::{
+use crate::picture::column::Column;
+use crate::picture::drawing::{Drawing, Standing};
+use crate::picture::markup::{
     Area, BAND, STEP, WIDTH, close_mark, left_of, open_mark, push_area, push_upright, push_words,
 };
-use crate::records::push_record;
-use crate::tickets::push_ticket;
-use crate::{lanes, style};
+use crate::picture::records::push_record;
+use crate::picture::tickets::push_ticket;
+use crate::picture::{lanes, style};
 use std::alloc::{AllocError, Global};
 use vll_core::{Event, Seen, Ticket};
 use vll_replay::refusal_words;

@@ -1,7 +1,7 @@
 //! What is drawn, band by band: the events of the window, their calls, and the state before them.
-use crate::band::{Band, push_band};
-use crate::column::{Column, RecordWords};
-use crate::markup::BAND;
+use crate::picture::band::{Band, push_band};
+use crate::picture::column::{Column, RecordWords};
+use crate::picture::markup::BAND;
 use std::alloc::{AllocError, Global};
 use vll_check::Library;
 use vll_core::{Line, Seen};
@@ -19,7 +19,7 @@ pub(crate) fn number_of(id: RecordId) -> usize {
 
 /// How far a call has come.
 #[derive(Clone, Copy, PartialEq, Eq, Debug)]
-pub enum Phase {
+pub(crate) enum Phase {
     /// It has not entered.
     Outside,
     /// Its turn is open.
@@ -31,15 +31,15 @@ pub enum Phase {
 
 /// What is drawn.
 #[derive(Clone, Copy)]
-pub struct Drawing<'a> {
+pub(crate) struct Drawing<'a> {
     /// The allocator for the drawing.
-    pub alloc: Global,
+    pub(crate) alloc: Global,
     /// The number of the first event.
-    pub first: usize,
-    pub columns: &'a [Column],
+    pub(crate) first: usize,
+    pub(crate) columns: &'a [Column],
     /// All calls that have entered, followed by the one whose turn is open.
-    pub journal: &'a [Line],
-    pub library: &'a Library,
+    pub(crate) journal: &'a [Line],
+    pub(crate) library: &'a Library,
 }
 
 impl Drawing<'_> {
@@ -51,9 +51,9 @@ impl Drawing<'_> {
 
 /// The words of the machine, and the phase of each call, at some time.
 #[derive(Drop)]
-pub struct Standing {
-    pub words: Vec<u64>,
-    pub phases: Vec<Phase>,
+pub(crate) struct Standing {
+    pub(crate) words: Vec<u64>,
+    pub(crate) phases: Vec<Phase>,
 }
 
 impl Standing {
@@ -99,7 +99,7 @@ pub(crate) fn phase_after(column: &Column) -> Option<Phase> {
 
 /// Appends the drawings, band by band, starting from the state `before` the first event. After `AllocError` a prefix of
 /// them may have been appended.
-pub fn push_bands(
+pub(crate) fn push_bands(
     page: &mut String,
     drawing: &Drawing<'_>,
     before: Standing,

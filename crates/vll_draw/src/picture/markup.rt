@@ -1,5 +1,5 @@
 //! Pieces of markup. Each is appended to a text; after an error a prefix of it may have been appended.
-use crate::column::Column;
+use crate::picture::column::Column;
 use std::alloc::AllocError;
 use vll_replay::push_answer;
 
