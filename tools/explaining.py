@@ -45,7 +45,7 @@ def pieces_of(words):
     return {
         'size': (rf'(standard input|{"|".join(SIZES)})$',
                  r'more than 16777216 bytes|\d+ is not in the range \d+ to'),
-        'json': (r'(byte \d+|line \d+, column \d+, which is byte \d+: ".*")$', ''),
+        'json': (r'line \d+, column \d+$', r'^(invalid JSON|EOF while parsing|number out of range|.* more than 127 deep)$'),
         'name': ('procs$', r'procs \d+ and procs \d+ both have the name "'),
         'read': ('standard input$', 'cannot be read'),
         'no': ('standard input$', 'not enough memory'),

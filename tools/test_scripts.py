@@ -78,7 +78,7 @@ RIGHT = f'''
 text=$(cat)
 case $text in *bump*) text='{LAWFUL.rstrip()}' ;; esac
 printf '%s\\n' "$text"
-[ "$*" = explain ] && printf '%s\\n' 'at: byte 0' 'why: it is not JSON text'
+[ "$*" = explain ] && printf '%s\\n' 'at: line 1, column 1' 'why: invalid JSON'
 case $text in 'vll: scenario'*) exit 2 ;; 'vll: replay'*) exit 1 ;; esac
 exit 0
 '''
@@ -94,7 +94,7 @@ WRONG = [
     ('committed 7', 'committed 6', 'judged judged_row'),
     ('text=$(cat)', '[ "$2" = --workers ] && exit 1; text=$(cat)', 'made'),
     ('[ "$*" = explain ]', 'false', 'refused'),
-    ("JSON text'", "JSON text' && exit 1", 'refused'),
+    ("invalid JSON'", "invalid JSON' && exit 1", 'refused'),
     ('text=$(cat)', 'text=$(head -n 2)', 'made'),
 ]
 

@@ -11,8 +11,9 @@ ghost use Rattle.serde_json.specs.View.{view};
 ghost use Rattle.vll_explain.specs.Explained.{Explains, IsBegun, IsLocated, IsTold, fault_in};
 ghost use Rattle.vll_explain.specs.Private.{IsToldOf};
 
-use crate::reason::{reason_of, unread_explanation};
+use crate::reason::reason_of;
 use crate::summary::summary_of;
+use crate::unread::unread_explanation;
 use crate::way::{push_way, shown_name};
 use serde_json::Value;
 use std::alloc::{AllocError, Global};

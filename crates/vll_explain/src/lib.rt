@@ -15,7 +15,6 @@ mod asked;
 mod check;
 mod explaining;
 mod forms;
-mod json_place;
 mod members;
 mod names;
 mod reason;
@@ -23,6 +22,7 @@ mod shape;
 mod shown;
 mod size;
 mod summary;
+mod unread;
 mod way;
 
 pub use explaining::explain;
