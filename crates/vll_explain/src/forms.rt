@@ -1,86 +1,148 @@
-//! What is wrong with a list that must have the form of a key, a statement, an expression or an event.
+//! What is wrong with what must have the form of a key, a statement, an expression or an event.
 use crate::shown::{Quoted, Shown};
 use serde_json::Value;
 use std::alloc::{AllocError, Global};
-use vll_fault_path::Kind;
+use std::fmt;
+use vll_fault_path::{Form, Kind, Step, form_with, forms_of};
+use vll_proc::Edition;
 
-// What has a form, and the forms that there are.
+// How what has a form is named.
 #[derive(Clone, Copy)]
-struct Forms {
-    // Its name, and the name with its article.
-    name: &'static str,
+struct Naming {
     one: &'static str,
     // What an unknown word is said not to be.
     word: &'static str,
+    // What comes before the list of all forms.
     all: &'static str,
 }
 
-fn forms_of(kind: Kind) -> Forms {
+fn naming_of(kind: Kind) -> Naming {
     match kind {
-        Kind::Statement => Forms {
-            name: "statement",
+        Kind::Statement => Naming {
             one: "a statement",
             word: "statement",
-            all: "a statement is [\"let\",i,e], [\"set\",i,e], [\"if\",e,[..],[..]], [\"abort\",code], [\"reply\",e] \
-                or, in version 2, [\"repeat\",n,[..]]",
+            all: "a statement is",
         },
-        Kind::Event => Forms {
-            name: "event",
+        Kind::Event => Naming {
             one: "an event",
             word: "event",
-            all: "the events are \"claim\", \"admit\", \"front\" and \"scan\" alone, \"find\" and \"enter\" with a \
-                client, and \"load\", \"store\", \"release\" and \"finish\" with a ticket",
+            all: "an event is",
         },
-        Kind::Key => Forms {
-            name: "key",
+        Kind::Key => Naming {
             one: "a key",
             word: "mode",
-            all: "a key is [\"read\",\"arg\",i] with an argument's index, [\"read\",\"fixed\",r] with a record, or \
-                [\"read\",\"through\",i] with a key's index, and the same with \"write\"",
+            all: "a key is",
         },
-        _ => Forms {
-            name: "expression",
+        _ => Naming {
             one: "an expression",
             word: "operation",
-            all: "the operations are \"arg\", \"key\" and \"local\" with an index, \"not\" with one operand, \
-                and \"add\", \"sub\", \"mul\", \"div\", \"rem\", \"min\", \"max\", \"equal\" and \"less\" with two",
+            all: "an expression is a number,",
         },
     }
 }
 
-// Why a list does not have the form of `kind`.
+// The forms that a piece of a kind may have.
+#[derive(Clone, Copy)]
+struct Valid(Kind);
+
+impl fmt::Display for Valid {
+    fn fmt<W: fmt::Write>(&self, f: &mut fmt::Formatter<W>) -> fmt::Result {
+        let kind = self.0;
+        let forms = forms_of(kind);
+        let last = forms.len().saturating_sub(1);
+        f.write_str(naming_of(kind).all)?;
+        for (i, form) in forms.iter().enumerate() {
+            f.write_str(match i {
+                0 => " ",
+                _ if i == last => " or ",
+                _ => ", ",
+            })?;
+            show_form(f, kind, form)?;
+        }
+        if kind == Kind::Key {
+            f.write_str(", or the same with \"write\"")?;
+        }
+        Ok(())
+    }
+}
+
+// A form as docs/SCENARIO.md writes it.
+fn show_form<W: fmt::Write>(f: &mut fmt::Formatter<W>, kind: Kind, form: &Form) -> fmt::Result {
+    if form.since == Edition::Two {
+        f.write_str("in version 2 ")?;
+    }
+    f.write_str(if kind == Kind::Key {
+        "[\"read\",\""
+    } else {
+        "[\""
+    })?;
+    f.write_str(form.word)?;
+    f.write_str("\"")?;
+    for slot in form.slots {
+        f.write_str(",")?;
+        f.write_str(sign_of(slot.step))?;
+    }
+    f.write_str("]")
+}
+
+// What stands for a piece in the text of a form.
+fn sign_of(step: Step) -> &'static str {
+    match step {
+        Step::Index => "i",
+        Step::Record => "r",
+        Step::Code => "code",
+        Step::Count => "n",
+        Step::Client => "client",
+        Step::Ticket => "ticket",
+        Step::FirstList | Step::SecondList | Step::List => "[..]",
+        _ => "e",
+    }
+}
+
+// Why a value does not have the form of `kind`.
 pub(crate) fn form_why(
     alloc: Global,
     tree: &Value,
     kind: Kind,
-    list: &[Value],
+    value: &Value,
 ) -> Result<String, AllocError> {
-    let Forms {
-        name,
+    let valid = Valid(kind);
+    match value {
+        Value::Array(list) if kind == Kind::Key => key_why(alloc, list.as_slice(), valid),
+        Value::Array(list) => list_why(alloc, tree, kind, list.as_slice()),
+        _ => {
+            let shown = Shown(value);
+            let one = naming_of(kind).one;
+            format!(in alloc; "{shown} is not {one}; {valid}")
+        }
+    }
+}
+
+fn list_why(alloc: Global, tree: &Value, kind: Kind, list: &[Value]) -> Result<String, AllocError> {
+    let valid = Valid(kind);
+    let Naming {
         one,
         word: unknown,
-        all,
-    } = forms_of(kind);
-    if kind == Kind::Key {
-        return key_why(alloc, list, all);
-    }
-    let Some(first) = list.first() else {
-        return format!(in alloc; "an empty list is not a valid {name}; {all}");
+        ..
+    } = naming_of(kind);
+    let [first, others @ ..] = list else {
+        return format!(in alloc; "an empty list is not {one}; {valid}");
     };
     let Some(word) = first.as_str() else {
         let shown = Shown(first);
-        return format!(in alloc; "{one} begins with a word, not with {shown}; {all}");
+        return format!(in alloc; "{one} begins with a word, not with {shown}; {valid}");
     };
     let shown = Quoted(word);
-    match behind_word(kind, word) {
-        None => format!(in alloc; "{shown} is not a valid {unknown}; {all}"),
-        Some(_) if word == "repeat" && is_first(tree) => {
-            String::from_str(alloc, "version 1 has no \"repeat\"; use \"version\":2")
+    match form_with(forms_of(kind), word) {
+        None => format!(in alloc; "{shown} is not a valid {unknown}; {valid}"),
+        Some(form) if form.since == Edition::Two && is_first(tree) => {
+            format!(in alloc; "version 1 has no {shown}; use \"version\":2")
         }
-        Some(wanted) => {
-            let count = list.len() - 1;
+        Some(form) => {
+            let wanted = form.slots.len();
+            let count = others.len();
             format!(in alloc;
-                "the number of items after {shown} must be {wanted}, not {count}; {all}"
+                "the number of items after {shown} must be {wanted}, not {count}; {valid}"
             )
         }
     }
@@ -91,54 +153,19 @@ fn is_first(tree: &Value) -> bool {
     tree.get("version").and_then(Value::as_u64) == Some(1)
 }
 
-fn key_why(alloc: Global, list: &[Value], all: &str) -> Result<String, AllocError> {
+fn key_why(alloc: Global, list: &[Value], valid: Valid) -> Result<String, AllocError> {
     let [mode, place, _] = list else {
         let count = list.len();
-        return format!(in alloc; "the number of items of a key must be 3, not {count}; {all}");
+        return format!(in alloc; "the number of items of a key must be 3, not {count}; {valid}");
     };
     match mode.as_str() {
         Some("read" | "write") => {
             let shown = Shown(place);
-            format!(in alloc; "{shown} does not say which record it is; {all}")
+            format!(in alloc; "{shown} does not say which record it is; {valid}")
         }
         _ => {
             let shown = Shown(mode);
-            format!(in alloc; "a key begins with \"read\" or \"write\", not with {shown}; {all}")
+            format!(in alloc; "a key begins with \"read\" or \"write\", not with {shown}; {valid}")
         }
-    }
-}
-
-// The number of items that follow a word, if it is known.
-fn behind_word(kind: Kind, word: &str) -> Option<usize> {
-    match kind {
-        Kind::Event => behind_event(word),
-        Kind::Statement => behind_statement(word),
-        Kind::Expression => behind_operation(word),
-        _ => None,
-    }
-}
-
-fn behind_event(word: &str) -> Option<usize> {
-    match word {
-        "claim" | "admit" | "front" | "scan" => Some(0),
-        "find" | "enter" | "load" | "store" | "release" | "finish" => Some(1),
-        _ => None,
-    }
-}
-
-fn behind_statement(word: &str) -> Option<usize> {
-    match word {
-        "abort" | "reply" => Some(1),
-        "let" | "set" | "repeat" => Some(2),
-        "if" => Some(3),
-        _ => None,
-    }
-}
-
-fn behind_operation(word: &str) -> Option<usize> {
-    match word {
-        "arg" | "key" | "local" | "not" => Some(1),
-        "add" | "sub" | "mul" | "div" | "rem" | "min" | "max" | "equal" | "less" => Some(2),
-        _ => None,
     }
 }

@@ -1,2 +1,3 @@
+mod Forms
 mod Ways
 mod Refused

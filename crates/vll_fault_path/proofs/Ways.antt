@@ -12,10 +12,11 @@ use Rattle.serde_json.specs.declared.value.Value.{Value}
 use Rattle.vll_proc.specs.declared.syntax.Edition.{Edition}
 use Rattle.vll_fault_path.specs.declared.piece.Kind.{Kind}
 use Rattle.vll_fault_path.specs.declared.piece.Kind.TheVariants as kind
-use Rattle.vll_fault_path.specs.declared.piece.Slot.{Slot}
+use Rattle.vll_fault_path.specs.declared.form.Slot.{Slot}
 use Rattle.vll_fault_path.specs.declared.piece.Step.{Step}
 use Rattle.vll_fault_path.specs.declared.piece.Step.TheVariants as step
-use Rattle.vll_fault_path.specs.Pieces.{Piece, form_of, item_kind, item_step, items_from, member_piece, piece_if, pieces_behind, pieces_by, pieces_of, pieces_of_call, pieces_of_form, pieces_of_key, pieces_of_list, pieces_of_place, pieces_of_procedure, pieces_of_slots, pieces_of_words, places, word_form}
+use Rattle.vll_fault_path.specs.Forms.{form_of}
+use Rattle.vll_fault_path.specs.Pieces.{Piece, item_kind, item_step, items_from, member_piece, piece_if, pieces_behind, pieces_by, pieces_of, pieces_of_call, pieces_of_form, pieces_of_key, pieces_of_list, pieces_of_place, pieces_of_procedure, pieces_of_slots, pieces_of_words}
 use Rattle.vll_scenario.specs.Syntax.{has_exactly, mode_at, proc_names}
 use Rattle.vll_check.specs.declared.piece.Before.{Before}
 use Rattle.vll_check.specs.Pieces.{nothing_before}
@@ -87,13 +88,13 @@ shallow-words : (edition : Edition) (k : Kind) (d : Data) → Shallow (depth d) 
 shallow-words edition k (array (item (string word) ds)) = shallow-slots _ (form_of edition k word) ds (omega arith)
 shallow-words edition k _ = tt
 
-shallow-place : (n : ℕ) (mode word : Option (List ℕ)) (ds : Items) → items_depth ds < n → Shallow n (pieces_of_place mode word ds)
-shallow-place n (Some mode) (Some word) ds within = shallow-if n (is_some (mode_at mode)) _ (shallow-slots n (word_form word places) ds within)
-shallow-place n _ _ ds within = tt
+shallow-place : (edition : Edition) (n : ℕ) (mode word : Option (List ℕ)) (ds : Items) → items_depth ds < n → Shallow n (pieces_of_place edition mode word ds)
+shallow-place edition n (Some mode) (Some word) ds within = shallow-if n (is_some (mode_at mode)) _ (shallow-slots n (form_of edition kind.Key word) ds within)
+shallow-place edition n _ _ ds within = tt
 
-shallow-key : (d : Data) → Shallow (depth d) (pieces_of_key d)
-shallow-key (array (item mode (item word ds))) = shallow-place _ (as_str mode) (as_str word) ds (omega arith)
-shallow-key _ = tt
+shallow-key : (edition : Edition) (d : Data) → Shallow (depth d) (pieces_of_key edition d)
+shallow-key edition (array (item mode (item word ds))) = shallow-place edition _ (as_str mode) (as_str word) ds (omega arith)
+shallow-key edition _ = tt
 
 -- ---- each piece
 
@@ -114,7 +115,7 @@ shallow-call d =
 shallow-form : (edition : Edition) (k : Kind) (d : Data) → Shallow (depth d) (pieces_of_form edition k d)
 shallow-form edition kind.Procedure d = shallow-procedure d
 shallow-form edition kind.Call d = shallow-call d
-shallow-form edition kind.Key d = shallow-key d
+shallow-form edition kind.Key d = shallow-key edition d
 shallow-form edition k d = shallow-words edition k d
 
 shallow-by : (edition : Edition) (k : Kind) (of : Option Kind) (d : Data) → Shallow (depth d) (pieces_by edition k of d)

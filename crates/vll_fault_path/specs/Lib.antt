@@ -1,3 +1,4 @@
+pub mod Forms
 pub mod Pieces
 pub mod PieceTests
 pub mod Ways

@@ -1,18 +1,18 @@
 -- The pieces of a scenario: what each has to be, and the pieces inside it.
-use Rattle.std.specs.Prelude.{ℕ, suc, ◌==◌, Bool, List, [], ◌∷◌, ◌++◌, length, Option, Some, None, option_and_then, is_some, unwrap_or, if◌then◌else◌, codes}
+use Rattle.std.specs.Prelude.{ℕ, suc, ◌==◌, Bool, List, [], ◌∷◌, ◌++◌, length, Option, Some, None, option_and_then, is_some, if◌then◌else◌, codes}
 use Rattle.serde_json.specs.Data.{Data, string, array, Items, no_items, item}
 use Rattle.serde_json.specs.Events.{items_len}
 use Rattle.serde_json.specs.Find.{as_array, as_str, get}
 use Rattle.vll_proc.specs.declared.syntax.Edition.{Edition}
-use Rattle.vll_proc.specs.declared.syntax.Edition.TheVariants.{One, Two}
 use Rattle.vll_fault_path.specs.declared.piece.Kind.{Kind}
 use Rattle.vll_fault_path.specs.declared.piece.Kind.TheVariants as kind
-use Rattle.vll_fault_path.specs.declared.piece.Slot.{Slot}
+use Rattle.vll_fault_path.specs.Forms.{form_of}
+use Rattle.vll_fault_path.specs.declared.form.Slot.{Slot}
 use Rattle.vll_fault_path.specs.declared.piece.Step.{Step}
 use Rattle.vll_fault_path.specs.declared.piece.Step.TheVariants as step
 use Rattle.vll_scenario.specs.Schedule.{event_at}
 use Rattle.vll_scenario.specs.Shape.{asked_at, edition_of, may_names, must_names, placing_at, script_at}
-use Rattle.vll_scenario.specs.Syntax.{Table, code_at, expr_at, find_word, has_exactly, has_members, index_at, key_at, mode_at, proc_at, proc_names, stmt_at, stmts_at}
+use Rattle.vll_scenario.specs.Syntax.{code_at, expr_at, has_exactly, has_members, index_at, key_at, mode_at, proc_at, proc_names, stmt_at, stmts_at}
 use Rattle.vll_scenario.specs.Tree.{list_at, number_at, u32_at, whole}
 
 -- a piece: the step to it from the enclosing piece, what it has to be, and its value
@@ -70,61 +70,6 @@ abbrev pub items_from : Kind → Kind → ℕ → Items → List Piece
 items_from list kind i no_items = []
 items_from list kind i (item d ds) = record { step = item_step list i; kind = kind; value = d } ∷ items_from list kind (suc i) ds
 
--- a piece that follows the word of a form
-abbrev slot : Step → Kind → Slot
-slot step kind = record { step = step; kind = kind }
-
--- a form with one piece after its word
-abbrev one : Step → Kind → List Slot
-one step kind = slot step kind ∷ []
-
--- the two operands of an operation
-abbrev operands : List Slot
-operands = slot step.LeftOperand kind.Expression ∷ slot step.RightOperand kind.Expression ∷ []
-
--- the index and the value of a `let` or a `set`
-abbrev assignment : List Slot
-assignment = slot step.Index kind.Index ∷ slot step.Value kind.Expression ∷ []
-
--- what follows each word of expressions
-abbrev pub expression_forms : Table (List Slot)
-expression_forms =
-    (codes "arg", one step.Index kind.Index) ∷ (codes "key", one step.Index kind.Index) ∷ (codes "local", one step.Index kind.Index) ∷ (codes "not", one step.Operand kind.Expression) ∷
-    (codes "add", operands) ∷ (codes "sub", operands) ∷ (codes "mul", operands) ∷ (codes "div", operands) ∷ (codes "rem", operands) ∷
-    (codes "min", operands) ∷ (codes "max", operands) ∷ (codes "equal", operands) ∷ (codes "less", operands) ∷ []
-
--- what follows each word of events, if anything does
-abbrev pub event_forms : Table (List Slot)
-event_forms =
-    (codes "find", one step.Number kind.Whole) ∷ (codes "enter", one step.Number kind.Whole) ∷ (codes "load", one step.Number kind.Whole) ∷
-    (codes "store", one step.Number kind.Whole) ∷ (codes "release", one step.Number kind.Whole) ∷ (codes "finish", one step.Number kind.Whole) ∷ []
-
--- what follows `repeat`, which edition One does not have
-abbrev pub repeat_form : Edition → List Slot
-repeat_form One = []
-repeat_form Two = slot step.Count kind.Index ∷ slot step.List kind.Statements ∷ []
-
--- what follows each word of statements
-abbrev pub statement_forms : Edition → Table (List Slot)
-statement_forms edition =
-    (codes "abort", one step.Code kind.Code) ∷ (codes "reply", one step.Value kind.Expression) ∷ (codes "let", assignment) ∷ (codes "set", assignment) ∷
-    (codes "if", slot step.Test kind.Expression ∷ slot step.FirstList kind.Statements ∷ slot step.SecondList kind.Statements ∷ []) ∷ (codes "repeat", repeat_form edition) ∷ []
-
--- what follows a word, nothing if it is unknown
-abbrev pub word_form : List ℕ → Table (List Slot) → List Slot
-word_form word forms = unwrap_or (find_word word forms) []
-
--- `word_form` for the word of a statement
-abbrev pub statement_form : Edition → List ℕ → List Slot
-statement_form edition word = word_form word (statement_forms edition)
-
--- what follows a word in a piece of a kind
-abbrev pub form_of : Edition → Kind → List ℕ → List Slot
-form_of edition kind.Statement word = statement_form edition word
-form_of edition kind.Expression word = word_form word expression_forms
-form_of edition kind.Event word = word_form word event_forms
-form_of edition _ word = []
-
 -- what follows a word, as pieces
 abbrev pub pieces_behind : List Slot → Items → List Piece
 pieces_behind [] ds = []
@@ -165,19 +110,15 @@ pieces_of_scenario d =
     member_piece (codes "limit") step.Limit kind.Whole d ++ member_piece (codes "hash") step.Hash kind.Hash d ++ member_piece (codes "schedule") step.Schedule kind.Schedule d
     else []
 
--- what follows each word of a key's place: an index or a record
-abbrev pub places : Table (List Slot)
-places = (codes "arg", one step.Index kind.Index) ∷ (codes "through", one step.Index kind.Index) ∷ (codes "fixed", one step.Record kind.Whole) ∷ []
-
 -- the pieces after the mode and the place of a key, if both are words
-abbrev pub pieces_of_place : Option (List ℕ) → Option (List ℕ) → Items → List Piece
-pieces_of_place (Some mode) (Some word) ds = if is_some (mode_at mode) then pieces_of_slots (word_form word places) ds else []
-pieces_of_place _ _ ds = []
+abbrev pub pieces_of_place : Edition → Option (List ℕ) → Option (List ℕ) → Items → List Piece
+pieces_of_place edition (Some mode) (Some word) ds = if is_some (mode_at mode) then pieces_of_slots (form_of edition kind.Key word) ds else []
+pieces_of_place edition _ _ ds = []
 
 -- the pieces of a key, none if it does not have the form of one
-abbrev pub pieces_of_key : Data → List Piece
-pieces_of_key (array (item mode (item word ds))) = pieces_of_place (as_str mode) (as_str word) ds
-pieces_of_key _ = []
+abbrev pub pieces_of_key : Edition → Data → List Piece
+pieces_of_key edition (array (item mode (item word ds))) = pieces_of_place edition (as_str mode) (as_str word) ds
+pieces_of_key edition _ = []
 
 -- the pieces after a word
 abbrev pub pieces_of_words : Edition → Kind → Data → List Piece
@@ -188,7 +129,7 @@ pieces_of_words edition kind _ = []
 abbrev pub pieces_of_form : Edition → Kind → Data → List Piece
 pieces_of_form edition kind.Procedure d = pieces_of_procedure d
 pieces_of_form edition kind.Call d = pieces_of_call d
-pieces_of_form edition kind.Key d = pieces_of_key d
+pieces_of_form edition kind.Key d = pieces_of_key edition d
 pieces_of_form edition kind d = pieces_of_words edition kind d
 
 -- the items of a list, none if there is no list

@@ -93,7 +93,8 @@ step_words step.List = codes ", list"
 step_words step.Operand = codes ", operand"
 step_words step.LeftOperand = codes ", left operand"
 step_words step.RightOperand = codes ", right operand"
-step_words step.Number = codes ", number"
+step_words step.Client = codes ", client"
+step_words step.Ticket = codes ", ticket"
 
 -- the text of some steps
 abbrev pub words_of : List Step → List ℕ

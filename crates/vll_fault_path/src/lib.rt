@@ -10,11 +10,13 @@
 //! ```
 #![tactic(auto)]
 
+mod form;
 mod laws;
 mod piece;
 mod piece_test;
 mod way;
 
+pub use form::{Form, Slot, form_with, forms_of};
 pub use laws::refused_procedures_have_a_part_at_fault;
 pub use piece::{Kind, Step};
 pub use way::{Found, Way, way_to_fault};

@@ -1,9 +1,8 @@
 //! The pieces of a scenario, and how they nest.
 ghost use Rattle.std.specs.Prelude.{◌≡◌};
-ghost use Rattle.vll_fault_path.specs.Pieces.{event_forms, expression_forms, form_of, item_kind, item_step, places, repeat_form, statement_form, word_form};
+ghost use Rattle.vll_fault_path.specs.Pieces.{item_kind, item_step};
 
 use std::fmt;
-use vll_proc::Edition;
 
 /// What a piece of a scenario has to be.
 #[derive(Clone, Copy, PartialEq, Eq, Debug)]
@@ -73,7 +72,8 @@ pub enum Step {
     Operand,
     LeftOperand,
     RightOperand,
-    Number,
+    Client,
+    Ticket,
 }
 
 impl fmt::Display for Step {
@@ -115,16 +115,10 @@ impl fmt::Display for Step {
             Step::Operand => ", operand",
             Step::LeftOperand => ", left operand",
             Step::RightOperand => ", right operand",
-            Step::Number => ", number",
+            Step::Client => ", client",
+            Step::Ticket => ", ticket",
         })
     }
-}
-
-// A piece that follows the word of a form: the step to it, and what it has to be.
-#[derive(Clone, Copy)]
-pub(crate) struct Slot {
-    pub(crate) step: Step,
-    pub(crate) kind: Kind,
 }
 
 // What the items of a piece have to be, if it is a list of any length.
@@ -153,148 +147,5 @@ pub(crate) fn item_step(list: Kind, index: usize) -> Step
         Kind::Keys => Step::Key(index),
         Kind::Statements => Step::Statement(index),
         _ => Step::Item(index),
-    }
-}
-
-const INDEX: &[Slot] = &[Slot {
-    step: Step::Index,
-    kind: Kind::Index,
-}];
-
-const OPERAND: &[Slot] = &[Slot {
-    step: Step::Operand,
-    kind: Kind::Expression,
-}];
-
-const OPERANDS: &[Slot] = &[
-    Slot {
-        step: Step::LeftOperand,
-        kind: Kind::Expression,
-    },
-    Slot {
-        step: Step::RightOperand,
-        kind: Kind::Expression,
-    },
-];
-
-const CODE: &[Slot] = &[Slot {
-    step: Step::Code,
-    kind: Kind::Code,
-}];
-
-const VALUE: &[Slot] = &[Slot {
-    step: Step::Value,
-    kind: Kind::Expression,
-}];
-
-const ASSIGNMENT: &[Slot] = &[
-    Slot {
-        step: Step::Index,
-        kind: Kind::Index,
-    },
-    Slot {
-        step: Step::Value,
-        kind: Kind::Expression,
-    },
-];
-
-const BRANCH: &[Slot] = &[
-    Slot {
-        step: Step::Test,
-        kind: Kind::Expression,
-    },
-    Slot {
-        step: Step::FirstList,
-        kind: Kind::Statements,
-    },
-    Slot {
-        step: Step::SecondList,
-        kind: Kind::Statements,
-    },
-];
-
-const REPEAT: &[Slot] = &[
-    Slot {
-        step: Step::Count,
-        kind: Kind::Index,
-    },
-    Slot {
-        step: Step::List,
-        kind: Kind::Statements,
-    },
-];
-
-const NUMBER: &[Slot] = &[Slot {
-    step: Step::Number,
-    kind: Kind::Whole,
-}];
-
-const RECORD: &[Slot] = &[Slot {
-    step: Step::Record,
-    kind: Kind::Whole,
-}];
-
-// The pieces that have to follow a word.
-pub(crate) fn form_of(edition: Edition, kind: Kind, word: &str) -> &'static [Slot]
-    ensures { result.now ≡ form_of edition kind word.now }
-{
-    match kind {
-        Kind::Statement => statement_form(edition, word),
-        Kind::Expression => expression_form(word),
-        Kind::Event => event_form(word),
-        _ => &[],
-    }
-}
-
-fn statement_form(edition: Edition, word: &str) -> &'static [Slot]
-    ensures { result.now ≡ statement_form edition word.now }
-{
-    match word {
-        "abort" => CODE,
-        "reply" => VALUE,
-        "let" | "set" => ASSIGNMENT,
-        "if" => BRANCH,
-        "repeat" => repeat_form(edition),
-        _ => &[],
-    }
-}
-
-fn repeat_form(edition: Edition) -> &'static [Slot]
-    ensures { result.now ≡ repeat_form edition }
-{
-    match edition {
-        Edition::One => &[],
-        Edition::Two => REPEAT,
-    }
-}
-
-fn expression_form(word: &str) -> &'static [Slot]
-    ensures { result.now ≡ word_form word.now expression_forms }
-{
-    match word {
-        "arg" | "key" | "local" => INDEX,
-        "not" => OPERAND,
-        "add" | "sub" | "mul" | "div" | "rem" | "min" | "max" | "equal" | "less" => OPERANDS,
-        _ => &[],
-    }
-}
-
-fn event_form(word: &str) -> &'static [Slot]
-    ensures { result.now ≡ word_form word.now event_forms }
-{
-    match word {
-        "find" | "enter" | "load" | "store" | "release" | "finish" => NUMBER,
-        _ => &[],
-    }
-}
-
-// What follows the word of a key's place.
-pub(crate) fn place_form(word: &str) -> &'static [Slot]
-    ensures { result.now ≡ word_form word.now places }
-{
-    match word {
-        "arg" | "through" => INDEX,
-        "fixed" => RECORD,
-        _ => &[],
     }
 }

@@ -8,7 +8,8 @@ ghost use Rattle.vll_fault_path.specs.Ways.{Leads, LeadsToFault, edition_in, fir
 ghost use Rattle.vll_scenario.specs.declared.fault.ScenarioFault.TheVariants.{Check};
 ghost use Rattle.vll_fault_path.specs.declared.piece.Step.{Step};
 
-use crate::piece::{Kind, Slot, Step, form_of, item_kind, item_step, place_form};
+use crate::form::{Slot, form_of};
+use crate::piece::{Kind, Step, item_kind, item_step};
 use crate::piece_test::{PieceTest, count_in, if_read, is_some, note};
 use serde_json::Value;
 use std::alloc::{AllocError, Global};
@@ -287,7 +288,7 @@ fn pieces_of_form<'v>(
     match kind {
         Kind::Procedure => pieces_of_procedure(alloc, value),
         Kind::Call => pieces_of_call(alloc, value),
-        Kind::Key => pieces_of_key(alloc, value),
+        Kind::Key => pieces_of_key(alloc, edition, value),
         _ => pieces_of_words(alloc, edition, kind, value),
     }
 }
@@ -333,15 +334,19 @@ fn push_member<'v>(
     Ok(())
 }
 
-fn pieces_of_key<'v>(alloc: Global, value: &'v Value) -> Result<Vec<Found<'v>>, AllocError>
-    ensures { IfOk result (λ pieces. map piece_of pieces.items ≡ pieces_of_key (view value.now)) }
+fn pieces_of_key<'v>(
+    alloc: Global,
+    edition: Edition,
+    value: &'v Value,
+) -> Result<Vec<Found<'v>>, AllocError>
+    ensures { IfOk result (λ pieces. map piece_of pieces.items ≡ pieces_of_key edition (view value.now)) }
 {
     let mut pieces = Vec::new(alloc);
     if let Value::Array(list) = value
         && let [mode, others @ ..] = list.as_slice()
         && let [word, behind @ ..] = others
     {
-        push_place(&mut pieces, mode.as_str(), word.as_str(), behind)?;
+        push_place(&mut pieces, edition, mode.as_str(), word.as_str(), behind)?;
     }
     Ok(pieces)
 }
@@ -349,18 +354,19 @@ fn pieces_of_key<'v>(alloc: Global, value: &'v Value) -> Result<Vec<Found<'v>>, 
 // Appends the pieces that follow the mode and the place of a key.
 fn push_place<'v>(
     pieces: &mut Vec<Found<'v>>,
+    edition: Edition,
     mode: Option<&str>,
     word: Option<&str>,
     values: &'v [Value],
 ) -> Result<(), AllocError>
     ensures { OnOk result (map piece_of pieces.new.items ≡ map piece_of pieces.old.items
-        ++ pieces_of_place (option_map (λ s. s.now) mode.entry) (option_map (λ s. s.now) word.entry) (items_view values.now)) }
+        ++ pieces_of_place edition (option_map (λ s. s.now) mode.entry) (option_map (λ s. s.now) word.entry) (items_view values.now)) }
 {
     if let Some(mode) = mode
         && let Some(word) = word
         && is_some(mode_of(mode))?
     {
-        push_slots(pieces, place_form(word), values)?;
+        push_slots(pieces, form_of(edition, Kind::Key, word), values)?;
     }
     Ok(())
 }
