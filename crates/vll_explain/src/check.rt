@@ -2,7 +2,7 @@
 use crate::asked::items_of;
 use serde_json::Value;
 use std::alloc::{AllocError, Global};
-use vll_fault_path::{Found, Kind, Step};
+use vll_fault_path::{Step, Way};
 use vll_proc::{
     FIRST_MOST_KEYS, MOST_ARGS, MOST_DEPTH, MOST_LOCALS, MOST_NODES, MOST_OUTPUTS, MOST_TURNS,
     MOST_WEIGHT,
@@ -10,18 +10,18 @@ use vll_proc::{
 use vll_record::MOST_CLAIMS;
 use vll_scenario::CheckFault;
 
-// What is wrong with a piece of the procedure at an index.
+// What is wrong with the procedure at an index, in the piece to which a way leads.
 pub(crate) fn check_why(
     alloc: Global,
     tree: &Value,
     index: u32,
     fault: CheckFault,
-    piece: Option<Found<'_>>,
+    way: &Way<'_>,
 ) -> Result<String, AllocError> {
     let procedure = items_of(tree.get("procs")).get(index as usize);
     let args = number_at(procedure.and_then(|procedure| procedure.get("args")));
     let keys = items_of(procedure.and_then(|procedure| procedure.get("keys")));
-    let number = number_in(piece);
+    let number = way.number;
     match fault {
         CheckFault::TooManyArgs => {
             format!(in alloc; "there are {args} arguments, but at most {MOST_ARGS} are allowed")
@@ -39,7 +39,7 @@ pub(crate) fn check_why(
                 "there is no record {number}; the number of records is {records}, and they are numbered from 0"
             )
         }
-        CheckFault::ThroughKey => through_why(alloc, piece, number),
+        CheckFault::ThroughKey => through_why(alloc, way),
         CheckFault::TwoThrough => {
             let before = keys.iter().position(is_through).unwrap_or(0);
             format!(in alloc;
@@ -101,15 +101,11 @@ fn too_many_keys(alloc: Global, count: usize, version: u64) -> Result<String, Al
     }
 }
 
-// Why a key cannot find its record through the key with this number.
-fn through_why(alloc: Global, key: Option<Found<'_>>, number: u64) -> Result<String, AllocError> {
-    match key {
-        Some(
-            Found {
-                step: Step::Key(place),
-                ..
-            },
-        ) if number < place as u64 => format!(in alloc;
+// Why the key to which a way leads cannot find its record through another one.
+fn through_why(alloc: Global, way: &Way<'_>) -> Result<String, AllocError> {
+    let number = way.number;
+    match way.steps.last() {
+        Some(Step::Key(place)) if number < *place as u64 => format!(in alloc;
             "its source is key {number}, which is a \"through\" key itself"
         ),
         _ => format!(in alloc;
@@ -120,15 +116,6 @@ fn through_why(alloc: Global, key: Option<Found<'_>>, number: u64) -> Result<Str
 
 fn is_through(key: &Value) -> bool {
     key.get(1).and_then(Value::as_str) == Some("through")
-}
-
-// The number in a key, a statement or an expression.
-fn number_in(piece: Option<Found<'_>>) -> u64 {
-    let Some(Found { kind, value, .. }) = piece else {
-        return 0;
-    };
-    let place = if kind == Kind::Key { 2 } else { 1 };
-    number_at(value.get(place))
 }
 
 fn number_at(value: Option<&Value>) -> u64 {

@@ -17,7 +17,7 @@ use crate::unread::unread_explanation;
 use crate::way::{push_way, shown_name};
 use serde_json::Value;
 use std::alloc::{AllocError, Global};
-use vll_fault_path::{Way, way_to_fault};
+use vll_fault_path::way_to_fault;
 use vll_scenario::{
     MOST_BYTES, Reading, Scenario, ScenarioFault, Sink, Source, WriteFault, read_bytes, reading_of,
     write_text,
@@ -133,11 +133,12 @@ fn begun_with(alloc: Global, why: ScenarioFault, explanation: &str) -> Result<St
 fn text_of_piece(alloc: Global, why: ScenarioFault, tree: &Value) -> Result<String, AllocError>
     ensures { IfOk result (λ text. IsLocated (view tree.now) why (string_bytes text)) }
 {
-    let Way { steps, piece } = way_to_fault(alloc, tree, why)?;
-    let shown = shown_name(alloc, tree, steps.as_slice())?;
+    let way = way_to_fault(alloc, tree, why)?;
+    let steps = way.steps.as_slice();
+    let shown = shown_name(alloc, tree, steps)?;
     let mut place = String::new(alloc);
-    push_way(&mut place, steps.as_slice(), shown.as_str())?;
-    let reason = reason_of(alloc, tree, why, piece)?;
+    push_way(&mut place, steps, shown.as_str())?;
+    let reason = reason_of(alloc, tree, why, &way)?;
     format!(in alloc; "vll: scenario: {why}\nat: {place}\nwhy: {reason}\n")
 }
 

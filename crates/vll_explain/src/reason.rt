@@ -6,28 +6,28 @@ use crate::shape::shape_why;
 use crate::size::size_why;
 use serde_json::Value;
 use std::alloc::{AllocError, Global};
-use vll_fault_path::Found;
+use vll_fault_path::Way;
 use vll_scenario::ScenarioFault;
 
-// What is wrong with the piece of a tree that is at fault, or with the tree itself.
+// What is wrong with the piece of a tree to which a way leads, or with the tree itself.
 pub(crate) fn reason_of(
     alloc: Global,
     tree: &Value,
     why: ScenarioFault,
-    piece: Option<Found<'_>>,
+    way: &Way<'_>,
 ) -> Result<String, AllocError> {
     match why {
-        ScenarioFault::Check { index, fault } => check_why(alloc, tree, index, fault, piece),
+        ScenarioFault::Check { index, fault } => check_why(alloc, tree, index, fault, way),
         ScenarioFault::Call {
             client,
             index,
             fault,
         } => call_why(alloc, tree, client, index, fault),
         ScenarioFault::NameTwice => name_twice_why(alloc, items_of(tree.get("procs"))),
-        ScenarioFault::Size => size_why(alloc, piece),
+        ScenarioFault::Size => size_why(alloc, way.piece),
         ScenarioFault::Shape(_)
         | ScenarioFault::Read
         | ScenarioFault::Json
-        | ScenarioFault::NoMemory => shape_why(alloc, tree, piece),
+        | ScenarioFault::NoMemory => shape_why(alloc, tree, way.piece),
     }
 }

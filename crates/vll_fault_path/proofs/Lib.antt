@@ -1,3 +1,4 @@
 mod Forms
 mod Ways
 mod Refused
+mod Parts

@@ -18,18 +18,16 @@ use Rattle.vll_fault_path.specs.declared.piece.Step.TheVariants as step
 use Rattle.vll_fault_path.specs.Forms.{form_of}
 use Rattle.vll_fault_path.specs.Pieces.{Piece, item_kind, item_step, items_from, member_piece, piece_if, pieces_behind, pieces_by, pieces_of, pieces_of_call, pieces_of_form, pieces_of_key, pieces_of_list, pieces_of_place, pieces_of_procedure, pieces_of_slots, pieces_of_words}
 use Rattle.vll_scenario.specs.Syntax.{has_exactly, mode_at, proc_names}
-use Rattle.vll_check.specs.declared.piece.Before.{Before}
-use Rattle.vll_check.specs.Pieces.{nothing_before}
 use Rattle.vll_fault_path.specs.declared.piece_test.PieceTest.{PieceTest}
-use Rattle.vll_fault_path.specs.declared.way.Faulty.{Faulty}
-use Rattle.vll_fault_path.specs.PieceTests.{after, passes}
-use Rattle.vll_fault_path.specs.Private.{faulty_of, piece_of}
+use Rattle.vll_fault_path.specs.declared.way.Found.{Found}
+use Rattle.vll_fault_path.specs.PieceTests.{passes}
+use Rattle.vll_fault_path.specs.Private.{piece_of}
 use Rattle.vll_fault_path.specs.Ways.{Leads, first_faulty}
 
 -- one more than how deeply a piece that was found nests; 0 if there is none
-abbrev pub height : Option (Before × Piece) → ℕ
+abbrev pub height : Option Piece → ℕ
 height None = 0
-height (Some at) = suc (depth at.1.value)
+height (Some at) = suc (depth at.value)
 
 -- each piece of a list nests less deep than a number
 abbrev pub Shallow : ℕ → List Piece → Type 0
@@ -122,71 +120,61 @@ shallow-by : (edition : Edition) (k : Kind) (of : Option Kind) (d : Data) → Sh
 shallow-by edition k None d = shallow-form edition k d
 shallow-by edition k (Some of) d = shallow-list k of d
 
-by_test : (n : ℕ) (b : Bool) (before : Before) (p : Piece) (at : Before × Piece) (others : Option (Before × Piece)) → (if b then others else Some (before, p)) ≡ Some at → (others ≡ Some at → depth at.1.value < n)
-    → depth p.value < n → depth at.1.value < n
-by_test n true before p at others is more here = more is
-by_test n false before p at others is more here = let same : p ≡ at.1 = cc in subst (λ (r : Piece). depth r.value < n) same here
+by_test : (n : ℕ) (b : Bool) (p at : Piece) (others : Option Piece) → (if b then others else Some p) ≡ Some at → (others ≡ Some at → depth at.value < n) → depth p.value < n → depth at.value < n
+by_test n true p at others is more here = more is
+by_test n false p at others is more here = let same : p ≡ at = cc in subst (λ (r : Piece). depth r.value < n) same here
 
 -- what is found next nests less deep
 module _ (edition : Edition) (test : PieceTest) where
-  first-shallow : (before : Before) (n : ℕ) (ps : List Piece) (at : Before × Piece) → Shallow n ps → first_faulty edition test before ps ≡ Some at → depth at.1.value < n
-  first-shallow before n [] at all is = absurd (cc)
-  first-shallow before n (p ∷ ps) at all is =
-      let next = after edition test before p.kind p.value in
-      by_test n (passes edition test before p) before p at (first_faulty edition test next ps) is (λ found. first-shallow next n ps at all.1 found) all.0
+  first-shallow : (n : ℕ) (ps : List Piece) (at : Piece) → Shallow n ps → first_faulty edition test ps ≡ Some at → depth at.value < n
+  first-shallow n [] at all is = absurd (cc)
+  first-shallow n (p ∷ ps) at all is =
+      by_test n (passes edition test p) p at (first_faulty edition test ps) is (λ found. first-shallow n ps at all.1 found) all.0
 
-  height-less : (n : ℕ) (o : Option (Before × Piece)) → ((at : Before × Piece) → o ≡ Some at → depth at.1.value < n) → height o < suc n
+  height-less : (n : ℕ) (o : Option Piece) → ((at : Piece) → o ≡ Some at → depth at.value < n) → height o < suc n
   height-less n None less = omega arith
   height-less n (Some at) less = omega (arith, less at refl)
 
-  found-less : (before : Before) (p : Piece) → height (first_faulty edition test before (pieces_of edition p.kind p.value)) < height (Some (before, p))
-  found-less before p =
-      height-less (depth p.value) _ (λ at is. first-shallow before (depth p.value) _ at (shallow-by edition p.kind (item_kind p.kind) p.value) is)
+  found-less : (p : Piece) → height (first_faulty edition test (pieces_of edition p.kind p.value)) < height (Some p)
+  found-less p =
+      height-less (depth p.value) _ (λ at is. first-shallow (depth p.value) _ at (shallow-by edition p.kind (item_kind p.kind) p.value) is)
 
-  pub next-smaller : (now next : Option Faulty) (f : Faulty) → now ≡ Some f
-      → option_map faulty_of next ≡ first_faulty edition test f.before (pieces_of edition f.piece.kind (view f.piece.value.now)) → height (option_map faulty_of next) < height (option_map faulty_of now)
+  pub next-smaller : (now next : Option Found) (f : Found) → now ≡ Some f
+      → option_map piece_of next ≡ first_faulty edition test (pieces_of edition f.kind (view f.value.now)) → height (option_map piece_of next) < height (option_map piece_of now)
   next-smaller now next f is found =
-      subst₂ (λ a b. height a < height b) (sym found) (sym (ap (option_map faulty_of) is)) (found-less f.before (piece_of f.piece))
+      subst₂ (λ a b. height a < height b) (sym found) (sym (ap (option_map piece_of) is)) (found-less (piece_of f))
 
 -- ---- a way goes on
 
--- a way after some steps, and the piece found next
-pub record OnWay (edition : Edition) (test : PieceTest) (start : List Piece) (begun steps : List Step) (next : Option Faulty) : Type 0 where
-  pub done : List Step
-  pub before : Before
+-- the way so far, and the piece found next
+pub record OnWay (edition : Edition) (test : PieceTest) (start : List Piece) (steps : List Step) (next : Option Found) : Type 0 where
   pub ps : List Piece
-  pub is : steps ≡ begun ++ done
-  pub found : option_map faulty_of next ≡ first_faulty edition test before ps
-  pub on : (rest : List Step) → Leads edition test before ps rest → Leads edition test nothing_before start (done ++ rest)
+  pub found : option_map piece_of next ≡ first_faulty edition test ps
+  pub on : (rest : List Step) → Leads edition test ps rest → Leads edition test start (steps ++ rest)
 
-module _ (edition : Edition) (test : PieceTest) (start : List Piece) (begun : List Step) where
-  pub way-begins : (steps : List Step) (next : Option Faulty) → steps ≡ begun → option_map faulty_of next ≡ first_faulty edition test nothing_before start → OnWay edition test start begun steps next
+module _ (edition : Edition) (test : PieceTest) (start : List Piece) where
+  pub way-begins : (steps : List Step) (next : Option Found) → steps ≡ [] → option_map piece_of next ≡ first_faulty edition test start → OnWay edition test start steps next
   way-begins steps next is found = record {
-    done = [];
-    before = nothing_before;
     ps = start;
-    is = is ∙ sym (append-nil begun);
     found = found;
-    on = λ rest leads. leads;
+    on = λ rest leads. subst (λ xs. Leads edition test start (xs ++ rest)) (sym is) leads;
   }
 
-  pub way-goes_on : (steps new : List Step) (now next : Option Faulty) (f : Faulty) → now ≡ Some f → new ≡ steps ++ f.piece.step ∷ []
-      → option_map faulty_of next ≡ first_faulty edition test f.before (pieces_of edition f.piece.kind (view f.piece.value.now)) → OnWay edition test start begun steps now → OnWay edition test start begun new next
+  pub way-goes_on : (steps new : List Step) (now next : Option Found) (f : Found) → now ≡ Some f → new ≡ steps ++ f.step ∷ []
+      → option_map piece_of next ≡ first_faulty edition test (pieces_of edition f.kind (view f.value.now)) → OnWay edition test start steps now → OnWay edition test start new next
   way-goes_on steps new now next f is pushed found so_far =
-      let here : first_faulty edition test so_far.before so_far.ps ≡ Some (f.before, piece_of f.piece) = sym so_far.found ∙ ap (option_map faulty_of) is in
+      let here : first_faulty edition test so_far.ps ≡ Some (piece_of f) = sym so_far.found ∙ ap (option_map piece_of) is in
+      let more : (rest : List Step) → steps ++ f.step ∷ rest ≡ new ++ rest = λ rest. sym (append_assoc steps (f.step ∷ []) rest) ∙ sym (ap (λ xs. xs ++ rest) pushed) in
       record {
-        done = so_far.done ++ f.piece.step ∷ [];
-        before = f.before;
-        ps = pieces_of edition f.piece.kind (view f.piece.value.now);
-        is = pushed ∙ ap (λ xs. xs ++ f.piece.step ∷ []) so_far.is ∙ append_assoc begun so_far.done (f.piece.step ∷ []);
+        ps = pieces_of edition f.kind (view f.value.now);
         found = found;
-        on = λ rest leads. subst (Leads edition test nothing_before start) (sym (append_assoc so_far.done (f.piece.step ∷ []) rest)) (so_far.on (f.piece.step ∷ rest) ((f.before, piece_of f.piece), here, refl, leads));
+        on = λ rest leads. subst (Leads edition test start) (more rest) (so_far.on (f.step ∷ rest) (piece_of f, here, refl, leads));
       }
 
-  pub way-ends : (steps : List Step) (next : Option Faulty) → next ≡ None → OnWay edition test start begun steps next → (rest : List Step) × (steps ≡ begun ++ rest) × Leads edition test nothing_before start rest
+  pub way-ends : (steps : List Step) (next : Option Found) → next ≡ None → OnWay edition test start steps next → Leads edition test start steps
   way-ends steps next none so_far =
-      let last : first_faulty edition test so_far.before so_far.ps ≡ None = sym so_far.found ∙ ap (option_map faulty_of) none in
-      (so_far.done, so_far.is, subst (Leads edition test nothing_before start) (append-nil so_far.done) (so_far.on [] last))
+      let last : first_faulty edition test so_far.ps ≡ None = sym so_far.found ∙ ap (option_map piece_of) none in
+      subst (Leads edition test start) (append-nil steps) (so_far.on [] last)
 
 -- ---- the items from one on
 
@@ -201,14 +189,13 @@ if-false false x y is = refl
 abbrev pub made : Step → Kind → Data → Piece
 made s k d = record { step = s; kind = k; value = d }
 
-pub items-next : (edition : Edition) (test : PieceTest) (before : Before) (list k : Kind) (i : ℕ) (d : Data) (ds : List Data) → passes edition test before (made (item_step list i) k d) ≡ true
-    → first_faulty edition test (after edition test before k d) (items_from list k (i + 1) (items_of ds)) ≡ first_faulty edition test before (items_from list k i (items_of (d ∷ ds)))
-items-next edition test before list k i d ds is =
-    ap (λ j. first_faulty edition test (after edition test before k d) (items_from list k j (items_of ds))) (add-one i) ∙ sym (if-true _ _ _ is)
+pub items-next : (edition : Edition) (test : PieceTest) (list k : Kind) (i : ℕ) (d : Data) (ds : List Data) → passes edition test (made (item_step list i) k d) ≡ true
+    → first_faulty edition test (items_from list k (i + 1) (items_of ds)) ≡ first_faulty edition test (items_from list k i (items_of (d ∷ ds)))
+items-next edition test list k i d ds is = ap (λ j. first_faulty edition test (items_from list k j (items_of ds))) (add-one i) ∙ sym (if-true _ _ _ is)
 
-pub items-found : (edition : Edition) (test : PieceTest) (before : Before) (list k : Kind) (i : ℕ) (d : Data) (ds : List Data) → passes edition test before (made (item_step list i) k d) ≡ false
-    → first_faulty edition test before (items_from list k i (items_of (d ∷ ds))) ≡ Some (before, made (item_step list i) k d)
-items-found edition test before list k i d ds is = if-false _ _ _ is
+pub items-found : (edition : Edition) (test : PieceTest) (list k : Kind) (i : ℕ) (d : Data) (ds : List Data) → passes edition test (made (item_step list i) k d) ≡ false
+    → first_faulty edition test (items_from list k i (items_of (d ∷ ds))) ≡ Some (made (item_step list i) k d)
+items-found edition test list k i d ds is = if-false _ _ _ is
 
 pub items_len-view : (vs : List Value) → items_len (items_view vs) ≡ length vs
 items_len-view [] = refl

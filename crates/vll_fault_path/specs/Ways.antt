@@ -7,7 +7,6 @@ use Rattle.vll_proc.specs.declared.syntax.Edition.{Edition}
 use Rattle.vll_proc.specs.declared.syntax.Edition.TheVariants.{One}
 use Rattle.vll_proc.specs.declared.syntax.Proc.{Proc}
 use Rattle.vll_check.specs.declared.fault.CheckFault.{CheckFault}
-use Rattle.vll_check.specs.declared.piece.Before.{Before}
 use Rattle.vll_check.specs.Pieces.{nothing_before}
 use Rattle.vll_core.specs.declared.config.TheConstants.{MOST_RECORDS}
 use Rattle.vll_scenario.specs.declared.fault.ScenarioFault.{ScenarioFault}
@@ -16,21 +15,22 @@ use Rattle.vll_fault_path.specs.declared.piece.Step.{Step}
 use Rattle.vll_fault_path.specs.declared.piece.Step.TheVariants as step
 use Rattle.vll_fault_path.specs.declared.piece_test.PieceTest.{PieceTest}
 use Rattle.vll_fault_path.specs.declared.piece_test.PieceTest.TheVariants as test
-use Rattle.vll_fault_path.specs.PieceTests.{after, count_in, passes}
-use Rattle.vll_fault_path.specs.Pieces.{Piece, pieces_of, pieces_of_procedure, pieces_of_scenario}
+use Rattle.vll_fault_path.specs.Parts.{LeadsIn, whole}
+use Rattle.vll_fault_path.specs.PieceTests.{count_in, passes}
+use Rattle.vll_fault_path.specs.Pieces.{Piece, pieces_of, pieces_of_scenario}
 use Rattle.vll_scenario.specs.Shape.{edition_of}
 use Rattle.vll_scenario.specs.Syntax.{proc_at}
 use Rattle.vll_scenario.specs.Tree.{number_at}
 
--- the first of some pieces that does not pass a test, and what came before it
-abbrev pub first_faulty : Edition → PieceTest → Before → List Piece → Option (Before × Piece)
-first_faulty edition test before [] = None
-first_faulty edition test before (p ∷ ps) = if passes edition test before p then first_faulty edition test (after edition test before p.kind p.value) ps else Some (before, p)
+-- the first of some pieces that does not pass a test
+abbrev pub first_faulty : Edition → PieceTest → List Piece → Option Piece
+first_faulty edition test [] = None
+first_faulty edition test (p ∷ ps) = if passes edition test p then first_faulty edition test ps else Some p
 
 -- a way leads from some pieces into the first faulty one, and on through its pieces, until none of them is faulty
-abbrev pub Leads : Edition → PieceTest → Before → List Piece → List Step → Type 0
-Leads edition test before ps [] = first_faulty edition test before ps ≡ None
-Leads edition test before ps (step ∷ rest) = (at : Before × Piece) × (first_faulty edition test before ps ≡ Some at) × (at.1.step ≡ step) × Leads edition test at.0 (pieces_of edition at.1.kind at.1.value) rest
+abbrev pub Leads : Edition → PieceTest → List Piece → List Step → Type 0
+Leads edition test ps [] = first_faulty edition test ps ≡ None
+Leads edition test ps (step ∷ rest) = (at : Piece) × (first_faulty edition test ps ≡ Some at) × (at.step ≡ step) × Leads edition test (pieces_of edition at.kind at.value) rest
 
 -- the edition in which a scenario is read, One if it has no valid version
 abbrev pub edition_in : Data → Edition
@@ -44,18 +44,18 @@ records_in d = min (unwrap_or (option_map count_in (get (codes "records") d)) 0)
 abbrev pub procedure_in : Data → ℕ → Option Data
 procedure_in d index = option_and_then (at index) (get (codes "procs") d)
 
--- a way leads from a procedure to the piece at fault; no step if the procedure is not there
-abbrev pub LeadsInto : Edition → ℕ → CheckFault → Option Data → Option Proc → List Step → Type 0
-LeadsInto edition records why (Some d) (Some p) rest = Leads edition (test.Check (record { procedure = p; records = records; fault = why })) nothing_before (pieces_of_procedure d) rest
-LeadsInto edition records why _ _ rest = rest ≡ []
+-- a way leads from a procedure to the part at fault; no step if the procedure is not there
+abbrev pub LeadsToPart : ℕ → CheckFault → Option Proc → List Step → Type 0
+LeadsToPart records why (Some p) way = LeadsIn (record { procedure = p; records = records; fault = why }) nothing_before (whole p) way
+LeadsToPart records why None way = way ≡ []
 
 -- the way from a scenario to the piece at fault; no step if it is the scenario itself, or if the fault lies in no tree. A
 -- call, and the names of all procedures, are one piece
 abbrev pub LeadsToFault : Data → ScenarioFault → List Step → Type 0
-LeadsToFault d (fault.Shape spot) way = Leads (edition_in d) test.Shape nothing_before (pieces_of_scenario d) way
-LeadsToFault d fault.Size way = Leads (edition_in d) test.Sizes nothing_before (pieces_of_scenario d) way
+LeadsToFault d (fault.Shape spot) way = Leads (edition_in d) test.Shape (pieces_of_scenario d) way
+LeadsToFault d fault.Size way = Leads (edition_in d) test.Sizes (pieces_of_scenario d) way
 LeadsToFault d (fault.Check index why) way = (rest : List Step) × (way ≡ step.Procs ∷ step.Item index ∷ rest)
-    × LeadsInto (edition_in d) (records_in d) why (procedure_in d index) (option_and_then (proc_at (edition_in d)) (procedure_in d index)) rest
+    × LeadsToPart (records_in d) why (option_and_then (proc_at (edition_in d)) (procedure_in d index)) rest
 LeadsToFault d fault.NameTwice way = way ≡ step.Procs ∷ []
 LeadsToFault d (fault.Call client index why) way = way ≡ step.Clients ∷ step.Item client ∷ step.Call index ∷ []
 LeadsToFault d _ way = way ≡ []

@@ -12,6 +12,7 @@
 
 mod form;
 mod laws;
+mod part;
 mod piece;
 mod piece_test;
 mod way;

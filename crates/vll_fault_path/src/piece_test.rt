@@ -1,13 +1,11 @@
-//! The tests that find the piece at fault, each of one piece after another.
-ghost use Rattle.std.specs.Prelude.{◌≡◌, Option, IfOk, OnOk, is_some, nat_le, option_map, true, unwrap_or};
+//! The tests that find the piece at fault.
+ghost use Rattle.std.specs.Prelude.{◌≡◌, Option, IfOk, is_some, nat_le, option_map, true, unwrap_or};
 ghost use Rattle.serde_json.specs.Find.{as_array};
 ghost use Rattle.serde_json.specs.View.{items_view, view};
 ghost use Rattle.vll_core.specs.declared.config.TheConstants.{MOST_CALLS};
-ghost use Rattle.vll_fault_path.specs.PieceTests.{after, calls_in, check_passes, count_in, has_size, once_key, once_statement, option_has_size, passes, place_of};
+ghost use Rattle.vll_fault_path.specs.PieceTests.{calls_in, count_in, has_size, option_has_size, passes};
 ghost use Rattle.vll_core.specs.Faults.{is_up_to};
-ghost use Rattle.vll_check.specs.Pieces.{expression_passes, key_passes, list_passes, statement_passes};
 ghost use Rattle.vll_fault_path.specs.Pieces.{is_read};
-ghost use Rattle.vll_scenario.specs.Syntax.{expr_at, key_at, stmt_at, stmts_at};
 ghost use Rattle.vll_scenario.specs.Tree.{Gives, u32_at};
 ghost use Rattle.vll_fault_path.specs.Private.{piece_of};
 
@@ -16,91 +14,39 @@ use crate::way::Found;
 use serde_json::Value;
 use sqlite_items::Items;
 use std::alloc::{AllocError, Global};
-use vll_check::{Before, Piecewise};
 use vll_core::{Event, MOST_CALLS, MOST_RECORDS, MOST_WAITING};
 use vll_proc::{Edition, KeyDecl, Proc};
 use vll_sca::{MOST_BITS, Placing};
 use vll_scenario::{
     Asked, MOST_CLIENTS, MOST_EVENTS, MOST_PROCS, Misread, Reads, code_of, expr_of, index_of,
-    key_of, stmt_of, stmts_of, u32_of,
+    stmt_of, stmts_of, u32_of,
 };
 
 /// A test of the pieces of a scenario.
-#[derive(Drop)]
+#[derive(Clone, Copy)]
 pub enum PieceTest {
     /// Whether a piece is what it has to be.
     Shape,
     /// Whether a part of the scenario is within its limits.
     Sizes,
-    /// Whether a piece of a procedure passes a test of the procedure.
-    Check(Piecewise),
 }
 
 impl PieceTest {
-    // Whether a piece passes, after what came before it.
+    // Whether a piece passes.
     pub(crate) fn passes(
-        &self,
+        self,
         alloc: Global,
         edition: Edition,
-        before: &Before,
         piece: &Found<'_>,
     ) -> Result<bool, AllocError>
-        ensures { IfOk result (λ is. is ≡ passes edition self.now before.now (piece_of piece.now)) }
+        ensures { IfOk result (λ is. is ≡ passes edition self (piece_of piece.now)) }
     {
         let Found { step, kind, value } = *piece;
         match self {
             PieceTest::Shape => is_read(alloc, edition, kind, value),
             PieceTest::Sizes => has_size(step, kind, value),
-            PieceTest::Check(test) => check_passes(alloc, edition, test, before, piece),
         }
     }
-}
-
-// Notes that a piece comes before what is tested next.
-pub(crate) fn note(
-    alloc: Global,
-    edition: Edition,
-    test: &PieceTest,
-    before: &mut Before,
-    piece: &Found<'_>,
-) -> Result<(), AllocError>
-    ensures { OnOk result (before.new ≡ after edition test.now before.old piece.now.kind (view piece.now.value.now)) }
-{
-    match test {
-        PieceTest::Check(_) => match piece.kind {
-            Kind::Key => note_key(before, piece.value),
-            Kind::Statement => note_statement(alloc, edition, before, piece.value),
-            _ => Ok(()),
-        },
-        _ => Ok(()),
-    }
-}
-
-// The same for a key position, if the value is read as one.
-fn note_key(before: &mut Before, value: &Value) -> Result<(), AllocError>
-    ensures { OnOk result (before.new ≡ once_key before.old (key_at (view value.now))) }
-{
-    if let Some(key) = if_read(key_of(value))? {
-        before.pass_key(&key);
-    }
-    Ok(())
-}
-
-// The same for a statement.
-fn note_statement(
-    alloc: Global,
-    edition: Edition,
-    before: &mut Before,
-    value: &Value,
-) -> Result<(), AllocError>
-    ensures { OnOk result (before.new ≡ once_statement before.old (stmt_at edition (view value.now))) }
-{
-    if let Some(statement) = if_read(stmt_of(alloc, edition, value))? {
-        before.pass_statement(&statement);
-        // proved faster than the drop at the end of the block
-        drop(statement);
-    }
-    Ok(())
 }
 
 // Whether a part is within its limits.
@@ -169,101 +115,6 @@ fn is_up_to(most: u32, number: u32) -> bool
     ensures { result ≡ is_up_to most number }
 {
     1 <= number && number <= most
-}
-
-// Whether a piece of a procedure passes a test of the procedure.
-fn check_passes(
-    alloc: Global,
-    edition: Edition,
-    test: &Piecewise,
-    before: &Before,
-    piece: &Found<'_>,
-) -> Result<bool, AllocError>
-    ensures { IfOk result (λ is. is ≡ check_passes edition test.now before.now piece.now.step piece.now.kind (view piece.now.value.now)) }
-{
-    let Found { step, kind, value } = *piece;
-    match kind {
-        Kind::Index => Ok(step != Step::Args || test.args_pass()),
-        Kind::Keys => Ok(test.keys_pass()),
-        Kind::Key => key_passes(test, before, place_of(step), value),
-        Kind::Statements => list_passes(alloc, edition, test, before, value),
-        Kind::Statement => statement_passes(alloc, edition, test, before, value),
-        Kind::Expression => expression_passes(alloc, test, before, value),
-        _ => Ok(true),
-    }
-}
-
-fn key_passes(
-    test: &Piecewise,
-    before: &Before,
-    place: usize,
-    value: &Value,
-) -> Result<bool, AllocError>
-    ensures { IfOk result (λ is. is ≡ unwrap_or (option_map (key_passes test.now.fault test.now.records test.now.procedure before.now place) (key_at (view value.now))) true) }
-{
-    Ok(match if_read(key_of(value))? {
-        Some(key) => test.key_passes(before, place, &key),
-        None => true,
-    })
-}
-
-fn list_passes(
-    alloc: Global,
-    edition: Edition,
-    test: &Piecewise,
-    before: &Before,
-    value: &Value,
-) -> Result<bool, AllocError>
-    ensures { IfOk result (λ is. is ≡ unwrap_or (option_map (list_passes test.now.fault test.now.procedure before.now) (stmts_at edition (view value.now))) true) }
-{
-    Ok(match if_read(stmts_of(alloc, edition, value))? {
-        Some(list) => test.list_passes(before, list.as_slice()),
-        None => true,
-    })
-}
-
-fn statement_passes(
-    alloc: Global,
-    edition: Edition,
-    test: &Piecewise,
-    before: &Before,
-    value: &Value,
-) -> Result<bool, AllocError>
-    ensures { IfOk result (λ is. is ≡ unwrap_or (option_map (statement_passes test.now.fault test.now.procedure before.now) (stmt_at edition (view value.now))) true) }
-{
-    match if_read(stmt_of(alloc, edition, value))? {
-        Some(statement) => {
-            let passes = test.statement_passes(before, &statement);
-            // as in `note_statement`
-            drop(statement);
-            Ok(passes)
-        }
-        None => Ok(true),
-    }
-}
-
-fn expression_passes(
-    alloc: Global,
-    test: &Piecewise,
-    before: &Before,
-    value: &Value,
-) -> Result<bool, AllocError>
-    ensures { IfOk result (λ is. is ≡ unwrap_or (option_map (expression_passes test.now.fault test.now.procedure before.now) (expr_at (view value.now))) true) }
-{
-    Ok(match if_read(expr_of(alloc, value))? {
-        Some(expression) => test.expression_passes(before, &expression),
-        None => true,
-    })
-}
-
-// The index of the key position to which a step leads.
-fn place_of(step: Step) -> usize
-    ensures { result ≡ place_of step }
-{
-    match step {
-        Step::Key(index) => index,
-        _ => 0,
-    }
 }
 
 // Whether a value is what it has to be.

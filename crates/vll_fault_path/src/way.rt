@@ -1,19 +1,18 @@
 //! The way to the piece of a scenario that is at fault. It is searched for only if there is a fault.
-ghost use Rattle.std.specs.Prelude.{◌≡◌, ◌++◌, List, Some, IfOk, OnOk, map, option_map};
+ghost use Rattle.std.specs.Prelude.{◌≡◌, ◌++◌, IfOk, OnOk, map, option_map};
 ghost use Rattle.serde_json.specs.View.{items_view, view};
-ghost use Rattle.vll_check.specs.Pieces.{nothing_before};
 ghost use Rattle.vll_fault_path.specs.Pieces.{items_from, member_piece, pieces_behind, pieces_of, pieces_of_call, pieces_of_form, pieces_of_key, pieces_of_place, pieces_of_procedure, pieces_of_scenario, pieces_of_slots, pieces_of_words};
-ghost use Rattle.vll_fault_path.specs.Private.{faulty_of, piece_of};
+ghost use Rattle.vll_fault_path.specs.Private.{piece_of};
 ghost use Rattle.vll_fault_path.specs.Ways.{Leads, LeadsToFault, edition_in, first_faulty, procedure_in, records_in};
 ghost use Rattle.vll_scenario.specs.declared.fault.ScenarioFault.TheVariants.{Check};
-ghost use Rattle.vll_fault_path.specs.declared.piece.Step.{Step};
 
 use crate::form::{Slot, form_of};
+use crate::part::push_parts;
 use crate::piece::{Kind, Step, item_kind, item_step};
-use crate::piece_test::{PieceTest, count_in, if_read, is_some, note};
+use crate::piece_test::{PieceTest, count_in, if_read, is_some};
 use serde_json::Value;
 use std::alloc::{AllocError, Global};
-use vll_check::{Before, CheckFault, Piecewise};
+use vll_check::{CheckFault, Piecewise};
 use vll_core::MOST_RECORDS;
 use vll_proc::{Edition, Proc};
 use vll_scenario::{
@@ -28,19 +27,14 @@ pub struct Found<'v> {
     pub value: &'v Value,
 }
 
-/// The steps from a scenario to the piece at fault, and that piece; no piece if it is the scenario itself, a call, the
-/// names of all procedures or a procedure that is not there.
+/// The steps from a scenario to the piece at fault.
 #[derive(Drop)]
 pub struct Way<'v> {
     pub steps: Vec<Step>,
+    /// The piece, if its shape or its size is at fault and it is not the scenario itself.
     pub piece: Option<Found<'v>>,
-}
-
-// The first piece that does not pass a test, and what came before it.
-#[derive(Clone, Copy)]
-pub(crate) struct Faulty<'v> {
-    pub(crate) before: Before,
-    pub(crate) piece: Found<'v>,
+    /// The index, record or count in the piece, if it is part of a procedure that is refused, and has one; else 0.
+    pub number: u64,
 }
 
 /// Finds the way from a scenario's JSON tree to the piece at fault, for the fault that reading it has returned. It has
@@ -54,8 +48,8 @@ pub fn way_to_fault<'v>(
     ensures { IfOk result (λ way. LeadsToFault (view tree.now) why way.steps.items) }
 {
     match why {
-        ScenarioFault::Shape(_) => way_in_scenario(alloc, tree, &PieceTest::Shape),
-        ScenarioFault::Size => way_in_scenario(alloc, tree, &PieceTest::Sizes),
+        ScenarioFault::Shape(_) => way_in_scenario(alloc, tree, PieceTest::Shape),
+        ScenarioFault::Size => way_in_scenario(alloc, tree, PieceTest::Sizes),
         ScenarioFault::Check { index, fault } => way_in_procedure(alloc, tree, index, fault),
         ScenarioFault::NameTwice => way_of(alloc, &[Step::Procs]),
         ScenarioFault::Call { client, index, .. } => {
@@ -73,19 +67,40 @@ fn way_of<'v>(alloc: Global, steps: &[Step]) -> Result<Way<'v>, AllocError>
     Ok(Way {
         steps: Vec::from_slice(alloc, steps)?,
         piece: None,
+        number: 0,
     })
 }
 
-// The way to the first part of a scenario that does not pass a test, and on.
+// The way from a scenario into the first piece that does not pass a test, and on.
 fn way_in_scenario<'v>(
     alloc: Global,
     tree: &'v Value,
-    test: &PieceTest,
+    test: PieceTest,
 ) -> Result<Way<'v>, AllocError>
-    ensures { IfOk result (λ way. Leads (edition_in (view tree.now)) test.now nothing_before (pieces_of_scenario (view tree.now)) way.steps.items) }
+    ensures { IfOk result (λ way. Leads (edition_in (view tree.now)) test (pieces_of_scenario (view tree.now)) way.steps.items) }
 {
+    let edition = edition_in(tree);
     let pieces = pieces_of_scenario(alloc, tree)?;
-    way_on(alloc, edition_in(tree), test, pieces.as_slice(), &[])
+    let mut steps = Vec::new(alloc);
+    let mut piece = None;
+    // `?` takes no value that has both a reference and locals
+    let mut next = match first_of(alloc, edition, test, pieces.as_slice()) {
+        Ok(next) => next,
+        Err(why) => return Err(why),
+    };
+    'steps: while let Some(found) = next {
+        steps.push(found.step)?;
+        piece = Some(found);
+        next = match first_in(alloc, edition, test, found) {
+            Ok(next) => next,
+            Err(why) => return Err(why),
+        };
+    }
+    Ok(Way {
+        steps,
+        piece,
+        number: 0,
+    })
 }
 
 // The way to a procedure that is refused, and on to the piece of it that does not pass the test.
@@ -105,13 +120,18 @@ fn way_in_procedure<'v>(
     let Some(procedure) = if_read(Proc::read(alloc, edition, value))? else {
         return way_of(alloc, &start);
     };
-    let test = PieceTest::Check(Piecewise {
+    let test = Piecewise {
         procedure,
         records: records_in(tree),
         fault,
-    });
-    let pieces = pieces_of_procedure(alloc, value)?;
-    way_on(alloc, edition, &test, pieces.as_slice(), &start)
+    };
+    let mut steps = Vec::from_slice(alloc, &start)?;
+    let number = push_parts(&mut steps, &test)?;
+    Ok(Way {
+        steps,
+        piece: None,
+        number,
+    })
 }
 
 // The procedure at an index.
@@ -131,39 +151,6 @@ fn records_in(tree: &Value) -> u32
     }
 }
 
-// The way that begins with some steps and leads from some pieces into the first that does not pass a test, and on.
-fn way_on<'v>(
-    alloc: Global,
-    edition: Edition,
-    test: &PieceTest,
-    pieces: &[Found<'v>],
-    begun: &[Step],
-) -> Result<Way<'v>, AllocError>
-    ensures { IfOk result (λ way. (rest : List Step) × (way.steps.items ≡ begun.now ++ rest)
-        × Leads edition test.now nothing_before (map piece_of pieces.now) rest) }
-{
-    let mut steps = Vec::from_slice(alloc, begun)?;
-    let mut piece = None;
-    // `?` takes no value that has both a reference and locals
-    let mut next = match first_of(alloc, edition, test, Before::new(), pieces) {
-        Ok(next) => next,
-        Err(why) => return Err(why),
-    };
-    'steps: while let Some(faulty) = next {
-        let Faulty {
-            before,
-            piece: found,
-        } = faulty;
-        steps.push(found.step)?;
-        piece = Some(found);
-        next = match first_in(alloc, edition, test, before, found) {
-            Ok(next) => next,
-            Err(why) => return Err(why),
-        };
-    }
-    Ok(Way { steps, piece })
-}
-
 // The edition in which a scenario is read.
 fn edition_in(tree: &Value) -> Edition
     ensures { result ≡ edition_in (view tree.now) }
@@ -178,22 +165,21 @@ fn edition_in(tree: &Value) -> Edition
 fn first_in<'v>(
     alloc: Global,
     edition: Edition,
-    test: &PieceTest,
-    before: Before,
+    test: PieceTest,
     outer: Found<'v>,
-) -> Result<Option<Faulty<'v>>, AllocError>
-    ensures { IfOk result (λ found. option_map faulty_of found
-        ≡ first_faulty edition test.now before (pieces_of edition outer.entry.kind (view outer.entry.value.now))) }
+) -> Result<Option<Found<'v>>, AllocError>
+    ensures { IfOk result (λ found. option_map piece_of found
+        ≡ first_faulty edition test (pieces_of edition outer.entry.kind (view outer.entry.value.now))) }
 {
     let Found { kind, value, .. } = outer;
     match item_kind(kind) {
         Some(item) => match value.as_array() {
-            Some(list) => first_of_items(alloc, edition, test, before, kind, item, list.as_slice()),
+            Some(list) => first_of_items(alloc, edition, test, kind, item, list.as_slice()),
             None => Ok(None),
         },
         None => {
             let pieces = pieces_of_form(alloc, edition, kind, value)?;
-            first_of(alloc, edition, test, before, pieces.as_slice())
+            first_of(alloc, edition, test, pieces.as_slice())
         }
     }
 }
@@ -202,24 +188,18 @@ fn first_in<'v>(
 fn first_of<'v>(
     alloc: Global,
     edition: Edition,
-    test: &PieceTest,
-    before: Before,
+    test: PieceTest,
     pieces: &[Found<'v>],
-) -> Result<Option<Faulty<'v>>, AllocError>
-    ensures { IfOk result (λ found. option_map faulty_of found ≡ first_faulty edition test.now before (map piece_of pieces.now)) }
+) -> Result<Option<Found<'v>>, AllocError>
+    ensures { IfOk result (λ found. option_map piece_of found ≡ first_faulty edition test (map piece_of pieces.now)) }
 {
     match pieces {
         [] => Ok(None),
         [piece, others @ ..] => {
-            if test.passes(alloc, edition, &before, piece)? {
-                let mut next = before;
-                note(alloc, edition, test, &mut next, piece)?;
-                first_of(alloc, edition, test, next, others)
+            if test.passes(alloc, edition, piece)? {
+                first_of(alloc, edition, test, others)
             } else {
-                Ok(Some(Faulty {
-                    before,
-                    piece: *piece,
-                }))
+                Ok(Some(*piece))
             }
         }
     }
@@ -229,23 +209,20 @@ fn first_of<'v>(
 fn first_of_items<'v>(
     alloc: Global,
     edition: Edition,
-    test: &PieceTest,
-    first: Before,
+    test: PieceTest,
     list: Kind,
     kind: Kind,
     values: &'v [Value],
-) -> Result<Option<Faulty<'v>>, AllocError>
-    ensures { IfOk result (λ found. option_map faulty_of found
-        ≡ first_faulty edition test.now first (items_from list kind 0 (items_view values.now))) }
+) -> Result<Option<Found<'v>>, AllocError>
+    ensures { IfOk result (λ found. option_map piece_of found
+        ≡ first_faulty edition test (items_from list kind 0 (items_view values.now))) }
 {
-    let mut before = first;
     for (i, value) in values.iter().enumerate() {
         let step = item_step(list, i);
         let piece = Found { step, kind, value };
-        if !test.passes(alloc, edition, &before, &piece)? {
-            return Ok(Some(Faulty { before, piece }));
+        if !test.passes(alloc, edition, &piece)? {
+            return Ok(Some(piece));
         }
-        note(alloc, edition, test, &mut before, &piece)?;
     }
     Ok(None)
 }

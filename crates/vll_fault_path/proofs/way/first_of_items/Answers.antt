@@ -11,31 +11,28 @@ use Rattle.vll_fault_path.proofs.way.first_of_items.Goals as goal
 pub returns-then-not-branch : goal.returns-then-not-branch
 returns-then-not-branch c =
     let edition = c.args.edition in
-    let test = c.args.test.now in
-    let before = c.loop-i.before in
+    let test = c.args.test in
     let values = c.args.values.now in
     let i = c.loop-i.i in
     let value = c.index-values-i.result in
     let next : drop i values ≡ value ∷ drop (i + 1) values = drop-next values i value c.loop-i-test.true c.index-values-i.is in
-    let fails : passes edition test before (made (item_step c.args.list i) c.args.kind (view value)) ≡ false =
-    ap (λ (s : Step). passes edition test before (made s c.args.kind (view value))) (sym c.item_step-step.ensures) ∙ sym c.in_ok-passes.ensures ∙ c.if-not-branch.true in
-    ap (λ (s : Step). Some (before, made s c.args.kind (view value))) c.item_step-step.ensures
-    ∙ sym (items-found edition test before c.args.list c.args.kind i (view value) (map view (drop (i + 1) values)) fails)
-    ∙ sym (ap (λ vs. first_faulty edition test before (items_from c.args.list c.args.kind i (items_view vs))) next)
+    let fails : passes edition test (made (item_step c.args.list i) c.args.kind (view value)) ≡ false =
+    ap (λ (s : Step). passes edition test (made s c.args.kind (view value))) (sym c.item_step-step.ensures) ∙ sym c.in_ok-passes.ensures ∙ c.if-not-branch.true in
+    ap (λ (s : Step). Some (made s c.args.kind (view value))) c.item_step-step.ensures
+    ∙ sym (items-found edition test c.args.list c.args.kind i (view value) (map view (drop (i + 1) values)) fails)
+    ∙ sym (ap (λ vs. first_faulty edition test (items_from c.args.list c.args.kind i (items_view vs))) next)
     ∙ c.loop-i.invariant
 
 pub loop-i-preserved : goal.loop-i-preserved
 loop-i-preserved c =
     let edition = c.args.edition in
-    let test = c.args.test.now in
-    let before = c.loop-i.before in
+    let test = c.args.test in
     let values = c.args.values.now in
     let i = c.loop-i.i in
     let value = c.index-values-i.result in
     let next : drop i values ≡ value ∷ drop (i + 1) values = drop-next values i value c.loop-i-test.true c.index-values-i.is in
-    let holds : passes edition test before (made (item_step c.args.list i) c.args.kind (view value)) ≡ true =
-    ap (λ (s : Step). passes edition test before (made s c.args.kind (view value))) (sym c.item_step-step.ensures) ∙ sym c.in_ok-passes.ensures ∙ c.if-not-branch.false in
-    ap (λ b. first_faulty edition test b (items_from c.args.list c.args.kind (i + 1) (items_view (drop (i + 1) values)))) c.in_ok-note.ensures
-    ∙ items-next edition test before c.args.list c.args.kind i (view value) (map view (drop (i + 1) values)) holds
-    ∙ sym (ap (λ vs. first_faulty edition test before (items_from c.args.list c.args.kind i (items_view vs))) next)
+    let holds : passes edition test (made (item_step c.args.list i) c.args.kind (view value)) ≡ true =
+    ap (λ (s : Step). passes edition test (made s c.args.kind (view value))) (sym c.item_step-step.ensures) ∙ sym c.in_ok-passes.ensures ∙ c.if-not-branch.false in
+    items-next edition test c.args.list c.args.kind i (view value) (map view (drop (i + 1) values)) holds
+    ∙ sym (ap (λ vs. first_faulty edition test (items_from c.args.list c.args.kind i (items_view vs))) next)
     ∙ c.loop-i.invariant

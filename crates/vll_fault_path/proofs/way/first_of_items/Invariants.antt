@@ -7,4 +7,4 @@ use Rattle.vll_fault_path.proofs.way.first_of_items.Given as goal
 
 abbrev pub invariant-loop-i : goal.invariant-loop-i
 invariant-loop-i l =
-    first_faulty l.edition l.test l.before (items_from l.list l.kind l.i (items_view (drop l.i l.values))) ≡ first_faulty l.edition l.test l.fn.first (items_from l.list l.kind 0 (items_view l.values))
+    first_faulty l.edition l.test (items_from l.list l.kind l.i (items_view (drop l.i l.values))) ≡ first_faulty l.edition l.test (items_from l.list l.kind 0 (items_view l.values))
