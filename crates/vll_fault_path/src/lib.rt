@@ -5,7 +5,7 @@
 //! ```rattle
 //! let Reading { tree, scenario } = reading_of(alloc, text.as_bytes())?;
 //! if let Err(why) = scenario {
-//!     let Way { steps, piece } = way_to_fault(alloc, &tree, why)?;
+//!     let way = way_to_fault(alloc, &tree, why)?;
 //! }
 //! ```
 #![tactic(auto)]
