@@ -11,14 +11,14 @@ use Rattle.vll_lines.specs.Answers.{answers_by, fault_line, reply_line, told_at,
 use Rattle.vll_lines.specs.Placed.{AreTheirsAt}
 use Rattle.vll_lines.specs.Private.Replied.{IsRepliedAt, RepliesAt}
 use Rattle.vll_lines.specs.Theirs.{call_of_line, call_shown, calls_of, with_call}
-use Rattle.vll_lines.specs.declared.asked.Asked.{Asked}
-use Rattle.vll_lines.specs.declared.asked.ClientCall.{ClientCall}
-use Rattle.vll_lines.specs.declared.asked.LineFault.{LineFault}
+use Rattle.vll_lines.specs.declared.request.Request.{Request}
+use Rattle.vll_lines.specs.declared.request.ClientCall.{ClientCall}
+use Rattle.vll_lines.specs.declared.request.LineFault.{LineFault}
 use Rattle.vll_lines.proofs.Placed.{placed_many, placed_within}
 
--- of all lines that are asked, whose calls have these journal lines at these places, with the journal lines numbered from
+-- of all lines asked, whose calls have these journal lines at these places, with the journal lines numbered from
 -- `first` on, those in `rest` are left, with these places, and the text so far
-pub record AreAnsweredAt (all : List Asked) (lines : List Line) (places : List ℕ) (first : ℕ) (rest : List Asked) (left : List ℕ) (text : List ℕ) : Type 0 where
+pub record AreAnsweredAt (all : List Request) (lines : List Line) (places : List ℕ) (first : ℕ) (rest : List Request) (left : List ℕ) (text : List ℕ) : Type 0 where
   pub many : length left ≡ length (calls_of rest)
   pub within : All (λ (p : ℕ). p < length lines) left
   pub replied : All (λ (l : Line). IsSome l.reply) lines
@@ -26,7 +26,7 @@ pub record AreAnsweredAt (all : List Asked) (lines : List Line) (places : List �
       → text ++ answers_by rest (told_at first replies left) ≡ answers_by all (told_at first replies places)
 
 -- no line yet
-pub answered_none_at : (all : List Asked) (lines : List Line) (places : List ℕ) (first : ℕ) → AreTheirsAt all lines places → AreAnsweredAt all lines places first all places []
+pub answered_none_at : (all : List Request) (lines : List Line) (places : List ℕ) (first : ℕ) → AreTheirsAt all lines places → AreAnsweredAt all lines places first all places []
 answered_none_at all lines places first theirs =
     let shown : List (ℕ × Call) = map call_shown (calls_of all) in
     let made : List (ℕ × Call) = map call_of_line lines in
@@ -37,7 +37,7 @@ answered_none_at all lines places first theirs =
       answered = λ replies same. refl;
     }
 
-module _ (all : List Asked) (lines : List Line) (places : List ℕ) (first : ℕ) (a : Asked) (more : List Asked) (text now : List ℕ) where
+module _ (all : List Request) (lines : List Line) (places : List ℕ) (first : ℕ) (a : Request) (more : List Request) (text now : List ℕ) where
   -- a fault
   pub answered_fault_at : (left : List ℕ) (why : LineFault) → a.call ≡ Err why → now ≡ text ++ fault_line a.id why → AreAnsweredAt all lines places first (a ∷ more) left text
       → AreAnsweredAt all lines places first more left now

@@ -7,13 +7,13 @@ use Rattle.vll_check.specs.Calls.{Fits, call_made}
 use Rattle.vll_check.specs.Headline.Catalog.{Catalog}
 use Rattle.vll_check.specs.declared.fault.CallFault.{CallFault}
 use Rattle.vll_scenario.specs.Shape.{◌>>=◌}
-use Rattle.vll_lines.specs.Asked.{AreAsked, IsAsked, IsLine, args_of, asked_of, asked_with, call_asked, client_of, has_no_other, id_of, made_by, name_of}
+use Rattle.vll_lines.specs.Request.{AreRequests, IsRequest, IsLine, args_of, request_of, request_with, call_asked, client_of, has_no_other, id_of, made_by, name_of}
 use Rattle.vll_lines.specs.Theirs.{calls_of, with_call}
-use Rattle.vll_lines.specs.declared.asked.Asked.{Asked}
-use Rattle.vll_lines.specs.declared.asked.ClientCall.{ClientCall}
-use Rattle.vll_lines.specs.declared.asked.Id.{Id}
-use Rattle.vll_lines.specs.declared.asked.LineFault.{LineFault}
-use Rattle.vll_lines.specs.declared.asked.LineFault.TheVariants as fault
+use Rattle.vll_lines.specs.declared.request.Request.{Request}
+use Rattle.vll_lines.specs.declared.request.ClientCall.{ClientCall}
+use Rattle.vll_lines.specs.declared.request.Id.{Id}
+use Rattle.vll_lines.specs.declared.request.LineFault.{LineFault}
+use Rattle.vll_lines.specs.declared.request.LineFault.TheVariants as fault
 
 module _ (library : Catalog) where
   -- a call that was made fits
@@ -42,17 +42,17 @@ module _ (library : Catalog) where
       (fits_then (client_of d) _ (λ client. fits_then (name_of d) _ (λ name. fits_then (args_of d) _ (λ args. fits_if (nat_lt client clients) _ _ (fits_made client name args) tt))))
       tt
 
-  fits_with : (it : Result (Option Id) LineFault) (asked : Result ClientCall LineFault) → FitsIn asked → FitsIn (asked_with it asked).call
-  fits_with (Ok it) asked fits = fits
-  fits_with (Err why) asked fits = tt
+  fits_with : (it : Result (Option Id) LineFault) (request : Result ClientCall LineFault) → FitsIn request → FitsIn (request_with it request).call
+  fits_with (Ok it) request fits = fits
+  fits_with (Err why) request fits = tt
 
-  fits_line : (clients : ℕ) (line : List ℕ) (a : Asked) → IsLine library clients line a → FitsIn a.call
-  fits_line clients line a (inl long) = subst (λ (b : Asked). FitsIn b.call) (sym long.1) tt
+  fits_line : (clients : ℕ) (line : List ℕ) (a : Request) → IsLine library clients line a → FitsIn a.call
+  fits_line clients line a (inl long) = subst (λ (b : Request). FitsIn b.call) (sym long.1) tt
   fits_line clients line a (inr short) = by_tree short.1
     where
-      by_tree : IsAsked library clients line a → FitsIn a.call
-      by_tree (inl is) = subst (λ (b : Asked). FitsIn b.call) (sym is.2) (fits_with (id_of is.0) (call_asked library clients is.0) (fits_asked clients is.0))
-      by_tree (inr is) = subst (λ (b : Asked). FitsIn b.call) (sym is.1.1) tt
+      by_tree : IsRequest library clients line a → FitsIn a.call
+      by_tree (inl is) = subst (λ (b : Request). FitsIn b.call) (sym is.2) (fits_with (id_of is.0) (call_asked library clients is.0) (fits_asked clients is.0))
+      by_tree (inr is) = subst (λ (b : Request). FitsIn b.call) (sym is.1.1) tt
 
   one_fits : (r : Result ClientCall LineFault) (others : List ClientCall) → FitsIn r → All (λ (c : ClientCall). Fits library c.call) others
       → All (λ (c : ClientCall). Fits library c.call) (with_call r others)
@@ -60,7 +60,7 @@ module _ (library : Catalog) where
   one_fits (Err why) others fits more = more
 
   -- each call that lines ask for fits
-  pub asked_fit : (clients : ℕ) (lines : List (List ℕ)) (asked : List Asked) → AreAsked library clients lines asked → All (λ (c : ClientCall). Fits library c.call) (calls_of asked)
+  pub asked_fit : (clients : ℕ) (lines : List (List ℕ)) (request : List Request) → AreRequests library clients lines request → All (λ (c : ClientCall). Fits library c.call) (calls_of request)
   asked_fit clients [] [] are = All-nil (λ (c : ClientCall). Fits library c.call)
   asked_fit clients [] (a ∷ more) are = absurd are
   asked_fit clients (l ∷ ls) [] are = absurd are

@@ -3,7 +3,7 @@ use Rattle.std.proofs.Common.{◌≡◌, ℕ, zero, suc, ◌+◌, Bool, true, fa
 use Rattle.std.proofs.lemmas.Option.{same_Some}
 use Rattle.std.specs.Str.{bytes_eq}
 use Rattle.vll_proc.specs.declared.syntax.Proc.{Proc}
-use Rattle.vll_lines.specs.Asked.{proc_named}
+use Rattle.vll_lines.specs.Request.{proc_named}
 
 at_item : (xs : List Proc) (i : ℕ) (x : Proc) → slice_get xs i ≡ Some x → drop i xs ≡ x ∷ drop (i + 1) xs
 at_item [] i x at = absurd (let e : None ≡ Some x = at in search rules)

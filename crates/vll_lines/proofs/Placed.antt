@@ -15,7 +15,7 @@ use Rattle.vll_core.proofs.Places.{all_at, entry_at}
 use Rattle.vll_core.specs.declared.line.Line.{Line}
 use Rattle.vll_lines.specs.Placed.{ArePlaced, AreTheirsAt}
 use Rattle.vll_lines.specs.Theirs.{AreTheirs, call_of_line, call_shown, calls_of}
-use Rattle.vll_lines.specs.declared.asked.Asked.{Asked}
+use Rattle.vll_lines.specs.declared.request.Request.{Request}
 
 -- ---- the items at places of a list
 
@@ -104,22 +104,22 @@ items_in_order {A} xs (y ∷ ys) =
 
 -- ---- placed calls
 
-module _ (asked made : List (ℕ × Call)) (places : List ℕ) (are : ArePlaced asked made places) where
+module _ (requests made : List (ℕ × Call)) (places : List ℕ) (are : ArePlaced requests made places) where
   -- each place is that of a call that was made
   pub placed_within : All (λ (p : ℕ). p < length made) places
-  placed_within = places_within made asked places are.calls
+  placed_within = places_within made requests places are.calls
 
   -- there are as many places as calls
-  pub placed_many : length places ≡ length asked
-  placed_many = places_many made asked places are.calls
+  pub placed_many : length places ≡ length requests
+  placed_many = places_many made requests places are.calls
 
   -- no call was made for two that are asked for
-  pub placed_once : (i j : ℕ) → i < j → j < length asked → slice_index places i ≢ slice_index places j
+  pub placed_once : (i j : ℕ) → i < j → j < length requests → slice_index places i ≢ slice_index places j
   placed_once i j low high = λ same.
-      let c = entry_at asked i (omega (arith, low, high)) in
-      let d = entry_at asked j high in
-      let here = (item_at_place made asked places i c.0 are.calls c.1).1 in
-      let there = (item_at_place made asked places j d.0 are.calls d.1).1 in
+      let c = entry_at requests i (omega (arith, low, high)) in
+      let d = entry_at requests j high in
+      let here = (item_at_place made requests places i c.0 are.calls c.1).1 in
+      let there = (item_at_place made requests places j d.0 are.calls d.1).1 in
       let one : Some c.0 ≡ Some d.0 = sym here ∙ (ap (slice_get made) same ∙ there) in
       let before = are.in_order i j c.0 d.0 low c.1 d.1 (ap (λ (x : ℕ × Call). x.0) (same_Some c.0 d.0 one)) in
       omega (arith, before, same)
@@ -156,58 +156,58 @@ all_are_there ps n long within apart k low = by_test (list_any (eqb k) ps) refl
         let distinct = IsDistinct-cons eqb k ps (none_there ps k none) (IsDistinct-from_AllPairs Decides-eqb ps apart) in
         absurd (omega (arith, length-le_from_distinct_below (k ∷ ps) n distinct member_within, long))
 
-module _ (asked made : List (ℕ × Call)) (places : List ℕ) (are : ArePlaced asked made places) where
+module _ (requests made : List (ℕ × Call)) (places : List ℕ) (are : ArePlaced requests made places) where
   -- each call that was made is at the place of one that is asked for
   pub placed_onto : (k : ℕ) → k < length made → (j : ℕ) × (slice_get places j ≡ Some k)
   placed_onto k low =
-      let long : length places ≡ length asked = placed_many asked made places are in
-      all_are_there places (length made) (long ∙ sym are.many) (placed_within asked made places are)
+      let long : length places ≡ length requests = placed_many requests made places are in
+      all_are_there places (length made) (long ∙ sym are.many) (placed_within requests made places are)
       (λ i j d first second same.
-      placed_once asked made places are i j first (omega (arith, second, long))
+      placed_once requests made places are i j first (omega (arith, second, long))
       (get_or_default places i 0 d (omega (arith, first, second)) ∙ (same ∙ get_or_default places j d 0 second)))
       k low
 
 -- calls that were made in the order in which they are asked for
-pub placed_in_order : (asked : List (ℕ × Call)) → ArePlaced asked asked (range_with_len 0 (length asked))
-placed_in_order asked = record {
-  calls = items_in_order [] asked;
+pub placed_in_order : (requests : List (ℕ × Call)) → ArePlaced requests requests (range_with_len 0 (length requests))
+placed_in_order requests = record {
+  calls = items_in_order [] requests;
   many = refl;
   in_order = λ i j c d low here there same.
-      let first = slice_get_within asked i c here in
-      let second = slice_get_within asked j d there in
-      omega (arith, low, get_or-range_with_len 0 (length asked) i 0 first, get_or-range_with_len 0 (length asked) j 0 second);
+      let first = slice_get_within requests i c here in
+      let second = slice_get_within requests j d there in
+      omega (arith, low, get_or-range_with_len 0 (length requests) i 0 first, get_or-range_with_len 0 (length requests) j 0 second);
 }
 
 -- calls after others: they are placed behind these
-pub placed_then : (asked more made after : List (ℕ × Call)) (places behind : List ℕ) → ArePlaced asked made places → ArePlaced more after behind
-    → ArePlaced (asked ++ more) (made ++ after) (places ++ map (λ (p : ℕ). length made + p) behind)
-placed_then asked more made after places behind one two =
+pub placed_then : (requests more made after : List (ℕ × Call)) (places behind : List ℕ) → ArePlaced requests made places → ArePlaced more after behind
+    → ArePlaced (requests ++ more) (made ++ after) (places ++ map (λ (p : ℕ). length made + p) behind)
+placed_then requests more made after places behind one two =
     let moved : List ℕ = map (λ (p : ℕ). length made + p) behind in
-    let long : length places ≡ length asked = places_many made asked places one.calls in
+    let long : length places ≡ length requests = places_many made requests places one.calls in
     let long_behind : length behind ≡ length more = places_many after more behind two.calls in
     -- an earlier call is placed as before
-    let at_first : (i : ℕ) (c : ℕ × Call) → slice_get asked i ≡ Some c → slice_index (places ++ moved) i ≡ slice_index places i =
-    λ i c at. get_or_append_left places moved 0 i (let low = slice_get_within asked i c at in omega (arith, low, long)) in
-    let at_second : (k : ℕ) (c : ℕ × Call) → slice_get more k ≡ Some c → slice_index (places ++ moved) (length asked + k) ≡ length made + slice_index behind k =
+    let at_first : (i : ℕ) (c : ℕ × Call) → slice_get requests i ≡ Some c → slice_index (places ++ moved) i ≡ slice_index places i =
+    λ i c at. get_or_append_left places moved 0 i (let low = slice_get_within requests i c at in omega (arith, low, long)) in
+    let at_second : (k : ℕ) (c : ℕ × Call) → slice_get more k ≡ Some c → slice_index (places ++ moved) (length requests + k) ≡ length made + slice_index behind k =
     λ k c at.
     ap (λ (n : ℕ). slice_index (places ++ moved) (n + k)) (sym long)
     ∙ (get_or-append-add places moved k 0 ∙ get_or-map (λ (p : ℕ). length made + p) behind k 0 0 (let low = slice_get_within more k c at in omega (arith, low, long_behind))) in
     record {
       calls =
           map-append (λ (p : ℕ). slice_get (made ++ after) p) places moved
-          ∙ (ap (λ (l : List (Option (ℕ × Call))). l ++ items_at (made ++ after) moved) (items_left made after asked places one.calls)
-          ∙ (ap (λ (l : List (Option (ℕ × Call))). map Some asked ++ l) (items_right made after behind ∙ two.calls) ∙ sym (map-append Some asked more)));
-      many = omega (arith, length-append made after, length-append asked more, one.many, two.many);
+          ∙ (ap (λ (l : List (Option (ℕ × Call))). l ++ items_at (made ++ after) moved) (items_left made after requests places one.calls)
+          ∙ (ap (λ (l : List (Option (ℕ × Call))). map Some requests ++ l) (items_right made after behind ∙ two.calls) ∙ sym (map-append Some requests more)));
+      many = omega (arith, length-append made after, length-append requests more, one.many, two.many);
       in_order = λ i j c d low here there same.
           ⊎_elim
           (λ second_first.
-          let i_low = slice_get_within asked j d second_first in
+          let i_low = slice_get_within requests j d second_first in
           ⊎_elim (λ first_first. omega (arith, one.in_order i j c d low first_first second_first same, at_first i c first_first, at_first j d second_first))
-          (λ first_second. absurd (let e = first_second.1 in omega (arith, e, low, i_low))) (get_both asked more i c here))
+          (λ first_second. absurd (let e = first_second.1 in omega (arith, e, low, i_low))) (get_both requests more i c here))
           (λ second_second.
           ⊎_elim
           (λ first_first.
-          let within = slice_get_within made (slice_index places i) c (item_at_place made asked places i c one.calls first_first).1 in
+          let within = slice_get_within made (slice_index places i) c (item_at_place made requests places i c one.calls first_first).1 in
           let behind_it = ap (slice_index (places ++ moved)) second_second.1 ∙ at_second second_second.0 d second_second.2 in
           omega (arith, within, at_first i c first_first, behind_it))
           (λ first_second.
@@ -218,14 +218,14 @@ placed_then asked more made after places behind one two =
           let before = two.in_order k l c d (omega (arith, low, first_is, second_is)) first_second.2 second_second.2 same in
           let i_at = ap (slice_index (places ++ moved)) first_is ∙ at_second k c first_second.2 in
           let j_at = ap (slice_index (places ++ moved)) second_is ∙ at_second l d second_second.2 in
-          omega (arith, before, i_at, j_at)) (get_both asked more i c here))
-          (get_both asked more j d there);
+          omega (arith, before, i_at, j_at)) (get_both requests more i c here))
+          (get_both requests more j d there);
     }
 
 -- calls that were made in the order of their lines
-pub theirs_in_order : (asked : List Asked) (lines : List Line) → AreTheirs asked lines → AreTheirsAt asked lines (range_with_len 0 (length lines))
-theirs_in_order asked lines theirs =
-    let shown : List (ℕ × Call) = map call_shown (calls_of asked) in
+pub theirs_in_order : (requests : List Request) (lines : List Line) → AreTheirs requests lines → AreTheirsAt requests lines (range_with_len 0 (length lines))
+theirs_in_order requests lines theirs =
+    let shown : List (ℕ × Call) = map call_shown (calls_of requests) in
     let long : length shown ≡ length lines = ap length theirs.calls ∙ length-map lines call_of_line in
     record {
       placed = subst (λ (n : ℕ). ArePlaced shown (map call_of_line lines) (range_with_len 0 n)) long (subst (λ (l : List (ℕ × Call)). ArePlaced shown l (range_with_len 0 (length shown))) theirs.calls (placed_in_order shown));

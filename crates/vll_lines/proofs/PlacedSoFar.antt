@@ -9,18 +9,18 @@ use Rattle.vll_core.specs.declared.line.Line.{Line}
 use Rattle.vll_lines.specs.Placed.{ArePlaced}
 use Rattle.vll_lines.specs.Private.Unplaced.{AreFirsts, IsNextOf, Takes}
 use Rattle.vll_lines.specs.Theirs.{call_of_line, call_shown, calls_of, with_call}
-use Rattle.vll_lines.specs.declared.asked.Asked.{Asked}
-use Rattle.vll_lines.specs.declared.asked.ClientCall.{ClientCall}
-use Rattle.vll_lines.specs.declared.asked.LineFault.{LineFault}
+use Rattle.vll_lines.specs.declared.request.Request.{Request}
+use Rattle.vll_lines.specs.declared.request.ClientCall.{ClientCall}
+use Rattle.vll_lines.specs.declared.request.LineFault.{LineFault}
 use Rattle.vll_lines.proofs.Placed.{get_left, item_at_place, places_many, placed_many, placed_onto, placed_once}
 use Rattle.vll_lines.proofs.Theirs.{calls_of_both, item_and_rest}
 
 -- the calls asked for so far have these places among the lines, each client's in order. The first line that is left to a
 -- client is one of its own, and each one before it is at one of the places
-pub record ArePlacedSoFar (asked : List (ℕ × Call)) (lines : List Line) (firsts places : List ℕ) : Type 0 where
-  pub calls : map (λ (p : ℕ). slice_get (map call_of_line lines) p) places ≡ map Some asked
-  pub in_order : (i j : ℕ) (c d : ℕ × Call) → i < j → slice_get asked i ≡ Some c → slice_get asked j ≡ Some d → c.0 ≡ d.0 → slice_index places i < slice_index places j
-  pub behind : (i : ℕ) (c : ℕ × Call) → slice_get asked i ≡ Some c → slice_index places i < slice_index firsts c.0
+pub record ArePlacedSoFar (requests : List (ℕ × Call)) (lines : List Line) (firsts places : List ℕ) : Type 0 where
+  pub calls : map (λ (p : ℕ). slice_get (map call_of_line lines) p) places ≡ map Some requests
+  pub in_order : (i j : ℕ) (c d : ℕ × Call) → i < j → slice_get requests i ≡ Some c → slice_get requests j ≡ Some d → c.0 ≡ d.0 → slice_index places i < slice_index places j
+  pub behind : (i : ℕ) (c : ℕ × Call) → slice_get requests i ≡ Some c → slice_index places i < slice_index firsts c.0
   pub own : (client : ℕ) (l : Line) → client < length firsts → slice_get lines (slice_index firsts client) ≡ Some l → l.client ≡ client
   pub taken : (k : ℕ) (l : Line) → slice_get lines k ≡ Some l → l.client < length firsts → k < slice_index firsts l.client → (i : ℕ) × (slice_get places i ≡ Some k)
 
@@ -40,16 +40,16 @@ at_end [] x ys = refl
 at_end (y ∷ xs) x ys = at_end xs x ys
 
 -- one more
-pub placed_more : (asked : List (ℕ × Call)) (lines : List Line) (old new places : List ℕ) (one : ClientCall) (place : ℕ) → ArePlacedSoFar asked lines old places → Takes old new lines one place
-    → ArePlacedSoFar (asked ++ call_shown one ∷ []) lines new (places ++ place ∷ [])
-placed_more asked lines old new places one place so_far takes =
+pub placed_more : (requests : List (ℕ × Call)) (lines : List Line) (old new places : List ℕ) (one : ClientCall) (place : ℕ) → ArePlacedSoFar requests lines old places → Takes old new lines one place
+    → ArePlacedSoFar (requests ++ call_shown one ∷ []) lines new (places ++ place ∷ [])
+placed_more requests lines old new places one place so_far takes =
     let made : List (ℕ × Call) = map call_of_line lines in
     let shown : ℕ × Call = call_shown one in
-    let long : length places ≡ length asked = places_many made asked places so_far.calls in
+    let long : length places ≡ length requests = places_many made requests places so_far.calls in
     let was : slice_index old one.client ≡ place = get_or_from_slice_get old one.client place 0 takes.is.first in
-    let before : (i : ℕ) (c : ℕ × Call) → slice_get asked i ≡ Some c → slice_index (places ++ place ∷ []) i ≡ slice_index places i =
-    λ i c at. get_or_append_left places (place ∷ []) 0 i (let low = slice_get_within asked i c at in omega (arith, low, long)) in
-    let last : slice_index (places ++ place ∷ []) (length asked) ≡ place = get_or_push places place 0 (length asked) long in
+    let before : (i : ℕ) (c : ℕ × Call) → slice_get requests i ≡ Some c → slice_index (places ++ place ∷ []) i ≡ slice_index places i =
+    λ i c at. get_or_append_left places (place ∷ []) 0 i (let low = slice_get_within requests i c at in omega (arith, low, long)) in
+    let last : slice_index (places ++ place ∷ []) (length requests) ≡ place = get_or_push places place 0 (length requests) long in
     let further : (client : ℕ) → slice_index old client ≤ slice_index new client =
     λ client.
     ⊎_elim
@@ -59,12 +59,12 @@ placed_more asked lines old new places one place so_far takes =
       calls =
           map_push (λ (p : ℕ). slice_get made p) places place
           ∙ (let line = takes.is.line in let first = so_far.calls in cc)
-          ∙ sym (map_push Some asked shown);
+          ∙ sym (map_push Some requests shown);
       in_order = λ i j c d low here there same.
           ⊎_elim
           (λ there_before.
           ⊎_elim (λ here_before. omega (arith, so_far.in_order i j c d low here_before there_before same, before i c here_before, before j d there_before))
-          (λ here_last. absurd (let high = slice_get_within asked j d there_before in let e = here_last.0 in omega (arith, high, e, low))) (at_push asked shown i c here))
+          (λ here_last. absurd (let high = slice_get_within requests j d there_before in let e = here_last.0 in omega (arith, high, e, low))) (at_push requests shown i c here))
           (λ there_last.
           ⊎_elim
           (λ here_before.
@@ -73,8 +73,8 @@ placed_more asked lines old new places one place so_far takes =
           let is_first : slice_index old c.0 ≡ place = ap (slice_index old) client ∙ was in
           let at_last = ap (slice_index (places ++ place ∷ [])) there_last.0 ∙ last in
           omega (arith, first, is_first, before i c here_before, at_last))
-          (λ here_last. absurd (let e = here_last.0 in let f = there_last.0 in omega (arith, e, f, low))) (at_push asked shown i c here))
-          (at_push asked shown j d there);
+          (λ here_last. absurd (let e = here_last.0 in let f = there_last.0 in omega (arith, e, f, low))) (at_push requests shown i c here))
+          (at_push requests shown j d there);
       behind = λ i c here.
           ⊎_elim (λ here_before. omega (arith, so_far.behind i c here_before, further c.0, before i c here_before))
           (λ here_last.
@@ -82,7 +82,7 @@ placed_more asked lines old new places one place so_far takes =
           let client = ap (λ (x : ℕ × Call). slice_index new x.0) here_last.1 in
           let at_last = ap (slice_index (places ++ place ∷ [])) here_last.0 ∙ last in
           omega (arith, next, client, at_last))
-          (at_push asked shown i c here);
+          (at_push requests shown i c here);
       own = λ client l low at.
           ⊎_elim (λ same. takes.next.own l (ap (λ (c : ℕ). slice_get lines (slice_index new c)) (sym same) ∙ at) ∙ sym same)
           (λ other. so_far.own client l (let m = takes.many in omega (arith, low, m)) (ap (slice_get lines) (sym (takes.others client other)) ∙ at)) (cases_eq client one.client);
@@ -105,11 +105,11 @@ placed_more asked lines old new places one place so_far takes =
     }
 
 -- all are asked for, and none is left
-pub placed_all : (asked : List (ℕ × Call)) (lines : List Line) (firsts places : List ℕ) → ArePlacedSoFar asked lines firsts places → length places ≡ length lines
-    → ArePlaced asked (map call_of_line lines) places
-placed_all asked lines firsts places so_far all = record {
+pub placed_all : (requests : List (ℕ × Call)) (lines : List Line) (firsts places : List ℕ) → ArePlacedSoFar requests lines firsts places → length places ≡ length lines
+    → ArePlaced requests (map call_of_line lines) places
+placed_all requests lines firsts places so_far all = record {
   calls = so_far.calls;
-  many = length-map lines call_of_line ∙ (sym all ∙ places_many (map call_of_line lines) asked places so_far.calls);
+  many = length-map lines call_of_line ∙ (sym all ∙ places_many (map call_of_line lines) requests places so_far.calls);
   in_order = so_far.in_order;
 }
 
@@ -126,36 +126,36 @@ line_of [] k c at = absurd (cc at)
 line_of (l ∷ ls) zero c at = (l, refl, ap (λ (x : ℕ × Call). x.0) (same_Some (call_of_line l) c at))
 line_of (l ∷ ls) (suc k) c at = line_of ls k c at
 
-module _ (asked : List ClientCall) (lines : List Line) (placed : List ℕ) (n : ℕ) (are : ArePlaced (map call_shown asked) (map call_of_line lines) placed) (below : All (λ (c : ClientCall). c.client < n) asked) where
-  line_at : (k j : ℕ) (c : ClientCall) → slice_get placed j ≡ Some k → slice_get asked j ≡ Some c → (l : Line) × (slice_get lines k ≡ Some l) × (l.client ≡ c.client)
+module _ (requests : List ClientCall) (lines : List Line) (placed : List ℕ) (n : ℕ) (are : ArePlaced (map call_shown requests) (map call_of_line lines) placed) (below : All (λ (c : ClientCall). c.client < n) requests) where
+  line_at : (k j : ℕ) (c : ClientCall) → slice_get placed j ≡ Some k → slice_get requests j ≡ Some c → (l : Line) × (slice_get lines k ≡ Some l) × (l.client ≡ c.client)
   line_at k j c at call =
       line_of lines k (call_shown c)
       (ap (slice_get (map call_of_line lines)) (sym (get_or_from_slice_get placed j k 0 at))
-      ∙ (item_at_place (map call_of_line lines) (map call_shown asked) placed j (call_shown c) are.calls (slice_get-map call_shown asked j ∙ ap (option_map call_shown) call)).1)
+      ∙ (item_at_place (map call_of_line lines) (map call_shown requests) placed j (call_shown c) are.calls (slice_get-map call_shown requests j ∙ ap (option_map call_shown) call)).1)
 
-  below_at : (k j : ℕ) (c : ClientCall) (d : Line) → slice_get asked j ≡ Some c → (l : Line) × (slice_get lines k ≡ Some l) × (l.client ≡ c.client) → (get_or lines k d).client < n
+  below_at : (k j : ℕ) (c : ClientCall) (d : Line) → slice_get requests j ≡ Some c → (l : Line) × (slice_get lines k ≡ Some l) × (l.client ≡ c.client) → (get_or lines k d).client < n
   below_at k j c d call line =
       subst (λ (x : Line). x.client < n) (sym (get_or_from_slice_get lines k line.0 d line.1))
-      (subst (λ (client : ℕ). client < n) (sym line.2) (all_at (λ (x : ClientCall). x.client < n) asked j c below call))
+      (subst (λ (client : ℕ). client < n) (sym line.2) (all_at (λ (x : ClientCall). x.client < n) requests j c below call))
 
   -- the lines are of the clients of the calls
   pub clients_below : All (λ (l : Line). l.client < n) lines
   clients_below = λ k d low.
-      let found = placed_onto (map call_shown asked) (map call_of_line lines) placed are k (let long = length-map lines call_of_line in omega (arith, low, long)) in
+      let found = placed_onto (map call_shown requests) (map call_of_line lines) placed are k (let long = length-map lines call_of_line in omega (arith, low, long)) in
       let call =
-      entry_at asked found.0
-      (let many = placed_many (map call_shown asked) (map call_of_line lines) placed are in
+      entry_at requests found.0
+      (let many = placed_many (map call_shown requests) (map call_of_line lines) placed are in
       let within = slice_get_within placed found.0 k found.1 in
-      let long = length-map asked call_shown in omega (arith, many, within, long)) in
+      let long = length-map requests call_shown in omega (arith, many, within, long)) in
       below_at k found.0 call.0 d call.1 (line_at k found.0 call.0 found.1 call.1)
 
 -- the places so far are the first of all, and the next call is asked for
-module _ (asked before after : List (ℕ × Call)) (one : ClientCall) (lines : List Line) (firsts placed places : List ℕ) (are : ArePlaced asked (map call_of_line lines) placed)
-    (whole : asked ≡ before ++ call_shown one ∷ after) (so_far : ArePlacedSoFar before lines firsts places) (same : places ≡ take (length places) placed) (low : one.client < length firsts) where
+module _ (requests before after : List (ℕ × Call)) (one : ClientCall) (lines : List Line) (firsts placed places : List ℕ) (are : ArePlaced requests (map call_of_line lines) placed)
+    (whole : requests ≡ before ++ call_shown one ∷ after) (so_far : ArePlacedSoFar before lines firsts places) (same : places ≡ take (length places) placed) (low : one.client < length firsts) where
   abbrev made : List (ℕ × Call)
   made = map call_of_line lines
 
-  now : slice_get asked (length before) ≡ Some (call_shown one)
+  now : slice_get requests (length before) ≡ Some (call_shown one)
   now = ap (λ (l : List (ℕ × Call)). slice_get l (length before)) whole ∙ at_end before (call_shown one) after
 
   long : length places ≡ length before
@@ -169,14 +169,14 @@ module _ (asked before after : List (ℕ × Call)) (one : ClientCall) (lines : L
   not_behind = λ before_first.
       let n : ℕ = length before in
       let place : ℕ = slice_index placed n in
-      let here = item_at_place made asked placed n (call_shown one) are.calls now in
+      let here = item_at_place made requests placed n (call_shown one) are.calls now in
       let line = line_of lines place (call_shown one) here.1 in
       let found = so_far.taken place line.0 line.1 (subst (λ (c : ℕ). c < length firsts) (sym line.2) low) (subst (λ (c : ℕ). place < slice_index firsts c) (sym line.2) before_first) in
       let early = at_front placed n found.0 place (ap (λ (l : List ℕ). slice_get l found.0) (sym same_front) ∙ found.1) in
-      placed_once asked made placed are found.0 n early.0 (slice_get_within asked n (call_shown one) now) (get_or_from_slice_get placed found.0 place 0 early.1)
+      placed_once requests made placed are found.0 n early.0 (slice_get_within requests n (call_shown one) now) (get_or_from_slice_get placed found.0 place 0 early.1)
 
   -- the place of a call before is another one
-  of_earlier : (j : ℕ) (d e : ℕ × Call) → j < length before → slice_get asked j ≡ Some d → slice_get before j ≡ Some e → d.0 ≡ one.client → slice_index placed j ≢ slice_index firsts one.client
+  of_earlier : (j : ℕ) (d e : ℕ × Call) → j < length before → slice_get requests j ≡ Some d → slice_get before j ≡ Some e → d.0 ≡ one.client → slice_index placed j ≢ slice_index firsts one.client
   of_earlier j d e earlier at before_at client = λ is_first.
       let is_d : e ≡ d = same_Some e d (sym (get_left before (call_shown one ∷ after) j e before_at) ∙ (ap (λ (l : List (ℕ × Call)). slice_get l j) (sym whole) ∙ at)) in
       let behind : slice_index places j < slice_index firsts d.0 = so_far.behind j d (before_at ∙ ap Some is_d) in
@@ -185,7 +185,7 @@ module _ (asked before after : List (ℕ × Call)) (one : ClientCall) (lines : L
       omega (arith, behind, at_first, to_first)
 
   -- and the first line left is not before the own one if it is at the place of a call of the client
-  of_some : (j : ℕ) (d : ℕ × Call) → slice_get asked j ≡ Some d → d.0 ≡ one.client → slice_index placed j ≡ slice_index firsts one.client → ¬ (slice_index firsts one.client < slice_index placed (length before))
+  of_some : (j : ℕ) (d : ℕ × Call) → slice_get requests j ≡ Some d → d.0 ≡ one.client → slice_index placed j ≡ slice_index firsts one.client → ¬ (slice_index firsts one.client < slice_index placed (length before))
   of_some j d at client is_first = λ before_place.
       ⊎_elim (λ earlier. let e = entry_at before j earlier in of_earlier j d e.0 earlier at e.1 client is_first)
       (λ not_earlier.
@@ -194,19 +194,19 @@ module _ (asked before after : List (ℕ × Call)) (one : ClientCall) (lines : L
       (cases_lt j (length before))
 
   -- which a call that has it is
-  of_client : (j : ℕ) (d : ℕ × Call) → slice_get asked j ≡ Some d → slice_index placed j ≡ slice_index firsts one.client → d.0 ≡ one.client
+  of_client : (j : ℕ) (d : ℕ × Call) → slice_get requests j ≡ Some d → slice_index placed j ≡ slice_index firsts one.client → d.0 ≡ one.client
   of_client j d at is_first =
-      let line = line_of lines (slice_index firsts one.client) d (ap (slice_get made) (sym is_first) ∙ (item_at_place made asked placed j d are.calls at).1) in
+      let line = line_of lines (slice_index firsts one.client) d (ap (slice_get made) (sym is_first) ∙ (item_at_place made requests placed j d are.calls at).1) in
       sym line.2 ∙ so_far.own one.client line.0 low line.1
 
   -- so it is not before it
   not_before : ¬ (slice_index firsts one.client < slice_index placed (length before))
   not_before = λ before_place.
       let first : ℕ = slice_index firsts one.client in
-      let high = slice_get_within made (slice_index placed (length before)) (call_shown one) (item_at_place made asked placed (length before) (call_shown one) are.calls now).1 in
-      let found = placed_onto asked made placed are first (omega (arith, before_place, high)) in
+      let high = slice_get_within made (slice_index placed (length before)) (call_shown one) (item_at_place made requests placed (length before) (call_shown one) are.calls now).1 in
+      let found = placed_onto requests made placed are first (omega (arith, before_place, high)) in
       let is_first : slice_index placed found.0 ≡ first = get_or_from_slice_get placed found.0 first 0 found.1 in
-      let call = entry_at asked found.0 (let many = placed_many asked made placed are in let within = slice_get_within placed found.0 first found.1 in omega (arith, many, within)) in
+      let call = entry_at requests found.0 (let many = placed_many requests made placed are in let within = slice_get_within placed found.0 first found.1 in omega (arith, many, within)) in
       of_some found.0 call.0 call.1 (of_client found.0 call.0 call.1 is_first) is_first before_place
 
   -- and is the call's own
@@ -217,47 +217,47 @@ module _ (asked before after : List (ℕ × Call)) (one : ClientCall) (lines : L
   pub is_next : IsNextOf firsts lines one (slice_index firsts one.client)
   is_next = record {
     first = slice_get-get_or firsts one.client 0 low;
-    line = ap (slice_get made) (sym is_its_own) ∙ (item_at_place made asked placed (length before) (call_shown one) are.calls now).1;
+    line = ap (slice_get made) (sym is_its_own) ∙ (item_at_place made requests placed (length before) (call_shown one) are.calls now).1;
   }
 
   -- once it is taken, the places are again the first of all
   pub same_more : (new : List ℕ) (place : ℕ) → Takes firsts new lines one place → places ++ place ∷ [] ≡ take (length (places ++ place ∷ [])) placed
   same_more new place takes =
       let is : slice_index placed (length before) ≡ place = is_its_own ∙ get_or_from_slice_get firsts one.client place 0 takes.is.first in
-      let at : slice_get placed (length places) ≡ Some place = ap (slice_get placed) long ∙ ((item_at_place made asked placed (length before) (call_shown one) are.calls now).0 ∙ ap Some is) in
+      let at : slice_get placed (length places) ≡ Some place = ap (slice_get placed) long ∙ ((item_at_place made requests placed (length before) (call_shown one) are.calls now).0 ∙ ap Some is) in
       ap (λ (l : List ℕ). l ++ place ∷ []) same ∙ (sym (take_next placed (length places) place at) ∙ ap (λ (k : ℕ). take k placed) (sym (length_push places place)))
 
 -- ---- the calls of the first lines
 
 -- one line more, with its call or its fault
-shown_more : (asked : List Asked) (i : ℕ) (a : Asked) → i < length asked → a ≡ get_or asked i a → map call_shown (calls_of (take (i + 1) asked)) ≡ map call_shown (calls_of (take i asked)) ++ map call_shown (with_call a.call [])
-shown_more asked i a low is =
-    ap (λ (xs : List Asked). map call_shown (calls_of xs)) (take_more asked i a low ∙ ap (λ (x : Asked). take i asked ++ x ∷ []) (sym is))
-    ∙ (ap (map call_shown) (calls_of_both (take i asked) (a ∷ [])) ∙ map-append call_shown (calls_of (take i asked)) (with_call a.call []))
+shown_more : (requests : List Request) (i : ℕ) (a : Request) → i < length requests → a ≡ get_or requests i a → map call_shown (calls_of (take (i + 1) requests)) ≡ map call_shown (calls_of (take i requests)) ++ map call_shown (with_call a.call [])
+shown_more requests i a low is =
+    ap (λ (xs : List Request). map call_shown (calls_of xs)) (take_more requests i a low ∙ ap (λ (x : Request). take i requests ++ x ∷ []) (sym is))
+    ∙ (ap (map call_shown) (calls_of_both (take i requests) (a ∷ [])) ∙ map-append call_shown (calls_of (take i requests)) (with_call a.call []))
 
-module _ (asked : List Asked) (i : ℕ) (a : Asked) (low : i < length asked) (is : a ≡ get_or asked i a) where
-  pub shown_call : (c : ClientCall) → a.call ≡ Ok c → map call_shown (calls_of (take (i + 1) asked)) ≡ map call_shown (calls_of (take i asked)) ++ call_shown c ∷ []
-  shown_call c ok = shown_more asked i a low is ∙ ap (λ (r : Result ClientCall LineFault). map call_shown (calls_of (take i asked)) ++ map call_shown (with_call r [])) ok
+module _ (requests : List Request) (i : ℕ) (a : Request) (low : i < length requests) (is : a ≡ get_or requests i a) where
+  pub shown_call : (c : ClientCall) → a.call ≡ Ok c → map call_shown (calls_of (take (i + 1) requests)) ≡ map call_shown (calls_of (take i requests)) ++ call_shown c ∷ []
+  shown_call c ok = shown_more requests i a low is ∙ ap (λ (r : Result ClientCall LineFault). map call_shown (calls_of (take i requests)) ++ map call_shown (with_call r [])) ok
 
-  pub shown_fault : (why : LineFault) → a.call ≡ Err why → map call_shown (calls_of (take (i + 1) asked)) ≡ map call_shown (calls_of (take i asked))
+  pub shown_fault : (why : LineFault) → a.call ≡ Err why → map call_shown (calls_of (take (i + 1) requests)) ≡ map call_shown (calls_of (take i requests))
   shown_fault why err =
-      shown_more asked i a low is
-      ∙ (ap (λ (r : Result ClientCall LineFault). map call_shown (calls_of (take i asked)) ++ map call_shown (with_call r [])) err ∙ append-nil (map call_shown (calls_of (take i asked))))
+      shown_more requests i a low is
+      ∙ (ap (λ (r : Result ClientCall LineFault). map call_shown (calls_of (take i requests)) ++ map call_shown (with_call r [])) err ∙ append-nil (map call_shown (calls_of (take i requests))))
 
   module _ (c : ClientCall) (ok : a.call ≡ Ok c) where
-    among : calls_of asked ≡ calls_of (take i asked) ++ c ∷ calls_of (drop (i + 1) asked)
+    among : calls_of requests ≡ calls_of (take i requests) ++ c ∷ calls_of (drop (i + 1) requests)
     among =
-        ap calls_of (sym (take-append-drop i asked))
-        ∙ (calls_of_both (take i asked) (drop i asked)
-        ∙ (ap (λ (xs : List Asked). calls_of (take i asked) ++ calls_of xs) (item_and_rest asked i a low is)
-        ∙ ap (λ (r : Result ClientCall LineFault). calls_of (take i asked) ++ with_call r (calls_of (drop (i + 1) asked))) ok))
+        ap calls_of (sym (take-append-drop i requests))
+        ∙ (calls_of_both (take i requests) (drop i requests)
+        ∙ (ap (λ (xs : List Request). calls_of (take i requests) ++ calls_of xs) (item_and_rest requests i a low is)
+        ∙ ap (λ (r : Result ClientCall LineFault). calls_of (take i requests) ++ with_call r (calls_of (drop (i + 1) requests))) ok))
 
     -- the call stands among all
-    pub shown_among : map call_shown (calls_of asked) ≡ map call_shown (calls_of (take i asked)) ++ call_shown c ∷ map call_shown (calls_of (drop (i + 1) asked))
-    shown_among = ap (map call_shown) among ∙ map-append call_shown (calls_of (take i asked)) (c ∷ calls_of (drop (i + 1) asked))
+    pub shown_among : map call_shown (calls_of requests) ≡ map call_shown (calls_of (take i requests)) ++ call_shown c ∷ map call_shown (calls_of (drop (i + 1) requests))
+    shown_among = ap (map call_shown) among ∙ map-append call_shown (calls_of (take i requests)) (c ∷ calls_of (drop (i + 1) requests))
 
     -- and has what all have
-    pub call_has : (P : ClientCall → Type 0) → All P (calls_of asked) → P c
+    pub call_has : (P : ClientCall → Type 0) → All P (calls_of requests) → P c
     call_has P all =
-        all_at P (calls_of asked) (length (calls_of (take i asked))) c all
-        (ap (λ (cs : List ClientCall). slice_get cs (length (calls_of (take i asked)))) among ∙ at_end (calls_of (take i asked)) c (calls_of (drop (i + 1) asked)))
+        all_at P (calls_of requests) (length (calls_of (take i requests))) c all
+        (ap (λ (cs : List ClientCall). slice_get cs (length (calls_of (take i requests)))) among ∙ at_end (calls_of (take i requests)) c (calls_of (drop (i + 1) requests)))

@@ -11,9 +11,9 @@ use Rattle.serde_json.specs.Data.{Data, Members, no_members, member, array, numb
 use Rattle.serde_json.proofs.Views.{get_member-put, get_member-put_other}
 use Rattle.vll_scenario.specs.Syntax.{has_only}
 use Rattle.vll_scenario.specs.Tree.{each, number_at}
-use Rattle.vll_lines.specs.Asked.{args_of, client_of, id_in, id_of, may_names, name_of}
+use Rattle.vll_lines.specs.Request.{args_of, client_of, id_in, id_of, may_names, name_of}
 use Rattle.vll_lines.specs.Private.Tokens.{Says, numbers_in}
-use Rattle.vll_lines.specs.declared.asked.Id.{Id}
+use Rattle.vll_lines.specs.declared.request.Id.{Id}
 use Rattle.vll_lines.specs.declared.tokens.Told.{Told}
 
 -- ---- names

@@ -8,16 +8,16 @@ use Rattle.vll_core.specs.declared.line.Line.{Line}
 use Rattle.vll_lines.specs.Answers.{answers, fault_line, reply_line, with_answer}
 use Rattle.vll_lines.specs.Private.Replied.{IsReplied, Replies}
 use Rattle.vll_lines.specs.Theirs.{AreTheirs, call_of_line, call_shown, calls_of, with_call}
-use Rattle.vll_lines.specs.declared.asked.Asked.{Asked}
-use Rattle.vll_lines.specs.declared.asked.ClientCall.{ClientCall}
-use Rattle.vll_lines.specs.declared.asked.LineFault.{LineFault}
+use Rattle.vll_lines.specs.declared.request.Request.{Request}
+use Rattle.vll_lines.specs.declared.request.ClientCall.{ClientCall}
+use Rattle.vll_lines.specs.declared.request.LineFault.{LineFault}
 
 one_call : (call : Result ClientCall LineFault) (all cs ds : List ClientCall) → all ≡ cs ++ ds → with_call call all ≡ with_call call cs ++ ds
 one_call (Ok c) all cs ds same = ap (λ (l : List ClientCall). c ∷ l) same
 one_call (Err why) all cs ds same = same
 
 -- the calls of both lists
-pub calls_of_both : (xs ys : List Asked) → calls_of (xs ++ ys) ≡ calls_of xs ++ calls_of ys
+pub calls_of_both : (xs ys : List Request) → calls_of (xs ++ ys) ≡ calls_of xs ++ calls_of ys
 calls_of_both [] ys = refl
 calls_of_both (a ∷ xs) ys = one_call a.call (calls_of (xs ++ ys)) (calls_of xs) (calls_of ys) (calls_of_both xs ys)
 
@@ -26,7 +26,7 @@ pub theirs_none : AreTheirs [] []
 theirs_none = record { calls = refl; replied = All-nil (λ (l : Line). IsSome l.reply) }
 
 -- one call more
-pub theirs_call : (a : Asked) (more : List Asked) (l : Line) (rest : List Line) (c : ClientCall) → a.call ≡ Ok c → call_shown c ≡ call_of_line l → IsSome l.reply → AreTheirs more rest
+pub theirs_call : (a : Request) (more : List Request) (l : Line) (rest : List Line) (c : ClientCall) → a.call ≡ Ok c → call_shown c ≡ call_of_line l → IsSome l.reply → AreTheirs more rest
     → AreTheirs (a ∷ more) (l ∷ rest)
 theirs_call a more l rest c is same replied theirs = record {
   calls =
@@ -36,19 +36,19 @@ theirs_call a more l rest c is same replied theirs = record {
 }
 
 -- one fault more
-pub theirs_fault : (a : Asked) (more : List Asked) (rest : List Line) (why : LineFault) → a.call ≡ Err why → AreTheirs more rest → AreTheirs (a ∷ more) rest
+pub theirs_fault : (a : Request) (more : List Request) (rest : List Line) (why : LineFault) → a.call ≡ Err why → AreTheirs more rest → AreTheirs (a ∷ more) rest
 theirs_fault a more rest why is theirs = record {
   calls = ap (λ (r : Result ClientCall LineFault). map call_shown (with_call r (calls_of more))) is ∙ theirs.calls;
   replied = theirs.replied;
 }
 
 -- the first call has its line, with a reply
-pub theirs_first : (a : Asked) (more : List Asked) (lines : List Line) (c : ClientCall) → a.call ≡ Ok c → AreTheirs (a ∷ more) lines → IsReplied lines
+pub theirs_first : (a : Request) (more : List Request) (lines : List Line) (c : ClientCall) → a.call ≡ Ok c → AreTheirs (a ∷ more) lines → IsReplied lines
 theirs_first a more [] c is theirs = absurd (omega (arith, ap length (sym (ap (λ (r : Result ClientCall LineFault). map call_shown (with_call r (calls_of more))) is) ∙ theirs.calls)))
 theirs_first a more (l ∷ rest) c is theirs = All-head (λ (x : Line). IsSome x.reply) l rest theirs.replied
 
 -- the lines behind it are those of the other calls
-pub theirs_rest : (a : Asked) (more : List Asked) (l : Line) (rest : List Line) (c : ClientCall) → a.call ≡ Ok c → AreTheirs (a ∷ more) (l ∷ rest) → AreTheirs more rest
+pub theirs_rest : (a : Request) (more : List Request) (l : Line) (rest : List Line) (c : ClientCall) → a.call ≡ Ok c → AreTheirs (a ∷ more) (l ∷ rest) → AreTheirs more rest
 theirs_rest a more l rest c is theirs = record {
   calls = cons_rest (ap (λ (r : Result ClientCall LineFault). map call_shown (with_call r (calls_of more))) (sym is) ∙ theirs.calls);
   replied = All-tail (λ (x : Line). IsSome x.reply) l rest theirs.replied;
@@ -62,7 +62,7 @@ theirs_rest a more l rest c is theirs = record {
     cons_rest e = ap tail_of e
 
 -- and its line is of it
-pub theirs_head : (a : Asked) (more : List Asked) (l : Line) (rest : List Line) (c : ClientCall) → a.call ≡ Ok c → AreTheirs (a ∷ more) (l ∷ rest) → call_shown c ≡ call_of_line l
+pub theirs_head : (a : Request) (more : List Request) (l : Line) (rest : List Line) (c : ClientCall) → a.call ≡ Ok c → AreTheirs (a ∷ more) (l ∷ rest) → call_shown c ≡ call_of_line l
 theirs_head a more l rest c is theirs = ap head_of (ap (λ (r : Result ClientCall LineFault). map call_shown (with_call r (calls_of more))) (sym is) ∙ theirs.calls)
   where
     head_of : List (ℕ × Call) → ℕ × Call
@@ -70,7 +70,7 @@ theirs_head a more l rest c is theirs = ap head_of (ap (λ (r : Result ClientCal
     head_of (x ∷ xs) = x
 
 -- a fault has no line
-pub theirs_without : (a : Asked) (more : List Asked) (lines : List Line) (why : LineFault) → a.call ≡ Err why → AreTheirs (a ∷ more) lines → AreTheirs more lines
+pub theirs_without : (a : Request) (more : List Request) (lines : List Line) (why : LineFault) → a.call ≡ Err why → AreTheirs (a ∷ more) lines → AreTheirs more lines
 theirs_without a more lines why is theirs = record {
   calls = ap (λ (r : Result ClientCall LineFault). map call_shown (with_call r (calls_of more))) (sym is) ∙ theirs.calls;
   replied = theirs.replied;
@@ -100,19 +100,19 @@ item_and_rest {A} xs i x low is =
 
 -- ---- the answers so far
 
--- of all lines that are asked and their lines in the journal, with the calls numbered from `first` on, those in `rest`
+-- of all lines asked and their lines in the journal, with the calls numbered from `first` on, those in `rest`
 -- are left, with these journal lines, the next number and the text so far
-pub record IsAnswered (all : List Asked) (lines : List Line) (first : ℕ) (rest : List Asked) (left : List Line) (n : ℕ) (text : List ℕ) : Type 0 where
+pub record IsAnswered (all : List Request) (lines : List Line) (first : ℕ) (rest : List Request) (left : List Line) (n : ℕ) (text : List ℕ) : Type 0 where
   pub theirs : AreTheirs rest left
   pub number : n + length left ≡ first + length lines
   pub answered : (replies : List Reply) → map (λ (l : Line). l.reply) lines ≡ map Some replies
       → (others : List Reply) × (map (λ (l : Line). l.reply) left ≡ map Some others) × (text ++ answers rest n others ≡ answers all first replies)
 
 -- no line yet
-pub answered_none : (all : List Asked) (lines : List Line) (first : ℕ) → AreTheirs all lines → IsAnswered all lines first all lines first []
+pub answered_none : (all : List Request) (lines : List Line) (first : ℕ) → AreTheirs all lines → IsAnswered all lines first all lines first []
 answered_none all lines first theirs = record { theirs = theirs; number = refl; answered = λ replies same. (replies, same, refl) }
 
-module _ (all : List Asked) (lines : List Line) (first : ℕ) (a : Asked) (more : List Asked) (n : ℕ) (text now : List ℕ) where
+module _ (all : List Request) (lines : List Line) (first : ℕ) (a : Request) (more : List Request) (n : ℕ) (text now : List ℕ) where
   -- a fault
   pub answered_fault : (left : List Line) (why : LineFault) → a.call ≡ Err why → now ≡ text ++ fault_line a.id why → IsAnswered all lines first (a ∷ more) left n text
       → IsAnswered all lines first more left n now

@@ -9,10 +9,10 @@ use Rattle.vll_proc.specs.declared.call.Reply.{Reply}
 use Rattle.vll_lines.specs.Answers.{answers, answers_by, fault_line, reply_line, told_at, with_answer, with_answer_by, with_told}
 use Rattle.vll_lines.specs.Placed.{ArePlaced}
 use Rattle.vll_lines.specs.Theirs.{call_shown, calls_of, with_call}
-use Rattle.vll_lines.specs.declared.asked.Asked.{Asked}
-use Rattle.vll_lines.specs.declared.asked.ClientCall.{ClientCall}
-use Rattle.vll_lines.specs.declared.asked.Id.{Id}
-use Rattle.vll_lines.specs.declared.asked.LineFault.{LineFault}
+use Rattle.vll_lines.specs.declared.request.Request.{Request}
+use Rattle.vll_lines.specs.declared.request.ClientCall.{ClientCall}
+use Rattle.vll_lines.specs.declared.request.Id.{Id}
+use Rattle.vll_lines.specs.declared.request.LineFault.{LineFault}
 use Rattle.vll_lines.proofs.Placed.{get_left, get_right, placed_many, placed_within}
 
 -- ---- what is told
@@ -70,19 +70,19 @@ one_answer it (Err why) one two more n rs = ap (λ (l : List ℕ). fault_line it
 one_answer it (Ok c) one two more n [] = refl
 one_answer it (Ok c) one two more n (r ∷ rs) = ap (λ (l : List ℕ). reply_line it n r ++ l) (more (suc n) rs)
 
-answers_numbered : (asked : List Asked) (n : ℕ) (rs : List Reply) → answers asked n rs ≡ answers_by asked (numbered n rs)
+answers_numbered : (requests : List Request) (n : ℕ) (rs : List Reply) → answers requests n rs ≡ answers_by requests (numbered n rs)
 answers_numbered [] n rs = refl
 answers_numbered (a ∷ more) n rs = one_answer a.id a.call (answers more) (answers_by more) (answers_numbered more) n rs
 
 -- calls that were made in the order of the lines
-pub answers_in_order : (asked : List Asked) (n : ℕ) (rs : List Reply) → answers asked n rs ≡ answers_by asked (told_at n rs (range_with_len 0 (length rs)))
-answers_in_order asked n rs = answers_numbered asked n rs ∙ ap (answers_by asked) (ap (λ (k : ℕ). numbered k rs) (let e : n ≡ n + 0 = omega arith in e) ∙ sym (told_in_order n [] rs))
+pub answers_in_order : (requests : List Request) (n : ℕ) (rs : List Reply) → answers requests n rs ≡ answers_by requests (told_at n rs (range_with_len 0 (length rs)))
+answers_in_order requests n rs = answers_numbered requests n rs ∙ ap (answers_by requests) (ap (λ (k : ℕ). numbered k rs) (let e : n ≡ n + 0 = omega arith in e) ∙ sym (told_in_order n [] rs))
 
 -- lines after others, of whose calls as many are told as there are
-abbrev InARow : (xs ys : List Asked) → Type 0
+abbrev InARow : (xs ys : List Request) → Type 0
 InARow xs ys = (t u : List (ℕ × Reply)) → length t ≡ length (calls_of xs) → answers_by (xs ++ ys) (t ++ u) ≡ answers_by xs t ++ answers_by ys u
 
-one_in_a_row : (it : Option Id) (call : Result ClientCall LineFault) (xs ys : List Asked) → InARow xs ys → (t u : List (ℕ × Reply)) → length t ≡ length (with_call call (calls_of xs))
+one_in_a_row : (it : Option Id) (call : Result ClientCall LineFault) (xs ys : List Request) → InARow xs ys → (t u : List (ℕ × Reply)) → length t ≡ length (with_call call (calls_of xs))
     → with_answer_by it call (answers_by (xs ++ ys)) (t ++ u) ≡ with_answer_by it call (answers_by xs) t ++ answers_by ys u
 one_in_a_row it (Err why) xs ys more t u many =
     ap (λ (l : List ℕ). fault_line it why ++ l) (more t u many) ∙ sym (append_assoc (fault_line it why) (answers_by xs t) (answers_by ys u))
@@ -90,13 +90,13 @@ one_in_a_row it (Ok c) xs ys more [] u many = absurd (omega (arith, many))
 one_in_a_row it (Ok c) xs ys more (one ∷ t) u many =
     ap (λ (l : List ℕ). reply_line it one.0 one.1 ++ l) (more t u (omega (arith, many))) ∙ sym (append_assoc (reply_line it one.0 one.1) (answers_by xs t) (answers_by ys u))
 
-pub answers_by_both : (xs ys : List Asked) → InARow xs ys
+pub answers_by_both : (xs ys : List Request) → InARow xs ys
 answers_by_both [] ys [] u many = refl
 answers_by_both [] ys (one ∷ t) u many = absurd (omega (arith, many))
 answers_by_both (a ∷ xs) ys t u many = one_in_a_row a.id a.call xs ys (answers_by_both xs ys) t u many
 
 -- lines after others, whose calls were made after those of the others
-pub answers_placed_then : (xs ys : List Asked) (made : List (ℕ × Call)) (n : ℕ) (rs qs : List Reply) (ps ks : List ℕ) → ArePlaced (map call_shown (calls_of xs)) made ps → length rs ≡ length made
+pub answers_placed_then : (xs ys : List Request) (made : List (ℕ × Call)) (n : ℕ) (rs qs : List Reply) (ps ks : List ℕ) → ArePlaced (map call_shown (calls_of xs)) made ps → length rs ≡ length made
     → answers_by (xs ++ ys) (told_at n (rs ++ qs) (ps ++ map (λ (p : ℕ). length made + p) ks)) ≡ answers_by xs (told_at n rs ps) ++ answers_by ys (told_at (n + length made) qs ks)
 answers_placed_then xs ys made n rs qs ps ks are long =
     let shown : List (ℕ × Call) = map call_shown (calls_of xs) in

@@ -7,12 +7,12 @@ use Rattle.vll_proc.specs.declared.call.Reason.{Reason}
 use Rattle.vll_proc.specs.declared.call.Reason.TheVariants.{Code, Overflow, Underflow, ZeroDivisor, Moved}
 use Rattle.vll_proc.specs.declared.call.Reply.{Reply}
 use Rattle.vll_proc.specs.declared.call.Reply.TheVariants.{Committed, Aborted}
-use Rattle.vll_lines.specs.declared.asked.Asked.{Asked}
-use Rattle.vll_lines.specs.declared.asked.ClientCall.{ClientCall}
-use Rattle.vll_lines.specs.declared.asked.Id.{Id}
-use Rattle.vll_lines.specs.declared.asked.Id.TheVariants as id
-use Rattle.vll_lines.specs.declared.asked.LineFault.{LineFault}
-use Rattle.vll_lines.specs.declared.asked.LineFault.TheVariants as fault
+use Rattle.vll_lines.specs.declared.request.Request.{Request}
+use Rattle.vll_lines.specs.declared.request.ClientCall.{ClientCall}
+use Rattle.vll_lines.specs.declared.request.Id.{Id}
+use Rattle.vll_lines.specs.declared.request.Id.TheVariants as id
+use Rattle.vll_lines.specs.declared.request.LineFault.{LineFault}
+use Rattle.vll_lines.specs.declared.request.LineFault.TheVariants as fault
 
 -- the words that are told of a fault
 abbrev pub fault_words : LineFault → List ℕ
@@ -78,7 +78,7 @@ with_answer it (Ok call) rest n [] = []
 with_answer it (Ok call) rest n (reply ∷ replies) = reply_line it n reply ++ rest (suc n) replies
 
 -- the answers to lines, in order. The calls that they ask for are numbered from n on, and have these replies
-abbrev pub answers : List Asked → ℕ → List Reply → List ℕ
+abbrev pub answers : List Request → ℕ → List Reply → List ℕ
 answers [] n replies = []
 answers (a ∷ more) n replies = with_answer a.id a.call (answers more) n replies
 
@@ -89,7 +89,7 @@ with_answer_by it (Ok call) rest [] = []
 with_answer_by it (Ok call) rest (t ∷ told) = reply_line it t.0 t.1 ++ rest told
 
 -- the answers to lines, in order, by what is told of the calls that they ask for, in order: the number and the reply of each
-abbrev pub answers_by : List Asked → List (ℕ × Reply) → List ℕ
+abbrev pub answers_by : List Request → List (ℕ × Reply) → List ℕ
 answers_by [] told = []
 answers_by (a ∷ more) told = with_answer_by a.id a.call (answers_by more) told
 

@@ -1,4 +1,4 @@
-pub mod Asked
+pub mod Request
 pub mod Lines
 pub mod Theirs
 pub mod Placed

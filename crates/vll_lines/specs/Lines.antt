@@ -3,7 +3,7 @@ use Rattle.std.specs.Prelude.{◌≡◌, ℕ, Bool, true, false, ◌==◌, List,
 use Rattle.std.specs.Io.KnownBytes.{Consumes, IsAtEnd}
 use Rattle.std.specs.List.{list_any}
 use Rattle.vll_check.specs.Headline.Catalog.{Catalog}
-use Rattle.vll_lines.specs.Asked.{AreAsked}
+use Rattle.vll_lines.specs.Request.{AreRequests}
 use Rattle.vll_lines.specs.declared.round.Round.{Round}
 use Rattle.vll_lines.specs.declared.round.RoundFault.{RoundFault}
 use Rattle.vll_lines.specs.declared.round.RoundFault.TheVariants as fault
@@ -36,7 +36,7 @@ pub record IsRound (library : Catalog) (clients : ℕ) (old new : Option (List �
   pub ended : r.is_last ≡ true → IsAtEnd new
   pub lines : List (List ℕ)
   pub cut : CutsInto r.is_last (tail ++ bytes) lines after
-  pub asked : AreAsked library clients lines r.asked.items
+  pub requests : AreRequests library clients lines r.requests.items
 
 -- bytes were read, but not to the end of a round: no line ends in them, if a read has failed
 pub record IsBroken (old new : Option (List ℕ)) (why : RoundFault) : Type 0 where

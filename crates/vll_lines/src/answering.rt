@@ -6,20 +6,20 @@ ghost use Rattle.vll_lines.specs.Placed.{AreTheirsAt};
 ghost use Rattle.vll_lines.specs.Private.Replied.{IsReplied, IsRepliedAt, Replies, RepliesAt};
 ghost use Rattle.vll_lines.specs.Theirs.{AreTheirs, call_of_line, call_shown};
 
-use crate::asked::{Asked, ClientCall};
 use crate::replying::{push_fault, push_reply};
+use crate::request::{ClientCall, Request};
 use std::alloc::{AllocError, Global};
 use vll_core::Line;
 use vll_proc::Reply;
 
 /// Whether these are the journal's lines of the calls that lines ask for, in order: each is of the client and of its
 /// call, whatever that found, and has a reply.
-pub fn are_theirs(asked: &[Asked], lines: &[Line]) -> bool
-    ensures theirs { IsTrue result → AreTheirs asked.now lines.now }
-    ensures all { AreTheirs asked.now lines.now → IsTrue result }
+pub fn are_theirs(requests: &[Request], lines: &[Line]) -> bool
+    ensures theirs { IsTrue result → AreTheirs requests.now lines.now }
+    ensures all { AreTheirs requests.now lines.now → IsTrue result }
 {
     let mut lines = lines;
-    for one in asked {
+    for one in requests {
         if let Ok(call) = &one.call {
             let Some((line, more)) = lines.split_first() else {
                 return false;
@@ -34,41 +34,41 @@ pub fn are_theirs(asked: &[Asked], lines: &[Line]) -> bool
 }
 
 // Whether a line is of this call of this client, whatever it found, and has a reply.
-pub(crate) fn is_of(line: &Line, asked: &ClientCall) -> bool
-    ensures call { IsTrue result → call_shown asked.now ≡ call_of_line line.now }
+pub(crate) fn is_of(line: &Line, requests: &ClientCall) -> bool
+    ensures call { IsTrue result → call_shown requests.now ≡ call_of_line line.now }
     ensures reply { IsTrue result → IsSome line.now.reply }
-    ensures all { call_shown asked.now ≡ call_of_line line.now → IsSome line.now.reply → IsTrue result }
+    ensures all { call_shown requests.now ≡ call_of_line line.now → IsSome line.now.reply → IsTrue result }
 {
-    line.client == asked.client
-        && line.call.number == asked.call.number
-        && line.call.arg_count == asked.call.arg_count
-        && line.call.args == asked.call.args
+    line.client == requests.client
+        && line.call.number == requests.call.number
+        && line.call.arg_count == requests.call.arg_count
+        && line.call.args == requests.call.args
         && line.reply.is_some()
 }
 
 /// The number of calls that lines ask for.
-pub fn count_calls(asked: &[Asked]) -> usize
-    ensures { result ≡ count_by (λ one. is_ok one.call) asked.now }
+pub fn count_calls(requests: &[Request]) -> usize
+    ensures { result ≡ count_by (λ one. is_ok one.call) requests.now }
 {
-    asked.iter().filter(|one| one.call.is_ok()).count()
+    requests.iter().filter(|one| one.call.is_ok()).count()
 }
 
 /// Returns the text of the answers to lines, in order. The calls that they ask for are numbered from `number` on, and
 /// have these journal lines. Fails only for want of memory.
 pub fn answers(
     alloc: Global,
-    asked: &[Asked],
+    requests: &[Request],
     lines: &[Line],
     number: u64,
 ) -> Result<Vec<u8>, AllocError>
-    requires lines { AreTheirs asked.now lines.now }
+    requires lines { AreTheirs requests.now lines.now }
     requires number { number + length lines.now < 2 ^ 64 }
-    ensures { IfOk result (λ text. (replies : List SpecReply) → map (λ l. l.reply) lines.now ≡ map Some replies → text.items ≡ answers asked.now number replies) }
+    ensures { IfOk result (λ text. (replies : List SpecReply) → map (λ l. l.reply) lines.now ≡ map Some replies → text.items ≡ answers requests.now number replies) }
 {
     let mut text = Vec::new(alloc);
     let mut lines = lines;
     let mut number = number;
-    for one in asked {
+    for one in requests {
         match &one.call {
             Err(why) => text = push_fault(alloc, text, &one.id, why)?,
             Ok(_) => {
@@ -100,18 +100,18 @@ fn first_reply(lines: &[Line]) -> (&Reply, &[Line])
 /// in order, and the journal lines are numbered from `number` on. Fails only for want of memory.
 pub fn answers_at(
     alloc: Global,
-    asked: &[Asked],
+    requests: &[Request],
     lines: &[Line],
     places: &[u32],
     number: u64,
 ) -> Result<Vec<u8>, AllocError>
-    requires lines { AreTheirsAt asked.now lines.now places.now }
+    requires lines { AreTheirsAt requests.now lines.now places.now }
     requires number { number + length lines.now < 2 ^ 64 }
-    ensures { IfOk result (λ text. (replies : List SpecReply) → map (λ l. l.reply) lines.now ≡ map Some replies → text.items ≡ answers_by asked.now (told_at number replies places.now)) }
+    ensures { IfOk result (λ text. (replies : List SpecReply) → map (λ l. l.reply) lines.now ≡ map Some replies → text.items ≡ answers_by requests.now (told_at number replies places.now)) }
 {
     let mut text = Vec::new(alloc);
     let mut places = places;
-    for one in asked {
+    for one in requests {
         match &one.call {
             Err(why) => text = push_fault(alloc, text, &one.id, why)?,
             Ok(_) => {

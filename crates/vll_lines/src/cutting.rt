@@ -1,11 +1,11 @@
 //! Cutting bytes into lines at line feeds.
 ghost use Rattle.std.specs.Prelude.{◌≡◌, ◌++◌, ◌∷◌, [], IfOk, IfNone, IfSome, false, OnOk};
-ghost use Rattle.vll_lines.specs.Asked.{IsLine};
+ghost use Rattle.vll_lines.specs.Request.{IsLine};
 ghost use Rattle.vll_lines.specs.Lines.{has_feed};
 ghost use Rattle.vll_lines.specs.Private.Cutting.{Cuts};
 
-use crate::asked::{Asked, LineFault};
 use crate::limits::MOST_LINE;
+use crate::request::{LineFault, Request};
 use crate::tokens::LineReader;
 use memchr::memchr;
 use std::alloc::AllocError;
@@ -30,15 +30,15 @@ pub(crate) fn cut(
     clients: u32,
     bytes: &[u8],
     tail: &mut Vec<u8>,
-    asked: &mut Vec<Asked>,
+    requests: &mut Vec<Request>,
 ) -> Result<(), AllocError>
     requires { tail.old.items ≡ [] }
-    ensures cuts { OnOk result (Cuts library.now clients bytes.now asked.old.items asked.new.items tail.new.items) }
+    ensures cuts { OnOk result (Cuts library.now clients bytes.now requests.old.items requests.new.items tail.new.items) }
     ensures unended { OnOk result (has_feed tail.new.items ≡ false) }
 {
     let mut rest = bytes;
     'lines: while let Some((line, more)) = first_line(rest) {
-        push(asked, line_asked(lines, library, clients, line)?)?;
+        push(requests, line_asked(lines, library, clients, line)?)?;
         rest = more;
     }
     tail.extend_from_slice(rest)
@@ -50,11 +50,11 @@ pub(crate) fn line_asked(
     library: &Library,
     clients: u32,
     line: &[u8],
-) -> Result<Asked, AllocError>
+) -> Result<Request, AllocError>
     ensures { IfOk result (IsLine library.now clients line.now) }
 {
     if line.len() > MOST_LINE {
-        return Ok(Asked {
+        return Ok(Request {
             id: None,
             call: Err(LineFault::Long),
         });
@@ -63,9 +63,9 @@ pub(crate) fn line_asked(
 }
 
 // Appends to a list.
-pub(crate) fn push(asked: &mut Vec<Asked>, one: Asked) -> Result<(), AllocError>
-    ensures { OnOk result (asked.new.items ≡ asked.old.items ++ one ∷ []) }
+pub(crate) fn push(requests: &mut Vec<Request>, one: Request) -> Result<(), AllocError>
+    ensures { OnOk result (requests.new.items ≡ requests.old.items ++ one ∷ []) }
 {
-    asked.push(one)?;
+    requests.push(one)?;
     Ok(())
 }

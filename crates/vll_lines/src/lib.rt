@@ -6,24 +6,24 @@
 //!
 //! ```rattle
 //! let round = read_round(wait, alloc, &library, clients, &mut source, &mut tail)?;
-//! let text = answers(alloc, round.asked.as_slice(), lines, number)?;
+//! let text = answers(alloc, round.requests.as_slice(), lines, number)?;
 //! ```
 #![tactic(auto)]
 
 mod answering;
-mod asked;
 mod cutting;
 mod limits;
 mod places;
 mod reading;
 mod replying;
+mod request;
 mod round;
 mod tokens;
 
 pub use answering::{answers, answers_at, are_theirs, count_calls};
-pub use asked::{Asked, ClientCall, Id, LineFault};
 pub use limits::{MOST_ID, MOST_LINE, MOST_ROUND};
 pub use places::places_of;
 pub use replying::{push_end, push_fault, push_reply};
+pub use request::{ClientCall, Id, LineFault, Request};
 pub use round::{Round, RoundFault, read_round};
 pub use tokens::LineReader;

@@ -5,7 +5,7 @@ ghost use Rattle.vll_lines.specs.Private.Unplaced.{AreNexts, IsNextOf, ListsAll,
 ghost use Rattle.vll_lines.specs.Theirs.{calls_of};
 
 use crate::answering::is_of;
-use crate::asked::{Asked, ClientCall};
+use crate::request::{ClientCall, Request};
 use std::alloc::{AllocError, Global};
 use std::mem;
 use vll_core::Line;
@@ -17,13 +17,13 @@ use vll_core::Line;
 /// only for want of memory.
 pub fn places_of(
     alloc: Global,
-    asked: &[Asked],
+    requests: &[Request],
     lines: &[Line],
     clients: u32,
 ) -> Result<Option<Vec<u32>>, AllocError>
-    ensures theirs { IfOk result (λ found. IfSome found (λ places. AreTheirsAt asked.now lines.now places.items)) }
-    ensures all { IfOk result (λ found. (places : List ℕ) → AreTheirsAt asked.now lines.now places
-        → All (λ c. c.client < clients) (calls_of asked.now) → length lines.now < 2 ^ 32 → IsSome found) }
+    ensures theirs { IfOk result (λ found. IfSome found (λ places. AreTheirsAt requests.now lines.now places.items)) }
+    ensures all { IfOk result (λ found. (places : List ℕ) → AreTheirsAt requests.now lines.now places
+        → All (λ c. c.client < clients) (calls_of requests.now) → length lines.now < 2 ^ 32 → IsSome found) }
 {
     if !lines.iter().all(|line| line.reply.is_some()) {
         return Ok(None);
@@ -32,7 +32,7 @@ pub fn places_of(
         return Ok(None);
     };
     let mut places = Vec::with_capacity(alloc, lines.len())?;
-    for one in asked {
+    for one in requests {
         if let Ok(call) = &one.call {
             let Some(place) = unplaced.take(lines, call) else {
                 return Ok(None);
@@ -76,16 +76,16 @@ impl Unplaced {
     }
 
     // Takes the client's first line that is left, if it is that of its call, and returns its index.
-    fn take(&mut self, lines: &[Line], asked: &ClientCall) -> Option<u32>
+    fn take(&mut self, lines: &[Line], requests: &ClientCall) -> Option<u32>
         requires nexts { AreNexts lines.now 0 self.old.nexts.items }
         requires replied { All (λ l. IsSome l.reply) lines.now }
-        ensures some { IfSome result (λ place. Takes self.old.firsts.items self.new.firsts.items lines.now asked.now place) }
-        ensures none { IfNone result ((place : ℕ) → ¬ IsNextOf self.old.firsts.items lines.now asked.now place) }
+        ensures some { IfSome result (λ place. Takes self.old.firsts.items self.new.firsts.items lines.now requests.now place) }
+        ensures none { IfNone result ((place : ℕ) → ¬ IsNextOf self.old.firsts.items lines.now requests.now place) }
         ensures nexts { self.new.nexts ≡ self.old.nexts }
     {
-        let client = asked.client as usize;
+        let client = requests.client as usize;
         let place = *self.firsts.get(client)?;
-        if !is_of(lines.get(place as usize)?, asked) {
+        if !is_of(lines.get(place as usize)?, requests) {
             return None;
         }
         self.firsts[client] = self.nexts[place as usize];

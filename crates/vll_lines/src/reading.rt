@@ -5,12 +5,12 @@ ghost use Rattle.std.specs.Str.{bytes_eq};
 ghost use Rattle.serde_json.specs.View.{items_view, members_view, view};
 ghost use Rattle.vll_scenario.specs.Syntax.{has_only};
 ghost use Rattle.vll_scenario.specs.Tree.{each, number_at, whole};
-ghost use Rattle.vll_lines.specs.Asked.{IsAsked, args_of, asked_of, call_asked, client_of, has_no_other, id_in, id_of, may_names, name_of, no_record, or_fault, declared_args, declared_keys, proc_named, refusal};
+ghost use Rattle.vll_lines.specs.Request.{IsRequest, args_of, request_of, call_asked, client_of, has_no_other, id_in, id_of, may_names, name_of, no_record, or_fault, declared_args, declared_keys, proc_named, refusal};
 ghost use Rattle.vll_lines.specs.Private.Reading.{Gives, GivesArgs, Names, Settles};
-ghost use Rattle.vll_lines.specs.declared.asked.LineFault.TheVariants as fault;
+ghost use Rattle.vll_lines.specs.declared.request.LineFault.TheVariants as fault;
 
-use crate::asked::{Asked, ClientCall, Id, LineFault};
 use crate::limits::MOST_ID;
+use crate::request::{ClientCall, Id, LineFault, Request};
 use serde_json::{Map, Value};
 use std::alloc::{AllocError, AllocFailed, Global};
 use vll_check::{CallFault, Library};
@@ -18,41 +18,41 @@ use vll_proc::{KeyAt, KeyDecl, Proc, Text};
 
 // Why something of a line was not read.
 #[derive(Drop)]
-pub(crate) enum Misread {
+pub(crate) enum ReadFault {
     NoMemory,
     Faulty(LineFault),
 }
 
-impl From<AllocError> for Misread {
+impl From<AllocError> for ReadFault {
     ghost use Rattle.std.specs.Prelude.{◌≡◌};
-    ghost use Rattle.vll_lines.specs.declared.reading.Misread.TheVariants.{NoMemory};
+    ghost use Rattle.vll_lines.specs.declared.reading.ReadFault.TheVariants.{NoMemory};
 
     ghost from_gives = { λ _ e. e ≡ NoMemory };
 
-    fn from(_: AllocError) -> Misread {
-        Misread::NoMemory
+    fn from(_: AllocError) -> ReadFault {
+        ReadFault::NoMemory
     }
 }
 
-impl<T: Drop> From<AllocFailed<T>> for Misread {
+impl<T: Drop> From<AllocFailed<T>> for ReadFault {
     ghost use Rattle.std.specs.Prelude.{◌≡◌};
-    ghost use Rattle.vll_lines.specs.declared.reading.Misread.TheVariants.{NoMemory};
+    ghost use Rattle.vll_lines.specs.declared.reading.ReadFault.TheVariants.{NoMemory};
 
     ghost from_gives = { λ _ e. e ≡ NoMemory };
 
-    fn from(_: AllocFailed<T>) -> Misread {
-        Misread::NoMemory
+    fn from(_: AllocFailed<T>) -> ReadFault {
+        ReadFault::NoMemory
     }
 }
 
-impl From<LineFault> for Misread {
+impl From<LineFault> for ReadFault {
     ghost use Rattle.std.specs.Prelude.{◌≡◌};
-    ghost use Rattle.vll_lines.specs.declared.reading.Misread.TheVariants.{Faulty};
+    ghost use Rattle.vll_lines.specs.declared.reading.ReadFault.TheVariants.{Faulty};
 
     ghost from_gives = { λ why e. e ≡ Faulty why };
 
-    fn from(why: LineFault) -> Misread {
-        Misread::Faulty(why)
+    fn from(why: LineFault) -> ReadFault {
+        ReadFault::Faulty(why)
     }
 }
 
@@ -62,13 +62,13 @@ pub(crate) fn read_tree(
     library: &Library,
     clients: u32,
     line: &[u8],
-) -> Result<Asked, AllocError>
-    ensures { IfOk result (IsAsked library.now clients line.now) }
+) -> Result<Request, AllocError>
+    ensures { IfOk result (IsRequest library.now clients line.now) }
 {
     match Value::from_slice(alloc, line) {
-        Ok(tree) => asked_of(alloc, library, clients, &tree),
+        Ok(tree) => request_of(alloc, library, clients, &tree),
         Err(error) if error.is_memory() => Err(AllocError),
-        Err(error) => Ok(Asked {
+        Err(error) => Ok(Request {
             id: None,
             call: Err(LineFault::Json(error.column() as u64)),
         }),
@@ -76,20 +76,20 @@ pub(crate) fn read_tree(
 }
 
 // The id of a JSON tree, and the call that it asks for.
-fn asked_of(
+fn request_of(
     alloc: Global,
     library: &Library,
     clients: u32,
     tree: &Value,
-) -> Result<Asked, AllocError>
-    ensures { IfOk result (λ asked. asked ≡ asked_of library.now clients (view tree.now)) }
+) -> Result<Request, AllocError>
+    ensures { IfOk result (λ request. request ≡ request_of library.now clients (view tree.now)) }
 {
     match settled(id_of(alloc, tree))? {
-        Ok(id) => Ok(Asked {
+        Ok(id) => Ok(Request {
             id,
             call: settled(call_asked(alloc, library, clients, tree))?,
         }),
-        Err(why) => Ok(Asked {
+        Err(why) => Ok(Request {
             id: None,
             call: Err(why),
         }),
@@ -97,18 +97,18 @@ fn asked_of(
 }
 
 // What was read or the fault, unless memory ran out.
-fn settled<T: Drop>(read: Result<T, Misread>) -> Result<Result<T, LineFault>, AllocError>
+fn settled<T: Drop>(read: Result<T, ReadFault>) -> Result<Result<T, LineFault>, AllocError>
     ensures { Settles read result }
 {
     match read {
         Ok(it) => Ok(Ok(it)),
-        Err(Misread::Faulty(why)) => Ok(Err(why)),
-        Err(Misread::NoMemory) => Err(AllocError),
+        Err(ReadFault::Faulty(why)) => Ok(Err(why)),
+        Err(ReadFault::NoMemory) => Err(AllocError),
     }
 }
 
 // The id of a line, if it has one.
-fn id_of(alloc: Global, tree: &Value) -> Result<Option<Id>, Misread>
+fn id_of(alloc: Global, tree: &Value) -> Result<Option<Id>, ReadFault>
     ensures { Gives result (id_of (view tree.now)) }
 {
     match tree.get("id") {
@@ -117,7 +117,7 @@ fn id_of(alloc: Global, tree: &Value) -> Result<Option<Id>, Misread>
     }
 }
 
-fn id_in(alloc: Global, value: &Value) -> Result<Id, Misread>
+fn id_in(alloc: Global, value: &Value) -> Result<Id, ReadFault>
     ensures { Gives result (id_in (view value.now)) }
 {
     if let Some(number) = value.as_u64() {
@@ -127,7 +127,7 @@ fn id_in(alloc: Global, value: &Value) -> Result<Id, Misread>
         Some(text) if text.len() <= MOST_ID => {
             Ok(Id::Text(Text::new(String::from_str(alloc, text)?)))
         }
-        _ => Err(Misread::Faulty(LineFault::Id)),
+        _ => Err(ReadFault::Faulty(LineFault::Id)),
     }
 }
 
@@ -137,23 +137,23 @@ fn call_asked(
     library: &Library,
     clients: u32,
     tree: &Value,
-) -> Result<ClientCall, Misread>
+) -> Result<ClientCall, ReadFault>
     ensures { Gives result (call_asked library.now clients (view tree.now)) }
 {
     if !has_no_other(tree) {
-        return Err(Misread::Faulty(LineFault::Object));
+        return Err(ReadFault::Faulty(LineFault::Object));
     }
     let client = client_of(tree)?;
     let name = name_of(tree)?;
     let args = args_of(alloc, tree)?;
     if client >= clients {
-        return Err(Misread::Faulty(LineFault::NoClient(client)));
+        return Err(ReadFault::Faulty(LineFault::NoClient(client)));
     }
     match library.call(name, args.as_slice()) {
         Ok(call) => Ok(ClientCall { client, call }),
         Err(why) => {
             let why = refusal(alloc, library, name, args.as_slice(), why)?;
-            Err(Misread::Faulty(why))
+            Err(ReadFault::Faulty(why))
         }
     }
 }
@@ -265,24 +265,24 @@ fn name_of(tree: &Value) -> Result<&str, LineFault>
         .ok_or(LineFault::Proc)
 }
 
-fn args_of(alloc: Global, tree: &Value) -> Result<Vec<u64>, Misread>
+fn args_of(alloc: Global, tree: &Value) -> Result<Vec<u64>, ReadFault>
     ensures { GivesArgs result (args_of (view tree.now)) }
 {
     match tree.get("args").and_then(Value::as_array) {
         Some(list) => numbers_in(alloc, list.as_slice()),
-        None => Err(Misread::Faulty(LineFault::Args)),
+        None => Err(ReadFault::Faulty(LineFault::Args)),
     }
 }
 
 // The numbers of a list.
-fn numbers_in(alloc: Global, list: &[Value]) -> Result<Vec<u64>, Misread>
+fn numbers_in(alloc: Global, list: &[Value]) -> Result<Vec<u64>, ReadFault>
     ensures { GivesArgs result (or_fault fault.Args (whole (each number_at (items_view list.now)))) }
 {
     let mut numbers = Vec::with_capacity(alloc, list.len())?;
     for value in list {
         match value.as_u64() {
             Some(number) => numbers.push(number)?,
-            None => return Err(Misread::Faulty(LineFault::Args)),
+            None => return Err(ReadFault::Faulty(LineFault::Args)),
         }
     }
     Ok(numbers)

@@ -3,7 +3,7 @@ ghost use Rattle.std.specs.Prelude.{◌≡◌, ◌++◌, IfOk};
 ghost use Rattle.vll_lines.specs.Answers.{end_line, fault_line, id_tokens, line_of, numbers_tokens, reason_tokens, reply_line, reply_tokens};
 ghost use Rattle.vll_lines.specs.Private.Writing.{Adds};
 
-use crate::asked::{Id, LineFault};
+use crate::request::{Id, LineFault};
 use json::Writer;
 use std::alloc::{AllocError, Global};
 use vll_proc::{Reason, Reply};

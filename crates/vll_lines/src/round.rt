@@ -1,15 +1,15 @@
 //! A round: the lines that are complete when a read has ended one.
 ghost use Rattle.std.specs.Prelude.{◌≡◌, ◌↔◌, ℕ, List, [], ◌++◌, All, IfErr, IfOk, OnOk, false, true, Ok, Err};
 ghost use Rattle.vll_check.specs.Calls.{Fits};
-ghost use Rattle.vll_lines.specs.Asked.{AreAsked};
+ghost use Rattle.vll_lines.specs.Request.{AreRequests};
 ghost use Rattle.vll_lines.specs.Lines.{IsBroken, IsRound, has_feed, lines_in};
 ghost use Rattle.vll_lines.specs.Theirs.{calls_of};
 ghost use Rattle.vll_lines.specs.Private.Cutting.{Cuts, StandsFor};
 ghost use Rattle.vll_lines.specs.declared.round.RoundFault.TheVariants as round_fault;
 
-use crate::asked::Asked;
 use crate::cutting::{cut, first_line, line_asked, push};
 use crate::limits::{MOST_LINE, MOST_ROUND};
+use crate::request::Request;
 use crate::tokens::LineReader;
 use std::alloc::{AllocError, Global};
 use std::sync::Wait;
@@ -21,7 +21,7 @@ use vll_scenario::Source;
 #[derive(Drop)]
 pub struct Round {
     /// What each of them asks for, in order.
-    pub asked: Vec<Asked>,
+    pub requests: Vec<Request>,
     /// Whether the input has ended with them.
     pub is_last: bool,
 }
@@ -64,29 +64,29 @@ pub fn read_round<S: Source>(
     requires source { S.failed source.old ≡ false }
     requires tail { has_feed tail.old.items ≡ false }
     ensures round { IfOk result (IsRound library.now clients (S.remaining source.old) (S.remaining source.new) tail.old.items tail.new.items) }
-    ensures fits { IfOk result (λ round. All (λ c. Fits library.now c.call) (calls_of round.asked.items)) }
+    ensures fits { IfOk result (λ round. All (λ c. Fits library.now c.call) (calls_of round.requests.items)) }
     ensures tail { OnOk result (has_feed tail.new.items ≡ false) }
     ensures err { IfErr result (IsBroken (S.remaining source.old) (S.remaining source.new)) }
     ensures failed { (result ≡ Err round_fault.Read) ↔ (S.failed source.new ≡ true) }
 {
     let mut lines = LineReader::new(alloc);
-    let mut asked = Vec::new(alloc);
+    let mut requests = Vec::new(alloc);
     let mut piece = [0; MOST_ROUND];
     for _ in wait.forever() {
         let Ok(count) = source.read(&mut piece) else {
             return Err(RoundFault::Read);
         };
         if count == 0 {
-            end_line(&mut lines, library, clients, tail, &mut asked)?;
+            end_line(&mut lines, library, clients, tail, &mut requests)?;
             return Ok(Round {
-                asked,
+                requests,
                 is_last: true,
             });
         }
         let bytes = &piece[..count];
-        if take_piece(&mut lines, library, clients, bytes, tail, &mut asked)? {
+        if take_piece(&mut lines, library, clients, bytes, tail, &mut requests)? {
             return Ok(Round {
-                asked,
+                requests,
                 is_last: false,
             });
         }
@@ -100,15 +100,18 @@ fn end_line(
     library: &Library,
     clients: u32,
     tail: &mut Vec<u8>,
-    asked: &mut Vec<Asked>,
+    requests: &mut Vec<Request>,
 ) -> Result<(), AllocError>
-    requires asked { asked.old.items ≡ [] }
-    ensures asked { OnOk result ((line : List ℕ) → StandsFor tail.old.items line → has_feed line ≡ false
-        → AreAsked library.now clients (lines_in line) asked.new.items) }
+    requires requests { requests.old.items ≡ [] }
+    ensures requests { OnOk result ((line : List ℕ) → StandsFor tail.old.items line → has_feed line ≡ false
+        → AreRequests library.now clients (lines_in line) requests.new.items) }
     ensures tail { OnOk result (tail.new.items ≡ []) }
 {
     if !tail.is_empty() {
-        push(asked, line_asked(lines, library, clients, tail.as_slice())?)?;
+        push(
+            requests,
+            line_asked(lines, library, clients, tail.as_slice())?,
+        )?;
         tail.clear();
     }
     Ok(())
@@ -121,12 +124,12 @@ fn take_piece(
     clients: u32,
     bytes: &[u8],
     tail: &mut Vec<u8>,
-    asked: &mut Vec<Asked>,
+    requests: &mut Vec<Request>,
 ) -> Result<bool, AllocError>
-    ensures none { result ≡ Ok false → (asked.new.items ≡ asked.old.items) × (has_feed bytes.now ≡ false)
+    ensures none { result ≡ Ok false → (requests.new.items ≡ requests.old.items) × (has_feed bytes.now ≡ false)
         × ((line : List ℕ) → StandsFor tail.old.items line → StandsFor tail.new.items (line ++ bytes.now)) }
     ensures some { result ≡ Ok true → (line : List ℕ) → StandsFor tail.old.items line → has_feed line ≡ false
-        → Cuts library.now clients (line ++ bytes.now) asked.old.items asked.new.items tail.new.items }
+        → Cuts library.now clients (line ++ bytes.now) requests.old.items requests.new.items tail.new.items }
     ensures unended { result ≡ Ok true → has_feed tail.new.items ≡ false }
 {
     let Some((end, rest)) = first_line(bytes) else {
@@ -134,9 +137,12 @@ fn take_piece(
         return Ok(false);
     };
     grow(tail, end)?;
-    push(asked, line_asked(lines, library, clients, tail.as_slice())?)?;
+    push(
+        requests,
+        line_asked(lines, library, clients, tail.as_slice())?,
+    )?;
     tail.clear();
-    cut(lines, library, clients, rest, tail, asked)?;
+    cut(lines, library, clients, rest, tail, requests)?;
     Ok(true)
 }
 

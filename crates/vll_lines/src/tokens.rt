@@ -5,12 +5,12 @@ ghost use Rattle.json.specs.Json.{items, value};
 ghost use Rattle.serde_json.specs.Data.{Data, Members, array, number, object, put, string, unsigned};
 ghost use Rattle.serde_json.specs.Read.{converted, number_of, of_items};
 ghost use Rattle.vll_scenario.specs.Scenario.{IsTree};
-ghost use Rattle.vll_lines.specs.Asked.{IsAsked, asked_of, id_in};
+ghost use Rattle.vll_lines.specs.Request.{IsRequest, request_of, id_in};
 ghost use Rattle.vll_lines.specs.Private.Tokens.{AreRead, IsRead, Says, numbers_in};
 
-use crate::asked::{Asked, ClientCall, Id};
 use crate::limits::MOST_ID;
 use crate::reading::read_tree;
+use crate::request::{ClientCall, Id, Request};
 use fast_float::Numeral;
 use json::{Reader, Scratch, Token};
 use std::alloc::{AllocError, Global};
@@ -44,18 +44,18 @@ impl LineReader {
         library: &Library,
         clients: u32,
         line: &[u8],
-    ) -> Result<Asked, AllocError>
-        ensures { IfOk result (IsAsked library.now clients line.now) }
+    ) -> Result<Request, AllocError>
+        ensures { IfOk result (IsRequest library.now clients line.now) }
     {
         match self.read_call(library, clients, line) {
-            Some(asked) => Ok(asked),
+            Some(request) => Ok(request),
             None => read_tree(self.alloc, library, clients, line),
         }
     }
 
     // Reads the call that a line asks for, unless it asks for none or memory ran out.
-    fn read_call(&mut self, library: &Library, clients: u32, line: &[u8]) -> Option<Asked>
-        ensures { IfSome result (λ asked. (tree : Data) × IsTree line.now (Some tree) × (asked ≡ asked_of library.now clients tree)) }
+    fn read_call(&mut self, library: &Library, clients: u32, line: &[u8]) -> Option<Request>
+        ensures { IfSome result (λ request. (tree : Data) × IsTree line.now (Some tree) × (request ≡ request_of library.now clients tree)) }
     {
         let Ok(text) = str::from_utf8(line) else {
             return None;
@@ -68,7 +68,7 @@ impl LineReader {
         if reader.next().is_some() {
             return None;
         }
-        told.asked(library, clients, self.args.as_slice())
+        told.request(library, clients, self.args.as_slice())
     }
 }
 
@@ -85,8 +85,8 @@ pub(crate) struct Told<'a> {
 
 impl<'a> Told<'a> {
     // The line with these members and arguments, if it asks for a call.
-    fn asked(self, library: &Library, clients: u32, args: &[u64]) -> Option<Asked>
-        ensures { IfSome result (λ asked. (found : Members) → Says self.entry args.now found → asked ≡ asked_of library.now clients (object found)) }
+    fn request(self, library: &Library, clients: u32, args: &[u64]) -> Option<Request>
+        ensures { IfSome result (λ request. (found : Members) → Says self.entry args.now found → request ≡ request_of library.now clients (object found)) }
     {
         let client = self.client?;
         let name = self.name?;
@@ -94,7 +94,7 @@ impl<'a> Told<'a> {
             return None;
         }
         let call = library.call(name, args).ok()?;
-        Some(Asked {
+        Some(Request {
             id: self.id,
             call: Ok(ClientCall { client, call }),
         })

@@ -9,11 +9,11 @@ use vll_test_procedures::library;
 
 // The answer to a line of one of two clients, where a call has the number 12 and is aborted.
 fn answer(alloc: Global, library: &Library, line: &str) -> Result<Vec<u8>, AllocError> {
-    let asked = LineReader::new(alloc).read(library, 2, line.as_bytes())?;
+    let request = LineReader::new(alloc).read(library, 2, line.as_bytes())?;
     let out = Vec::new(alloc);
-    match &asked.call {
-        Ok(_) => push_reply(out, &asked.id, 12, &Reply::Aborted(Reason::Underflow)),
-        Err(why) => push_fault(alloc, out, &asked.id, why),
+    match &request.call {
+        Ok(_) => push_reply(out, &request.id, 12, &Reply::Aborted(Reason::Underflow)),
+        Err(why) => push_fault(alloc, out, &request.id, why),
     }
 }
 

@@ -4,7 +4,7 @@ use std::alloc::{AllocError, Global};
 use std::test::Fail;
 use vll_check::Library;
 use vll_core::Line;
-use vll_lines::{Asked, LineReader, answers_at, places_of};
+use vll_lines::{LineReader, Request, answers_at, places_of};
 use vll_proc::{Reason, Reply};
 use vll_test_procedures::library;
 
@@ -18,20 +18,20 @@ const LINES: [&str; 6] = [
     r#"{"id":5,"client":1,"proc":"bump","args":[2]}"#,
 ];
 
-fn asked_of(alloc: Global, library: &Library) -> Result<Vec<Asked>, AllocError> {
-    let mut asked = Vec::new(alloc);
+fn request_of(alloc: Global, library: &Library) -> Result<Vec<Request>, AllocError> {
+    let mut requests = Vec::new(alloc);
     for line in LINES {
-        asked.push(LineReader::new(alloc).read(library, 2, line.as_bytes())?)?;
+        requests.push(LineReader::new(alloc).read(library, 2, line.as_bytes())?)?;
     }
-    Ok(asked)
+    Ok(requests)
 }
 
 // The journal's lines if the calls of these lines are made in this order. Each is aborted with the code that is the
 // index of its line.
-fn made(alloc: Global, asked: &[Asked], order: &[u16]) -> Result<Vec<Line>, AllocError> {
+fn made(alloc: Global, requests: &[Request], order: &[u16]) -> Result<Vec<Line>, AllocError> {
     let mut lines = Vec::new(alloc);
     for index in order {
-        if let Some(one) = asked.get(usize::from(*index)) {
+        if let Some(one) = requests.get(usize::from(*index)) {
             if let Ok(call) = &one.call {
                 lines.push(Line {
                     client: call.client,
@@ -46,9 +46,9 @@ fn made(alloc: Global, asked: &[Asked], order: &[u16]) -> Result<Vec<Line>, Allo
 
 // The answers to the round if its calls are made in this order from number 10 on, or `none`.
 fn answered(alloc: Global, library: &Library, order: &[u16]) -> Result<Vec<u8>, AllocError> {
-    let asked = asked_of(alloc, library)?;
-    let lines = made(alloc, asked.as_slice(), order)?;
-    let Some((_, round)) = asked.as_slice().split_last() else {
+    let requests = request_of(alloc, library)?;
+    let lines = made(alloc, requests.as_slice(), order)?;
+    let Some((_, round)) = requests.as_slice().split_last() else {
         return Ok(Vec::new(alloc));
     };
     match places_of(alloc, round, lines.as_slice(), 2)? {

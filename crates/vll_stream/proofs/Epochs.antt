@@ -6,7 +6,7 @@ use Rattle.std.specs.Io.KnownBytes.{Appends}
 use Rattle.vll_scenario.specs.Headline.Setup.{Setup}
 use Rattle.vll_scenario.specs.Streams.{AppendsBeginning}
 use Rattle.vll_lines.specs.Answers.{answers_by, end_line, told_at}
-use Rattle.vll_lines.specs.Asked.{AreAsked}
+use Rattle.vll_lines.specs.Request.{AreRequests}
 use Rattle.vll_lines.specs.Lines.{lines_in}
 use Rattle.vll_stream.specs.declared.fault.StreamFault.{StreamFault}
 use Rattle.vll_stream.specs.declared.fault.StreamFault.TheVariants as fault
@@ -106,14 +106,14 @@ epoch_stops base clients workers old mid next why left written so_far stops =
         ended = part.ended;
         lines = part.lines;
         cut = part.cut;
-        asked = part.asked;
+        requests = part.requests;
         are =
-            subst (λ (k : ℕ). AreAsked (catalog_of base) k part.lines part.asked) count
-            (subst (λ (c : Catalog). AreAsked c (next.clients - 1) part.lines part.asked) (ap catalog_of base_is ∙ catalog_after base so_far.calls) part.are);
+            subst (λ (k : ℕ). AreRequests (catalog_of base) k part.lines part.requests) count
+            (subst (λ (c : Catalog). AreRequests c (next.clients - 1) part.lines part.requests) (ap catalog_of base_is ∙ catalog_after base so_far.calls) part.are);
         rounds = part.rounds;
         ordered = part.ordered;
         text = part.text;
-        answered = part.answered ∙ ap (λ (b : Base). answers_by part.asked (told_at mid.number (replies b.procs stops.more b.records) (concat part.rounds))) base_is;
+        answered = part.answered ∙ ap (λ (b : Base). answers_by part.requests (told_at mid.number (replies b.procs stops.more b.records) (concat part.rounds))) base_is;
         written = part.written;
         number = part.number;
       };

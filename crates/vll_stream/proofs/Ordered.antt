@@ -12,7 +12,7 @@ use Rattle.vll_proc.specs.Serial.{replies}
 use Rattle.vll_lines.specs.Answers.{answers_by, told_at}
 use Rattle.vll_lines.specs.Placed.{ArePlaced}
 use Rattle.vll_lines.specs.Theirs.{call_shown, calls_of}
-use Rattle.vll_lines.specs.declared.asked.Asked.{Asked}
+use Rattle.vll_lines.specs.declared.request.Request.{Request}
 use Rattle.vll_lines.specs.declared.limits.TheConstants.{MOST_ROUND}
 use Rattle.vll_lines.proofs.Placed.{placed_in_order, placed_many, placed_then, placed_within}
 use Rattle.vll_lines.proofs.Theirs.{calls_of_both}
@@ -67,10 +67,10 @@ pub ordered_none : (workers : ℕ) → AreOrdered workers [] [] []
 ordered_none workers = record { placed = placed_in_order []; in_rounds = tt; in_order = λ one. refl }
 
 -- one round
-pub ordered_round : (workers : ℕ) (asked : List Asked) (calls : List Made) (places : List ℕ) → ArePlaced (map call_shown (calls_of asked)) (map made_shown calls) places → length calls ≤ MOST_ROUND
-    → (workers ≤ 1 → places ≡ range_with_len 0 (length places)) → AreOrdered workers asked calls (places ∷ [])
-ordered_round workers asked calls places placed few in_order =
-    let shown : List (ℕ × Call) = map call_shown (calls_of asked) in
+pub ordered_round : (workers : ℕ) (requests : List Request) (calls : List Made) (places : List ℕ) → ArePlaced (map call_shown (calls_of requests)) (map made_shown calls) places → length calls ≤ MOST_ROUND
+    → (workers ≤ 1 → places ≡ range_with_len 0 (length places)) → AreOrdered workers requests calls (places ∷ [])
+ordered_round workers requests calls places placed few in_order =
+    let shown : List (ℕ × Call) = map call_shown (calls_of requests) in
     let made : List (ℕ × Call) = map made_shown calls in
     let whole : places ≡ concat (places ∷ []) = sym (append-nil places) in
     let long : length places ≡ length calls = placed_many shown made places placed ∙ (sym placed.many ∙ length-map calls made_shown) in
@@ -86,24 +86,24 @@ ordered_round workers asked calls places placed few in_order =
     }
 
 -- how many places there are
-ordered_many : (workers : ℕ) (asked : List Asked) (calls : List Made) (rounds : List (List ℕ)) → AreOrdered workers asked calls rounds → length (concat rounds) ≡ length calls
-ordered_many workers asked calls rounds are =
-    placed_many (map call_shown (calls_of asked)) (map made_shown calls) (concat rounds) are.placed ∙ (sym are.placed.many ∙ length-map calls made_shown)
+ordered_many : (workers : ℕ) (requests : List Request) (calls : List Made) (rounds : List (List ℕ)) → AreOrdered workers requests calls rounds → length (concat rounds) ≡ length calls
+ordered_many workers requests calls rounds are =
+    placed_many (map call_shown (calls_of requests)) (map made_shown calls) (concat rounds) are.placed ∙ (sym are.placed.many ∙ length-map calls made_shown)
 
 -- rounds, and others behind them
-pub ordered_then : (workers : ℕ) (asked others : List Asked) (calls more : List Made) (rounds next : List (List ℕ)) → AreOrdered workers asked calls rounds → AreOrdered workers others more next
-    → AreOrdered workers (asked ++ others) (calls ++ more) (rounds ++ map (behind (length calls)) next)
-ordered_then workers asked others calls more rounds next one two =
+pub ordered_then : (workers : ℕ) (requests others : List Request) (calls more : List Made) (rounds next : List (List ℕ)) → AreOrdered workers requests calls rounds → AreOrdered workers others more next
+    → AreOrdered workers (requests ++ others) (calls ++ more) (rounds ++ map (behind (length calls)) next)
+ordered_then workers requests others calls more rounds next one two =
     let n : ℕ = length calls in
-    let first : List (ℕ × Call) = map call_shown (calls_of asked) in
+    let first : List (ℕ × Call) = map call_shown (calls_of requests) in
     let second : List (ℕ × Call) = map call_shown (calls_of others) in
     let made : List (ℕ × Call) = map made_shown calls in
     let after : List (ℕ × Call) = map made_shown more in
     let both : concat (rounds ++ map (behind n) next) ≡ concat rounds ++ behind n (concat next) = concat_both n rounds next in
-    let long : length (concat rounds) ≡ n = ordered_many workers asked calls rounds one in
+    let long : length (concat rounds) ≡ n = ordered_many workers requests calls rounds one in
     let long_next : length (concat next) ≡ length more = ordered_many workers others more next two in
     let count : length made ≡ n = length-map calls made_shown in
-    let asked_both : first ++ second ≡ map call_shown (calls_of (asked ++ others)) = sym (ap (map call_shown) (calls_of_both asked others) ∙ map-append call_shown (calls_of asked) (calls_of others)) in
+    let asked_both : first ++ second ≡ map call_shown (calls_of (requests ++ others)) = sym (ap (map call_shown) (calls_of_both requests others) ∙ map-append call_shown (calls_of requests) (calls_of others)) in
     let made_both : made ++ after ≡ map made_shown (calls ++ more) = sym (map-append made_shown calls more) in
     let placed = placed_then first second made after (concat rounds) (concat next) one.placed two.placed in
     record {
@@ -123,18 +123,18 @@ ordered_then workers asked others calls more rounds next one two =
     }
 
 -- the answers to rounds, and to others behind them
-pub answered_then : (workers : ℕ) (asked others : List Asked) (calls more : List Made) (rounds next : List (List ℕ)) (procs : List Proc) (records : List ℕ) (n m : ℕ) → AreOrdered workers asked calls rounds
+pub answered_then : (workers : ℕ) (requests others : List Request) (calls more : List Made) (rounds next : List (List ℕ)) (procs : List Proc) (records : List ℕ) (n m : ℕ) → AreOrdered workers requests calls rounds
     → m ≡ n + length calls
-    → answers_by (asked ++ others) (told_at n (replies procs (calls ++ more) records) (concat (rounds ++ map (behind (length calls)) next)))
-    ≡ answers_by asked (told_at n (replies procs calls records) (concat rounds)) ++ answers_by others (told_at m (replies procs more (end procs calls records)) (concat next))
-answered_then workers asked others calls more rounds next procs records n m one at =
+    → answers_by (requests ++ others) (told_at n (replies procs (calls ++ more) records) (concat (rounds ++ map (behind (length calls)) next)))
+    ≡ answers_by requests (told_at n (replies procs calls records) (concat rounds)) ++ answers_by others (told_at m (replies procs more (end procs calls records)) (concat next))
+answered_then workers requests others calls more rounds next procs records n m one at =
     let first : List Reply = replies procs calls records in
     let second : List Reply = replies procs more (end procs calls records) in
     let made : List (ℕ × Call) = map made_shown calls in
     let count : length made ≡ length calls = length-map calls made_shown in
     let long : length first ≡ length made = length-replies procs calls records ∙ sym count in
-    let all : List ℕ → List ℕ = λ (places : List ℕ). answers_by (asked ++ others) (told_at n (replies procs (calls ++ more) records) places) in
+    let all : List ℕ → List ℕ = λ (places : List ℕ). answers_by (requests ++ others) (told_at n (replies procs (calls ++ more) records) places) in
     ap all (concat_both (length calls) rounds next ∙ ap (λ (k : ℕ). concat rounds ++ behind k (concat next)) (sym count))
-    ∙ (ap (λ (rs : List Reply). answers_by (asked ++ others) (told_at n rs (concat rounds ++ behind (length made) (concat next)))) (replies_of_both procs calls more records)
-    ∙ (answers_placed_then asked others made n first second (concat rounds) (concat next) one.placed long
-    ∙ ap (λ (k : ℕ). answers_by asked (told_at n first (concat rounds)) ++ answers_by others (told_at k second (concat next))) (let e : n + length made ≡ m = omega (arith, count, at) in e)))
+    ∙ (ap (λ (rs : List Reply). answers_by (requests ++ others) (told_at n rs (concat rounds ++ behind (length made) (concat next)))) (replies_of_both procs calls more records)
+    ∙ (answers_placed_then requests others made n first second (concat rounds) (concat next) one.placed long
+    ∙ ap (λ (k : ℕ). answers_by requests (told_at n first (concat rounds)) ++ answers_by others (told_at k second (concat next))) (let e : n + length made ≡ m = omega (arith, count, at) in e)))

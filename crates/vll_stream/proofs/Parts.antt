@@ -8,7 +8,7 @@ use Rattle.vll_proc.specs.Serial.{replies}
 use Rattle.vll_check.specs.Headline.Catalog.{Catalog}
 use Rattle.vll_lines.specs.Answers.{answers_by, told_at}
 use Rattle.vll_lines.specs.Lines.{CutsInto, lines_in}
-use Rattle.vll_lines.proofs.Cuts.{are_asked_then}
+use Rattle.vll_lines.proofs.Cuts.{are_requests_then}
 use Rattle.vll_stream.specs.Private.Parts.{IsPart, Place}
 use Rattle.vll_stream.proofs.Ordered.{answered_then, behind, ordered_none, ordered_then}
 
@@ -34,7 +34,7 @@ module _ (library : Catalog) (clients workers : ℕ) (records : List ℕ) where
     ended = λ last. absurd (search rules);
     lines = [];
     cut = λ rest. ap (λ (l : List ℕ). lines_in (l ++ rest)) is;
-    asked = [];
+    requests = [];
     are = tt;
     rounds = [];
     ordered = ordered_none workers;
@@ -63,16 +63,16 @@ module _ (library : Catalog) (clients workers : ℕ) (records : List ℕ) where
         ended = two.ended;
         lines = one.lines ++ two.lines;
         cut = cut_further is_last old.tail one.bytes mid.tail two.bytes new.tail one.lines two.lines one.cut two.cut;
-        asked = one.asked ++ two.asked;
-        are = are_asked_then library clients one.lines two.lines one.asked two.asked one.are two.are;
+        requests = one.requests ++ two.requests;
+        are = are_requests_then library clients one.lines two.lines one.requests two.requests one.are two.are;
         rounds = places;
-        ordered = ordered_then workers one.asked two.asked calls more one.rounds two.rounds one.ordered two.ordered;
+        ordered = ordered_then workers one.requests two.requests calls more one.rounds two.rounds one.ordered two.ordered;
         text = one.text ++ two.text;
         answered =
-            let first : List ℕ = answers_by one.asked (told_at old.number (replies library.procs calls records) (concat one.rounds)) in
+            let first : List ℕ = answers_by one.requests (told_at old.number (replies library.procs calls records) (concat one.rounds)) in
             ap (λ (l : List ℕ). l ++ two.text) one.answered
             ∙ (ap (λ (l : List ℕ). first ++ l) two.answered
-            ∙ sym (answered_then workers one.asked two.asked calls more one.rounds two.rounds library.procs records old.number mid.number one.ordered one.number));
+            ∙ sym (answered_then workers one.requests two.requests calls more one.rounds two.rounds library.procs records old.number mid.number one.ordered one.number));
         written = Appends-trans old.output mid.output new.output one.text two.text one.written two.written;
         number = omega (arith, two.number, one.number, length-append calls more);
       }

@@ -27,9 +27,9 @@ use Rattle.std.specs.List.{range_with_len}
 use Rattle.std.proofs.lemmas.List.FromFn.{length-range_with_len}
 use Rattle.vll_stream.proofs.Answered.{length-calls_in}
 use Rattle.vll_stream.proofs.Ordered.{ordered_round}
-use Rattle.vll_lines.specs.declared.asked.Asked.{Asked}
-use Rattle.vll_lines.specs.declared.asked.ClientCall.{ClientCall}
-use Rattle.vll_lines.specs.declared.asked.LineFault.{LineFault}
+use Rattle.vll_lines.specs.declared.request.Request.{Request}
+use Rattle.vll_lines.specs.declared.request.ClientCall.{ClientCall}
+use Rattle.vll_lines.specs.declared.request.LineFault.{LineFault}
 use Rattle.vll_lines.specs.declared.round.Round.{Round}
 use Rattle.vll_lines.specs.declared.round.RoundFault.{RoundFault}
 use Rattle.vll_lines.specs.declared.round.RoundFault.TheVariants as round_fault
@@ -100,11 +100,11 @@ shown_lines [] = refl
 shown_lines (l ∷ lines) = ap (λ (xs : List (ℕ × Call)). call_of_line l ∷ xs) (shown_lines lines)
 
 -- lines whose calls were made are answered by the replies of these, which stand at these places
-pub lines_answered : (e : Named) (workers : ℕ) (seen now calls others : List Made) (n : ℕ) (lines : List Line) (places : List ℕ) (asked : List Asked) (from : ℕ) (text : List ℕ) (next : ℕ) → AreTold seen n calls → now ≡ seen ++ others
-    → AreFinished e now n lines → AreTheirsAt asked lines places → length lines ≤ MOST_ROUND → (workers ≤ 1 → places ≡ range_with_len 0 (length places))
-    → ((rs : List Reply) → map (λ (l : Line). l.reply) lines ≡ map Some rs → text ≡ answers_by asked (told_at from rs places)) → next ≡ from + length lines
-    → AnswersLines e workers calls now asked from text (n + length lines) next
-lines_answered e workers seen now calls others n lines places asked from text next told grown finished theirs few in_order answered number =
+pub lines_answered : (e : Named) (workers : ℕ) (seen now calls others : List Made) (n : ℕ) (lines : List Line) (places : List ℕ) (requests : List Request) (from : ℕ) (text : List ℕ) (next : ℕ) → AreTold seen n calls → now ≡ seen ++ others
+    → AreFinished e now n lines → AreTheirsAt requests lines places → length lines ≤ MOST_ROUND → (workers ≤ 1 → places ≡ range_with_len 0 (length places))
+    → ((rs : List Reply) → map (λ (l : Line). l.reply) lines ≡ map Some rs → text ≡ answers_by requests (told_at from rs places)) → next ≡ from + length lines
+    → AnswersLines e workers calls now requests from text (n + length lines) next
+lines_answered e workers seen now calls others n lines places requests from text next told grown finished theirs few in_order answered number =
     let long = length-calls_in lines in
     let rs : List Reply = replies e.base.procs (calls_in lines) (end e.base.procs calls e.base.records) in
     let more = told_more e seen now calls others n lines told grown finished in
@@ -112,30 +112,30 @@ lines_answered e workers seen now calls others n lines places asked from text ne
       more = calls_in lines;
       rounds = places ∷ [];
       ordered =
-          ordered_round workers asked (calls_in lines) places (subst (λ (l : List (ℕ × Call)). ArePlaced (map call_shown (calls_of asked)) l places) (shown_lines lines) theirs.placed) (omega (arith, long, few)) in_order;
+          ordered_round workers requests (calls_in lines) places (subst (λ (l : List (ℕ × Call)). ArePlaced (map call_shown (calls_of requests)) l places) (shown_lines lines) theirs.placed) (omega (arith, long, few)) in_order;
       answered =
-          answered rs (replies_told e seen now calls others n lines told grown finished) ∙ ap (λ (l : List ℕ). answers_by asked (told_at from rs l)) (sym (append-nil places));
+          answered rs (replies_told e seen now calls others n lines told grown finished) ∙ ap (λ (l : List ℕ). answers_by requests (told_at from rs l)) (sym (append-nil places));
       number = number ∙ ap (λ (k : ℕ). from + k) (sym long);
       told = more;
       found = found_first e.base now (n + length lines) (calls ++ calls_in lines) more.first finished.found;
     }
 
 -- the same, of calls that were made in the order of their lines
-pub lines_answered_in_order : (e : Named) (workers : ℕ) (seen now calls others : List Made) (n : ℕ) (lines : List Line) (asked : List Asked) (from : ℕ) (text : List ℕ) (next : ℕ) → AreTold seen n calls
-    → now ≡ seen ++ others → AreFinished e now n lines → AreTheirs asked lines → length lines ≤ MOST_ROUND
-    → ((rs : List Reply) → map (λ (l : Line). l.reply) lines ≡ map Some rs → text ≡ answers asked from rs) → next ≡ from + length lines
-    → AnswersLines e workers calls now asked from text (n + length lines) next
-lines_answered_in_order e workers seen now calls others n lines asked from text next told grown finished theirs few answered number =
+pub lines_answered_in_order : (e : Named) (workers : ℕ) (seen now calls others : List Made) (n : ℕ) (lines : List Line) (requests : List Request) (from : ℕ) (text : List ℕ) (next : ℕ) → AreTold seen n calls
+    → now ≡ seen ++ others → AreFinished e now n lines → AreTheirs requests lines → length lines ≤ MOST_ROUND
+    → ((rs : List Reply) → map (λ (l : Line). l.reply) lines ≡ map Some rs → text ≡ answers requests from rs) → next ≡ from + length lines
+    → AnswersLines e workers calls now requests from text (n + length lines) next
+lines_answered_in_order e workers seen now calls others n lines requests from text next told grown finished theirs few answered number =
     let places : List ℕ = range_with_len 0 (length lines) in
-    lines_answered e workers seen now calls others n lines places asked from text next told grown finished (theirs_in_order asked lines theirs) few
+    lines_answered e workers seen now calls others n lines places requests from text next told grown finished (theirs_in_order requests lines theirs) few
     (λ one. ap (range_with_len 0) (sym (length-range_with_len 0 (length lines))))
     (λ rs same.
     let count : length rs ≡ length lines = sym (length-map rs Some) ∙ (ap length (sym same) ∙ length-map lines (λ (l : Line). l.reply)) in
-    answered rs same ∙ (answers_in_order asked from rs ∙ ap (λ (k : ℕ). answers_by asked (told_at from rs (range_with_len 0 k))) count))
+    answered rs same ∙ (answers_in_order requests from rs ∙ ap (λ (k : ℕ). answers_by requests (told_at from rs (range_with_len 0 k))) count))
     number
 
 module _ (e : Named) (clients workers : ℕ) (calls : List Made) (round : Round) (old : Place) (input : Option (List ℕ)) (tail : List ℕ) (read : IsRound (library_of e) clients old.input input old.tail tail round) (now : List Made) (n next : ℕ)
-    (text : List ℕ) (answered : AnswersLines e workers calls now round.asked.items old.number text n next) where
+    (text : List ℕ) (answered : AnswersLines e workers calls now round.requests.items old.number text n next) where
   part_of : (output : Option (List ℕ)) → Appends old.output output text
       → IsPart (library_of e) clients workers (end e.base.procs calls e.base.records) answered.more round.is_last old (record { input = input; tail = tail; output = output; number = next })
   part_of output wrote = record {
@@ -144,8 +144,8 @@ module _ (e : Named) (clients workers : ℕ) (calls : List Made) (round : Round)
     ended = read.ended;
     lines = read.lines;
     cut = read.cut;
-    asked = round.asked.items;
-    are = read.asked;
+    requests = round.requests.items;
+    are = read.requests;
     rounds = answered.rounds;
     ordered = answered.ordered;
     text = text;
@@ -227,10 +227,10 @@ rest_of P (Ok c) cs all = All-tail P c cs all
 rest_of P (Err why) cs all = all
 
 -- what holds of all calls that lines ask for holds of the call of one line
-pub call_at : (P : ClientCall → Type 0) (asked : List Asked) (i : ℕ) (a : Asked) (c : ClientCall) → slice_get asked i ≡ Some a → a.call ≡ Ok c → All P (calls_of asked) → P c
+pub call_at : (P : ClientCall → Type 0) (requests : List Request) (i : ℕ) (a : Request) (c : ClientCall) → slice_get requests i ≡ Some a → a.call ≡ Ok c → All P (calls_of requests) → P c
 call_at P [] i a c at is all = absurd (let e : None ≡ Some a = at in search rules)
 call_at P (x ∷ more) zero a c at is all =
-    All-head P c (calls_of more) (subst (λ (r : Result ClientCall LineFault). All P (with_call r (calls_of more))) (ap (λ (y : Asked). y.call) (same_Some x a at) ∙ is) all)
+    All-head P c (calls_of more) (subst (λ (r : Result ClientCall LineFault). All P (with_call r (calls_of more))) (ap (λ (y : Request). y.call) (same_Some x a at) ∙ is) all)
 call_at P (x ∷ more) (suc i) a c at is all = call_at P more i a c at is (rest_of P x.call (calls_of more) all)
 
 -- what holds of all holds of the last

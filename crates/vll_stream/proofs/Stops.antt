@@ -138,7 +138,7 @@ pub part_answers : (s : Setup) (workers : ℕ) (old before : Option (List ℕ)) 
     (part : IsPart (catalog_of (base_of s)) (length s.scripts) workers s.records calls is_last (record { input = old; tail = []; output = before; number = 0 }) new) → AreFoundThere (base_of s) calls
     → AreAnswered s workers part.lines calls part.text
 part_answers s workers old before new is_last calls part found = record {
-  asked = part.asked;
+  requests = part.requests;
   read = part.are;
   rounds = part.rounds;
   ordered = part.ordered;
@@ -177,7 +177,7 @@ ends_at_once s workers why input output = record {
   calls = [];
   text = [];
   answered = record {
-    asked = [];
+    requests = [];
     read = tt;
     rounds = [];
     ordered = ordered_none workers;

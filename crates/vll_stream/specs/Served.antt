@@ -11,12 +11,12 @@ use Rattle.vll_queue.specs.Headline.Found.{AreFoundThere}
 use Rattle.vll_scenario.specs.Headline.Setup.{Setup, catalog_of}
 use Rattle.vll_scenario.specs.Streams.{AppendsBeginning}
 use Rattle.vll_lines.specs.Answers.{answers_by, end_line, told_at}
-use Rattle.vll_lines.specs.Asked.{AreAsked}
+use Rattle.vll_lines.specs.Request.{AreRequests}
 use Rattle.vll_lines.specs.Lines.{CutsInto, has_feed, lines_in}
 use Rattle.vll_lines.specs.Placed.{ArePlaced}
 use Rattle.vll_lines.specs.Theirs.{call_shown, calls_of}
 use Rattle.vll_lines.specs.declared.limits.TheConstants.{MOST_ROUND}
-use Rattle.vll_lines.specs.declared.asked.Asked.{Asked}
+use Rattle.vll_lines.specs.declared.request.Request.{Request}
 use Rattle.vll_stream.specs.declared.fault.StreamFault.{StreamFault}
 use Rattle.vll_stream.specs.declared.fault.StreamFault.TheVariants as fault
 
@@ -44,8 +44,8 @@ AreInRounds first (places ∷ rounds) = (length places ≤ MOST_ROUND) × All (�
 
 -- these are the calls that lines ask for, made round by round in places of their own: each once, each client's in the order
 -- of its lines, and all in the order of their lines if there is one worker
-pub record AreOrdered (workers : ℕ) (asked : List Asked) (calls : List Made) (rounds : List (List ℕ)) : Type 0 where
-  pub placed : ArePlaced (map call_shown (calls_of asked)) (map made_shown calls) (concat rounds)
+pub record AreOrdered (workers : ℕ) (requests : List Request) (calls : List Made) (rounds : List (List ℕ)) : Type 0 where
+  pub placed : ArePlaced (map call_shown (calls_of requests)) (map made_shown calls) (concat rounds)
   pub in_rounds : AreInRounds 0 rounds
   pub in_order : workers ≤ 1 → concat rounds ≡ range_with_len 0 (length (concat rounds))
 
@@ -53,12 +53,12 @@ pub record AreOrdered (workers : ℕ) (asked : List Asked) (calls : List Made) (
 -- has for each line its answer, which is the number and the reply of its call if the calls run one at a time in this order
 -- from the scenario's records, or its fault. Each value found was in its source
 pub record AreAnswered (s : Setup) (workers : ℕ) (lines : List (List ℕ)) (calls : List Made) (text : List ℕ) : Type 0 where
-  pub asked : List Asked
-  pub read : AreAsked (catalog_of s) (length s.scripts) lines asked
+  pub requests : List Request
+  pub read : AreRequests (catalog_of s) (length s.scripts) lines requests
   pub rounds : List (List ℕ)
-  pub ordered : AreOrdered workers asked calls rounds
+  pub ordered : AreOrdered workers requests calls rounds
   pub found : AreFoundThere (base_of s) calls
-  pub written : text ≡ answers_by asked (told_at 0 (replies s.procs calls s.records) (concat rounds))
+  pub written : text ≡ answers_by requests (told_at 0 (replies s.procs calls s.records) (concat rounds))
 
 -- the last line of a service that has made these calls: their number, and the records as they leave them
 abbrev pub last_line : Setup → List Made → List ℕ

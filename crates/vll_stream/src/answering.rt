@@ -16,7 +16,7 @@ use std::sync::Wait;
 use std::thread::Threads;
 use vll_core::{Line, MOST_CALLS, Ticket};
 use vll_engine::{Engine, EngineSpent, Name, Session};
-use vll_lines::{Asked, MOST_ROUND, answers, answers_at, are_theirs, count_calls, places_of};
+use vll_lines::{MOST_ROUND, Request, answers, answers_at, are_theirs, count_calls, places_of};
 use vll_proc::Call;
 use vll_sca::Placing;
 use vll_scenario::MOST_CLIENTS;
@@ -47,7 +47,7 @@ pub(crate) fn answer_lines<N: Name + Send + Sync, R: Threads + Wait + Sync>(
     callers: &mut Vec<Session>,
     observer: &mut Session,
     workers: u32,
-    asked: &[Asked],
+    requests: &[Request],
     calls: u32,
     number: u64,
 ) -> Result<Answers, StreamFault>
@@ -55,19 +55,21 @@ pub(crate) fn answer_lines<N: Name + Send + Sync, R: Threads + Wait + Sync>(
     requires few { length callers.old.items ≤ MOST_CLIENTS }
     requires callers { All (λ s. s.table ≡ N.engine.table) callers.old.items }
     requires observer { observer.old.table ≡ N.engine.table }
-    requires fits { All (λ c. Fits (library_of N.engine) c.call) (calls_of asked.now) }
+    requires fits { All (λ c. Fits (library_of N.engine) c.call) (calls_of requests.now) }
     ensures answers { IfOk result (λ it. (told : List Made) → AreTold observer.old.session.seen calls told
-        → AnswersLines N.engine workers told observer.new.session.seen asked.now number it.text.items it.calls it.number) }
+        → AnswersLines N.engine workers told observer.new.session.seen requests.now number it.text.items it.calls it.number) }
     ensures callers { OnOk result (AreStill N.engine callers.old.items callers.new.items) }
     ensures observer { OnOk result (observer.new.table ≡ N.engine.table) }
     ensures own { IfErr result IsOwn }
 {
-    if workers > 1 && count_calls(asked) >= MANY_CALLS {
+    if workers > 1 && count_calls(requests) >= MANY_CALLS {
         answer_by_workers(
-            rt, alloc, engine, callers, observer, workers, asked, calls, number,
+            rt, alloc, engine, callers, observer, workers, requests, calls, number,
         )
     } else {
-        answer_in_order(rt, alloc, engine, callers, observer, asked, calls, number)
+        answer_in_order(
+            rt, alloc, engine, callers, observer, requests, calls, number,
+        )
     }
 }
 
@@ -79,27 +81,27 @@ fn answer_in_order<N: Name>(
     engine: &Engine<N, Placing>,
     callers: &mut Vec<Session>,
     observer: &mut Session,
-    asked: &[Asked],
+    requests: &[Request],
     calls: u32,
     number: u64,
 ) -> Result<Answers, StreamFault>
     requires callers { All (λ s. s.table ≡ N.engine.table) callers.old.items }
     requires observer { observer.old.table ≡ N.engine.table }
-    requires fits { All (λ c. Fits (library_of N.engine) c.call) (calls_of asked.now) }
+    requires fits { All (λ c. Fits (library_of N.engine) c.call) (calls_of requests.now) }
     ensures answers { IfOk result (λ it. (workers : ℕ) (told : List Made) → AreTold observer.old.session.seen calls told
-        → AnswersLines N.engine workers told observer.new.session.seen asked.now number it.text.items it.calls it.number) }
+        → AnswersLines N.engine workers told observer.new.session.seen requests.now number it.text.items it.calls it.number) }
     ensures callers { OnOk result (AreStill N.engine callers.old.items callers.new.items) }
     ensures observer { OnOk result (observer.new.table ≡ N.engine.table) }
     ensures own { IfErr result IsOwn }
 {
-    make_calls(wait, engine, callers, asked)?;
-    let lines = lines_of(wait, alloc, engine, observer, calls, asked)?;
-    if !are_theirs(asked, lines.as_slice()) {
+    make_calls(wait, engine, callers, requests)?;
+    let lines = lines_of(wait, alloc, engine, observer, calls, requests)?;
+    if !are_theirs(requests, lines.as_slice()) {
         return Err(StreamFault::Unfinished);
     }
     let sums = counted(calls, number, lines.len())?;
     Ok(Answers {
-        text: answers(alloc, asked, lines.as_slice(), number)?,
+        text: answers(alloc, requests, lines.as_slice(), number)?,
         calls: sums.0,
         number: sums.1,
     })
@@ -113,7 +115,7 @@ fn answer_by_workers<N: Name + Send + Sync, R: Threads + Wait + Sync>(
     callers: &mut Vec<Session>,
     observer: &mut Session,
     workers: u32,
-    asked: &[Asked],
+    requests: &[Request],
     calls: u32,
     number: u64,
 ) -> Result<Answers, StreamFault>
@@ -121,22 +123,22 @@ fn answer_by_workers<N: Name + Send + Sync, R: Threads + Wait + Sync>(
     requires few { length callers.old.items ≤ MOST_CLIENTS }
     requires callers { All (λ s. s.table ≡ N.engine.table) callers.old.items }
     requires observer { observer.old.table ≡ N.engine.table }
-    requires fits { All (λ c. Fits (library_of N.engine) c.call) (calls_of asked.now) }
+    requires fits { All (λ c. Fits (library_of N.engine) c.call) (calls_of requests.now) }
     ensures answers { IfOk result (λ it. (told : List Made) → AreTold observer.old.session.seen calls told
-        → AnswersLines N.engine workers told observer.new.session.seen asked.now number it.text.items it.calls it.number) }
+        → AnswersLines N.engine workers told observer.new.session.seen requests.now number it.text.items it.calls it.number) }
     ensures callers { OnOk result (AreStill N.engine callers.old.items callers.new.items) }
     ensures observer { OnOk result (observer.new.table ≡ N.engine.table) }
     ensures own { IfErr result IsOwn }
 {
     let clients = callers.len() as u32;
-    run_calls(rt, alloc, engine, callers, asked, workers)?;
-    let lines = lines_of(rt, alloc, engine, observer, calls, asked)?;
-    let Some(places) = places_of(alloc, asked, lines.as_slice(), clients)? else {
+    run_calls(rt, alloc, engine, callers, requests, workers)?;
+    let lines = lines_of(rt, alloc, engine, observer, calls, requests)?;
+    let Some(places) = places_of(alloc, requests, lines.as_slice(), clients)? else {
         return Err(StreamFault::Unfinished);
     };
     let sums = counted(calls, number, lines.len())?;
     Ok(Answers {
-        text: answers_at(alloc, asked, lines.as_slice(), places.as_slice(), number)?,
+        text: answers_at(alloc, requests, lines.as_slice(), places.as_slice(), number)?,
         calls: sums.0,
         number: sums.1,
     })
@@ -173,14 +175,14 @@ pub(crate) fn make_calls<N: Name>(
     wait: &impl Wait,
     engine: &Engine<N, Placing>,
     callers: &mut Vec<Session>,
-    asked: &[Asked],
+    requests: &[Request],
 ) -> Result<(), StreamFault>
     requires callers { All (λ s. s.table ≡ N.engine.table) callers.old.items }
-    requires fits { All (λ c. Fits (library_of N.engine) c.call) (calls_of asked.now) }
+    requires fits { All (λ c. Fits (library_of N.engine) c.call) (calls_of requests.now) }
     ensures callers { AreStill N.engine callers.old.items callers.new.items }
     ensures own { IfErr result IsOwn }
 {
-    for one in asked {
+    for one in requests {
         if let Ok(call) = &one.call {
             let Some(caller) = callers.get_mut(call.client as usize) else {
                 return Err(StreamFault::Unfinished);
@@ -216,7 +218,7 @@ fn lines_of<N: Name>(
     engine: &Engine<N, Placing>,
     observer: &mut Session,
     first: u32,
-    asked: &[Asked],
+    requests: &[Request],
 ) -> Result<Vec<Line>, StreamFault>
     requires observer { observer.old.table ≡ N.engine.table }
     ensures finished { IfOk result (λ lines. AreFinished N.engine observer.new.session.seen first lines.items) }
@@ -225,7 +227,7 @@ fn lines_of<N: Name>(
     ensures observer { OnOk result (observer.new.table ≡ N.engine.table) }
     ensures own { IfErr result IsOwn }
 {
-    let mut lines = Vec::with_capacity(alloc, count_calls(asked))?;
+    let mut lines = Vec::with_capacity(alloc, count_calls(requests))?;
     engine.lines_from(wait, observer, Ticket(first), &mut lines);
     if lines.len() > MOST_ROUND {
         return Err(StreamFault::Unfinished);

@@ -15,7 +15,7 @@ use std::sync::Wait;
 use std::thread::Threads;
 use vll_core::{MOST_CALLS, Ticket};
 use vll_engine::{Engine, Name, Session};
-use vll_lines::Asked;
+use vll_lines::Request;
 use vll_proc::Call;
 use vll_sca::Placing;
 use vll_workers::{Gate, MOST_WORKERS, RunError, RunFault, Token};
@@ -27,16 +27,16 @@ pub(crate) fn run_calls<N: Name + Send + Sync, R: Threads + Wait + Sync>(
     alloc: Global,
     engine: &Engine<N, Placing>,
     callers: &mut Vec<Session>,
-    asked: &[Asked],
+    requests: &[Request],
     workers: u32,
 ) -> Result<(), StreamFault>
     requires workers { (1 ≤ workers) × (workers ≤ MOST_WORKERS) }
     requires callers { All (λ s. s.table ≡ N.engine.table) callers.old.items }
-    requires fits { All (λ c. Fits (library_of N.engine) c.call) (calls_of asked.now) }
+    requires fits { All (λ c. Fits (library_of N.engine) c.call) (calls_of requests.now) }
     ensures callers { OnOk result (AreStill N.engine callers.old.items callers.new.items) }
     ensures own { IfErr result IsOwn }
 {
-    let scripts = scripts_of::<N>(alloc, callers.len(), asked)?;
+    let scripts = scripts_of::<N>(alloc, callers.len(), requests)?;
     let tokens = tokens_of::<N>(alloc, callers, scripts)?;
     match vll_workers::run(rt, rt, alloc, engine, tokens, workers, &OneByOne) {
         Ok(tokens) => Ok(put_back::<N>(callers, tokens)?),
@@ -47,7 +47,7 @@ pub(crate) fn run_calls<N: Name + Send + Sync, R: Threads + Wait + Sync>(
             },
         ) => {
             put_back::<N>(callers, tokens)?;
-            make_calls(rt, engine, callers, asked)
+            make_calls(rt, engine, callers, requests)
         }
         Err(
             RunError {
@@ -78,14 +78,14 @@ impl Gate for OneByOne {
 fn scripts_of<N: Name>(
     alloc: Global,
     clients: usize,
-    asked: &[Asked],
+    requests: &[Request],
 ) -> Result<Vec<Vec<Call>>, StreamFault>
-    requires fits { All (λ c. Fits (library_of N.engine) c.call) (calls_of asked.now) }
+    requires fits { All (λ c. Fits (library_of N.engine) c.call) (calls_of requests.now) }
     ensures fits { IfOk result (λ scripts. All (λ script. All (Fits (library_of N.engine)) script.items) scripts.items) }
     ensures own { IfErr result IsOwn }
 {
     let mut scripts = empty_scripts(alloc, clients)?;
-    for one in asked {
+    for one in requests {
         if let Ok(call) = &one.call {
             let Some(script) = scripts.get_mut(call.client as usize) else {
                 return Err(StreamFault::Unfinished);

@@ -207,9 +207,9 @@ fn serve_round<N: Name + Send + Sync, R: Threads + Wait + Sync, S: Source, W: Si
 {
     let clients = callers.len() as u32;
     let round = read_round(rt, alloc, engine.library(), clients, reader, tail)?;
-    let asked = round.asked.as_slice();
+    let requests = round.requests.as_slice();
     let answers = answer_lines(
-        rt, alloc, engine, callers, observer, workers, asked, calls, number,
+        rt, alloc, engine, callers, observer, workers, requests, calls, number,
     )?;
     write_text(writer, answers.text.as_slice())?;
     Ok(Answered {

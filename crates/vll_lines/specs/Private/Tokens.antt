@@ -5,7 +5,7 @@ use Rattle.json.specs.Token.{Token}
 use Rattle.serde_json.specs.Data.{Data, Items, no_items, item, Members, no_members, number, object, unsigned}
 use Rattle.serde_json.specs.Read.{converted, of_json, of_members}
 use Rattle.vll_scenario.specs.Syntax.{has_only}
-use Rattle.vll_lines.specs.Asked.{args_of, client_of, id_of, may_names, name_of}
+use Rattle.vll_lines.specs.Request.{args_of, client_of, id_of, may_names, name_of}
 use Rattle.vll_lines.specs.declared.tokens.Told.{Told}
 
 -- a value was read, which may nest so deep, and these tokens follow

@@ -2,7 +2,7 @@
 use Rattle.std.specs.Prelude.{◌≡◌, ◌≢◌, ◌+◌, ◌<◌, ◌≤◌, ℕ, List, length, map, Some, slice_get, slice_index}
 use Rattle.vll_core.specs.declared.line.Line.{Line}
 use Rattle.vll_lines.specs.Theirs.{call_of_line, call_shown}
-use Rattle.vll_lines.specs.declared.asked.ClientCall.{ClientCall}
+use Rattle.vll_lines.specs.declared.request.ClientCall.{ClientCall}
 use Rattle.vll_lines.specs.declared.places.Unplaced.{Unplaced}
 
 -- the first line of a client from an index on has this index, or there is none and this is the number of the lines
@@ -28,13 +28,13 @@ pub record ListsAll (lines : List Line) (clients : ℕ) (u : Unplaced) : Type 0 
   pub next : AreNexts lines 0 u.nexts.items
 
 -- of the first lines that are left to clients, that of the call's client has this index, and is that of the call
-pub record IsNextOf (firsts : List ℕ) (lines : List Line) (asked : ClientCall) (place : ℕ) : Type 0 where
-  pub first : slice_get firsts asked.client ≡ Some place
-  pub line : slice_get (map call_of_line lines) place ≡ Some (call_shown asked)
+pub record IsNextOf (firsts : List ℕ) (lines : List Line) (request : ClientCall) (place : ℕ) : Type 0 where
+  pub first : slice_get firsts request.client ≡ Some place
+  pub line : slice_get (map call_of_line lines) place ≡ Some (call_shown request)
 
 -- that one was taken: the client's next line is its first one now, and those of the other clients stay
-pub record Takes (old new : List ℕ) (lines : List Line) (asked : ClientCall) (place : ℕ) : Type 0 where
-  pub is : IsNextOf old lines asked place
+pub record Takes (old new : List ℕ) (lines : List Line) (request : ClientCall) (place : ℕ) : Type 0 where
+  pub is : IsNextOf old lines request place
   pub many : length new ≡ length old
-  pub next : IsFirst lines asked.client (place + 1) (slice_index new asked.client)
-  pub others : (client : ℕ) → client ≢ asked.client → slice_index new client ≡ slice_index old client
+  pub next : IsFirst lines request.client (place + 1) (slice_index new request.client)
+  pub others : (client : ℕ) → client ≢ request.client → slice_index new client ≡ slice_index old client

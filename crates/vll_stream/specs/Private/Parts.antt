@@ -6,9 +6,9 @@ use Rattle.vll_proc.specs.Headline.Serial.{Made}
 use Rattle.vll_proc.specs.Serial.{replies}
 use Rattle.vll_check.specs.Headline.Catalog.{Catalog}
 use Rattle.vll_lines.specs.Answers.{answers_by, told_at}
-use Rattle.vll_lines.specs.Asked.{AreAsked}
+use Rattle.vll_lines.specs.Request.{AreRequests}
 use Rattle.vll_lines.specs.Lines.{CutsInto}
-use Rattle.vll_lines.specs.declared.asked.Asked.{Asked}
+use Rattle.vll_lines.specs.declared.request.Request.{Request}
 use Rattle.vll_stream.specs.Served.{AreOrdered}
 
 -- where a service stands: what is left of the input, the bytes of the line that has begun, what was written, and the
@@ -31,11 +31,11 @@ pub record IsPart (library : Catalog) (clients workers : ℕ) (records : List �
   pub ended : is_last ≡ true → IsAtEnd new.input
   pub lines : List (List ℕ)
   pub cut : CutsInto is_last (old.tail ++ bytes) lines new.tail
-  pub asked : List Asked
-  pub are : AreAsked library clients lines asked
+  pub requests : List Request
+  pub are : AreRequests library clients lines requests
   pub rounds : List (List ℕ)
-  pub ordered : AreOrdered workers asked calls rounds
+  pub ordered : AreOrdered workers requests calls rounds
   pub text : List ℕ
-  pub answered : text ≡ answers_by asked (told_at old.number (replies library.procs calls records) (concat rounds))
+  pub answered : text ≡ answers_by requests (told_at old.number (replies library.procs calls records) (concat rounds))
   pub written : Appends old.output new.output text
   pub number : new.number ≡ old.number + length calls

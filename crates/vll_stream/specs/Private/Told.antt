@@ -12,7 +12,7 @@ use Rattle.vll_queue.specs.Shown.{Named, OpeningShown, library_of}
 use Rattle.vll_sca.specs.Placing.{placing}
 use Rattle.vll_sca.specs.declared.place.Placing.{Placing}
 use Rattle.vll_lines.specs.Answers.{answers_by, told_at}
-use Rattle.vll_lines.specs.declared.asked.Asked.{Asked}
+use Rattle.vll_lines.specs.declared.request.Request.{Request}
 use Rattle.vll_stream.specs.Served.{AreOrdered}
 use Rattle.vll_stream.specs.declared.epoch.Then.{Then}
 use Rattle.vll_stream.specs.declared.epoch.Then.TheVariants as then
@@ -31,11 +31,11 @@ pub record AreTold (seen : List Made) (n : ℕ) (calls : List Made) : Type 0 whe
 
 -- lines are answered after calls of an engine that were seen: more calls were made for them, with numbers from `from` on
 -- up to `next`, and these are seen then. Each call has found what was there
-pub record AnswersLines (e : Named) (workers : ℕ) (calls seen : List Made) (asked : List Asked) (from : ℕ) (text : List ℕ) (n next : ℕ) : Type 0 where
+pub record AnswersLines (e : Named) (workers : ℕ) (calls seen : List Made) (requests : List Request) (from : ℕ) (text : List ℕ) (n next : ℕ) : Type 0 where
   pub more : List Made
   pub rounds : List (List ℕ)
-  pub ordered : AreOrdered workers asked more rounds
-  pub answered : text ≡ answers_by asked (told_at from (replies e.base.procs more (end e.base.procs calls e.base.records)) (concat rounds))
+  pub ordered : AreOrdered workers requests more rounds
+  pub answered : text ≡ answers_by requests (told_at from (replies e.base.procs more (end e.base.procs calls e.base.records)) (concat rounds))
   pub number : next ≡ from + length more
   pub told : AreTold seen n (calls ++ more)
   pub found : AreFoundThere e.base (calls ++ more)

@@ -4,4 +4,4 @@ use Rattle.vll_lines.proofs.AnsweredAt.{AreAnsweredAt}
 use Rattle.vll_lines.proofs.answering.answers_at.Given as goal
 
 abbrev pub invariant-loop-one : goal.invariant-loop-one
-invariant-loop-one l = AreAnsweredAt l.asked l.lines l.fn.places l.number (drop l.one-index l.asked) l.places l.text.items
+invariant-loop-one l = AreAnsweredAt l.requests l.lines l.fn.places l.number (drop l.one-index l.requests) l.places l.text.items

@@ -5,6 +5,6 @@ use Rattle.vll_lines.proofs.answering.are_theirs.Given as goal
 
 abbrev pub invariant-loop-one : goal.invariant-loop-one
 invariant-loop-one l = record {
-  to : AreTheirs (drop l.one-index l.asked) l.lines → AreTheirs l.asked l.fn.lines;
-  from : AreTheirs l.asked l.fn.lines → AreTheirs (drop l.one-index l.asked) l.lines;
+  to : AreTheirs (drop l.one-index l.requests) l.lines → AreTheirs l.requests l.fn.lines;
+  from : AreTheirs l.requests l.fn.lines → AreTheirs (drop l.one-index l.requests) l.lines;
 }

@@ -9,9 +9,9 @@ use Rattle.vll_lines.proofs.places.places_of.Given as goal
 
 abbrev pub invariant-loop-one : goal.invariant-loop-one
 invariant-loop-one l = record {
-  so_far : ArePlacedSoFar (map call_shown (calls_of (take l.one-index l.asked))) l.lines l.unplaced.firsts.items l.places.items;
+  so_far : ArePlacedSoFar (map call_shown (calls_of (take l.one-index l.requests))) l.lines l.unplaced.firsts.items l.places.items;
   nexts : AreNexts l.lines 0 l.unplaced.nexts.items;
   many : length l.unplaced.firsts.items ≡ l.clients;
   replied : All (λ (x : Line). IsSome x.reply) l.lines;
-  same : (placed : List ℕ) → AreTheirsAt l.asked l.lines placed → l.places.items ≡ take (length l.places.items) placed;
+  same : (placed : List ℕ) → AreTheirsAt l.requests l.lines placed → l.places.items ≡ take (length l.places.items) placed;
 }

@@ -3,7 +3,7 @@ use Rattle.std.proofs.lemmas.Iterator.Consumers.{YieldsList-from_rest}
 use Rattle.std.proofs.lemmas.Iterator.Search.{all_from_yields_List}
 use Rattle.std.specs.BTreeMap.{keys}
 use Rattle.std.specs.List.{list_any}
-use Rattle.vll_lines.specs.Asked.{may_names}
+use Rattle.vll_lines.specs.Request.{may_names}
 use Rattle.vll_scenario.proofs.Names.{all-has_only}
 use Rattle.vll_lines.proofs.reading.are_known.Goals as goal
 

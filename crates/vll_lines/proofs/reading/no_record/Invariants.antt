@@ -1,6 +1,6 @@
 -- The keys so far name records that are there.
 use Rattle.std.proofs.Common.{◌≡◌, drop}
-use Rattle.vll_lines.specs.Asked.{no_record}
+use Rattle.vll_lines.specs.Request.{no_record}
 use Rattle.vll_lines.proofs.reading.no_record.Given as goal
 
 abbrev pub invariant-loop-key : goal.invariant-loop-key

@@ -1,6 +1,6 @@
 -- No procedure so far has the name.
 use Rattle.std.proofs.Common.{◌≡◌, ◌-◌, drop, length}
-use Rattle.vll_lines.specs.Asked.{proc_named}
+use Rattle.vll_lines.specs.Request.{proc_named}
 use Rattle.vll_lines.proofs.reading.proc_named.Given as goal
 
 abbrev pub invariant-procs : goal.invariant-procs

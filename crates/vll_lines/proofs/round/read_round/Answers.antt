@@ -1,7 +1,7 @@
 use Rattle.std.proofs.Common.{◌≡◌, List, ◌++◌, take, sym, ap, ◌∙◌, subst, refl, rules, IfErr, Result, Ok, Err}
 use Rattle.vll_lines.specs.Lines.{IsBroken}
 use Rattle.vll_lines.specs.Private.Cutting.{Cuts}
-use Rattle.vll_lines.specs.declared.asked.Asked.{Asked}
+use Rattle.vll_lines.specs.declared.request.Request.{Request}
 use Rattle.vll_lines.specs.declared.round.Round.{Round}
 use Rattle.vll_lines.specs.declared.round.RoundFault.{RoundFault}
 use Rattle.vll_lines.specs.declared.round.RoundFault.TheVariants as fault
@@ -10,7 +10,7 @@ use Rattle.vll_lines.proofs.Fitting.{asked_fit}
 use Rattle.vll_lines.proofs.round.read_round.Goals as goal
 
 pub loop-init : goal.loop-init
-loop-init g c = (tt, tt, c.new-asked.ensures.items, c.requires.source, begun_none (g.S.Source.remaining c.args.source.now) c.args.tail.now.items c.requires.tail)
+loop-init g c = (tt, tt, c.new-requests.ensures.items, c.requires.source, begun_none (g.S.Source.remaining c.args.source.now) c.args.tail.now.items c.requires.tail)
 
 pub loop-preserved : goal.loop-preserved
 loop-preserved g c =
@@ -33,18 +33,18 @@ returns-then-branch-clause-round g c =
     let library = c.args.library.now in
     let some = c.in_ok-take_piece.ensures.some (ap Ok c.if-branch.true) (c.args.tail.now.items ++ begun.bytes) begun.stands begun.unended in
     let cuts =
-    subst (λ (old : List Asked). Cuts library c.args.clients ((c.args.tail.now.items ++ begun.bytes) ++ take c.in-Ok.count c.read.new.buf) old c.take_piece.new.asked.items c.take_piece.new.tail.items)
+    subst (λ (old : List Request). Cuts library c.args.clients ((c.args.tail.now.items ++ begun.bytes) ++ take c.in-Ok.count c.read.new.buf) old c.take_piece.new.requests.items c.take_piece.new.tail.items)
     before.2 some in
     round_more library c.args.clients (known c.args.source.now) (known c.loop.source) (known c.read.new.self) c.args.tail.now.items c.loop.tail.items c.take_piece.new.tail.items
     (take c.in-Ok.count c.read.new.buf) _ begun c.in-Ok.ensures.bytes.0 refl cuts
 
 pub returns-then-branch-clause-fits : goal.returns-then-branch-clause-fits
-returns-then-branch-clause-fits g c = let round = returns-then-branch-clause-round g c in asked_fit c.args.library.now c.args.clients round.lines c.take_piece.new.asked.items round.asked
+returns-then-branch-clause-fits g c = let round = returns-then-branch-clause-round g c in asked_fit c.args.library.now c.args.clients round.lines c.take_piece.new.requests.items round.requests
 
 pub returns-then-count-eq0-clause-fits : goal.returns-then-count-eq0-clause-fits
 returns-then-count-eq0-clause-fits g c =
     let begun = c.loop.invariant.4 in
-    asked_fit c.args.library.now c.args.clients _ c.end_line.new.asked.items (c.in_ok-end_line.ensures.asked (c.args.tail.now.items ++ begun.bytes) begun.stands begun.unended)
+    asked_fit c.args.library.now c.args.clients _ c.end_line.new.requests.items (c.in_ok-end_line.ensures.requests (c.args.tail.now.items ++ begun.bytes) begun.stands begun.unended)
 
 pub returns-in_err-take_piece-clause-err : goal.returns-in_err-take_piece-clause-err
 returns-in_err-take_piece-clause-err g c =

@@ -6,4 +6,4 @@ use Rattle.vll_lines.proofs.round.read_round.Given as goal
 abbrev pub invariant-loop : goal.invariant-loop
 invariant-loop g l =
     (goal.iterator-loop g).can_next l.iterator' × (goal.iterator-loop g).is_finite l.iterator'
-    × (l.asked.items ≡ []) × (g.S.Source.failed l.source ≡ false) × IsBegun (g.S.Source.remaining l.initial.source) (g.S.Source.remaining l.source) l.initial.tail.items l.tail.items
+    × (l.requests.items ≡ []) × (g.S.Source.failed l.source ≡ false) × IsBegun (g.S.Source.remaining l.initial.source) (g.S.Source.remaining l.source) l.initial.tail.items l.tail.items

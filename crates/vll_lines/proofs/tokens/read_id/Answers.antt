@@ -2,8 +2,8 @@ use Rattle.std.proofs.Common.{◌≡◌, ◌∷◌, Ok, refl, arith}
 use Rattle.json.specs.Reads.{token_of}
 use Rattle.json.specs.Token.{Token}
 use Rattle.serde_json.specs.Data.{number, string, unsigned}
-use Rattle.vll_lines.specs.Asked.{short_text}
-use Rattle.vll_lines.specs.declared.asked.Id.TheVariants.{Text}
+use Rattle.vll_lines.specs.Request.{short_text}
+use Rattle.vll_lines.specs.declared.request.Id.TheVariants.{Text}
 use Rattle.vll_lines.proofs.ReadTokens.{number_read, string_read}
 use Rattle.vll_lines.proofs.tokens.read_id.Goals as goal
 

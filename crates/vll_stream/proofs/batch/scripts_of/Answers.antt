@@ -5,7 +5,7 @@ use Rattle.std.specs.Global.{Vec}
 use Rattle.vll_check.specs.Calls.{Fits}
 use Rattle.vll_proc.specs.declared.call.Call.{Call}
 use Rattle.vll_queue.specs.Shown.{library_of}
-use Rattle.vll_lines.specs.declared.asked.ClientCall.{ClientCall}
+use Rattle.vll_lines.specs.declared.request.ClientCall.{ClientCall}
 use Rattle.vll_stream.proofs.Rounds.{call_at}
 use Rattle.vll_stream.proofs.batch.scripts_of.Goals as goal
 use Rattle.vll_stream.proofs.batch.scripts_of.Goals.{in-Ok+in-Some+in_ok-push_call, in_default}
@@ -17,8 +17,8 @@ push_call-requires-clause-fits g c =
 
 pub push_call-requires-clause-call : goal.push_call-requires-clause-call
 push_call-requires-clause-call g c =
-    call_at (λ (x : ClientCall). Fits (library_of g.N.Name.engine) x.call) c.args.asked.now c.loop-one.one-index c.one-item.result c.in-Ok.call
-    (slice_get_read c.args.asked.now (length c.args.asked.now) c.loop-one.one-index c.one-item.result refl c.loop-one-test.true c.one-item.is) c.in-Ok.is c.requires.fits
+    call_at (λ (x : ClientCall). Fits (library_of g.N.Name.engine) x.call) c.args.requests.now c.loop-one.one-index c.one-item.result c.in-Ok.call
+    (slice_get_read c.args.requests.now (length c.args.requests.now) c.loop-one.one-index c.one-item.result refl c.loop-one-test.true c.one-item.is) c.in-Ok.is c.requires.fits
 
 pub loop-one-preserved : goal.loop-one-preserved
 loop-one-preserved g c =

@@ -7,8 +7,8 @@ use Rattle.vll_proc.specs.Headline.Serial.{Made}
 use Rattle.vll_queue.specs.Shown.{library_of}
 use Rattle.vll_lines.specs.Lines.{IsRound}
 use Rattle.vll_lines.specs.Theirs.{calls_of}
-use Rattle.vll_lines.specs.declared.asked.Asked.{Asked}
-use Rattle.vll_lines.specs.declared.asked.ClientCall.{ClientCall}
+use Rattle.vll_lines.specs.declared.request.Request.{Request}
+use Rattle.vll_lines.specs.declared.request.ClientCall.{ClientCall}
 use Rattle.vll_stream.specs.Private.Parts.{Place, place_of}
 use Rattle.vll_stream.specs.declared.epoch.Answered.{Answered}
 use Rattle.vll_stream.specs.declared.fault.StreamFault.{StreamFault}
@@ -23,8 +23,8 @@ use Rattle.vll_stream.proofs.epoch.serve_round.Goals as goal
 pub answer_lines-requires : goal.answer_lines-requires
 answer_lines-requires g c =
     let fits =
-    subst (λ (xs : List Asked). All (λ (x : ClientCall). Fits (library_of g.N.Name.engine) x.call) (calls_of xs)) (sym c.as_slice-asked.ensures.value)
-    (subst (λ (l : Catalog). All (λ (x : ClientCall). Fits l x.call) (calls_of c.in_ok-round.round.asked.items)) c.library.ensures c.in_ok-round.ensures.fits) in
+    subst (λ (xs : List Request). All (λ (x : ClientCall). Fits (library_of g.N.Name.engine) x.call) (calls_of xs)) (sym c.as_slice-requests.ensures.value)
+    (subst (λ (l : Catalog). All (λ (x : ClientCall). Fits l x.call) (calls_of c.in_ok-round.round.requests.items)) c.library.ensures c.in_ok-round.ensures.fits) in
     search rules
 
 -- the round that was read
@@ -39,11 +39,11 @@ read_of g c =
 
 -- its answers
 answered_of : (g : Over) (c : In_ok-answers g) (told : List Made) → AreTold c.args.observer.now.session.seen c.args.calls told
-    → AnswersLines g.N.Name.engine c.args.workers told c.answer_lines.new.observer.session.seen c.in_ok-round.round.asked.items c.args.number c.in_ok-answers.answers.text.items c.in_ok-answers.answers.calls
+    → AnswersLines g.N.Name.engine c.args.workers told c.answer_lines.new.observer.session.seen c.in_ok-round.round.requests.items c.args.number c.in_ok-answers.answers.text.items c.in_ok-answers.answers.calls
     c.in_ok-answers.answers.number
 answered_of g c told are =
     let it = c.in_ok-answers.answers in
-    subst (λ (xs : List Asked). AnswersLines g.N.Name.engine c.args.workers told c.answer_lines.new.observer.session.seen xs c.args.number it.text.items it.calls it.number) c.as_slice-asked.ensures.value
+    subst (λ (xs : List Request). AnswersLines g.N.Name.engine c.args.workers told c.answer_lines.new.observer.session.seen xs c.args.number it.text.items it.calls it.number) c.as_slice-requests.ensures.value
     (c.in_ok-answers.ensures.answers told are)
 
 pub returns-clause-round : goal.returns-clause-round

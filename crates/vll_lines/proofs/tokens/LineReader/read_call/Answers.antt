@@ -19,4 +19,4 @@ returns c =
     let first : c.in_ok-reader.reader ≡ Token.begin_object ∷ c.next.new.self = grind arith in
     let none : c.read_members.new.reader ≡ [] = grind arith in
     let whole = object_read c.in-Ok.text.now found c.next.new.self c.read_members.new.reader (sym starts ∙ first) told.1 none in
-    IfSome_then c.asked.result c.asked.ensures (λ asked is. (object found, (text, ap read (sym same) ∙ whole), is found (subst (λ (args : List ℕ). Says c.in_ok-told.told args found) (sym c.as_slice.ensures.value) told.2)))
+    IfSome_then c.request.result c.request.ensures (λ request is. (object found, (text, ap read (sym same) ∙ whole), is found (subst (λ (args : List ℕ). Says c.in_ok-told.told args found) (sym c.as_slice.ensures.value) told.2)))

@@ -78,7 +78,7 @@ impl fmt::Display for LineFault {
 
 /// A line as it was read: its id, if it has one, and its call or why it asks for none.
 #[derive(Drop)]
-pub struct Asked {
+pub struct Request {
     pub id: Option<Id>,
     pub call: Result<ClientCall, LineFault>,
 }

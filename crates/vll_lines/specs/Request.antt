@@ -16,12 +16,12 @@ use Rattle.vll_scenario.specs.Scenario.{IsTree}
 use Rattle.vll_scenario.specs.Shape.{◌>>=◌}
 use Rattle.vll_scenario.specs.Syntax.{has_only, member_at}
 use Rattle.vll_scenario.specs.Tree.{list_at, number_at, u32_at, whole}
-use Rattle.vll_lines.specs.declared.asked.Asked.{Asked}
-use Rattle.vll_lines.specs.declared.asked.ClientCall.{ClientCall}
-use Rattle.vll_lines.specs.declared.asked.Id.{Id}
-use Rattle.vll_lines.specs.declared.asked.Id.TheVariants as id
-use Rattle.vll_lines.specs.declared.asked.LineFault.{LineFault}
-use Rattle.vll_lines.specs.declared.asked.LineFault.TheVariants as fault
+use Rattle.vll_lines.specs.declared.request.Request.{Request}
+use Rattle.vll_lines.specs.declared.request.ClientCall.{ClientCall}
+use Rattle.vll_lines.specs.declared.request.Id.{Id}
+use Rattle.vll_lines.specs.declared.request.Id.TheVariants as id
+use Rattle.vll_lines.specs.declared.request.LineFault.{LineFault}
+use Rattle.vll_lines.specs.declared.request.LineFault.TheVariants as fault
 use Rattle.vll_lines.specs.declared.limits.TheConstants.{MOST_ID, MOST_LINE}
 
 -- the value, or a fault if there is none
@@ -127,29 +127,29 @@ call_asked library clients d =
     else Err fault.Object
 
 -- a line with this id, or with a fault in its place, and what it asks for otherwise
-abbrev pub asked_with : Result (Option Id) LineFault → Result ClientCall LineFault → Asked
-asked_with (Ok it) asked = record { id = it; call = asked }
-asked_with (Err why) asked = record { id = None; call = Err why }
+abbrev pub request_with : Result (Option Id) LineFault → Result ClientCall LineFault → Request
+request_with (Ok it) request = record { id = it; call = request }
+request_with (Err why) request = record { id = None; call = Err why }
 
 -- what a JSON tree asks for
-abbrev pub asked_of : Catalog → ℕ → Data → Asked
-asked_of library clients d = asked_with (id_of d) (call_asked library clients d)
+abbrev pub request_of : Catalog → ℕ → Data → Request
+request_of library clients d = request_with (id_of d) (call_asked library clients d)
 
 -- what a line asks for: what its JSON tree does, or the fault at some column if it has none
-abbrev pub IsAsked : Catalog → ℕ → List ℕ → Asked → Type 0
-IsAsked library clients line asked =
-    ((tree : Data) × IsTree line (Some tree) × (asked ≡ asked_of library clients tree))
-    ⊎ (IsTree line None × ((column : ℕ) × (asked ≡ record { id = None; call = Err (fault.Json column) })))
+abbrev pub IsRequest : Catalog → ℕ → List ℕ → Request → Type 0
+IsRequest library clients line request =
+    ((tree : Data) × IsTree line (Some tree) × (request ≡ request_of library clients tree))
+    ⊎ (IsTree line None × ((column : ℕ) × (request ≡ record { id = None; call = Err (fault.Json column) })))
 
 -- what a line asks for, whatever its length
-abbrev pub IsLine : Catalog → ℕ → List ℕ → Asked → Type 0
-IsLine library clients line asked =
-    ((MOST_LINE < length line) × (asked ≡ record { id = None; call = Err fault.Long }))
-    ⊎ ((length line ≤ MOST_LINE) × IsAsked library clients line asked)
+abbrev pub IsLine : Catalog → ℕ → List ℕ → Request → Type 0
+IsLine library clients line request =
+    ((MOST_LINE < length line) × (request ≡ record { id = None; call = Err fault.Long }))
+    ⊎ ((length line ≤ MOST_LINE) × IsRequest library clients line request)
 
 -- what each of these lines asks for
-abbrev pub AreAsked : Catalog → ℕ → List (List ℕ) → List Asked → Type 0
-AreAsked library clients [] [] = Unit {0}
-AreAsked library clients [] (a ∷ more) = ⊥
-AreAsked library clients (line ∷ lines) [] = ⊥
-AreAsked library clients (line ∷ lines) (a ∷ more) = IsLine library clients line a × AreAsked library clients lines more
+abbrev pub AreRequests : Catalog → ℕ → List (List ℕ) → List Request → Type 0
+AreRequests library clients [] [] = Unit {0}
+AreRequests library clients [] (a ∷ more) = ⊥
+AreRequests library clients (line ∷ lines) [] = ⊥
+AreRequests library clients (line ∷ lines) (a ∷ more) = IsLine library clients line a × AreRequests library clients lines more
