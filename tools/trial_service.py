@@ -179,9 +179,14 @@ def random_streams(program):
 
 
 def epochs(program):
-    """More calls than an engine takes are answered as one list."""
+    """More calls than an engine takes are answered as one list, also if as many as can come in each round."""
     lines, wanted = stream(1, 150000)
     yield from unlike('150,000 lines', served(program, b''.join(lines)), 0, wanted)
+    rng, bank = random.Random(2), Bank()
+    lines = [f'{{"client":{rng.randrange(CLIENTS)},"proc":"balance","args":[{rng.randrange(ACCOUNTS)}]}}'.encode()
+             + rng.choice([b'\n', b' \n']) for _ in range(150000)]
+    wanted = text_of([*map(bank.answer, lines), bank.last()])
+    yield from unlike('150,000 short lines', served(program, b''.join(lines)), 0, wanted)
 
 
 def pauses(program):

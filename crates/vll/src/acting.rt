@@ -104,9 +104,9 @@ fn serve<R: Threads + Wait + Files + Sync, S: Source, W: Sink>(
 ) -> Result<(), Fault>
     requires reader { S.failed reader.old ≡ false }
     requires writer { W.failed writer.old ≡ false }
-    ensures ok { OnOk result (ServesFile options (S.remaining reader.old) (S.remaining reader.new)
+    ensures ok { OnOk result (ServesFile (S.remaining reader.old) (S.remaining reader.new)
         (Appends (W.contents writer.old) (W.contents writer.new))) }
-    ensures early { (why : StreamFault) → result ≡ Err (fault.Serve why) → StopsFile options why (S.remaining reader.old) (S.remaining reader.new)
+    ensures early { (why : StreamFault) → result ≡ Err (fault.Serve why) → StopsFile why (S.remaining reader.old) (S.remaining reader.new)
         (W.contents writer.old) (W.contents writer.new) }
     ensures read { (result ≡ Err (fault.Serve stream_fault.Read)) ↔ (S.failed reader.new ≡ true) }
     ensures write { (result ≡ Err (fault.Serve stream_fault.Write)) ↔ (W.failed writer.new ≡ true) }
@@ -115,7 +115,7 @@ fn serve<R: Threads + Wait + Files + Sync, S: Source, W: Sink>(
 {
     let ServeOptions {
         file,
-        workers,
+        workers: _,
         cap,
         bits,
     } = options;
@@ -123,7 +123,7 @@ fn serve<R: Threads + Wait + Files + Sync, S: Source, W: Sink>(
         Ok(scenario) => limited(scenario, cap, bits),
         Err(why) => return Err(Fault::File(why)),
     };
-    match serve_stream(rt, alloc, scenario, workers.get(), reader, writer) {
+    match serve_stream(rt, alloc, scenario, reader, writer) {
         Ok(()) => Ok(()),
         Err(why) => Err(Fault::Serve(why)),
     }

@@ -1,5 +1,5 @@
 //! A round: the lines that are complete when a read has ended one.
-ghost use Rattle.std.specs.Prelude.{◌≡◌, ◌↔◌, ℕ, List, [], ◌++◌, All, IfErr, IfOk, OnOk, false, true, Ok, Err};
+ghost use Rattle.std.specs.Prelude.{◌≡◌, ◌<◌, ◌↔◌, ℕ, List, [], ◌++◌, All, IfErr, IfOk, OnOk, false, true, Ok, Err};
 ghost use Rattle.vll_check.specs.Calls.{Fits};
 ghost use Rattle.vll_lines.specs.Request.{AreRequests};
 ghost use Rattle.vll_lines.specs.Lines.{IsBroken, IsRound, has_feed, lines_in};
@@ -65,6 +65,7 @@ pub fn read_round<S: Source>(
     requires tail { has_feed tail.old.items ≡ false }
     ensures round { IfOk result (IsRound library.now clients (S.remaining source.old) (S.remaining source.new) tail.old.items tail.new.items) }
     ensures fits { IfOk result (λ round. All (λ c. Fits library.now c.call) (calls_of round.requests.items)) }
+    ensures clients { IfOk result (λ round. All (λ c. c.client < clients) (calls_of round.requests.items)) }
     ensures tail { OnOk result (has_feed tail.new.items ≡ false) }
     ensures err { IfErr result (IsBroken (S.remaining source.old) (S.remaining source.new)) }
     ensures failed { (result ≡ Err round_fault.Read) ↔ (S.failed source.new ≡ true) }

@@ -18,7 +18,7 @@ use std::thread::Threads;
 use std::{env, io};
 
 const USAGE: &str = "usage: vll_refusals CALL
-the calls: bits queue core words opening reopen run run_limited read_scenario write_outcome serve replay serve_stream serve_stream_by_workers";
+the calls: bits queue core words opening reopen run run_limited read_scenario write_outcome serve replay serve_stream";
 
 fn main(rt: HostRuntime) -> ExitCode {
     match answer_of(&rt) {
@@ -63,7 +63,6 @@ fn of_call<R: Print + AllocGlobal + Threads + Wait + Sync>(
         "serve" => texts::served(rt)?,
         "replay" => texts::replayed(rt)?,
         "serve_stream" => texts::streamed(rt)?,
-        "serve_stream_by_workers" => texts::streamed_by_workers(rt)?,
         _ => return usage(rt),
     };
     Ok(Some(answer))

@@ -5,15 +5,14 @@ use crate::answer::Answer;
 use crate::unready::Unready;
 use crate::{begin, end};
 use std::alloc::AllocError;
-use std::fmt::Write;
 use std::sync::Wait;
 use std::thread::Threads;
 use vll_server::{
     Closed, Plain, ReplayFault, ScenarioFault, ServeFault, Sink, Source, WriteFault, read_scenario,
     replay, serve, write_outcome,
 };
-use vll_stream::{MANY_CALLS, StreamFault, serve_stream};
-use vll_workers::{MOST_WORKERS, OpenGate, RunFault};
+use vll_stream::{StreamFault, serve_stream};
+use vll_workers::{OpenGate, RunFault};
 
 // A transfer, and then a read of both records. A procedure that is not called has nested lists.
 const TRANSFER: &str = r#"{"version":2,"records":[100,50],
@@ -53,7 +52,6 @@ const STREAMED: &str = r#"{"id":"a","call":0,"committed":[70]}
 "#;
 
 // A transfer that changes nothing.
-const ONE_ASKED: &str = "{\"client\":0,\"proc\":\"transfer\",\"args\":[0,1,0]}\n";
 
 pub(crate) fn read(rt: &(impl Print + AllocGlobal)) -> Result<Answer, Unready> {
     let mut reader = Plain::new(TRANSFER.as_bytes());
@@ -134,34 +132,16 @@ pub(crate) fn replayed<R: Print + AllocGlobal>(rt: &R) -> Result<Answer, Unready
     Ok(of_text(answer, taken.as_slice(), left, REPLAYED))
 }
 
-pub(crate) fn streamed<R: Print + AllocGlobal + Threads + Wait + Sync>(
-    rt: &R,
-) -> Result<Answer, Unready> {
-    of_stream(rt, 1, ASKED, STREAMED)
+pub(crate) fn streamed<R: Print + AllocGlobal + Wait>(rt: &R) -> Result<Answer, Unready> {
+    of_stream(rt, ASKED, STREAMED)
 }
 
-/// A round of so many calls that several workers make them.
-pub(crate) fn streamed_by_workers<R: Print + AllocGlobal + Threads + Wait + Sync>(
+// The answer of a service of the bank, which answers this input by this text.
+fn of_stream<R: Print + AllocGlobal + Wait>(
     rt: &R,
-) -> Result<Answer, Unready> {
-    let (mut asked, mut wanted) = (String::new(rt.alloc()), String::new(rt.alloc()));
-    for call in 0..MANY_CALLS {
-        asked.push_str(ONE_ASKED)?;
-        write!(wanted, "{{\"call\":{call},\"committed\":[100]}}\n")?;
-    }
-    write!(wanted, "{{\"calls\":{MANY_CALLS},\"records\":[100,50]}}\n")?;
-    of_stream(rt, 2, asked.as_str(), wanted.as_str())
-}
-
-// The answer of a service of the bank by so many workers, which answers this input by this text.
-fn of_stream<R: Print + AllocGlobal + Threads + Wait + Sync>(
-    rt: &R,
-    workers: u32,
     input: &str,
     text: &str,
-) -> Result<Answer, Unready>
-    requires { (1 ≤ workers) × (workers ≤ MOST_WORKERS) }
-{
+) -> Result<Answer, Unready> {
     let alloc = rt.alloc();
     let scenario = read_scenario(alloc, &mut Plain::new(BANK.as_bytes()))?;
     let mut taken = vec![in alloc; 0; text.len()]?;
@@ -169,7 +149,7 @@ fn of_stream<R: Print + AllocGlobal + Threads + Wait + Sync>(
     let mut reader = Plain::new(input.as_bytes());
     let mut writer = Plain::new(&mut free);
     begin(rt)?;
-    let served = serve_stream(rt, alloc, scenario, workers, &mut reader, &mut writer);
+    let served = serve_stream(rt, alloc, scenario, &mut reader, &mut writer);
     end(rt)?;
     let answer = match served {
         Ok(()) => Answer::Ample,

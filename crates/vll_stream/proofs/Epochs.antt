@@ -1,99 +1,92 @@
 -- The epochs so far, and one more.
-use Rattle.std.proofs.Common.{◌≡◌, ℕ, ◌+◌, ◌-◌, Bool, true, false, List, [], ◌++◌, length, refl, sym, ap, ◌∙◌, subst, arith, Option}
+use Rattle.std.proofs.Common.{◌≡◌, ℕ, Bool, true, false, List, [], ◌++◌, length, refl, sym, ap, ◌∙◌, subst, arith, Option}
 use Rattle.std.proofs.KnownBytes.{Appends-trans}
-use Rattle.std.specs.List.{concat}
 use Rattle.std.specs.Io.KnownBytes.{Appends}
 use Rattle.vll_scenario.specs.Headline.Setup.{Setup}
 use Rattle.vll_scenario.specs.Streams.{AppendsBeginning}
-use Rattle.vll_lines.specs.Answers.{answers_by, end_line, told_at}
+use Rattle.vll_lines.specs.Answers.{answers, end_line}
 use Rattle.vll_lines.specs.Request.{AreRequests}
 use Rattle.vll_lines.specs.Lines.{lines_in}
 use Rattle.vll_stream.specs.declared.fault.StreamFault.{StreamFault}
 use Rattle.vll_stream.specs.declared.fault.StreamFault.TheVariants as fault
-use Rattle.vll_stream.specs.Served.{AreAnswered, EndsEarly, ServesLines, Stopped, Wrote, base_of, last_line}
+use Rattle.vll_stream.specs.Served.{AreAnswered, EndsEarly, ServesLines, Stopped, Wrote, last_line}
 use Rattle.vll_stream.proofs.Stops.{begins_then, part_answers, part_then_stops}
 use Rattle.vll_proc.specs.Headline.Serial.{Made, end}
 use Rattle.vll_proc.specs.Serial.{replies}
 use Rattle.vll_proc.proofs.Joined.{end_joined}
 use Rattle.vll_check.specs.Headline.Catalog.{Catalog}
 use Rattle.vll_core.specs.Headline.State.{Base, catalog_of}
-use Rattle.vll_core.specs.declared.config.TheConstants.{MOST_CALLS}
 use Rattle.vll_queue.specs.Closed.{GoesOn}
 use Rattle.vll_queue.specs.Headline.Found.{AreFoundThere}
-use Rattle.vll_queue.specs.Shown.{OpeningShown, library_of, name_of}
+use Rattle.vll_queue.specs.Shown.{Named, OpeningShown, library_of, name_of}
 use Rattle.vll_sca.specs.Placing.{placing}
 use Rattle.vll_sca.specs.declared.place.Placing.{Placing}
 use Rattle.vll_stream.specs.Private.Parts.{IsPart, Place}
 use Rattle.vll_stream.specs.Private.Stopped.{StopsAfter}
-use Rattle.vll_stream.specs.Private.Told.{AreAll, IsSoFar}
+use Rattle.vll_stream.specs.Private.Told.{AreAll, IsSoFar, first_engine}
 use Rattle.vll_stream.proofs.Found.{base_after, catalog_after, found_in_both, none_found}
 use Rattle.vll_stream.proofs.Parts.{no_part, part_then}
 
 -- no epoch yet
-pub none_so_far : (base : Base) (clients workers : ℕ) (at : Place) (next : OpeningShown Placing) → next.library ≡ catalog_of base → next.records ≡ base.records → next.clients ≡ clients + 1
-    → next.config.limit ≡ MOST_CALLS → IsSoFar base clients workers at at next
-none_so_far base clients workers at next library records many limit = record {
-  calls = [];
-  part = no_part (catalog_of base) clients workers base.records at;
-  found = none_found base;
-  library = library;
-  records = records;
-  many = many;
-  limit = limit;
-}
+pub none_so_far : (e : Named) (at : Place) (next : OpeningShown Placing) → GoesOn placing e [] next → IsSoFar e at at next
+none_so_far e at next on = record { calls = []; part = no_part (library_of e) e.clients e.base.records at; found = none_found e.base; on = on }
 
-module _ (base : Base) (clients workers : ℕ) (old mid new : Place) (next : OpeningShown Placing) (so_far : IsSoFar base clients workers old mid next) where
+module _ (e : Named) (old mid new : Place) (next : OpeningShown Placing) (so_far : IsSoFar e old mid next) where
   -- the base of the next epoch
-  next_base : (name_of placing next).base ≡ base_after base so_far.calls
+  next_base : (name_of placing next).base ≡ base_after e.base so_far.calls
   next_base =
-      ap (λ (c : Catalog). let b : Base = record { procs = c.procs; records = next.records } in b) so_far.library
-      ∙ ap (λ (rs : List ℕ). let b : Base = record { procs = base.procs; records = rs } in b) so_far.records
+      ap (λ (c : Catalog). let b : Base = record { procs = c.procs; records = next.records } in b) so_far.on.library
+      ∙ ap (λ (rs : List ℕ). let b : Base = record { procs = e.base.procs; records = rs } in b) so_far.on.records
 
-  module _ (more : List Made) (is_last : Bool) (part : IsPart (library_of (name_of placing next)) ((name_of placing next).clients - 1) workers next.records more is_last mid new) where
-    joined : IsPart (catalog_of base) clients workers base.records (so_far.calls ++ more) is_last old new
+  next_library : library_of (name_of placing next) ≡ library_of e
+  next_library = ap catalog_of next_base ∙ catalog_after e.base so_far.calls
+
+  module _ (more : List Made) (is_last : Bool) (part : IsPart (library_of (name_of placing next)) next.clients next.records more is_last mid new) where
+    joined : IsPart (library_of e) e.clients e.base.records (so_far.calls ++ more) is_last old new
     joined =
-        let count : next.clients - 1 ≡ clients = omega (arith, so_far.many) in
-        part_then (catalog_of base) clients workers base.records is_last old mid new so_far.calls more so_far.part
-        (subst (λ (k : ℕ). IsPart (catalog_of base) k workers (end base.procs so_far.calls base.records) more is_last mid new) count
-        (subst (λ (c : Catalog). IsPart c (next.clients - 1) workers (end base.procs so_far.calls base.records) more is_last mid new) (catalog_after base so_far.calls)
-        (subst (λ (b : Base). IsPart (catalog_of b) (next.clients - 1) workers b.records more is_last mid new) next_base part)))
+        part_then (library_of e) e.clients e.base.records is_last old mid new so_far.calls more so_far.part
+        (subst (λ (k : ℕ). IsPart (library_of e) k (end e.base.procs so_far.calls e.base.records) more is_last mid new) so_far.on.clients
+        (subst (λ (c : Catalog). IsPart c next.clients (end e.base.procs so_far.calls e.base.records) more is_last mid new) (catalog_after e.base so_far.calls)
+        (subst (λ (b : Base). IsPart (catalog_of b) next.clients b.records more is_last mid new) next_base part)))
 
-    found_joined : AreFoundThere (name_of placing next).base more → AreFoundThere base (so_far.calls ++ more)
-    found_joined found = found_in_both base so_far.calls more so_far.found (subst (λ (b : Base). AreFoundThere b more) next_base found)
+    found_joined : AreFoundThere (name_of placing next).base more → AreFoundThere e.base (so_far.calls ++ more)
+    found_joined found = found_in_both e.base so_far.calls more so_far.found (subst (λ (b : Base). AreFoundThere b more) next_base found)
 
-    left_joined : (left : List ℕ) → left ≡ end next.library.procs more next.records → left ≡ end base.procs (so_far.calls ++ more) base.records
-    left_joined left is = is ∙ (ap (λ (b : Base). end b.procs more b.records) next_base ∙ sym (end_joined base.procs so_far.calls more base.records))
+    left_joined : (left : List ℕ) → left ≡ end next.library.procs more next.records → left ≡ end e.base.procs (so_far.calls ++ more) e.base.records
+    left_joined left is = is ∙ (ap (λ (b : Base). end b.procs more b.records) next_base ∙ sym (end_joined e.base.procs so_far.calls more e.base.records))
 
     -- one more epoch
-    pub one_more : AreFoundThere (name_of placing next).base more → (after : OpeningShown Placing) → GoesOn placing (name_of placing next) more after → is_last ≡ false → IsSoFar base clients workers old new after
+    pub one_more : AreFoundThere (name_of placing next).base more → (after : OpeningShown Placing) → GoesOn placing (name_of placing next) more after → is_last ≡ false → IsSoFar e old new after
     one_more found after on isnt = record {
       calls = so_far.calls ++ more;
-      part = subst (λ (b : Bool). IsPart (catalog_of base) clients workers base.records (so_far.calls ++ more) b old new) isnt joined;
+      part = subst (λ (b : Bool). IsPart (library_of e) e.clients e.base.records (so_far.calls ++ more) b old new) isnt joined;
       found = found_joined found;
-      library = on.library ∙ (ap catalog_of next_base ∙ catalog_after base so_far.calls);
-      records = left_joined after.records on.records;
-      many = on.clients ∙ so_far.many;
-      limit = ap (λ c. c.limit) on.config ∙ so_far.limit;
+      on = record {
+        records = left_joined after.records on.records;
+        library = on.library ∙ next_library;
+        config = on.config ∙ so_far.on.config;
+        places = on.places ∙ so_far.on.places;
+        clients = on.clients ∙ so_far.on.clients;
+      };
     }
 
     -- the last epoch
-    pub the_last : AreFoundThere (name_of placing next).base more → (left : List ℕ) → left ≡ end next.library.procs more next.records → is_last ≡ true → AreAll base clients workers old new left
+    pub the_last : AreFoundThere (name_of placing next).base more → (left : List ℕ) → left ≡ end next.library.procs more next.records → is_last ≡ true → AreAll e old new left
     the_last found left is last = record {
       calls = so_far.calls ++ more;
-      part = subst (λ (b : Bool). IsPart (catalog_of base) clients workers base.records (so_far.calls ++ more) b old new) last joined;
+      part = subst (λ (b : Bool). IsPart (library_of e) e.clients e.base.records (so_far.calls ++ more) b old new) last joined;
       found = found_joined found;
       records = left_joined left is;
     }
 
 -- an epoch more, which has stopped
-pub epoch_stops : (base : Base) (clients workers : ℕ) (old mid : Place) (next : OpeningShown Placing) (why : StreamFault) (left written : Option (List ℕ)) → IsSoFar base clients workers old mid next
-    → StopsAfter (name_of placing next).base ((name_of placing next).clients - 1) workers [] why mid left written → StopsAfter base clients workers [] why old left written
-epoch_stops base clients workers old mid next why left written so_far stops =
+pub epoch_stops : (e : Named) (old mid : Place) (next : OpeningShown Placing) (why : StreamFault) (left written : Option (List ℕ)) → IsSoFar e old mid next
+    → StopsAfter (name_of placing next).base next.clients [] why mid left written → StopsAfter e.base e.clients [] why old left written
+epoch_stops e old mid next why left written so_far stops =
     let new : Place = record { input = left; tail = stops.tail; output = stops.whole; number = stops.number } in
     let part = stops.part in
-    let count : next.clients - 1 ≡ clients = omega (arith, so_far.many) in
-    let base_is = next_base base clients workers old mid new next so_far in
-    part_then_stops base clients workers so_far.calls why old mid left written so_far.part
+    let base_is = next_base e old mid new next so_far in
+    part_then_stops e.base e.clients so_far.calls why old mid left written so_far.part
     (record {
       more = stops.more;
       is_last = stops.is_last;
@@ -108,23 +101,22 @@ epoch_stops base clients workers old mid next why left written so_far stops =
         cut = part.cut;
         requests = part.requests;
         are =
-            subst (λ (k : ℕ). AreRequests (catalog_of base) k part.lines part.requests) count
-            (subst (λ (c : Catalog). AreRequests c (next.clients - 1) part.lines part.requests) (ap catalog_of base_is ∙ catalog_after base so_far.calls) part.are);
-        rounds = part.rounds;
+            subst (λ (k : ℕ). AreRequests (library_of e) k part.lines part.requests) so_far.on.clients
+            (subst (λ (c : Catalog). AreRequests c next.clients part.lines part.requests) (next_library e old mid new next so_far) part.are);
         ordered = part.ordered;
         text = part.text;
-        answered = part.answered ∙ ap (λ (b : Base). answers_by part.requests (told_at mid.number (replies b.procs stops.more b.records) (concat part.rounds))) base_is;
+        answered = part.answered ∙ ap (λ (b : Base). answers part.requests mid.number (replies b.procs stops.more b.records)) base_is;
         written = part.written;
         number = part.number;
       };
-      found = found_in_both base so_far.calls stops.more so_far.found (subst (λ (b : Base). AreFoundThere b stops.more) base_is stops.found);
+      found = found_in_both e.base so_far.calls stops.more so_far.found (subst (λ (b : Base). AreFoundThere b stops.more) base_is stops.found);
       uncalled = stops.uncalled;
       stopped = stops.stopped;
       wrote = stops.wrote;
     })
 
-module _ (s : Setup) (workers : ℕ) (old new before written : Option (List ℕ)) (tail left : List ℕ) (n : ℕ)
-    (all : AreAll (base_of s) (length s.scripts) workers (record { input = old; tail = []; output = before; number = 0 }) (record { input = new; tail = tail; output = written; number = n }) left) where
+module _ (s : Setup) (old new before written : Option (List ℕ)) (tail left : List ℕ) (n : ℕ)
+    (all : AreAll (first_engine s) (record { input = old; tail = []; output = before; number = 0 }) (record { input = new; tail = tail; output = written; number = n }) left) where
   -- the last line is that of all calls
   last_of_all : end_line n left ≡ last_line s all.calls
   last_of_all =
@@ -132,13 +124,13 @@ module _ (s : Setup) (workers : ℕ) (old new before written : Option (List ℕ)
       let count : n ≡ length all.calls = omega (arith, part.number) in
       ap (λ (k : ℕ). end_line k left) count ∙ ap (end_line (length all.calls)) all.records
 
-  all_answered : AreAnswered s workers (lines_in all.part.bytes) all.calls all.part.text
+  all_answered : AreAnswered s (lines_in all.part.bytes) all.calls all.part.text
   all_answered =
-      subst (λ (ls : List (List ℕ)). AreAnswered s workers ls all.calls all.part.text) (sym all.part.cut.1)
-      (part_answers s workers old before (record { input = new; tail = tail; output = written; number = n }) true all.calls all.part all.found)
+      subst (λ (ls : List (List ℕ)). AreAnswered s ls all.calls all.part.text) (sym all.part.cut.1)
+      (part_answers s old before (record { input = new; tail = tail; output = written; number = n }) true all.calls all.part all.found)
 
   -- all epochs, and then the last line
-  pub serves_all : (final : Option (List ℕ)) → Appends written final (end_line n left) → ServesLines s workers old new (Appends before final)
+  pub serves_all : (final : Option (List ℕ)) → Appends written final (end_line n left) → ServesLines s old new (Appends before final)
   serves_all final wrote =
       let part = all.part in
       let last : List ℕ = last_line s all.calls in
@@ -152,7 +144,7 @@ module _ (s : Setup) (workers : ℕ) (old new before written : Option (List ℕ)
       }
 
   -- all epochs, and then not all of the last line
-  stops_behind : (why : StreamFault) (final : Option (List ℕ)) → Stopped why true [] → Wrote why true before final all.part.text (last_line s all.calls) → EndsEarly s workers why old new before final
+  stops_behind : (why : StreamFault) (final : Option (List ℕ)) → Stopped why true [] → Wrote why true before final all.part.text (last_line s all.calls) → EndsEarly s why old new before final
   stops_behind why final stopped wrote =
       let part = all.part in
       record {
@@ -170,11 +162,11 @@ module _ (s : Setup) (workers : ℕ) (old new before written : Option (List ℕ)
       }
 
   -- the last line was not written in full
-  pub breaks_off : (final : Option (List ℕ)) → AppendsBeginning written final (end_line n left) → EndsEarly s workers fault.Write old new before final
+  pub breaks_off : (final : Option (List ℕ)) → AppendsBeginning written final (end_line n left) → EndsEarly s fault.Write old new before final
   breaks_off final wrote =
       stops_behind fault.Write final refl
       (begins_then before written final all.part.text (last_line s all.calls) all.part.written (subst (AppendsBeginning written final) last_of_all wrote))
 
   -- there was no memory for the last line
-  pub lacks_memory : EndsEarly s workers fault.NoMemory old new before written
+  pub lacks_memory : EndsEarly s fault.NoMemory old new before written
   lacks_memory = stops_behind fault.NoMemory written tt all.part.written

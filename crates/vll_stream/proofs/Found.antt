@@ -1,9 +1,8 @@
 -- What calls have found in the records, over two lists of calls in a row.
-use Rattle.std.proofs.Common.{◌≡◌, ℕ, zero, suc, ◌+◌, ◌-◌, ◌<◌, ◌≤◌, List, [], ◌∷◌, ◌++◌, length, take, drop, refl, sym, ap, ◌∙◌, arith, rules, Some, None, slice_get, slice_index, ⊎_elim, take-append-drop}
+use Rattle.std.proofs.Common.{◌≡◌, ℕ, zero, suc, ◌+◌, ◌-◌, ◌<◌, ◌≤◌, List, [], ◌∷◌, ◌++◌, length, take, refl, sym, ap, ◌∙◌, arith, rules, Some, None, slice_get, slice_index, ⊎_elim}
 use Rattle.std.proofs.Math.Seq.{take-length}
 use Rattle.std.proofs.lemmas.Bool.{cases_lt}
 use Rattle.std.proofs.lemmas.List.{take-append-le}
-use Rattle.std.proofs.lemmas.Option.{slice_get_within}
 use Rattle.vll_proc.specs.declared.syntax.Proc.{Proc}
 use Rattle.vll_proc.specs.Headline.Serial.{Made, end}
 use Rattle.vll_proc.proofs.Joined.{end_joined}
@@ -42,25 +41,6 @@ catalog_after base calls = ap (λ (n : ℕ). let c : Catalog = record { records 
 -- no call has found anything
 pub none_found : (base : Base) → AreFoundThere base []
 none_found base t m r at is = absurd (let e : None ≡ Some m = at in search rules)
-
--- what calls have found was there for the first of them
-pub found_first : (base : Base) (all : List Made) (n : ℕ) (calls : List Made) → calls ≡ take n all → AreFoundThere base all → AreFoundThere base calls
-found_first base all n calls first found t m r at is =
-    let rest : List Made = drop n all in
-    let whole : calls ++ rest ≡ all = ap (λ (l : List Made). l ++ rest) first ∙ take-append-drop n all in
-    let low : t < length calls = slice_get_within calls t m at in
-    let was = found t m r (ap (λ (l : List Made). slice_get l t) (sym whole) ∙ (get_left calls rest t low ∙ at)) is in
-    let below = was.within in
-    record {
-      value = was.value;
-      is = was.is;
-      ticket = was.ticket;
-      within = below;
-      there =
-          was.there
-          ∙ (ap (λ (l : List Made). slice_index (end base.procs (take was.ticket l) base.records) r) (sym whole)
-          ∙ ap (λ (l : List Made). slice_index (end base.procs l base.records) r) (take-append-le was.ticket calls rest (omega (arith, below, low))));
-    }
 
 -- what the calls of both lists have found was there, if it was so in each list
 pub found_in_both : (base : Base) (calls more : List Made) → AreFoundThere base calls → AreFoundThere (base_after base calls) more → AreFoundThere base (calls ++ more)

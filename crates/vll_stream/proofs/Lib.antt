@@ -1,9 +1,8 @@
 pub mod Answered
 pub mod Parts
-pub mod Rounds
 pub mod Found
+pub mod MadeSoFar
+pub mod Rounds
 pub mod Stops
 pub mod Epochs
 pub mod Empty
-pub mod Ordered
-pub mod Batches

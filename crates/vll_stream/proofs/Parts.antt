@@ -1,16 +1,15 @@
 -- Two parts of a service, one after the other.
-use Rattle.std.proofs.Common.{◌≡◌, ℕ, Bool, true, false, List, Option, [], ◌++◌, length, map, refl, sym, ap, ◌∙◌, arith, rules, append_assoc, append-nil, length-append}
+use Rattle.std.proofs.Common.{◌≡◌, ℕ, Bool, true, false, List, Option, [], ◌++◌, refl, sym, ap, ◌∙◌, arith, rules, append_assoc, append-nil, length-append}
 use Rattle.std.proofs.KnownBytes.{Appends-nil, Appends-trans, Consumes-nil, Consumes-trans}
 use Rattle.std.specs.Io.KnownBytes.{Consumes}
-use Rattle.std.specs.List.{concat}
 use Rattle.vll_proc.specs.Headline.Serial.{Made, end}
 use Rattle.vll_proc.specs.Serial.{replies}
 use Rattle.vll_check.specs.Headline.Catalog.{Catalog}
-use Rattle.vll_lines.specs.Answers.{answers_by, told_at}
+use Rattle.vll_lines.specs.Answers.{answers}
 use Rattle.vll_lines.specs.Lines.{CutsInto, lines_in}
 use Rattle.vll_lines.proofs.Cuts.{are_requests_then}
 use Rattle.vll_stream.specs.Private.Parts.{IsPart, Place}
-use Rattle.vll_stream.proofs.Ordered.{answered_then, behind, ordered_none, ordered_then}
+use Rattle.vll_stream.proofs.Answered.{answered_then, ordered_then}
 
 cut_further : (is_last : Bool) (tail first mid second after : List ℕ) (one two : List (List ℕ)) → CutsInto false (tail ++ first) one mid → CutsInto is_last (mid ++ second) two after
     → CutsInto is_last (tail ++ (first ++ second)) (one ++ two) after
@@ -24,10 +23,10 @@ cut_further false tail first mid second after one two front back = λ rest.
     ∙ (ap (λ (l : List ℕ). one ++ lines_in l) (sym (append_assoc mid second rest))
     ∙ (ap (λ (ls : List (List ℕ)). one ++ ls) (back rest) ∙ sym (append_assoc one two (lines_in (after ++ rest))))))
 
-module _ (library : Catalog) (clients workers : ℕ) (records : List ℕ) where
+module _ (library : Catalog) (clients : ℕ) (records : List ℕ) where
   -- bytes were read, and no line is answered yet
   pub part_unanswered : (at : Place) (left : Option (List ℕ)) (tail bytes : List ℕ) → Consumes at.input left bytes → at.tail ++ bytes ≡ tail
-      → IsPart library clients workers records [] false at (record { input = left; tail = tail; output = at.output; number = at.number })
+      → IsPart library clients records [] false at (record { input = left; tail = tail; output = at.output; number = at.number })
   part_unanswered at left tail bytes read is = record {
     bytes = bytes;
     read = read;
@@ -36,8 +35,7 @@ module _ (library : Catalog) (clients workers : ℕ) (records : List ℕ) where
     cut = λ rest. ap (λ (l : List ℕ). lines_in (l ++ rest)) is;
     requests = [];
     are = tt;
-    rounds = [];
-    ordered = ordered_none workers;
+    ordered = refl;
     text = [];
     answered = refl;
     written = Appends-nil at.output;
@@ -49,14 +47,13 @@ module _ (library : Catalog) (clients workers : ℕ) (records : List ℕ) where
   part_unanswered_text at left tail bytes read is = refl
 
   -- no round yet
-  pub no_part : (at : Place) → IsPart library clients workers records [] false at at
+  pub no_part : (at : Place) → IsPart library clients records [] false at at
   no_part at = part_unanswered at at.input at.tail [] (Consumes-nil at.input) (append-nil at.tail)
 
   -- a part after another one, which was not the last
-  pub part_then : (is_last : Bool) (old mid new : Place) (calls more : List Made) → IsPart library clients workers records calls false old mid
-      → IsPart library clients workers (end library.procs calls records) more is_last mid new → IsPart library clients workers records (calls ++ more) is_last old new
+  pub part_then : (is_last : Bool) (old mid new : Place) (calls more : List Made) → IsPart library clients records calls false old mid
+      → IsPart library clients (end library.procs calls records) more is_last mid new → IsPart library clients records (calls ++ more) is_last old new
   part_then is_last old mid new calls more one two =
-      let places : List (List ℕ) = one.rounds ++ map (behind (length calls)) two.rounds in
       record {
         bytes = one.bytes ++ two.bytes;
         read = Consumes-trans old.input mid.input new.input one.bytes two.bytes one.read two.read;
@@ -65,19 +62,18 @@ module _ (library : Catalog) (clients workers : ℕ) (records : List ℕ) where
         cut = cut_further is_last old.tail one.bytes mid.tail two.bytes new.tail one.lines two.lines one.cut two.cut;
         requests = one.requests ++ two.requests;
         are = are_requests_then library clients one.lines two.lines one.requests two.requests one.are two.are;
-        rounds = places;
-        ordered = ordered_then workers one.requests two.requests calls more one.rounds two.rounds one.ordered two.ordered;
+        ordered = ordered_then one.requests two.requests calls more one.ordered two.ordered;
         text = one.text ++ two.text;
         answered =
-            let first : List ℕ = answers_by one.requests (told_at old.number (replies library.procs calls records) (concat one.rounds)) in
+            let first : List ℕ = answers one.requests old.number (replies library.procs calls records) in
             ap (λ (l : List ℕ). l ++ two.text) one.answered
             ∙ (ap (λ (l : List ℕ). first ++ l) two.answered
-            ∙ sym (answered_then workers one.requests two.requests calls more one.rounds two.rounds library.procs records old.number mid.number one.ordered one.number));
+            ∙ sym (answered_then one.requests two.requests calls more library.procs records old.number mid.number one.ordered one.number));
         written = Appends-trans old.output mid.output new.output one.text two.text one.written two.written;
         number = omega (arith, two.number, one.number, length-append calls more);
       }
 
-  pub part_then_text : (is_last : Bool) (old mid new : Place) (calls more : List Made) (one : IsPart library clients workers records calls false old mid)
-      (two : IsPart library clients workers (end library.procs calls records) more is_last mid new) → one.text ++ two.text ≡ (part_then is_last old mid new calls more one two).text
+  pub part_then_text : (is_last : Bool) (old mid new : Place) (calls more : List Made) (one : IsPart library clients records calls false old mid)
+      (two : IsPart library clients (end library.procs calls records) more is_last mid new) → one.text ++ two.text ≡ (part_then is_last old mid new calls more one two).text
   unfolding part_then
   part_then_text is_last old mid new calls more one two = refl

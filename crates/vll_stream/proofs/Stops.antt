@@ -13,7 +13,6 @@ use Rattle.vll_stream.specs.Served.{AreAnswered, EndsEarly, Stopped, Wrote, base
 use Rattle.vll_stream.specs.Private.Parts.{IsPart, Place}
 use Rattle.vll_stream.specs.Private.Stopped.{IsOwn, StopsAfter}
 use Rattle.vll_stream.proofs.Found.{none_found}
-use Rattle.vll_stream.proofs.Ordered.{ordered_none}
 use Rattle.vll_stream.proofs.Parts.{part_then, part_then_text, part_unanswered, part_unanswered_text}
 
 -- a text was appended, and then a beginning of another one
@@ -73,34 +72,34 @@ nothing_wrote fault.Read known = Appends-nil known
 nothing_wrote fault.NoMemory known = Appends-nil known
 nothing_wrote fault.Unfinished known = Appends-nil known
 
-module _ (base : Base) (clients workers : ℕ) (calls : List Made) (why : StreamFault) (old : Place) (found : AreFoundThere base calls) where
+module _ (base : Base) (clients : ℕ) (calls : List Made) (why : StreamFault) (old : Place) (found : AreFoundThere base calls) where
   -- bytes were read, and nothing was written
   pub stops_unanswered : (left : Option (List ℕ)) (bytes : List ℕ) → Consumes old.input left bytes → ¬ (why ≡ fault.Calls) → Stopped why false (old.tail ++ bytes)
-      → StopsAfter base clients workers calls why old left old.output
+      → StopsAfter base clients calls why old left old.output
   stops_unanswered left bytes read uncalled stopped = record {
     more = [];
     is_last = false;
     tail = old.tail ++ bytes;
     whole = old.output;
     number = old.number;
-    part = part_unanswered (catalog_of base) clients workers (end base.procs calls base.records) old left (old.tail ++ bytes) bytes read refl;
+    part = part_unanswered (catalog_of base) clients (end base.procs calls base.records) old left (old.tail ++ bytes) bytes read refl;
     found = subst (AreFoundThere base) (sym (append-nil calls)) found;
     uncalled = uncalled;
     stopped = stopped;
     wrote =
         subst (λ (text : List ℕ). Wrote why false old.output old.output text [])
-        (part_unanswered_text (catalog_of base) clients workers (end base.procs calls base.records) old left (old.tail ++ bytes) bytes read refl) (nothing_wrote why old.output);
+        (part_unanswered_text (catalog_of base) clients (end base.procs calls base.records) old left (old.tail ++ bytes) bytes read refl) (nothing_wrote why old.output);
   }
 
 -- nothing was read or written
-pub stops_at_once : (base : Base) (clients workers : ℕ) (why : StreamFault) (at : Place) → IsOwn why → StopsAfter base clients workers [] why at at.input at.output
-stops_at_once base clients workers why at own =
-    stops_unanswered base clients workers [] why at (none_found base) at.input [] (Consumes-nil at.input) (own_uncalled why own) (own_stopped why own false (at.tail ++ []))
+pub stops_at_once : (base : Base) (clients : ℕ) (why : StreamFault) (at : Place) → IsOwn why → StopsAfter base clients [] why at at.input at.output
+stops_at_once base clients why at own =
+    stops_unanswered base clients [] why at (none_found base) at.input [] (Consumes-nil at.input) (own_uncalled why own) (own_stopped why own false (at.tail ++ []))
 
 -- all of a part was answered, and no more
-pub stops_behind_part : (base : Base) (clients workers : ℕ) (calls : List Made) (why : StreamFault) (is_last : Bool) (old new : Place) → IsOwn why → IsPart (catalog_of base) clients workers base.records calls is_last old new
-    → AreFoundThere base calls → StopsAfter base clients workers [] why old new.input new.output
-stops_behind_part base clients workers calls why is_last old new own part found = record {
+pub stops_behind_part : (base : Base) (clients : ℕ) (calls : List Made) (why : StreamFault) (is_last : Bool) (old new : Place) → IsOwn why → IsPart (catalog_of base) clients base.records calls is_last old new
+    → AreFoundThere base calls → StopsAfter base clients [] why old new.input new.output
+stops_behind_part base clients calls why is_last old new own part found = record {
   more = calls;
   is_last = is_last;
   tail = new.tail;
@@ -114,9 +113,9 @@ stops_behind_part base clients workers calls why is_last old new own part found 
 }
 
 -- a part was answered, and then a service has stopped
-pub part_then_stops : (base : Base) (clients workers : ℕ) (calls : List Made) (why : StreamFault) (old mid : Place) (left written : Option (List ℕ)) → IsPart (catalog_of base) clients workers base.records calls false old mid
-    → StopsAfter base clients workers calls why mid left written → StopsAfter base clients workers [] why old left written
-part_then_stops base clients workers calls why old mid left written part stops =
+pub part_then_stops : (base : Base) (clients : ℕ) (calls : List Made) (why : StreamFault) (old mid : Place) (left written : Option (List ℕ)) → IsPart (catalog_of base) clients base.records calls false old mid
+    → StopsAfter base clients calls why mid left written → StopsAfter base clients [] why old left written
+part_then_stops base clients calls why old mid left written part stops =
     let new : Place = record { input = left; tail = stops.tail; output = stops.whole; number = stops.number } in
     record {
       more = calls ++ stops.more;
@@ -124,32 +123,31 @@ part_then_stops base clients workers calls why old mid left written part stops =
       tail = stops.tail;
       whole = stops.whole;
       number = stops.number;
-      part = part_then (catalog_of base) clients workers base.records stops.is_last old mid new calls stops.more part stops.part;
+      part = part_then (catalog_of base) clients base.records stops.is_last old mid new calls stops.more part stops.part;
       found = stops.found;
       uncalled = stops.uncalled;
       stopped = stops.stopped;
       wrote =
-          subst (λ (text : List ℕ). Wrote why false old.output written text []) (part_then_text (catalog_of base) clients workers base.records stops.is_last old mid new calls stops.more part stops.part)
+          subst (λ (text : List ℕ). Wrote why false old.output written text []) (part_then_text (catalog_of base) clients base.records stops.is_last old mid new calls stops.more part stops.part)
           (wrote_then why old.output mid.output written part.text stops.part.text part.written stops.wrote);
     }
 
 -- a part from the opening records on answers its lines
-pub part_answers : (s : Setup) (workers : ℕ) (old before : Option (List ℕ)) (new : Place) (is_last : Bool) (calls : List Made)
-    (part : IsPart (catalog_of (base_of s)) (length s.scripts) workers s.records calls is_last (record { input = old; tail = []; output = before; number = 0 }) new) → AreFoundThere (base_of s) calls
-    → AreAnswered s workers part.lines calls part.text
-part_answers s workers old before new is_last calls part found = record {
+pub part_answers : (s : Setup) (old before : Option (List ℕ)) (new : Place) (is_last : Bool) (calls : List Made)
+    (part : IsPart (catalog_of (base_of s)) (length s.scripts) s.records calls is_last (record { input = old; tail = []; output = before; number = 0 }) new) → AreFoundThere (base_of s) calls
+    → AreAnswered s part.lines calls part.text
+part_answers s old before new is_last calls part found = record {
   requests = part.requests;
   read = part.are;
-  rounds = part.rounds;
   ordered = part.ordered;
   found = found;
   written = part.answered;
 }
 
 -- from the opening records on
-pub ends_early : (s : Setup) (workers : ℕ) (why : StreamFault) (old left before written : Option (List ℕ))
-    → StopsAfter (base_of s) (length s.scripts) workers [] why (record { input = old; tail = []; output = before; number = 0 }) left written → EndsEarly s workers why old left before written
-ends_early s workers why old left before written stops =
+pub ends_early : (s : Setup) (why : StreamFault) (old left before written : Option (List ℕ))
+    → StopsAfter (base_of s) (length s.scripts) [] why (record { input = old; tail = []; output = before; number = 0 }) left written → EndsEarly s why old left before written
+ends_early s why old left before written stops =
     let part = stops.part in
     record {
       input = part.bytes;
@@ -160,14 +158,14 @@ ends_early s workers why old left before written stops =
       cut = part.cut;
       calls = stops.more;
       text = part.text;
-      answered = part_answers s workers old before (record { input = left; tail = stops.tail; output = stops.whole; number = stops.number }) stops.is_last stops.more part stops.found;
+      answered = part_answers s old before (record { input = left; tail = stops.tail; output = stops.whole; number = stops.number }) stops.is_last stops.more part stops.found;
       stopped = stops.stopped;
       wrote = wrote_longer why stops.is_last before written part.text (last_line s stops.more) stops.wrote;
     }
 
 -- before anything was read
-pub ends_at_once : (s : Setup) (workers : ℕ) (why : StreamFault) (input output : Option (List ℕ)) → EndsEarly s workers why input input output output
-ends_at_once s workers why input output = record {
+pub ends_at_once : (s : Setup) (why : StreamFault) (input output : Option (List ℕ)) → EndsEarly s why input input output output
+ends_at_once s why input output = record {
   input = [];
   read = Consumes-nil input;
   is_last = false;
@@ -179,8 +177,7 @@ ends_at_once s workers why input output = record {
   answered = record {
     requests = [];
     read = tt;
-    rounds = [];
-    ordered = ordered_none workers;
+    ordered = refl;
     found = none_found (base_of s);
     written = refl;
   };

@@ -1,7 +1,7 @@
 -- What a service writes for its input.
-use Rattle.std.specs.Prelude.{◌≡◌, ◌<◌, ◌≤◌, ℕ, ◌+◌, Bool, true, false, List, [], ◌∷◌, ◌++◌, All, length, map, nat_eq, not, Option, ⊤}
+use Rattle.std.specs.Prelude.{◌≡◌, ℕ, Bool, true, false, List, ◌++◌, length, map, nat_eq, not, Option, ⊤}
 use Rattle.std.specs.Io.KnownBytes.{Appends, Consumes, IsAtEnd}
-use Rattle.std.specs.List.{concat, list_all, range_with_len}
+use Rattle.std.specs.List.{list_all}
 use Rattle.vll_proc.specs.declared.call.Call.{Call}
 use Rattle.vll_proc.specs.Headline.Serial.{Made, end}
 use Rattle.vll_proc.specs.Serial.{replies}
@@ -10,12 +10,10 @@ use Rattle.vll_core.specs.Headline.State.{Base}
 use Rattle.vll_queue.specs.Headline.Found.{AreFoundThere}
 use Rattle.vll_scenario.specs.Headline.Setup.{Setup, catalog_of}
 use Rattle.vll_scenario.specs.Streams.{AppendsBeginning}
-use Rattle.vll_lines.specs.Answers.{answers_by, end_line, told_at}
+use Rattle.vll_lines.specs.Answers.{answers, end_line}
 use Rattle.vll_lines.specs.Request.{AreRequests}
 use Rattle.vll_lines.specs.Lines.{CutsInto, has_feed, lines_in}
-use Rattle.vll_lines.specs.Placed.{ArePlaced}
 use Rattle.vll_lines.specs.Theirs.{call_shown, calls_of}
-use Rattle.vll_lines.specs.declared.limits.TheConstants.{MOST_ROUND}
 use Rattle.vll_lines.specs.declared.request.Request.{Request}
 use Rattle.vll_stream.specs.declared.fault.StreamFault.{StreamFault}
 use Rattle.vll_stream.specs.declared.fault.StreamFault.TheVariants as fault
@@ -36,48 +34,38 @@ has_calls s = not (list_all is_none s.scripts)
 abbrev pub made_shown : Made → ℕ × Call
 made_shown m = (m.0, bare m.1)
 
--- calls were made round by round, these being the places of the calls of each round in the order of its lines, from a first
--- one on: all calls of a round come before those of the next, and they are few
-abbrev pub AreInRounds : ℕ → List (List ℕ) → Type 0
-AreInRounds first [] = ⊤
-AreInRounds first (places ∷ rounds) = (length places ≤ MOST_ROUND) × All (λ p. (first ≤ p) × (p < first + length places)) places × AreInRounds (first + length places) rounds
+-- these are the calls that lines ask for, in the order of the lines, whatever they have found
+abbrev pub AreOrdered : List Request → List Made → Type 0
+AreOrdered requests calls = map call_shown (calls_of requests) ≡ map made_shown calls
 
--- these are the calls that lines ask for, made round by round in places of their own: each once, each client's in the order
--- of its lines, and all in the order of their lines if there is one worker
-pub record AreOrdered (workers : ℕ) (requests : List Request) (calls : List Made) (rounds : List (List ℕ)) : Type 0 where
-  pub placed : ArePlaced (map call_shown (calls_of requests)) (map made_shown calls) (concat rounds)
-  pub in_rounds : AreInRounds 0 rounds
-  pub in_order : workers ≤ 1 → concat rounds ≡ range_with_len 0 (length (concat rounds))
-
--- a text answers lines by these calls: they are the calls that the lines ask for, each with what it has found, and the text
--- has for each line its answer, which is the number and the reply of its call if the calls run one at a time in this order
--- from the scenario's records, or its fault. Each value found was in its source
-pub record AreAnswered (s : Setup) (workers : ℕ) (lines : List (List ℕ)) (calls : List Made) (text : List ℕ) : Type 0 where
+-- a text answers lines by these calls: they are the calls that the lines ask for, in order, each with what it has found, and
+-- the text has for each line its answer, which is the number and the reply of its call if the calls run one at a time in this
+-- order from the scenario's records, or its fault. Each value found was in its source
+pub record AreAnswered (s : Setup) (lines : List (List ℕ)) (calls : List Made) (text : List ℕ) : Type 0 where
   pub requests : List Request
   pub read : AreRequests (catalog_of s) (length s.scripts) lines requests
-  pub rounds : List (List ℕ)
-  pub ordered : AreOrdered workers requests calls rounds
+  pub ordered : AreOrdered requests calls
   pub found : AreFoundThere (base_of s) calls
-  pub written : text ≡ answers_by requests (told_at 0 (replies s.procs calls s.records) (concat rounds))
+  pub written : text ≡ answers requests 0 (replies s.procs calls s.records)
 
 -- the last line of a service that has made these calls: their number, and the records as they leave them
 abbrev pub last_line : Setup → List Made → List ℕ
 last_line s calls = end_line (length calls) (end s.procs calls s.records)
 
 -- a service of a scenario has answered an input: all its lines, by one list of calls, and then its last line
-pub record IsServed (s : Setup) (workers : ℕ) (input output : List ℕ) : Type 0 where
+pub record IsServed (s : Setup) (input output : List ℕ) : Type 0 where
   pub calls : List Made
   pub text : List ℕ
-  pub answered : AreAnswered s workers (lines_in input) calls text
+  pub answered : AreAnswered s (lines_in input) calls text
   pub written : output ≡ text ++ last_line s calls
 
 -- the input was read to its end, and this holds of the text that answers it
-pub record ServesLines (s : Setup) (workers : ℕ) (old new : Option (List ℕ)) (Holds : List ℕ → Type 0) : Type 0 where
+pub record ServesLines (s : Setup) (old new : Option (List ℕ)) (Holds : List ℕ → Type 0) : Type 0 where
   pub input : List ℕ
   pub read : Consumes old new input
   pub ended : IsAtEnd new
   pub output : List ℕ
-  pub served : IsServed s workers input output
+  pub served : IsServed s input output
   pub holds : Holds output
 
 -- what was written if a service has ended early, for this reason, over these answers, which go up to the end of the input
@@ -101,7 +89,7 @@ Stopped fault.Unfinished is_last tail = ⊤
 
 -- a service of a scenario has ended early, for this reason: the first lines of the input that was read, or all of them at
 -- its end, are answered by one list of calls as if nothing had come after them, and the rest of it is a tail
-pub record EndsEarly (s : Setup) (workers : ℕ) (why : StreamFault) (old new from to : Option (List ℕ)) : Type 0 where
+pub record EndsEarly (s : Setup) (why : StreamFault) (old new from to : Option (List ℕ)) : Type 0 where
   pub input : List ℕ
   pub read : Consumes old new input
   pub is_last : Bool
@@ -110,6 +98,6 @@ pub record EndsEarly (s : Setup) (workers : ℕ) (why : StreamFault) (old new fr
   pub cut : CutsInto is_last input lines tail
   pub calls : List Made
   pub text : List ℕ
-  pub answered : AreAnswered s workers lines calls text
+  pub answered : AreAnswered s lines calls text
   pub stopped : Stopped why is_last tail
   pub wrote : Wrote why is_last from to text (last_line s calls)

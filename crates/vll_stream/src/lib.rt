@@ -1,22 +1,21 @@
-//! A service over a stream of bytes: calls come in as lines of JSON, and their answers go out as lines, until the input
-//! ends. It opens an engine over a scenario's records, and goes on with another one whenever one has taken as many calls
-//! as it can. Proved: the answers are those of the input's calls made one at a time, and so are the records in the last
-//! line. One worker makes them in the order of their lines, several only each client's. Start at `serve_stream`.
+//! A service over a stream of bytes, which is what `vll serve` runs: calls come in as lines of JSON, and their answers go
+//! out as lines, until the input ends. It opens an engine over a scenario's records, and goes on with another one whenever
+//! one has taken as many calls as it can. Proved: the answers are those of the input's calls made one at a time in the
+//! order of their lines, and so are the records in the last line. Start at `serve_stream`.
 //!
 //! ```rattle
 //! let scenario = read_scenario(alloc, &mut Plain::new(text.as_bytes()))?;
 //! let mut reader = Plain::new(rt.reader());
 //! let mut writer = Plain::new(io::writer(rt));
-//! serve_stream(rt, rt.alloc(), scenario, workers, &mut reader, &mut writer)?;
+//! serve_stream(rt, rt.alloc(), scenario, &mut reader, &mut writer)?;
 //! ```
 #![tactic(auto)]
 
 mod answering;
-mod batch;
+mod callers;
 mod epoch;
 mod fault;
 mod serving;
 
-pub use answering::MANY_CALLS;
 pub use fault::StreamFault;
 pub use serving::serve_stream;

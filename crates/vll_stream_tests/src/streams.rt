@@ -1,16 +1,12 @@
 //! Tests of whole services over bytes in memory.
-ghost use Rattle.std.specs.Prelude.{◌≤◌};
-
 use crate::asserts::equal;
 use std::alloc::Global;
 use std::fmt::Write;
 use std::io;
 use std::sync::Wait;
 use std::test::Fail;
-use std::thread::Threads;
 use vll_scenario::{Plain, read_scenario};
 use vll_stream::{StreamFault, serve_stream};
-use vll_workers::MOST_WORKERS;
 
 // A bank of two clients.
 const BANK: &str = r#"{"version":1,"records":[100,50],"procs":[
@@ -19,26 +15,14 @@ const BANK: &str = r#"{"version":1,"records":[100,50],"procs":[
           ["set",1,["add",["key",1],["arg",2]]],["reply",["key",0]]]}],
  "clients":[[],[]]}"#;
 
-// What a service of the bank with so many workers writes for an input.
-fn served_by<R: Threads + Wait + Sync>(
-    rt: &R,
-    alloc: Global,
-    workers: u32,
-    input: &str,
-) -> Result<Vec<u8>, Fail>
-    requires { (1 ≤ workers) × (workers ≤ MOST_WORKERS) }
-{
+// What a service of the bank writes for an input.
+fn served(wait: &impl Wait, alloc: Global, input: &str) -> Result<Vec<u8>, Fail> {
     let scenario = read_scenario(alloc, &mut Plain::new(BANK.as_bytes()))?;
     let mut output = Vec::new(alloc);
     let mut writer = Plain::new(&mut output);
     let mut reader = Plain::new(input.as_bytes());
-    serve_stream(rt, alloc, scenario, workers, &mut reader, &mut writer)?;
+    serve_stream(wait, alloc, scenario, &mut reader, &mut writer)?;
     Ok(output)
-}
-
-// The same, with one worker.
-fn served<R: Threads + Wait + Sync>(rt: &R, alloc: Global, input: &str) -> Result<Vec<u8>, Fail> {
-    served_by(rt, alloc, 1, input)
 }
 
 #[test]
@@ -68,15 +52,17 @@ fn empty_input_has_the_first_records(rt: HostRuntime) -> Result<(), Fail> {
     Ok(())
 }
 
-// Lines that ask for `count` transfers of 1 from the first account to the second, or from the second to the first.
+// Lines that ask for `count` transfers of 1 from the first account to the second, or from the second to the first. They
+// differ in length, so that a round ends anywhere.
 fn transfers(alloc: Global, count: u32) -> Result<String, Fail> {
     let mut input = String::new(alloc);
     for i in 0..count {
         let (client, from) = (i % 2, i / 2 % 2);
         let to = 1 - from;
+        let space = if i % 3 == 0 { " " } else { "" };
         write!(
             input,
-            "{{\"client\":{client},\"proc\":\"transfer\",\"args\":[{from},{to},1]}}\n"
+            "{{\"client\":{client},\"proc\":\"transfer\",\"args\":[{from},{to},1]{space}}}\n"
         )?;
     }
     Ok(input)
@@ -90,21 +76,10 @@ fn last_line(text: &[u8]) -> Result<&str, Fail> {
 
 #[test]
 fn epochs_go_on_over_the_records(rt: HostRuntime) -> Result<(), Fail> {
-    let input = transfers(rt.alloc(), 60_002)?;
+    let input = transfers(rt.alloc(), 70_002)?;
     let found = served(&rt, rt.alloc(), input.as_str())?;
     let last = last_line(found.as_slice())?;
-    equal(&rt, last, "{\"calls\":60002,\"records\":[98,52]}");
-    Ok(())
-}
-
-#[test]
-fn several_workers_leave_the_same_records(rt: HostRuntime) -> Result<(), Fail> {
-    let input = transfers(rt.alloc(), 10_002)?;
-    for workers in [2, 4, 64] {
-        let found = served_by(&rt, rt.alloc(), workers, input.as_str())?;
-        let last = last_line(found.as_slice())?;
-        equal(&rt, last, "{\"calls\":10002,\"records\":[98,52]}");
-    }
+    equal(&rt, last, "{\"calls\":70002,\"records\":[98,52]}");
     Ok(())
 }
 
@@ -133,7 +108,7 @@ fn input_may_come_byte_by_byte(rt: HostRuntime) -> Result<(), Fail> {
     let mut output = Vec::new(rt.alloc());
     let mut writer = Plain::new(&mut output);
     let mut reader = Plain::new(Slow(input.as_bytes()));
-    serve_stream(&rt, rt.alloc(), scenario, 1, &mut reader, &mut writer)?;
+    serve_stream(&rt, rt.alloc(), scenario, &mut reader, &mut writer)?;
     equal(&rt, output.as_slice(), wanted.as_slice());
     Ok(())
 }
@@ -173,7 +148,7 @@ fn scenario_with_calls_is_refused(rt: HostRuntime) -> Result<(), Fail> {
     let mut output = Vec::new(rt.alloc());
     let mut writer = Plain::new(&mut output);
     let mut reader = Plain::new("".as_bytes());
-    let refused = serve_stream(&rt, rt.alloc(), scenario, 1, &mut reader, &mut writer);
+    let refused = serve_stream(&rt, rt.alloc(), scenario, &mut reader, &mut writer);
     equal(&rt, refused, Err(StreamFault::Calls));
     equal(&rt, output.len(), 0);
     Ok(())
@@ -211,7 +186,7 @@ fn lines_before_a_failed_read_are_answered(rt: HostRuntime) -> Result<(), Fail> 
     let mut output = Vec::new(rt.alloc());
     let mut writer = Plain::new(&mut output);
     let mut reader = Plain::new(Broken(input.as_bytes()));
-    let ended = serve_stream(&rt, rt.alloc(), scenario, 1, &mut reader, &mut writer);
+    let ended = serve_stream(&rt, rt.alloc(), scenario, &mut reader, &mut writer);
     equal(&rt, ended, Err(StreamFault::Read));
     equal(&rt, std::str::from_utf8(output.as_slice())?, wanted);
     Ok(())
@@ -251,7 +226,7 @@ fn output_that_fails_has_a_beginning(rt: HostRuntime) -> Result<(), Fail> {
         };
         let mut writer = Plain::new(&mut narrow);
         let mut reader = Plain::new(Slow(input.as_bytes()));
-        let ended = serve_stream(&rt, rt.alloc(), scenario, 1, &mut reader, &mut writer);
+        let ended = serve_stream(&rt, rt.alloc(), scenario, &mut reader, &mut writer);
         equal(&rt, ended, Err(StreamFault::Write));
         equal(&rt, narrow.taken.len(), room);
         equal(&rt, whole.starts_with(narrow.taken.as_slice()), true);

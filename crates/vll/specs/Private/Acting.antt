@@ -10,7 +10,6 @@ use Rattle.vll_server.specs.Headline.Serve.{Serves}
 use Rattle.vll_replay.specs.Headline.Text.{Text}
 use Rattle.vll_server.specs.declared.options.RunOptions.{RunOptions}
 use Rattle.vll.specs.declared.command.Action.{Action}
-use Rattle.vll.specs.declared.command.ServeOptions.{ServeOptions}
 use Rattle.vll_stream.specs.Served.{EndsEarly, ServesLines}
 use Rattle.vll_stream.specs.declared.fault.StreamFault.{StreamFault}
 use Rattle.vll.specs.declared.fault.Fault.{Fault}
@@ -24,19 +23,19 @@ Runs options old new Holds = (setup : Setup) × IsRead old new (Ok setup) × Ser
 abbrev pub with_limits : Option ℕ → Option ℕ → Setup → Setup
 with_limits cap bits s = record s { config = record s.config { cap = unwrap_or cap s.config.cap; bits = unwrap_or bits s.config.bits } }
 
--- the calls that were asked for were served over some scenario with these options, and this holds of the text
-abbrev pub ServesFile : ServeOptions → Option (List ℕ) → Option (List ℕ) → (Text → Type 0) → Type 0
-ServesFile options old new Holds = (setup : Setup) × ServesLines (with_limits options.cap options.bits setup) options.workers old new Holds
+-- the calls that were asked for were served over some scenario, and this holds of the text
+abbrev pub ServesFile : Option (List ℕ) → Option (List ℕ) → (Text → Type 0) → Type 0
+ServesFile old new Holds = (setup : Setup) × ServesLines setup old new Holds
 
 -- such a service has ended early, for this reason
-abbrev pub StopsFile : ServeOptions → StreamFault → Option (List ℕ) → Option (List ℕ) → Option (List ℕ) → Option (List ℕ) → Type 0
-StopsFile options why old new from to = (setup : Setup) × EndsEarly (with_limits options.cap options.bits setup) options.workers why old new from to
+abbrev pub StopsFile : StreamFault → Option (List ℕ) → Option (List ℕ) → Option (List ℕ) → Option (List ℕ) → Type 0
+StopsFile why old new from to = (setup : Setup) × EndsEarly setup why old new from to
 
 -- a run serves what was read, a service answers it line by line, a replay replays it, an explanation reports what it has, a drawing lists its replay, and
 -- this holds of the text. `Tell` reads and writes nothing here
 abbrev pub Does : Action → Option (List ℕ) → Option (List ℕ) → (Text → Type 0) → Type 0
 Does (action.Run options) old new Holds = Runs options old new Holds
-Does (action.Serve options) old new Holds = ServesFile options old new Holds
+Does (action.Serve options) old new Holds = ServesFile old new Holds
 Does action.Replay old new Holds = Replays old new Holds
 Does action.Explain old new Holds = Explains old new None Holds
 Does (action.Draw window) old new Holds = Draws old new Holds

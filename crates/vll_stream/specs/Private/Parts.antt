@@ -1,11 +1,10 @@
 -- A part of a service: some rounds, one after the other.
 use Rattle.std.specs.Prelude.{◌≡◌, ℕ, ◌+◌, Bool, true, List, ◌++◌, length, Option}
-use Rattle.std.specs.List.{concat}
 use Rattle.std.specs.Io.KnownBytes.{Appends, Consumes, IsAtEnd}
 use Rattle.vll_proc.specs.Headline.Serial.{Made}
 use Rattle.vll_proc.specs.Serial.{replies}
 use Rattle.vll_check.specs.Headline.Catalog.{Catalog}
-use Rattle.vll_lines.specs.Answers.{answers_by, told_at}
+use Rattle.vll_lines.specs.Answers.{answers}
 use Rattle.vll_lines.specs.Request.{AreRequests}
 use Rattle.vll_lines.specs.Lines.{CutsInto}
 use Rattle.vll_lines.specs.declared.request.Request.{Request}
@@ -25,7 +24,7 @@ place_of remaining contents reader tail writer number = record { input = remaini
 
 -- from one place to another, lines were cut off the input, up to its end if this is the last part, and answered by
 -- these calls, as if they were made one at a time from these records
-pub record IsPart (library : Catalog) (clients workers : ℕ) (records : List ℕ) (calls : List Made) (is_last : Bool) (old new : Place) : Type 0 where
+pub record IsPart (library : Catalog) (clients : ℕ) (records : List ℕ) (calls : List Made) (is_last : Bool) (old new : Place) : Type 0 where
   pub bytes : List ℕ
   pub read : Consumes old.input new.input bytes
   pub ended : is_last ≡ true → IsAtEnd new.input
@@ -33,9 +32,8 @@ pub record IsPart (library : Catalog) (clients workers : ℕ) (records : List �
   pub cut : CutsInto is_last (old.tail ++ bytes) lines new.tail
   pub requests : List Request
   pub are : AreRequests library clients lines requests
-  pub rounds : List (List ℕ)
-  pub ordered : AreOrdered workers requests calls rounds
+  pub ordered : AreOrdered requests calls
   pub text : List ℕ
-  pub answered : text ≡ answers_by requests (told_at old.number (replies library.procs calls records) (concat rounds))
+  pub answered : text ≡ answers requests old.number (replies library.procs calls records)
   pub written : Appends old.output new.output text
   pub number : new.number ≡ old.number + length calls

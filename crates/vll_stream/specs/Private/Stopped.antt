@@ -18,13 +18,13 @@ IsOwn fault.Unfinished = ⊤
 
 -- after these calls, a service has stopped for this reason on the way from one place on, with this input left and this
 -- output: more calls answer a part, and of its answers was written what is for such a reason
-pub record StopsAfter (base : Base) (clients workers : ℕ) (calls : List Made) (why : StreamFault) (old : Place) (left written : Option (List ℕ)) : Type 0 where
+pub record StopsAfter (base : Base) (clients : ℕ) (calls : List Made) (why : StreamFault) (old : Place) (left written : Option (List ℕ)) : Type 0 where
   pub more : List Made
   pub is_last : Bool
   pub tail : List ℕ
   pub whole : Option (List ℕ)
   pub number : ℕ
-  pub part : IsPart (catalog_of base) clients workers (end base.procs calls base.records) more is_last old (record { input = left; tail = tail; output = whole; number = number })
+  pub part : IsPart (catalog_of base) clients (end base.procs calls base.records) more is_last old (record { input = left; tail = tail; output = whole; number = number })
   pub found : AreFoundThere base (calls ++ more)
   pub uncalled : ¬ (why ≡ fault.Calls)
   pub stopped : Stopped why is_last tail

@@ -1,18 +1,9 @@
-use Rattle.std.proofs.Common.{◌≡◌, ◌∙◌, ℕ, Option, Err, ap, refl, subst, sym}
-use Rattle.std.specs.Io.KnownBytes.{Appends}
-use Rattle.vll_scenario.specs.Headline.Setup.{Setup}
-use Rattle.vll_stream.specs.Served.{EndsEarly, ServesLines}
+use Rattle.std.proofs.Common.{◌≡◌, ◌∙◌, Err, ap, refl, subst, sym}
+use Rattle.vll_stream.specs.Served.{EndsEarly}
 use Rattle.vll_stream.specs.declared.fault.StreamFault.{StreamFault}
 use Rattle.vll_stream.specs.declared.fault.StreamFault.TheVariants as stream_fault
-use Rattle.vll.specs.Private.Acting.{with_limits}
 use Rattle.vll.specs.declared.fault.Fault.TheVariants as fault
 use Rattle.vll.proofs.acting.serve.Goals as goal
-
--- what holds of a scenario and a number of workers holds of the scenario of the file with the limits, and of the number
--- that was asked for
-of_the_file : (P : Setup → ℕ → Type 0) (cap bits : Option ℕ) (scenario limited : Setup) (workers asked : ℕ) → limited ≡ with_limits cap bits scenario → workers ≡ asked
-    → P limited workers → (s : Setup) × P (with_limits cap bits s) asked
-of_the_file P cap bits scenario limited workers asked is same holds = (scenario, subst (P (with_limits cap bits scenario)) same (subst (λ s. P s workers) is holds))
 
 -- the file has no scenario
 pub returns-in-Err-clause-ok : goal.returns-in-Err-clause-ok
@@ -35,11 +26,7 @@ returns-in-Err-clause-unexplained g c why is = absurd (cc is)
 
 -- its calls were served
 pub returns-in-Ok-serve_stream-clause-ok : goal.returns-in-Ok-serve_stream-clause-ok
-returns-in-Ok-serve_stream-clause-ok g c =
-    let P : Setup → ℕ → Type 0 = λ s workers. ServesLines s workers (g.S.Source.remaining c.args.reader.now) (g.S.Source.remaining c.serve_stream.new.reader)
-    (Appends (g.W.Sink.contents c.args.writer.now) (g.W.Sink.contents c.serve_stream.new.writer)) in
-    of_the_file P c.args.options.cap c.args.options.bits c.in-Ok.scenario c.limited-scenario.result c.get.result c.args.options.workers c.limited-scenario.ensures c.get.ensures.value
-    c.in-Ok-serve_stream.ensures.ok
+returns-in-Ok-serve_stream-clause-ok g c = (c.limited-scenario.result, c.in-Ok-serve_stream.ensures.ok)
 
 pub returns-in-Ok-serve_stream-clause-early : goal.returns-in-Ok-serve_stream-clause-early
 returns-in-Ok-serve_stream-clause-early g c why is = absurd (cc is)
@@ -63,10 +50,9 @@ returns-clause-ok g c = tt
 pub returns-clause-early : goal.returns-clause-early
 returns-clause-early g c why is =
     let same : c.in-Err-serve_stream.why ≡ why = cc is in
-    let P : StreamFault → Setup → ℕ → Type 0 = λ w s workers. EndsEarly s workers w (g.S.Source.remaining c.args.reader.now) (g.S.Source.remaining c.serve_stream.new.reader)
-    (g.W.Sink.contents c.args.writer.now) (g.W.Sink.contents c.serve_stream.new.writer) in
-    of_the_file (P why) c.args.options.cap c.args.options.bits c.in-Ok.scenario c.limited-scenario.result c.get.result c.args.options.workers c.limited-scenario.ensures c.get.ensures.value
-    (subst (λ w. P w c.limited-scenario.result c.get.result) same c.in-Err-serve_stream.ensures.err)
+    let left = g.S.Source.remaining c.serve_stream.new.reader in
+    let written = g.W.Sink.contents c.serve_stream.new.writer in
+    (c.limited-scenario.result, subst (λ (w : StreamFault). EndsEarly c.limited-scenario.result w (g.S.Source.remaining c.args.reader.now) left (g.W.Sink.contents c.args.writer.now) written) same c.in-Err-serve_stream.ensures.err)
 
 pub returns-clause-read : goal.returns-clause-read
 returns-clause-read g c = (

@@ -6,7 +6,7 @@ use Rattle.vll_lines.specs.declared.round.Round.{Round}
 use Rattle.vll_lines.specs.declared.round.RoundFault.{RoundFault}
 use Rattle.vll_lines.specs.declared.round.RoundFault.TheVariants as fault
 use Rattle.vll_lines.proofs.Cuts.{begun_more, begun_none, broken_memory, round_more}
-use Rattle.vll_lines.proofs.Fitting.{asked_fit}
+use Rattle.vll_lines.proofs.Fitting.{asked_fit, asked_low}
 use Rattle.vll_lines.proofs.round.read_round.Goals as goal
 
 pub loop-init : goal.loop-init
@@ -40,6 +40,14 @@ returns-then-branch-clause-round g c =
 
 pub returns-then-branch-clause-fits : goal.returns-then-branch-clause-fits
 returns-then-branch-clause-fits g c = let round = returns-then-branch-clause-round g c in asked_fit c.args.library.now c.args.clients round.lines c.take_piece.new.requests.items round.requests
+
+pub returns-then-branch-clause-clients : goal.returns-then-branch-clause-clients
+returns-then-branch-clause-clients g c = let round = returns-then-branch-clause-round g c in asked_low c.args.library.now c.args.clients round.lines c.take_piece.new.requests.items round.requests
+
+pub returns-then-count-eq0-clause-clients : goal.returns-then-count-eq0-clause-clients
+returns-then-count-eq0-clause-clients g c =
+    let begun = c.loop.invariant.4 in
+    asked_low c.args.library.now c.args.clients _ c.end_line.new.requests.items (c.in_ok-end_line.ensures.requests (c.args.tail.now.items ++ begun.bytes) begun.stands begun.unended)
 
 pub returns-then-count-eq0-clause-fits : goal.returns-then-count-eq0-clause-fits
 returns-then-count-eq0-clause-fits g c =

@@ -1,14 +1,7 @@
-use Rattle.std.proofs.Common.{List, sym, ◌∙◌}
-use Rattle.vll_core.specs.declared.line.Line.{Line}
 use Rattle.vll_counters.specs.Headline.Views.{calls_in}
-use Rattle.vll_stream.proofs.Answered.{length-calls_in}
+use Rattle.vll_stream.proofs.MadeSoFar.{the_calls}
 use Rattle.vll_stream.proofs.epoch.closed.Goals as goal
 
-pub returns-clause-records : goal.returns-clause-records
-returns-clause-records g c =
-    let lines : List Line = c.in-Ok.closed.journal.items in (
-      calls_in lines,
-      length-calls_in lines ∙ (sym c.in-Ok.closed.journal.ok.0 ∙ (sym c.len.ensures ∙ c.if-len-calls.false)),
-      c.in-Ok.ensures.sessions,
-      c.in-Ok.ensures.serial.at_end,
-    )
+pub returns-in-Ok-clause-records : goal.returns-in-Ok-clause-records
+returns-in-Ok-clause-records g c =
+    (calls_in c.in-Ok.closed.journal.items, the_calls g.N.Name.engine c.in-Ok.closed.journal.items c.args.sessions.items c.in-Ok.ensures.serial.clients c.in-Ok.ensures.sessions, c.in-Ok.ensures.serial.at_end)

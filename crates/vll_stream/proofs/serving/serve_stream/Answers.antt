@@ -1,13 +1,16 @@
-use Rattle.std.proofs.Common.{◌≡◌, ◌≤◌, ◌-◌, ℕ, List, [], ◌++◌, length, refl, sym, ap, ◌∙◌, subst, rules, Result, Err, IfErr, vec_capacity}
+use Rattle.std.proofs.Common.{◌≡◌, ◌≤◌, ℕ, List, [], ◌++◌, refl, sym, ap, ◌∙◌, subst, rules, Result, Err, IfErr, vec_capacity}
 use Rattle.std.specs.Io.KnownBytes.{Appends}
-use Rattle.vll_core.specs.Headline.State.{Base}
-use Rattle.vll_queue.specs.Shown.{name_of}
+use Rattle.vll_core.specs.declared.config.Config.{Config}
+use Rattle.vll_queue.specs.Closed.{GoesOn}
+use Rattle.vll_queue.specs.Shown.{OpeningShown, name_of}
+use Rattle.vll_sca.specs.declared.place.Placing.{Placing}
+use Rattle.vll_scenario.specs.declared.limits.TheConstants.{MOST_CLIENTS}
 use Rattle.vll_sca.specs.Placing.{placing}
 use Rattle.vll_lines.specs.Answers.{end_line}
 use Rattle.vll_lines.specs.Lines.{has_feed}
 use Rattle.vll_stream.specs.Private.Parts.{Place, place_of}
-use Rattle.vll_stream.specs.Private.Told.{AreAll, IsEpoch, IsSoFar}
-use Rattle.vll_stream.specs.Served.{EndsEarly, base_of}
+use Rattle.vll_stream.specs.Private.Told.{AreAll, IsEpoch, IsSoFar, first_engine}
+use Rattle.vll_stream.specs.Served.{EndsEarly}
 use Rattle.vll_stream.specs.declared.fault.StreamFault.{StreamFault}
 use Rattle.vll_stream.specs.declared.fault.StreamFault.TheVariants as fault
 use Rattle.vll_scenario.specs.Streams.{AppendsBeginning}
@@ -19,24 +22,30 @@ use Rattle.vll_stream.proofs.serving.serve_stream.Goals as goal
 
 pub loop-init : goal.loop-init
 loop-init g c =
-    let base : Base = base_of c.args.scenario in
-    let clients : ℕ = length c.args.scenario.scripts in
+    let first = first_engine c.args.scenario in
     let at : Place = place_of g.S.Source.remaining g.W.Sink.contents c.args.reader.now [] c.args.writer.now 0 in
-    let o = c.in_ok-opening.ensures in
-    let none = none_so_far base clients c.args.workers at c.in_ok-opening.opening o.library o.records o.clients o.limit in (
+    let o = c.in_ok-opening.ensures.opened in
+    let on : GoesOn placing first [] c.in_ok-opening.opening = record {
+      records = ap (λ (x : OpeningShown Placing). x.records) o;
+      library = ap (λ (x : OpeningShown Placing). x.library) o;
+      config = ap (λ (x : OpeningShown Placing). x.config) o;
+      places = ap (λ (x : OpeningShown Placing). placing x.hash) o;
+      clients = ap (λ (x : OpeningShown Placing). x.clients) o;
+    } in
+    let few = c.in_ok-opening.ensures.few in (
       tt,
       tt,
       c.in_ok-room.ensures.capacity,
       c.requires.reader,
       c.requires.writer,
       ap has_feed c.new-tail.ensures.items,
-      subst (λ (t : List ℕ). IsSoFar base clients c.args.workers at (record at { tail = t }) c.in_ok-opening.opening) (sym c.new-tail.ensures.items) none,
+      subst (λ (t : List ℕ). IsSoFar first at (record at { tail = t }) c.in_ok-opening.opening) (sym c.new-tail.ensures.items) (none_so_far first at c.in_ok-opening.opening on),
+      subst (λ (k : ℕ). k ≤ MOST_CLIENTS) on.clients few,
     )
 
 pub loop-preserved : goal.loop-preserved
 loop-preserved g c =
-    let base : Base = base_of c.args.scenario in
-    let clients : ℕ = length c.args.scenario.scripts in
+    let first = first_engine c.args.scenario in
     let known = g.S.Source.remaining in
     let contents = g.W.Sink.contents in
     let l = c.loop in
@@ -45,19 +54,20 @@ loop-preserved g c =
     let old : Place = place_of known contents c.args.reader.now [] c.args.writer.now 0 in
     let mid : Place = place_of known contents l.reader l.tail.items l.writer l.number in
     let new : Place = place_of known contents c.run_epoch.new.reader c.run_epoch.new.tail.items c.run_epoch.new.writer c.in_ok-ended.ended.number in
-    let epoch = subst (IsEpoch e (e.clients - 1) c.args.workers mid new) c.in-On.is c.in_ok-ended.ensures.epoch in
+    let epoch = subst (IsEpoch e mid new) c.in-On.is c.in_ok-ended.ensures.epoch in
     let few = epoch.follows.1 in (
       tt,
       tt,
-      subst (λ (k : ℕ). k ≤ vec_capacity c.in-On.journal) so_far.limit few,
+      subst (λ (k : ℕ). k ≤ vec_capacity c.in-On.journal) (ap (λ (x : Config). x.limit) so_far.on.config) few,
       c.in_ok-ended.ensures.reader,
       c.in_ok-ended.ensures.writer,
       c.in_ok-ended.ensures.tail,
-      one_more base clients c.args.workers old mid new l.opening so_far epoch.calls _ epoch.part epoch.found c.in-On.next epoch.follows.0 refl,
+      one_more first old mid new l.opening so_far epoch.calls _ epoch.part epoch.found c.in-On.next epoch.follows.0 refl,
+      l.invariant.7,
     )
 
 -- all epochs, once the last one has ended
-all_of : (g : Over) (c : In-Over g) → AreAll (base_of c.args.scenario) (length c.args.scenario.scripts) c.args.workers (place_of g.S.Source.remaining g.W.Sink.contents c.args.reader.now [] c.args.writer.now 0)
+all_of : (g : Over) (c : In-Over g) → AreAll (first_engine c.args.scenario) (place_of g.S.Source.remaining g.W.Sink.contents c.args.reader.now [] c.args.writer.now 0)
     (place_of g.S.Source.remaining g.W.Sink.contents c.run_epoch.new.reader c.run_epoch.new.tail.items c.run_epoch.new.writer c.in_ok-ended.ended.number) c.in-Over.records.items
 all_of g c =
     let known = g.S.Source.remaining in
@@ -67,8 +77,8 @@ all_of g c =
     let old : Place = place_of known contents c.args.reader.now [] c.args.writer.now 0 in
     let mid : Place = place_of known contents l.reader l.tail.items l.writer l.number in
     let new : Place = place_of known contents c.run_epoch.new.reader c.run_epoch.new.tail.items c.run_epoch.new.writer c.in_ok-ended.ended.number in
-    let epoch = subst (IsEpoch e (e.clients - 1) c.args.workers mid new) c.in-Over.is c.in_ok-ended.ensures.epoch in
-    the_last (base_of c.args.scenario) (length c.args.scenario.scripts) c.args.workers old mid new l.opening l.invariant.6 epoch.calls _ epoch.part epoch.found c.in-Over.records.items epoch.follows refl
+    let epoch = subst (IsEpoch e mid new) c.in-Over.is c.in_ok-ended.ensures.epoch in
+    the_last (first_engine c.args.scenario) old mid new l.opening l.invariant.6 epoch.calls _ epoch.part epoch.found c.in-Over.records.items epoch.follows refl
 
 -- the last line is written then
 text_of : (g : Over) (c : After-as_slice-in-Over g) → c.as_slice-in-Over.result.now ≡ end_line c.in_ok-ended.ended.number c.in-Over.records.items
@@ -83,7 +93,7 @@ returns-in-Over-clause-ok g c =
     let known = g.S.Source.remaining in
     let contents = g.W.Sink.contents in
     let final = contents c.write_text.new.writer in
-    serves_all c.args.scenario c.args.workers (known c.args.reader.now) (known c.run_epoch.new.reader) (contents c.args.writer.now) (contents c.run_epoch.new.writer) c.run_epoch.new.tail.items c.in-Over.records.items
+    serves_all c.args.scenario (known c.args.reader.now) (known c.run_epoch.new.reader) (contents c.args.writer.now) (contents c.run_epoch.new.writer) c.run_epoch.new.tail.items c.in-Over.records.items
     c.in_ok-ended.ended.number (all_of g at.In-Over) final (subst (Appends (contents c.run_epoch.new.writer) final) (text_of g at.After-as_slice-in-Over) c.in_ok-write_text-in-Over.ensures.ok)
 
 pub returns-in_err-opening-clause-err : goal.returns-in_err-opening-clause-err
@@ -92,19 +102,18 @@ returns-in_err-opening-clause-err g c =
     let contents = g.W.Sink.contents c.args.writer.now in
     let why = c.in_err-opening.field-0.0 in
     let is : c.from_residual.result ≡ Err why = search rules in
-    subst (λ (r : Result (Unit {0}) StreamFault). IfErr r (λ w. EndsEarly c.args.scenario c.args.workers w known known contents contents)) (sym is) (ends_at_once c.args.scenario c.args.workers why known contents)
+    subst (λ (r : Result (Unit {0}) StreamFault). IfErr r (λ w. EndsEarly c.args.scenario w known known contents contents)) (sym is) (ends_at_once c.args.scenario why known contents)
 
 pub returns-in_err-room-clause-err : goal.returns-in_err-room-clause-err
 returns-in_err-room-clause-err g c =
     let known = g.S.Source.remaining c.args.reader.now in
     let contents = g.W.Sink.contents c.args.writer.now in
     let is : c.from_residual-in_err-room.result ≡ Err fault.NoMemory = search rules in
-    subst (λ (r : Result (Unit {0}) StreamFault). IfErr r (λ w. EndsEarly c.args.scenario c.args.workers w known known contents contents)) (sym is) (ends_at_once c.args.scenario c.args.workers fault.NoMemory known contents)
+    subst (λ (r : Result (Unit {0}) StreamFault). IfErr r (λ w. EndsEarly c.args.scenario w known known contents contents)) (sym is) (ends_at_once c.args.scenario fault.NoMemory known contents)
 
 pub returns-in_err-ended-clause-err : goal.returns-in_err-ended-clause-err
 returns-in_err-ended-clause-err g c =
-    let base : Base = base_of c.args.scenario in
-    let clients : ℕ = length c.args.scenario.scripts in
+    let first = first_engine c.args.scenario in
     let known = g.S.Source.remaining in
     let contents = g.W.Sink.contents in
     let l = c.loop in
@@ -114,8 +123,8 @@ returns-in_err-ended-clause-err g c =
     let written = contents c.run_epoch.new.writer in
     let why = c.in_err-ended.field-0.0 in
     let is : c.from_residual-in_err-ended.result ≡ Err why = search rules in
-    subst (λ (r : Result (Unit {0}) StreamFault). IfErr r (λ w. EndsEarly c.args.scenario c.args.workers w old.input left old.output written)) (sym is)
-    (ends_early c.args.scenario c.args.workers why old.input left old.output written (epoch_stops base clients c.args.workers old mid l.opening why left written l.invariant.6 c.in_err-ended.ensures.err))
+    subst (λ (r : Result (Unit {0}) StreamFault). IfErr r (λ w. EndsEarly c.args.scenario w old.input left old.output written)) (sym is)
+    (ends_early c.args.scenario why old.input left old.output written (epoch_stops first old mid l.opening why left written l.invariant.6 c.in_err-ended.ensures.err))
 
 -- no epoch ends for the scenario's calls
 uncalled : (r : Result (Unit {0}) StreamFault) (why : StreamFault) → r ≡ Err why → ¬ (why ≡ fault.Calls) → ¬ (r ≡ Err fault.Calls)
@@ -142,8 +151,8 @@ returns-in_err-text-in-Over-clause-err g c =
     let before = g.W.Sink.contents c.args.writer.now in
     let written = g.W.Sink.contents c.run_epoch.new.writer in
     let is : c.from_residual-in_err-text-in-Over.result ≡ Err fault.NoMemory = search rules in
-    subst (λ (r : Result (Unit {0}) StreamFault). IfErr r (λ w. EndsEarly c.args.scenario c.args.workers w old left before written)) (sym is)
-    (lacks_memory c.args.scenario c.args.workers old left before written c.run_epoch.new.tail.items c.in-Over.records.items c.in_ok-ended.ended.number
+    subst (λ (r : Result (Unit {0}) StreamFault). IfErr r (λ w. EndsEarly c.args.scenario w old left before written)) (sym is)
+    (lacks_memory c.args.scenario old left before written c.run_epoch.new.tail.items c.in-Over.records.items c.in_ok-ended.ended.number
     (all_of g (goal.at.returns-in_err-text-in-Over-clause-err g c).In-Over))
 
 pub returns-in_err-write_text-in-Over-clause-err : goal.returns-in_err-write_text-in-Over-clause-err
@@ -155,6 +164,19 @@ returns-in_err-write_text-in-Over-clause-err g c =
     let written = g.W.Sink.contents c.run_epoch.new.writer in
     let final = g.W.Sink.contents c.write_text.new.writer in
     let is : c.from_residual-in_err-write_text-in-Over.result ≡ Err fault.Write = search rules in
-    subst (λ (r : Result (Unit {0}) StreamFault). IfErr r (λ w. EndsEarly c.args.scenario c.args.workers w old left before final)) (sym is)
-    (breaks_off c.args.scenario c.args.workers old left before written c.run_epoch.new.tail.items c.in-Over.records.items c.in_ok-ended.ended.number (all_of g at.In-Over) final
+    subst (λ (r : Result (Unit {0}) StreamFault). IfErr r (λ w. EndsEarly c.args.scenario w old left before final)) (sym is)
+    (breaks_off c.args.scenario old left before written c.run_epoch.new.tail.items c.in-Over.records.items c.in_ok-ended.ended.number (all_of g at.In-Over) final
     (subst (AppendsBeginning written final) (text_of g at.After-as_slice-in-Over) c.in_err-write_text-in-Over.ensures.err))
+
+pub run_epoch-requires : goal.run_epoch-requires
+run_epoch-requires g c =
+    let l = c.loop in
+    let on = l.invariant.6.on in
+    record {
+      named = refl;
+      few = subst (λ (k : ℕ). k ≤ MOST_CLIENTS) (sym on.clients) l.invariant.7;
+      room = subst (λ (k : ℕ). k ≤ vec_capacity l.room) (sym (ap (λ (x : Config). x.limit) on.config)) l.invariant.2;
+      reader = l.invariant.3;
+      writer = l.invariant.4;
+      tail = l.invariant.5;
+    }
