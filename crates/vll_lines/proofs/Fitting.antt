@@ -1,5 +1,5 @@
 -- The calls that lines ask for are ones that the library makes, of clients that there are.
-use Rattle.std.proofs.Common.{◌≡◌, ◌<◌, inl, inr, ℕ, Bool, true, false, List, [], ◌∷◌, refl, sym, ap, subst, Option, Some, None, Result, Ok, Err, All, if◌then◌else◌, nat_lt}
+use Rattle.std.proofs.Common.{◌≡◌, ◌<◌, inl, inr, ℕ, Bool, true, false, List, [], ◌∷◌, refl, sym, subst, Option, Result, Ok, Err, All, if◌then◌else◌, nat_lt}
 use Rattle.std.proofs.lemmas.Bool.{ltb-true}
 use Rattle.std.proofs.lemmas.List.Elements.{All-cons, All-nil, All-weaker}
 use Rattle.serde_json.specs.Data.{Data}
@@ -8,13 +8,12 @@ use Rattle.vll_check.specs.Calls.{Fits, call_made}
 use Rattle.vll_check.specs.Headline.Catalog.{Catalog}
 use Rattle.vll_check.specs.declared.fault.CallFault.{CallFault}
 use Rattle.vll_scenario.specs.Shape.{◌>>=◌}
-use Rattle.vll_lines.specs.Request.{AreRequests, IsRequest, IsLine, args_of, request_of, request_with, call_asked, client_of, has_no_other, id_of, made_by, name_of}
-use Rattle.vll_lines.specs.Theirs.{calls_of, with_call}
+use Rattle.vll_lines.specs.Request.{AreRequests, IsRequest, IsLine, args_of, request_with, call_asked, client_of, has_no_other, id_of, made_by, name_of}
+use Rattle.vll_lines.specs.Calls.{calls_of, with_call}
 use Rattle.vll_lines.specs.declared.request.Request.{Request}
 use Rattle.vll_lines.specs.declared.request.ClientCall.{ClientCall}
 use Rattle.vll_lines.specs.declared.request.Id.{Id}
 use Rattle.vll_lines.specs.declared.request.LineFault.{LineFault}
-use Rattle.vll_lines.specs.declared.request.LineFault.TheVariants as fault
 
 module _ (library : Catalog) (clients : ℕ) where
   -- a call that fits, of a client below the number

@@ -4,11 +4,6 @@ pub mod Says
 pub mod Lines
 pub mod Cuts
 pub mod Fitting
-pub mod Theirs
-pub mod Placed
-pub mod Told
-pub mod AnsweredAt
-pub mod ByClient
-pub mod PlacedSoFar
+pub mod Calls
 pub mod Written
 pub mod Named

@@ -1,5 +1,5 @@
 -- The answers to lines, and the last line of a service, by their JSON tokens.
-use Rattle.std.specs.Prelude.{ℕ, suc, ◌+◌, List, [], ◌∷◌, ◌++◌, Option, Some, None, Result, Ok, Err, map, slice_get, codes}
+use Rattle.std.specs.Prelude.{ℕ, suc, List, [], ◌∷◌, ◌++◌, Option, Some, None, Result, Ok, Err, map, codes}
 use Rattle.std.specs.Fmt.{decimal}
 use Rattle.json.specs.Print.{print}
 use Rattle.json.specs.Token.{Token, begin_object, end_object, begin_array, end_array, key, string, number}
@@ -81,24 +81,3 @@ with_answer it (Ok call) rest n (reply ∷ replies) = reply_line it n reply ++ r
 abbrev pub answers : List Request → ℕ → List Reply → List ℕ
 answers [] n replies = []
 answers (a ∷ more) n replies = with_answer a.id a.call (answers more) n replies
-
--- the answer to a line, and then the rest, for what is left of what is told
-abbrev pub with_answer_by : Option Id → Result ClientCall LineFault → (List (ℕ × Reply) → List ℕ) → List (ℕ × Reply) → List ℕ
-with_answer_by it (Err why) rest told = fault_line it why ++ rest told
-with_answer_by it (Ok call) rest [] = []
-with_answer_by it (Ok call) rest (t ∷ told) = reply_line it t.0 t.1 ++ rest told
-
--- the answers to lines, in order, by what is told of the calls that they ask for, in order: the number and the reply of each
-abbrev pub answers_by : List Request → List (ℕ × Reply) → List ℕ
-answers_by [] told = []
-answers_by (a ∷ more) told = with_answer_by a.id a.call (answers_by more) told
-
--- one call more of which is told, if it has a reply
-abbrev pub with_told : ℕ → Option Reply → List (ℕ × Reply) → List (ℕ × Reply)
-with_told n None told = told
-with_told n (Some reply) told = (n, reply) ∷ told
-
--- the number and the reply of the call at each of these places, of calls that are numbered from n on and have these replies
-abbrev pub told_at : ℕ → List Reply → List ℕ → List (ℕ × Reply)
-told_at n replies [] = []
-told_at n replies (p ∷ places) = with_told (n + p) (slice_get replies p) (told_at n replies places)

@@ -1,6 +1,5 @@
 pub mod Request
 pub mod Lines
-pub mod Theirs
-pub mod Placed
+pub mod Calls
 pub mod Answers
 pub mod Private

@@ -2,5 +2,3 @@ pub mod Reading
 pub mod Tokens
 pub mod Cutting
 pub mod Writing
-pub mod Replied
-pub mod Unplaced

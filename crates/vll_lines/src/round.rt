@@ -3,7 +3,7 @@ ghost use Rattle.std.specs.Prelude.{◌≡◌, ◌<◌, ◌↔◌, ℕ, List, []
 ghost use Rattle.vll_check.specs.Calls.{Fits};
 ghost use Rattle.vll_lines.specs.Request.{AreRequests};
 ghost use Rattle.vll_lines.specs.Lines.{IsBroken, IsRound, has_feed, lines_in};
-ghost use Rattle.vll_lines.specs.Theirs.{calls_of};
+ghost use Rattle.vll_lines.specs.Calls.{calls_of};
 ghost use Rattle.vll_lines.specs.Private.Cutting.{Cuts, StandsFor};
 ghost use Rattle.vll_lines.specs.declared.round.RoundFault.TheVariants as round_fault;
 

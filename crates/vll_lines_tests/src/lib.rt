@@ -5,5 +5,3 @@
 mod answers;
 #[cfg(test)]
 mod asserts;
-#[cfg(test)]
-mod places;

@@ -7,12 +7,12 @@ use Rattle.vll_proc.specs.declared.syntax.Proc.{Proc}
 use Rattle.vll_proc.specs.Headline.Serial.{Made, apply, end}
 use Rattle.vll_proc.specs.Serial.{replies}
 use Rattle.vll_lines.specs.Answers.{answers, fault_line, reply_line, with_answer}
-use Rattle.vll_lines.specs.Theirs.{call_shown, calls_of, with_call}
+use Rattle.vll_lines.specs.Calls.{call_shown, calls_of, with_call}
 use Rattle.vll_lines.specs.declared.request.ClientCall.{ClientCall}
 use Rattle.vll_lines.specs.declared.request.Id.{Id}
 use Rattle.vll_lines.specs.declared.request.LineFault.{LineFault}
 use Rattle.vll_lines.specs.declared.request.Request.{Request}
-use Rattle.vll_lines.proofs.Theirs.{calls_of_both}
+use Rattle.vll_lines.proofs.Calls.{calls_of_both}
 use Rattle.vll_stream.specs.Served.{AreOrdered, made_shown}
 
 -- the replies of both lists

@@ -13,7 +13,7 @@ use Rattle.vll_queue.specs.Headline.Found.{AreFoundThere}
 use Rattle.vll_queue.specs.Shown.{Named, library_of}
 use Rattle.vll_lines.specs.Answers.{answers, fault_line, reply_line, with_answer}
 use Rattle.vll_lines.specs.Lines.{IsBroken, IsRound, has_feed}
-use Rattle.vll_lines.specs.Theirs.{call_shown, calls_of, with_call}
+use Rattle.vll_lines.specs.Calls.{call_shown, calls_of, with_call}
 use Rattle.vll_lines.specs.declared.request.ClientCall.{ClientCall}
 use Rattle.vll_lines.specs.declared.request.LineFault.{LineFault}
 use Rattle.vll_lines.specs.declared.request.Request.{Request}

@@ -13,7 +13,7 @@ use Rattle.vll_scenario.specs.Streams.{AppendsBeginning}
 use Rattle.vll_lines.specs.Answers.{answers, end_line}
 use Rattle.vll_lines.specs.Request.{AreRequests}
 use Rattle.vll_lines.specs.Lines.{CutsInto, has_feed, lines_in}
-use Rattle.vll_lines.specs.Theirs.{call_shown, calls_of}
+use Rattle.vll_lines.specs.Calls.{call_shown, calls_of}
 use Rattle.vll_lines.specs.declared.request.Request.{Request}
 use Rattle.vll_stream.specs.declared.fault.StreamFault.{StreamFault}
 use Rattle.vll_stream.specs.declared.fault.StreamFault.TheVariants as fault

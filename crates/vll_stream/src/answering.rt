@@ -1,7 +1,7 @@
 //! The answers to the lines of a round, by the calls that they ask for.
 ghost use Rattle.std.specs.Prelude.{◌≡◌, ◌<◌, ◌∷◌, ◌++◌, [], ℕ, List, All, IfErr, IfOk, OnOk};
 ghost use Rattle.vll_check.specs.Calls.{Fits};
-ghost use Rattle.vll_lines.specs.Theirs.{calls_of};
+ghost use Rattle.vll_lines.specs.Calls.{calls_of};
 ghost use Rattle.vll_queue.specs.Shown.{library_of};
 ghost use Rattle.vll_stream.specs.Private.Callers.{AreCallers, made_so_far};
 ghost use Rattle.vll_stream.specs.Private.Stopped.{IsOwn};

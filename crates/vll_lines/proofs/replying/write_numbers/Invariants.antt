@@ -1,6 +1,6 @@
 -- The numbers so far are written, and those of the rest are to follow.
-use Rattle.std.proofs.Common.{◌≡◌, ◌++◌, drop, decimal, flat_map, List, ℕ, ◌∷◌, []}
-use Rattle.json.specs.Token.{begin_array, number}
+use Rattle.std.proofs.Common.{◌≡◌, ◌++◌, drop, ◌∷◌}
+use Rattle.json.specs.Token.{begin_array}
 use Rattle.vll_lines.specs.Answers.{number_tokens}
 use Rattle.vll_lines.proofs.replying.write_numbers.Given as goal
 

@@ -1,4 +1,4 @@
-use Rattle.std.proofs.Common.{◌≡◌, ℕ, List, ◌∷◌, sym, ap, ◌∙◌, subst, codes}
+use Rattle.std.proofs.Common.{ℕ, List, ◌∷◌, sym, ap, ◌∙◌, subst, codes}
 use Rattle.json.specs.Token.{key}
 use Rattle.vll_lines.specs.Answers.{numbers_tokens, reply_tokens}
 use Rattle.vll_lines.specs.Private.Writing.{Adds}

@@ -1,4 +1,4 @@
-use Rattle.std.proofs.Common.{◌≡◌, ℕ, List, ◌∷◌, ◌++◌, [], sym, ap, ◌∙◌, subst, append_assoc, rules}
+use Rattle.std.proofs.Common.{◌≡◌, ℕ, List, ◌∷◌, ◌++◌, sym, ap, ◌∙◌, subst, append_assoc, rules}
 use Rattle.vll_lines.specs.Request.{IsLine}
 use Rattle.vll_lines.specs.Private.Cutting.{Cuts}
 use Rattle.vll_lines.specs.declared.request.Request.{Request}

@@ -1,5 +1,5 @@
 use Rattle.std.proofs.Common.{◌≡◌, ◌-◌, length, None, Some, refl, ◌∙◌, arith}
-use Rattle.json.specs.Json.{members, read_key, value}
+use Rattle.json.specs.Json.{read_key, value}
 use Rattle.json.proofs.Grammar.{read_key-shorter}
 use Rattle.serde_json.specs.Data.{no_members, put}
 use Rattle.vll_lines.proofs.Grammar.{member_read, members_over}

@@ -5,7 +5,7 @@ use Rattle.vll_check.specs.Calls.{Fits}
 use Rattle.vll_scenario.specs.Streams.{AppendsBeginning}
 use Rattle.vll_queue.specs.Shown.{library_of}
 use Rattle.vll_lines.specs.Lines.{IsRound}
-use Rattle.vll_lines.specs.Theirs.{calls_of}
+use Rattle.vll_lines.specs.Calls.{calls_of}
 use Rattle.vll_lines.specs.declared.request.ClientCall.{ClientCall}
 use Rattle.vll_lines.specs.declared.request.Request.{Request}
 use Rattle.vll_stream.specs.Private.Callers.{made_so_far}
