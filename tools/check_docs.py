@@ -21,7 +21,7 @@ import sys
 from itertools import zip_longest
 
 from cases import TOP, read_cases
-from figures import HEAD, rows_below, with_rows
+from figures.speed import HEAD, rows_below, with_rows
 from sources import Sources, Specs
 
 NAME = re.compile(r'`([^`]+)`')
@@ -232,7 +232,8 @@ def crate_in(heading):
 
 def texts_of_pages():
     """The texts of the pages, by their names."""
-    paths = [path for folder in ('.', 'docs', 'examples', 'scenarios') for path in sorted((TOP / folder).glob('*.md'))]
+    paths = [path for folder in ('.', 'docs', 'examples', 'scenarios', 'tools/figures')
+             for path in sorted((TOP / folder).glob('*.md'))]
     return {str(path.relative_to(TOP)): path.read_text() for path in paths}
 
 

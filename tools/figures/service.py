@@ -1,7 +1,7 @@
 #!/usr/bin/env python3
 """Measures `vll serve` while nothing else runs, beside a Redis server where there is one, and prints the figures.
 
-    python3 tools/service_figures.py [--program PROGRAM] [--calls N] [--many N]
+    python3 tools/figures/service.py [--program PROGRAM] [--calls N] [--many N]
 
 The calls are transfers over 65,536 records by four clients. What is measured:
 
@@ -26,8 +26,7 @@ import tempfile
 import time
 from pathlib import Path
 
-from cases import TOP
-
+TOP = Path(__file__).resolve().parents[2]
 RECORDS, HELD, CLIENTS = 65536, 1000, 4
 # The most calls that lack an answer, how many are written at a time, and how many are made one by one.
 IN_FLIGHT, BLOCK, ONE_BY_ONE = 1000, 250, 20000

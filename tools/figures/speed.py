@@ -1,8 +1,8 @@
 #!/usr/bin/env python3
 """Takes the figures of docs/speed.csv and docs/sweep.csv anew, draws them, and writes README.md's rows of them.
 
-    python3 tools/figures.py [--processor WORDS] [compare] [sweep]
-    python3 tools/figures.py --scenario NAME       prints a scenario of docs/speed.csv, the same one each time
+    python3 tools/figures/speed.py [--processor WORDS] [compare] [sweep]
+    python3 tools/figures/speed.py --scenario NAME       prints a scenario of docs/speed.csv, the same one each time
 
 It builds vll_bench, which is proved before, and runs `vll_bench compare` on each of these scenarios, and on those of
 a sweep, with ever fewer hot records; with a word only on these. It is to be run while nothing else runs. The processor
@@ -21,8 +21,7 @@ import subprocess
 from datetime import datetime, timezone
 from pathlib import Path
 
-from cases import TOP
-
+TOP = Path(__file__).resolve().parents[2]
 CRATE = TOP / 'crates/vll_bench'
 FILES = {'compare': TOP / 'docs/speed.csv', 'sweep': TOP / 'docs/sweep.csv'}
 # What vll_bench prints first, and the first line of a file of figures.
@@ -170,7 +169,7 @@ def main():
     readme = TOP / 'README.md'
     readme.write_text(with_rows(readme.read_text(), FILES['compare'].read_text()))
     if shutil.which('gnuplot'):
-        subprocess.run(['gnuplot', 'tools/speed.gnuplot'], cwd=TOP, check=True)
+        subprocess.run(['gnuplot', 'tools/figures/speed.gnuplot'], cwd=TOP, check=True)
     else:
         print('not drawn: there is no gnuplot')
 

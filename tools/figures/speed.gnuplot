@@ -1,4 +1,4 @@
-# `gnuplot tools/speed.gnuplot`, at the top of the repository, draws speed.svg from speed.csv, and sweep.svg from
+# `gnuplot tools/figures/speed.gnuplot`, at the top of the repository, draws speed.svg from speed.csv, and sweep.svg from
 # sweep.csv, in docs/. Both have a ground of their own, so that they can be read on a light page and on a dark one.
 
 set datafile separator comma
