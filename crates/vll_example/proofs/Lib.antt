@@ -1,1 +1,2 @@
+mod SoFar
 mod Total

@@ -2,7 +2,7 @@
 use denote.Param.Send.{sendable}
 use Rattle.std.proofs.Crossing.{crosses}
 use Rattle.vll_engine.proofs.Crossing.{engine}
-use Rattle.vll_service_example.proofs.epoch.make_calls.Goals as goal
+use Rattle.vll_example.proofs.epochs.make_calls.Goals as goal
 
 pub map_vec-requires-sync-F : goal.map_vec-requires-sync-F
 map_vec-requires-sync-F g c κs within =

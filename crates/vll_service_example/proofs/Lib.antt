@@ -1,4 +1,0 @@
-mod Bodies
-mod Calls
-mod Epochs
-mod Serial

@@ -1,3 +1,0 @@
-pub mod Bank
-pub mod Tally
-pub mod Service
