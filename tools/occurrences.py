@@ -151,16 +151,6 @@ def in_members(scenario):
                       'several clients': len(clients) > 1})
 
 
-def why_out_of_step(word, call):
-    if call.has_loads_left():
-        return 'loads are left'
-    if word == 'store':
-        return 'it was aborted' if call.has_aborted() else 'all are made'
-    if call.has_stores_left():
-        return 'stores are left'
-    return 'all are made' if word == 'release' else 'releases are left'
-
-
 def why_no_scan(machine):
     if not machine.waiting():
         return 'none is waiting'
@@ -182,7 +172,7 @@ def detail(machine, event, reason):
     if word == 'scan' and reason == 'idle':
         return f', {why_no_scan(machine)}'
     if word in ('store', 'release', 'finish') and reason == 'out of step':
-        return f', {why_out_of_step(word, machine.calls[number])}'
+        return f', {machine.calls[number].out_of_step(word)}'
     return ''
 
 

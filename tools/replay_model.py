@@ -50,6 +50,20 @@ class Call:
     def has_releases_left(self):
         return self.released < len(self.claims)
 
+    def out_of_step(self, word):
+        """Why a running call has something else to do than a load, a store, a release or to finish, if it has."""
+        if word == 'load':
+            return None if self.has_loads_left() else 'all are made'
+        if self.has_loads_left():
+            return 'loads are left'
+        if word == 'store':
+            return None if self.has_stores_left() else 'it was aborted' if self.has_aborted() else 'all are made'
+        if self.has_stores_left():
+            return 'stores are left'
+        if word == 'release':
+            return None if self.has_releases_left() else 'all are made'
+        return 'releases are left' if self.has_releases_left() else None
+
 
 class Machine:
     """Takes events one by one: refusal tells why one cannot be taken where it stands, and take takes it."""
@@ -151,17 +165,7 @@ class Machine:
         elif word == 'scan':
             yield 'idle', self.scan() is None
         else:
-            yield 'out of step', self.is_out_of_step(word, self.calls[number])
-
-    def is_out_of_step(self, word, call):
-        """Whether a running call has something else to do than a load, a store, a release or to finish."""
-        if word == 'load':
-            return not call.has_loads_left()
-        if word == 'store':
-            return call.has_loads_left() or not call.has_stores_left()
-        if word == 'release':
-            return call.has_loads_left() or call.has_stores_left() or not call.has_releases_left()
-        return call.has_loads_left() or call.has_stores_left() or call.has_releases_left()
+            yield 'out of step', self.calls[number].out_of_step(word) is not None
 
     def refusal(self, event):
         """The first reason for which an event is refused, if there is one."""
