@@ -10,31 +10,23 @@ use std::sync::Wait;
 use vll_core::{Config, Line};
 use vll_engine::{Client, Clients, Closed, Engine, Name, NotReopened, Opening, Reopened, Service};
 use vll_sca::Placing;
-use vll_server::ScenarioParts;
 
 // The client in a line that the engine has not written.
 const MARK: u32 = 77;
 
 /// Makes the calls of one client, and reopens the engine.
 pub(crate) fn reopen<R: Print + AllocGlobal + Wait>(rt: &R) -> Result<Answer, Unready> {
-    let ScenarioParts {
-        records,
-        library,
-        config,
-        placing,
-        ..
-    } = four_clients(rt.alloc())?.into_parts();
+    let parts = four_clients(rt.alloc())?.into_parts();
     let config = Config {
-        cap: config.cap,
         limit: CALLS,
-        bits: config.bits,
+        ..parts.config
     };
     let opening = Opening::new(
         rt.alloc(),
-        records,
-        library,
+        parts.records,
+        parts.library,
         config,
-        placing,
+        parts.placing,
         CLIENTS as u32,
     )?;
     opening.host(Reopening {

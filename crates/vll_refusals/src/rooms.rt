@@ -11,7 +11,6 @@ use vll_core::{Core, OpenFault, Queue};
 use vll_counters::{NoMemory, Words};
 use vll_engine::Opening;
 use vll_sca::{Bits, BitsFault, MOST_BITS};
-use vll_server::ScenarioParts;
 
 pub(crate) fn bits(rt: &(impl Print + AllocGlobal)) -> Result<Answer, Unready> {
     begin(rt)?;
@@ -25,13 +24,9 @@ pub(crate) fn bits(rt: &(impl Print + AllocGlobal)) -> Result<Answer, Unready> {
 }
 
 pub(crate) fn queue(rt: &(impl Print + AllocGlobal)) -> Result<Answer, Unready> {
-    let ScenarioParts {
-        config,
-        placing,
-        ..
-    } = four_clients(rt.alloc())?.into_parts();
+    let parts = four_clients(rt.alloc())?.into_parts();
     begin(rt)?;
-    let made = Queue::open(rt.alloc(), config, placing);
+    let made = Queue::open(rt.alloc(), parts.config, parts.placing);
     end(rt)?;
     Ok(match made {
         Ok(queue) => Answer::Ample.only_if(queue.waiting() == 0 && queue.running() == 0),
@@ -40,16 +35,16 @@ pub(crate) fn queue(rt: &(impl Print + AllocGlobal)) -> Result<Answer, Unready> 
 }
 
 pub(crate) fn core(rt: &(impl Print + AllocGlobal)) -> Result<Answer, Unready> {
-    let ScenarioParts {
-        records,
-        library,
-        scripts,
-        config,
-        placing,
-        ..
-    } = four_clients(rt.alloc())?.into_parts();
+    let parts = four_clients(rt.alloc())?.into_parts();
     begin(rt)?;
-    let made = Core::open(rt.alloc(), records, library, scripts, config, placing);
+    let made = Core::open(
+        rt.alloc(),
+        parts.records,
+        parts.library,
+        parts.scripts,
+        parts.config,
+        parts.placing,
+    );
     end(rt)?;
     Ok(match made {
         Ok(core) => Answer::Ample.only_if(core.journal().is_empty()),
@@ -58,13 +53,9 @@ pub(crate) fn core(rt: &(impl Print + AllocGlobal)) -> Result<Answer, Unready> {
 }
 
 pub(crate) fn words(rt: &(impl Print + AllocGlobal)) -> Result<Answer, Unready> {
-    let ScenarioParts {
-        records,
-        library,
-        ..
-    } = four_clients(rt.alloc())?.into_parts();
+    let parts = four_clients(rt.alloc())?.into_parts();
     begin(rt)?;
-    let made = number_of_seats(rt.alloc(), records.as_slice(), &library);
+    let made = number_of_seats(rt.alloc(), parts.records.as_slice(), &parts.library);
     end(rt)?;
     Ok(match made {
         Ok(seats) => Answer::Ample.only_if(seats == 4),
@@ -81,15 +72,16 @@ fn number_of_seats(alloc: Global, records: &[u64], library: &Library) -> Result<
 }
 
 pub(crate) fn opening(rt: &(impl Print + AllocGlobal)) -> Result<Answer, Unready> {
-    let ScenarioParts {
-        records,
-        library,
-        config,
-        placing,
-        ..
-    } = four_clients(rt.alloc())?.into_parts();
+    let parts = four_clients(rt.alloc())?.into_parts();
     begin(rt)?;
-    let made = Opening::new(rt.alloc(), records, library, config, placing, 4);
+    let made = Opening::new(
+        rt.alloc(),
+        parts.records,
+        parts.library,
+        parts.config,
+        parts.placing,
+        4,
+    );
     end(rt)?;
     Ok(match made {
         Ok(_) => Answer::Ample,
