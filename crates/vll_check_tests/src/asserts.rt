@@ -1,15 +1,15 @@
-//! Assertions as functions, each proved once: proving one in place takes a second or two, proving a call takes none.
+//! Asserts, each proved once: proving one in place takes a second or two, proving a call of one takes no time.
 ghost use Rattle.std.specs.Prelude.{IsTrue};
 
 use std::fmt::Debug;
 use std::process::Abort;
 
-// Asserts that the two are the same.
+// Asserts that the two are equal.
 pub(crate) fn equal<T: PartialEq + Debug + Drop>(rt: &impl Abort, found: T, wanted: T) {
     assert_eq!(rt; found, wanted);
 }
 
-// Asserts the condition, which is known afterwards.
+// Asserts that this holds, which is known afterwards.
 pub(crate) fn holds(rt: &impl Abort, condition: bool)
     ensures { IsTrue condition }
 {

@@ -1,4 +1,4 @@
-//! Asserts, each proved once: an assert that is written out takes a second or two to prove, a call of these no time.
+//! Asserts, each proved once: proving one in place takes a second or two, proving a call of one takes no time.
 use std::fmt::Debug;
 use std::process::Abort;
 
@@ -7,7 +7,7 @@ pub(crate) fn equal<T: PartialEq + Debug + Drop>(rt: &impl Abort, found: T, want
     assert_eq!(rt; found, wanted);
 }
 
-// Asserts that the two are equal, for this row of a table.
+// Asserts that the two are equal, in this row of a table.
 pub(crate) fn equal_at<R: Debug + Drop, T: PartialEq + Debug + Drop>(
     rt: &impl Abort,
     row: R,

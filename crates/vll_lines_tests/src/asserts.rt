@@ -1,4 +1,4 @@
-//! Asserts, each proved once: proving an assert in place takes a second or two, proving a call to one takes no time.
+//! Asserts, each proved once: proving one in place takes a second or two, proving a call of one takes no time.
 use std::fmt::Debug;
 use std::process::Abort;
 

@@ -1,8 +1,8 @@
-//! An assertion as a function, proved once: proving one in place takes a second or two, proving a call takes none.
+//! Asserts, each proved once: proving one in place takes a second or two, proving a call of one takes no time.
 use std::fmt::Debug;
 use std::process::Abort;
 
-// Asserts that the two are the same.
+// Asserts that the two are equal.
 pub(crate) fn equal<T: PartialEq + Debug + Drop>(rt: &impl Abort, found: T, wanted: T) {
     assert_eq!(rt; found, wanted);
 }

@@ -1,4 +1,4 @@
-//! Asserts, each proved once: proving an assert in place takes a second or two, proving a call to one takes no time.
+//! Asserts, each proved once: proving one in place takes a second or two, proving a call of one takes no time.
 ghost use Rattle.std.specs.Prelude.{IsTrue};
 
 use std::fmt::Debug;
@@ -9,14 +9,14 @@ pub(crate) fn equal<T: PartialEq + Debug + Drop>(rt: &impl Abort, found: T, want
     assert_eq!(rt; found, wanted);
 }
 
-// Asserts a condition, which is known to hold afterwards.
+// Asserts that this holds, which is known afterwards.
 pub(crate) fn holds(rt: &impl Abort, condition: bool)
     ensures { IsTrue condition }
 {
     assert!(rt; condition);
 }
 
-// Asserts a condition for a row of a table.
+// Asserts that this holds, in this row of a table.
 pub(crate) fn holds_at<R: Debug + Drop>(rt: &impl Abort, row: R, condition: bool) {
     assert!(rt; condition, "at {row:?}");
 }

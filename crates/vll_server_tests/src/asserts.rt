@@ -1,4 +1,4 @@
-//! Asserts, each proved once: to prove one where it is written takes a second or two, and to prove a call none.
+//! Asserts, each proved once: proving one in place takes a second or two, proving a call of one takes no time.
 ghost use Rattle.std.specs.Prelude.{IsTrue};
 
 use std::fmt::Debug;

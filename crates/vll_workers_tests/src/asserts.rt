@@ -1,4 +1,4 @@
-//! Asserts, each proved once: to prove one where it is written takes a second or two, and to prove a call none.
+//! Asserts, each proved once: proving one in place takes a second or two, proving a call of one takes no time.
 ghost use Rattle.std.specs.Prelude.{IsTrue};
 
 use std::fmt::Debug;
@@ -7,11 +7,6 @@ use std::process::Abort;
 // Asserts that the two are equal.
 pub(crate) fn equal<T: PartialEq + Debug + Drop>(rt: &impl Abort, found: T, wanted: T) {
     assert_eq!(rt; found, wanted);
-}
-
-// Fails the test, for this reason.
-pub(crate) fn fail(rt: &impl Abort, why: &str) -> ! {
-    panic!(rt; "{why}")
 }
 
 // Asserts that this holds, which is known afterwards.
@@ -24,4 +19,9 @@ pub(crate) fn holds(rt: &impl Abort, condition: bool)
 // Asserts that this holds, in this row of a table.
 pub(crate) fn holds_at<R: Debug + Drop>(rt: &impl Abort, row: R, condition: bool) {
     assert!(rt; condition, "at {row:?}");
+}
+
+// Fails the test, for this reason.
+pub(crate) fn fail(rt: &impl Abort, why: &str) -> ! {
+    panic!(rt; "{why}")
 }
