@@ -6,7 +6,7 @@ ghost use Rattle.vll_sca.specs.Placing.{placing};
 
 use crate::asserts::{equal, fail};
 use crate::opening::opening_of;
-use crate::tokens::{all_bumping, are_home, closed_of, output_of};
+use crate::tokens::{all_calling, are_home, closed_of, output_of};
 use std::alloc::Global;
 use std::marker::Brand;
 use std::process::Abort;
@@ -34,7 +34,7 @@ fn all_bump_one_record<N: Name + Send + Sync, R: Wait + Threads + Abort + Sync>(
     requires workers { (1 ≤ workers) × (workers ≤ MOST_WORKERS) }
 {
     let (engine, sessions) = opening.start::<N>();
-    let tokens = all_bumping::<N>(rt, alloc, engine.library(), sessions, 1, CALLS)?;
+    let tokens = all_calling::<N>(rt, alloc, engine.library(), sessions, "bump", 1, CALLS)?;
     match run(rt, rt, alloc, &engine, tokens, workers, &OpenGate) {
         Ok(tokens) => are_home(rt, tokens.as_slice(), CLIENTS as usize, CALLS),
         Err(_) => fail(rt, "the run has a fault"),

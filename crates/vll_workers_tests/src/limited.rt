@@ -6,7 +6,7 @@ ghost use Rattle.vll_sca.specs.Placing.{placing};
 use crate::asserts::{equal, fail, holds};
 use crate::gates::{Crowd, Meeting};
 use crate::opening::opening;
-use crate::tokens::{all_bumping, are_counted, are_home, closes};
+use crate::tokens::{all_calling, are_counted, are_home, closes};
 use std::alloc::Global;
 use std::marker::Brand;
 use std::process::Abort;
@@ -27,7 +27,7 @@ fn counts_with_one_start<N: Name + Send + Sync, R: Wait + Threads + Abort + Sync
     requires { N.engine ≡ name_of placing opening }
 {
     let (engine, sessions) = opening.start::<N>();
-    let tokens = all_bumping::<N>(rt, alloc, engine.library(), sessions, 1, 1_000)?;
+    let tokens = all_calling::<N>(rt, alloc, engine.library(), sessions, "bump", 1, 1_000)?;
     match run_limited(rt, rt, alloc, &engine, tokens, 8, 1, &OpenGate) {
         Ok(tokens) => are_counted(rt, alloc, engine, tokens, 4, 1_000),
         Err(_) => fail(rt, "the run has a fault"),
@@ -50,7 +50,7 @@ fn is_refused<N: Name + Send + Sync, R: Wait + Threads + Abort + Sync>(
     requires { N.engine ≡ name_of placing opening }
 {
     let (engine, sessions) = opening.start::<N>();
-    let tokens = all_bumping::<N>(rt, alloc, engine.library(), sessions, 1, 1_000)?;
+    let tokens = all_calling::<N>(rt, alloc, engine.library(), sessions, "bump", 1, 1_000)?;
     match run_limited(rt, rt, alloc, &engine, tokens, 8, 0, &OpenGate) {
         Ok(_) => fail(rt, "the run is well"),
         Err(RunError { fault, mut tokens }) => {
@@ -107,7 +107,7 @@ fn runs_under<N: Name + Send + Sync, R: Wait + Threads + Abort + Sync, G: Gate +
     requires { N.engine ≡ name_of placing opening }
 {
     let (engine, sessions) = opening.start::<N>();
-    let tokens = all_bumping::<N>(rt, alloc, engine.library(), sessions, 8, 1)?;
+    let tokens = all_calling::<N>(rt, alloc, engine.library(), sessions, "bump", 8, 1)?;
     match run_limited(rt, rt, alloc, &engine, tokens, 8, 1, gate) {
         Ok(tokens) => are_home(rt, tokens.as_slice(), usize::from(clients), 1),
         Err(_) => fail(rt, "the run has a fault"),
@@ -136,7 +136,7 @@ fn runs_with_eight<N: Name + Send + Sync, R: Wait + Threads + Abort + Sync, G: G
     requires { N.engine ≡ name_of placing opening }
 {
     let (engine, sessions) = opening.start::<N>();
-    let tokens = all_bumping::<N>(rt, alloc, engine.library(), sessions, 8, 1)?;
+    let tokens = all_calling::<N>(rt, alloc, engine.library(), sessions, "bump", 8, 1)?;
     match run(rt, rt, alloc, &engine, tokens, 8, gate) {
         Ok(tokens) => are_home(rt, tokens.as_slice(), 8, 1),
         Err(_) => fail(rt, "the run has a fault"),

@@ -7,7 +7,7 @@ ghost use Rattle.vll_sca.specs.Placing.{placing};
 use crate::asserts::{equal, fail, holds_at};
 use crate::opening::opening_of;
 use crate::runs::{begins, ends, last_of, runs_through, waits};
-use crate::tokens::{all_bumping_of, closed_of, last_and_others};
+use crate::tokens::{all_calling, closed_of, last_and_others};
 use std::alloc::Global;
 use std::marker::Brand;
 use std::process::Abort;
@@ -142,7 +142,7 @@ fn begins_what_looks_denied<N: Name + Send + Sync, R: Wait + Threads + Abort + S
     let (engine, sessions) = opening.start::<N>();
     let (mut session, sessions) = last_and_others::<N>(rt, sessions);
     let library = engine.library();
-    let tokens = all_bumping_of::<N>(rt, alloc, library, sessions, 2, u32::from(TIMES))?;
+    let tokens = all_calling::<N>(rt, alloc, library, sessions, "bump", 2, u32::from(TIMES))?;
     let kept = begins(rt, &engine, &mut session, 1);
     match run(rt, rt, alloc, &engine, tokens, 1, &OpenGate) {
         Ok(tokens) => equal(rt, tokens.len(), 2),

@@ -6,7 +6,7 @@ ghost use Rattle.vll_tokens.specs.Tokens.{IsFit};
 
 use crate::asserts::{equal, fail};
 use crate::opening::opening;
-use crate::tokens::{bump_of, bumping, closes, last_and_others, output_of};
+use crate::tokens::{bump_of, calling, closes, last_and_others, output_of};
 use std::alloc::Global;
 use std::marker::Brand;
 use std::process::Abort;
@@ -71,7 +71,7 @@ fn goes_on<N: Name + Send + Sync, R: Wait + Threads + Abort + Sync>(
 {
     let (engine, sessions) = opening.start::<N>();
     let (session, _) = last_and_others::<N>(rt, sessions);
-    let token = bumping::<N>(rt, alloc, engine.library(), session, 0, 2)?;
+    let token = calling::<N>(rt, alloc, engine.library(), session, "bump", 0, 2)?;
     let token = after_run::<N, R>(rt, alloc, &engine, token)?;
     let token = with_one_more::<N, R>(rt, &engine, token, Ticket(1), 2)?;
     let token = after_run::<N, R>(rt, alloc, &engine, token)?;

@@ -8,7 +8,7 @@ use crate::asserts::{equal, fail, holds};
 use crate::gates::{Meeting, Tally};
 use crate::opening::opening;
 use crate::tokens::{
-    all_bumping, are_counted, are_home, bump_of, bumping, closed_of, closes, output_of,
+    all_calling, are_counted, are_home, bump_of, calling, closed_of, closes, output_of,
 };
 use std::alloc::Global;
 use std::marker::Brand;
@@ -35,7 +35,15 @@ fn counts<N: Name + Send + Sync, R: Wait + Threads + Abort + Sync>(
     requires workers { (1 ≤ workers) × (workers ≤ MOST_WORKERS) }
 {
     let (engine, sessions) = opening.start::<N>();
-    let tokens = all_bumping::<N>(rt, alloc, engine.library(), sessions, 1, u32::from(times))?;
+    let tokens = all_calling::<N>(
+        rt,
+        alloc,
+        engine.library(),
+        sessions,
+        "bump",
+        1,
+        u32::from(times),
+    )?;
     match run(rt, rt, alloc, &engine, tokens, workers, &OpenGate) {
         Ok(tokens) => are_counted(rt, alloc, engine, tokens, clients, times),
         Err(_) => fail(rt, "the run has a fault"),
@@ -63,7 +71,7 @@ fn meet<N: Name + Send + Sync, R: Wait + Threads + Abort + Sync>(
     requires { N.engine ≡ name_of placing opening }
 {
     let (engine, sessions) = opening.start::<N>();
-    let tokens = all_bumping::<N>(rt, alloc, engine.library(), sessions, 2, 1)?;
+    let tokens = all_calling::<N>(rt, alloc, engine.library(), sessions, "bump", 2, 1)?;
     let gate = Meeting::new();
     match run(rt, rt, alloc, &engine, tokens, 2, &gate) {
         Ok(tokens) => are_home(rt, tokens.as_slice(), 2, 1),
@@ -90,7 +98,7 @@ fn is_spent<N: Name + Send + Sync, R: Wait + Threads + Abort + Sync>(
     requires { N.engine ≡ name_of placing opening }
 {
     let (engine, sessions) = opening.start::<N>();
-    let tokens = all_bumping::<N>(rt, alloc, engine.library(), sessions, 1, 2)?;
+    let tokens = all_calling::<N>(rt, alloc, engine.library(), sessions, "bump", 1, 2)?;
     match run(rt, rt, alloc, &engine, tokens, 2, &OpenGate) {
         Ok(_) => fail(rt, "the run is well"),
         Err(RunError { fault, tokens }) => {
@@ -118,7 +126,7 @@ fn enters_up_to_the_limit<N: Name + Send + Sync, R: Wait + Threads + Abort + Syn
     requires { N.engine ≡ name_of placing opening }
 {
     let (engine, sessions) = opening.start::<N>();
-    let tokens = all_bumping::<N>(rt, alloc, engine.library(), sessions, 2, 2)?;
+    let tokens = all_calling::<N>(rt, alloc, engine.library(), sessions, "bump", 2, 2)?;
     let fault = match run(rt, rt, alloc, &engine, tokens, 2, &OpenGate) {
         Ok(_) => None,
         Err(RunError { fault, .. }) => Some(fault),
@@ -275,7 +283,7 @@ pub(crate) fn runs_through<N: Name + Send + Sync, R: Wait + Threads + Abort + Sy
 {
     let gate = Tally::new();
     let mut tokens = Vec::new(alloc);
-    let token = bumping::<N>(rt, alloc, engine.library(), session, 1, times)?;
+    let token = calling::<N>(rt, alloc, engine.library(), session, "bump", 1, times)?;
     tokens.push(token)?;
     match run(rt, rt, alloc, engine, tokens, 1, &gate) {
         Ok(tokens) => equal(rt, tokens.len(), 1),

@@ -9,7 +9,7 @@ use crate::asserts::{equal, holds};
 use crate::gates::Halt;
 use crate::opening::opening;
 use crate::runs::{begins, ends, waits};
-use crate::tokens::{all_bumping_of, closes, last_and_others, output_of};
+use crate::tokens::{all_calling, closes, last_and_others, output_of};
 use std::alloc::Global;
 use std::marker::Brand;
 use std::process::Abort;
@@ -113,7 +113,7 @@ fn stays_after_an_empty_round<N: Name + Send + Sync, R: Wait + Threads + Abort +
 {
     let (engine, sessions) = opening.start::<N>();
     let (session, sessions) = last_and_others::<N>(rt, sessions);
-    let tokens = all_bumping_of::<N>(rt, alloc, engine.library(), sessions, 1, 0)?;
+    let tokens = all_calling::<N>(rt, alloc, engine.library(), sessions, "bump", 1, 0)?;
     let halt = Halt::new(Ticket(LAST_OF_CHAIN));
     let (is_well, mut session) = runs_beside(rt, alloc, &engine, tokens, session, &halt, &halt);
     holds(rt, is_well);

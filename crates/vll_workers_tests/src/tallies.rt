@@ -8,7 +8,7 @@ ghost use Rattle.vll_tokens.specs.Tokens.{AreFit, clients_of};
 use crate::asserts::{equal, holds};
 use crate::opening::opening_of;
 use crate::runs::{begins, ends, waits};
-use crate::tokens::{all_bumping_of, all_calling, closed_of, last_and_others};
+use crate::tokens::{all_calling, closed_of, last_and_others};
 use std::alloc::Global;
 use std::marker::Brand;
 use std::process::Abort;
@@ -165,7 +165,7 @@ fn is_refused_once<N: Name + Send + Sync, R: Wait + Threads + Abort + Sync>(
 {
     let (engine, sessions) = opening.start::<N>();
     let (mut session, sessions) = last_and_others::<N>(rt, sessions);
-    let tokens = all_bumping_of::<N>(rt, alloc, engine.library(), sessions, 1, 1)?;
+    let tokens = all_calling::<N>(rt, alloc, engine.library(), sessions, "bump", 1, 1)?;
     let kept = begins(rt, &engine, &mut session, 1);
     let other = begins(rt, &engine, &mut session, 2);
     waits(rt, &engine, &mut session, 2, Ticket(2));

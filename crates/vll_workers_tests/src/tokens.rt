@@ -53,25 +53,8 @@ fn script(
     Ok(script)
 }
 
-// Makes a token of `times` bumps of a record.
-pub(crate) fn bumping<N: Name>(
-    rt: &impl Abort,
-    alloc: Global,
-    library: &Library,
-    session: Session,
-    record: u64,
-    times: u32,
-) -> Result<Token, Fail>
-    requires library { library.now ≡ library_of N.engine }
-    requires session { session.table ≡ N.engine.table }
-    ensures fit { IfOk result (IsFit N.engine) }
-    ensures client { IfOk result (λ t. t.client ≡ session.session.client) }
-{
-    calling::<N>(rt, alloc, library, session, "bump", record, times)
-}
-
 // Makes a token of `times` calls of a procedure for a record.
-fn calling<N: Name>(
+pub(crate) fn calling<N: Name>(
     rt: &impl Abort,
     alloc: Global,
     library: &Library,
@@ -105,44 +88,8 @@ pub(crate) fn last_and_others<N: Name>(
     }
 }
 
-// Makes a token for each session, of `times` bumps of the record with its client's number, if there are that many
-// records.
-pub(crate) fn all_bumping<N: Name>(
-    rt: &impl Abort,
-    alloc: Global,
-    library: &Library,
-    sessions: Vec<Session>,
-    records: u32,
-    times: u32,
-) -> Result<Vec<Token>, Fail>
-    requires library { library.now ≡ library_of N.engine }
-    requires sessions { AreNewSessions N.engine.table N.engine.clients sessions.items }
-    requires records { 0 < records }
-    ensures fit { IfOk result (λ t. AreFit N.engine t.items) }
-    ensures distinct { IfOk result (λ t. IsDistinct nat_eq (clients_of t.items)) }
-{
-    all_bumping_of::<N>(rt, alloc, library, sessions, records, times)
-}
-
-// As `all_bumping`, for the sessions of the first clients alone.
-pub(crate) fn all_bumping_of<N: Name>(
-    rt: &impl Abort,
-    alloc: Global,
-    library: &Library,
-    sessions: Vec<Session>,
-    records: u32,
-    times: u32,
-) -> Result<Vec<Token>, Fail>
-    requires library { library.now ≡ library_of N.engine }
-    requires sessions { AreNewSessions N.engine.table (length sessions.items) sessions.items }
-    requires records { 0 < records }
-    ensures fit { IfOk result (λ t. AreFit N.engine t.items) }
-    ensures distinct { IfOk result (λ t. IsDistinct nat_eq (clients_of t.items)) }
-{
-    all_calling::<N>(rt, alloc, library, sessions, "bump", records, times)
-}
-
-// As `all_bumping_of`, with another procedure for a record.
+// Makes a token for each of these sessions of the first clients, of `times` calls of a procedure for a record: the one
+// with its client's number, modulo `records`.
 pub(crate) fn all_calling<N: Name>(
     rt: &impl Abort,
     alloc: Global,

@@ -8,7 +8,7 @@ ghost use Rattle.vll_tokens.specs.Tokens.{AreFit, clients_of};
 use crate::asserts::{equal, fail, holds};
 use crate::opening::opening;
 use crate::runs::ends;
-use crate::tokens::{all_bumping_of, call_of, closed_of, last_and_others};
+use crate::tokens::{all_calling, call_of, closed_of, last_and_others};
 use std::alloc::{AllocError, Global};
 use std::marker::{Brand, PhantomData};
 use std::process::Abort;
@@ -257,7 +257,15 @@ fn is_told_once<N: Name + Send + Sync, R: Wait + Threads + Abort + Sync>(
     let records = records.max(1);
     let (engine, sessions) = opening.start::<N>();
     let (session, sessions) = last_and_others::<N>(rt, sessions);
-    let tokens = all_bumping_of::<N>(rt, alloc, engine.library(), sessions, records, CALLS)?;
+    let tokens = all_calling::<N>(
+        rt,
+        alloc,
+        engine.library(),
+        sessions,
+        "bump",
+        records,
+        CALLS,
+    )?;
     let notes = Notes::new(alloc, session, 4 * CALLS)?;
     let notes = runs_asking(rt, alloc, &engine, &engine, tokens, workers, notes);
     holds(rt, !notes.has_stray);
@@ -337,7 +345,7 @@ fn finds_the_value_before<N: Name + Send + Sync, R: Wait + Threads + Abort + Syn
 {
     let (engine, sessions) = opening.start::<N>();
     let (session, sessions) = last_and_others::<N>(rt, sessions);
-    let tokens = all_bumping_of::<N>(rt, alloc, engine.library(), sessions, 2, 1)?;
+    let tokens = all_calling::<N>(rt, alloc, engine.library(), sessions, "bump", 2, 1)?;
     let mut asker = runs_finding(rt, alloc, &engine, &engine, tokens, session);
     let reply = asker.reply(rt, &engine, Ticket(1));
     holds(rt, matches!(reply, Some(Reply::Aborted(Reason::Moved))));
