@@ -27,8 +27,9 @@ use std::fs;
 use std::rt::Files;
 use std::sync::Wait;
 use std::thread::Threads;
-use vll_draw::{EventRange, draw};
+use vll_draw::draw;
 use vll_explain::explain;
+use vll_scenario::EventRange;
 use vll_server::{
     Bits, Cap, Plain, RunOptions, Scenario, ScenarioFault, Sink, Source, read_scenario, replay,
     serve_as,

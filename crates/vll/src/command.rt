@@ -8,8 +8,8 @@ use clap::error::ErrorKind;
 use clap::{Arg, ArgMatches, Command, Error, value_parser};
 use std::alloc::{AllocError, Global};
 use vll_core::MOST_WAITING;
-use vll_draw::{EventRange, MOST_COLUMNS};
 use vll_sca::MOST_BITS;
+use vll_scenario::{EventRange, MOST_COLUMNS};
 use vll_server::{Bits, Cap, MOST_EVENTS, RunOptions, UpTo, Workers};
 use vll_workers::MOST_WORKERS;
 

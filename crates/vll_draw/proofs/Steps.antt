@@ -20,7 +20,7 @@ use Rattle.vll_draw.specs.declared.picture.column.Column.{Column}
 use Rattle.vll_draw.specs.declared.picture.column.RecordWords.{RecordWords}
 use Rattle.vll_draw.specs.Taped.{HasTaped, Stands, drawn}
 use Rattle.vll_draw.specs.declared.tape.Tape.{Tape}
-use Rattle.vll_draw.specs.declared.event_range.EventRange.{EventRange}
+use Rattle.vll_scenario.specs.declared.event_range.EventRange.{EventRange}
 
 -- a claim that is not on a record adds nothing to its counter
 off_adds_nothing : (r : ℕ) (c : Option Claim) → is_on r c ≡ false → delta_if r c ≡ 0

@@ -7,7 +7,7 @@ use Rattle.vll_draw.specs.declared.picture.column.Column.{Column}
 use Rattle.vll_draw.specs.declared.picture.drawing.Standing.{Standing}
 use Rattle.vll_draw.specs.Taped.{HasTaped, Stands, StandsBefore, drawn}
 use Rattle.vll_draw.specs.declared.tape.Tape.{Tape}
-use Rattle.vll_draw.specs.declared.event_range.EventRange.{EventRange}
+use Rattle.vll_scenario.specs.declared.event_range.EventRange.{EventRange}
 use Rattle.vll_draw.proofs.Windows.{columns-append, columns-length, window-ahead, window-full, window-within}
 
 -- a tape that differs in nothing that is drawn has kept the same

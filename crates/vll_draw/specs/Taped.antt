@@ -7,7 +7,7 @@ use Rattle.vll_core.specs.Moves.{IsReached}
 use Rattle.vll_core.specs.Next.{claim_of}
 use Rattle.vll_replay.specs.Steps.{Step}
 use Rattle.vll_draw.specs.Columns.{AreColumns, window}
-use Rattle.vll_draw.specs.declared.event_range.EventRange.{EventRange}
+use Rattle.vll_scenario.specs.declared.event_range.EventRange.{EventRange}
 use Rattle.vll_draw.specs.declared.tape.Tape.{Tape}
 
 -- the steps that are drawn

@@ -13,7 +13,6 @@ ghost use Rattle.vll_draw.specs.Columns.{AreSteps, words_at};
 ghost use Rattle.vll_draw.specs.Taped.{HasTaped, drawn};
 ghost use Rattle.vll_draw.specs.declared.fault.DrawFault.TheVariants as fault;
 
-use crate::event_range::EventRange;
 use crate::fault::DrawFault;
 use crate::page::with_list;
 use crate::picture::{Counts, Drawing, push_bands, push_head, push_heading};
@@ -22,7 +21,7 @@ use std::alloc::{AllocError, Global};
 use vll_core::Core;
 use vll_replay::text_of_replay;
 use vll_sca::Placing;
-use vll_scenario::{Scenario, Sink, Source, read_scenario, write_text};
+use vll_scenario::{EventRange, Scenario, Sink, Source, read_scenario, write_text};
 
 /// Reads a scenario, replays its schedule as `replay` of `vll_replay` does, and writes an HTML page. Its drawings show
 /// the events of the window; below them is a list of all lines of the replay's text.

@@ -1,7 +1,7 @@
 //! A replay as an HTML page: what each event did is drawn over time, with the lines of the replay's text listed below.
 //! It is the whole of the program's `vll draw`. The crate proves that the list has exactly the lines of the replay of
 //! the scenario that was read, and that the column kept for each drawn event holds what the machine's specification
-//! says of its step; nothing is proved about the markup of the drawings. Start at `draw` and `EventRange`.
+//! says of its step; nothing is proved about the markup of the drawings. Start at `draw`.
 //!
 //! ```rattle
 //! let window = EventRange { from, count };
@@ -12,12 +12,10 @@
 #![tactic(auto)]
 
 mod drawing;
-mod event_range;
 mod fault;
 mod page;
 mod picture;
 mod tape;
 
 pub use drawing::draw;
-pub use event_range::{EventRange, MOST_COLUMNS};
 pub use fault::DrawFault;

@@ -7,9 +7,8 @@ ghost use Rattle.vll_core.specs.Next.{claim_of};
 ghost use Rattle.vll_replay.specs.Steps.{Step};
 ghost use Rattle.vll_draw.specs.Columns.{AreWordsOf, IsColumn, ticket_in, ticket_seen};
 ghost use Rattle.vll_draw.specs.Taped.{HasTaped, Stands, StandsBefore};
-ghost use Rattle.vll_draw.specs.declared.event_range.EventRange.{EventRange};
+ghost use Rattle.vll_scenario.specs.declared.event_range.EventRange.{EventRange};
 
-use crate::event_range::EventRange;
 use crate::picture::{Column, Phase, RecordWords, Standing};
 use std::alloc::{AllocError, Global};
 use vll_core::{Core, Event, Refusal, Seen, Ticket};
@@ -17,6 +16,7 @@ use vll_proc::Reply;
 use vll_record::{Claim, RecordId, pair_word, value_word};
 use vll_replay::Observer;
 use vll_sca::{Placing, Status};
+use vll_scenario::EventRange;
 
 /// What is kept of a replay for its drawing.
 #[derive(Drop)]
@@ -72,7 +72,7 @@ impl Tape {
 
 impl Observer for Tape {
     ghost use Rattle.vll_draw.specs.Taped.{HasTaped, Tapes};
-    ghost use Rattle.vll_draw.specs.declared.event_range.EventRange.{EventRange};
+    ghost use Rattle.vll_scenario.specs.declared.event_range.EventRange.{EventRange};
 
     ghost Task = { EventRange };
 

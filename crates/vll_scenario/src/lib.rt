@@ -12,14 +12,17 @@
 //! ```
 #![tactic(auto)]
 
+mod event_range;
 mod fault;
 mod limits;
 mod plain;
 mod reading;
 mod scenario;
 mod stream;
+mod up_to;
 mod writing;
 
+pub use event_range::{EventRange, MOST_COLUMNS};
 pub use fault::{Part, ScenarioFault, Spot};
 pub use limits::{MOST_BYTES, MOST_CLIENTS, MOST_EVENTS, MOST_PROCS};
 pub use plain::Plain;
@@ -34,5 +37,6 @@ pub use reading::tree::{Misread, Reads, u32_of};
 pub use reading::{Reading, read_scenario, reading_of};
 pub use scenario::{Scenario, ScenarioParts};
 pub use stream::{Sink, Source};
+pub use up_to::UpTo;
 pub use vll_check::{CallFault, CheckFault};
 pub use writing::{WriteFault, write_text};

@@ -27,9 +27,9 @@ pub use serving::{opening_of, run_scenario, serve, tokens_of};
 pub use text::outcome::write_outcome;
 pub use vll_core::Line;
 pub use vll_engine::Closed;
-pub use vll_replay::{ReplayFault, UpTo, core_of, push_event_line, push_state, replay};
+pub use vll_replay::{ReplayFault, core_of, push_event_line, push_state, replay};
 pub use vll_scenario::{
     CallFault, CheckFault, MOST_BYTES, MOST_CLIENTS, MOST_EVENTS, MOST_PROCS, Part, Plain,
-    Scenario, ScenarioFault, ScenarioParts, Sink, Source, Spot, WriteFault, read_scenario,
+    Scenario, ScenarioFault, ScenarioParts, Sink, Source, Spot, UpTo, WriteFault, read_scenario,
     write_text,
 };

@@ -1,7 +1,7 @@
 //! The options of serving a scenario, with the bounds of their numbers.
 use vll_core::MOST_WAITING;
-use vll_replay::UpTo;
 use vll_sca::MOST_BITS;
+use vll_scenario::UpTo;
 use vll_workers::MOST_WORKERS;
 
 /// How a scenario is served, by `serve_as`.

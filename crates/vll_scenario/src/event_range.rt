@@ -1,7 +1,7 @@
 //! Which events of a schedule a page draws, and how many at most.
 ghost use Rattle.std.specs.Prelude.{◌≤◌};
 
-use vll_replay::UpTo;
+use crate::up_to::UpTo;
 
 /// The most events that a page draws.
 pub const MOST_COLUMNS: u32 = 3600;
