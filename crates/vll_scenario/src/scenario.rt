@@ -21,12 +21,7 @@ use vll_sca::{MOST_BITS, Placing};
 /// stand for the library, and each of its lists is a plain list.
 #[derive(Drop)]
 pub struct Scenario {
-    pub(crate) records: Vec<u64>,
-    pub(crate) library: Library,
-    pub(crate) scripts: Vec<Vec<Call>>,
-    pub(crate) config: Config,
-    pub(crate) placing: Placing,
-    pub(crate) schedule: Items<Event>,
+    parts: ScenarioParts,
 }
 
 impl Model for Scenario {
@@ -69,22 +64,7 @@ impl Scenario {
         requires kept { IsSetup (setup_with parts) }
         ensures { result ≡ setup_with parts }
     {
-        let ScenarioParts {
-            records,
-            library,
-            scripts,
-            config,
-            placing,
-            schedule,
-        } = parts;
-        Scenario {
-            records,
-            library,
-            scripts,
-            config,
-            placing,
-            schedule,
-        }
+        Scenario { parts }
     }
 
     /// Returns the scenario's parts. Allocates no memory.
@@ -100,22 +80,7 @@ impl Scenario {
         ensures kept { IsSetup self }
         ensures fits { All (λ script. All (Fits result.library) script.items) result.scripts.items }
     {
-        let Scenario {
-            records,
-            library,
-            scripts,
-            config,
-            placing,
-            schedule,
-        } = self;
-        ScenarioParts {
-            records,
-            library,
-            scripts,
-            config,
-            placing,
-            schedule,
-        }
+        self.parts
     }
 
     /// Returns the scenario with the cap `cap`, the number of calls that may wait at a time, 1 to `MOST_WAITING` of
@@ -125,7 +90,7 @@ impl Scenario {
         requires most { cap ≤ MOST_WAITING }
         ensures { result ≡ record self { config = record self.config { cap = cap } } }
     {
-        self.config.cap = cap;
+        self.parts.config.cap = cap;
         self
     }
 
@@ -136,7 +101,7 @@ impl Scenario {
         requires most { bits ≤ MOST_BITS }
         ensures { result ≡ record self { config = record self.config { bits = bits } } }
     {
-        self.config.bits = bits;
+        self.parts.config.bits = bits;
         self
     }
 }

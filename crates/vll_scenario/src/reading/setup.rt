@@ -9,7 +9,7 @@ use crate::fault::ScenarioFault;
 use crate::limits::{MOST_CLIENTS, MOST_EVENTS, MOST_PROCS};
 use crate::reading::asked::Asked;
 use crate::reading::shape::Parts;
-use crate::scenario::Scenario;
+use crate::scenario::{Scenario, ScenarioParts};
 use sqlite_items::Items;
 use std::alloc::Global;
 use vll_check::{Checked, Library, check};
@@ -51,14 +51,14 @@ pub(crate) fn setup_of(alloc: Global, parts: Parts) -> Result<Scenario, Scenario
     let library = Library::new(count, checked)?;
     let scripts = scripts_of(alloc, &library, scripts.as_slice())?;
     let records = Vec::from_slice(alloc, records.as_slice())?;
-    Ok(Scenario {
+    Ok(Scenario::from_parts(ScenarioParts {
         records,
         library,
         scripts,
         config,
         placing: placing.unwrap_or(Placing::Modulo),
         schedule,
-    })
+    }))
 }
 
 // Whether the numbers of procedures, clients, calls and events are within a scenario's limits.

@@ -8,6 +8,6 @@ use Rattle.vll_scenario.proofs.scenario.Scenario.into_parts.Goals as goal
 -- the library is for as many records as there are
 pub returns-clause-fits : goal.returns-clause-fits
 returns-clause-fits c =
-    let inside = c.self.inside in
-    let made = subst (λ (n : ℕ). All (λ script. All (Fits (record { records = n; procs = inside.library.procs })) script) (lists_of inside.scripts.items)) (sym c.self.invariant.records) c.self.invariant.setup.fits in
-    in_lists (λ script. All (Fits inside.library) script) inside.scripts.items made
+    let parts = c.self.inside.parts in
+    let made = subst (λ (n : ℕ). All (λ script. All (Fits (record { records = n; procs = parts.library.procs })) script) (lists_of parts.scripts.items)) (sym c.self.invariant.records) c.self.invariant.setup.fits in
+    in_lists (λ script. All (Fits parts.library) script) parts.scripts.items made
