@@ -1,8 +1,9 @@
 //! The actions of the program, over any reader and writer. `main` passes standard input and output.
-ghost use Rattle.std.specs.Prelude.{◌≡◌, ◌<◌, ◌+◌, ◌↔◌, ℕ, false, true, Err, None, OnOk, Some};
+ghost use Rattle.std.specs.Prelude.{◌≡◌, ◌<◌, ◌≤◌, ◌+◌, ◌↔◌, ℕ, false, true, Err, IfOk, None, OnOk, Some};
 ghost use Rattle.std.specs.Io.KnownBytes.{Appends};
 ghost use Rattle.vll_scenario.specs.Streams.{AppendsBeginning};
 ghost use Rattle.vll_scenario.specs.declared.fault.ScenarioFault.{ScenarioFault};
+ghost use Rattle.vll_scenario.specs.Options.{with_options};
 ghost use Rattle.vll_scenario.specs.Reading.{IsRead};
 ghost use Rattle.vll_draw.specs.Page.{Draws};
 ghost use Rattle.vll_draw.specs.declared.fault.DrawFault.{DrawFault};
@@ -17,25 +18,22 @@ ghost use Rattle.vll_explain.specs.Explained.{Explains};
 ghost use Rattle.vll_scenario.specs.declared.writing.WriteFault.TheVariants as write_fault;
 ghost use Rattle.vll_stream.specs.declared.fault.StreamFault.{StreamFault};
 ghost use Rattle.vll_stream.specs.declared.fault.StreamFault.TheVariants as stream_fault;
-ghost use Rattle.vll.specs.Private.Acting.{Does, Runs, ServesFile, StopsFile, with_limits};
+ghost use Rattle.vll.specs.Private.Acting.{Does, IsWith, Runs, ServesFile, StopsFile};
 ghost use Rattle.vll.specs.declared.fault.Fault.TheVariants as fault;
 
-use crate::command::{Action, ServeOptions};
 use crate::fault::Fault;
 use std::alloc::Global;
 use std::fs;
 use std::rt::Files;
 use std::sync::Wait;
 use std::thread::Threads;
+use vll_command::{Action, CommandFault, RunOptions, ServeOptions};
 use vll_draw::draw;
 use vll_explain::explain;
-use vll_scenario::EventRange;
-use vll_server::{
-    Bits, Cap, Plain, RunOptions, Scenario, ScenarioFault, Sink, Source, read_scenario, replay,
-    serve_as,
-};
+use vll_scenario::{EngineOptions, EventRange};
+use vll_server::{Plain, Scenario, ScenarioFault, Sink, Source, read_scenario, replay};
 use vll_stream::serve_stream;
-use vll_workers::OpenGate;
+use vll_workers::{MOST_WORKERS, OpenGate};
 
 // Performs `action`. The text of a `Tell` is printed, and neither `reader` nor `writer` is used.
 pub(crate) fn act<
@@ -53,7 +51,7 @@ pub(crate) fn act<
 {
     match action {
         // A text that cannot be printed has no line of its own.
-        Action::Tell(text) => text.print(rt).map_err(|_| Fault::CommandLine),
+        Action::Tell(text) => text.print(rt).map_err(|_| Fault::CommandLine(CommandFault)),
         Action::Run(options) => run(rt, rt.alloc(), options, reader, writer),
         Action::Serve(options) => serve(rt, rt.alloc(), options, reader, writer),
         Action::Replay => replay_schedule(rt.alloc(), reader, writer),
@@ -89,10 +87,21 @@ fn run<R: Threads + Wait + Sync, S: Source, W: Sink>(
         Ok(scenario) => scenario,
         Err(why) => return Err(Fault::Scenario(why)),
     };
-    match serve_as(rt, alloc, scenario, options, &OpenGate, writer) {
+    let (scenario, workers) = chosen(scenario, options);
+    match vll_server::serve(rt, rt, alloc, scenario, workers, &OpenGate, writer) {
         Ok(()) => Ok(()),
         Err(why) => Err(Fault::Run(why)),
     }
+}
+
+// Returns the scenario with the cap and the number of bits that the options give, and how many workers run it.
+fn chosen(scenario: Scenario, options: RunOptions) -> (Scenario, u32)
+    ensures scenario { result.0 ≡ with_options options.engine scenario }
+    ensures workers { result.1 ≡ options.workers }
+    ensures within { (1 ≤ result.1) × (result.1 ≤ MOST_WORKERS) }
+{
+    let scenario = scenario.with_options(options.engine);
+    (scenario, options.workers.get())
 }
 
 // Reads a scenario from a file, and serves the calls that the reader's lines ask for.
@@ -114,14 +123,9 @@ fn serve<R: Threads + Wait + Files + Sync, S: Source, W: Sink>(
     ensures file { (why : ScenarioFault) → result ≡ Err (fault.File why) → (reader.new ≡ reader.old) × (writer.new ≡ writer.old) }
     ensures unexplained { (why : ScenarioFault) → ¬ (result ≡ Err (fault.Explained why)) }
 {
-    let ServeOptions {
-        file,
-        workers: _,
-        cap,
-        bits,
-    } = options;
-    let scenario = match scenario_in(rt, alloc, file.as_str()) {
-        Ok(scenario) => limited(scenario, cap, bits),
+    let ServeOptions { file, engine } = options;
+    let scenario = match scenario_in(rt, alloc, file.as_str(), engine) {
+        Ok(scenario) => scenario,
         Err(why) => return Err(Fault::File(why)),
     };
     match serve_stream(rt, alloc, scenario, reader, writer) {
@@ -130,25 +134,21 @@ fn serve<R: Threads + Wait + Files + Sync, S: Source, W: Sink>(
     }
 }
 
-// The scenario in a file. `Read` is also returned if the file cannot be opened.
-fn scenario_in<R: Files>(rt: &R, alloc: Global, path: &str) -> Result<Scenario, ScenarioFault> {
-    match fs::open(rt, path) {
-        Ok(file) => read_scenario(alloc, &mut Plain::new(file)),
-        Err(_) => Err(ScenarioFault::Read),
-    }
-}
-
-// The scenario with the cap and the number of bits that are given.
-fn limited(scenario: Scenario, cap: Option<Cap>, bits: Option<Bits>) -> Scenario
-    ensures { result ≡ with_limits cap bits scenario }
+// The scenario in a file, with these options of its engine. `Read` is also returned if the file cannot be opened.
+fn scenario_in<R: Files>(
+    rt: &R,
+    alloc: Global,
+    path: &str,
+    engine: EngineOptions,
+) -> Result<Scenario, ScenarioFault>
+    ensures { IfOk result (IsWith engine) }
 {
-    let scenario = match cap {
-        Some(cap) => scenario.with_cap(cap.get()),
-        None => scenario,
-    };
-    match bits {
-        Some(bits) => scenario.with_bits(bits.get()),
-        None => scenario,
+    match fs::open(rt, path) {
+        Ok(file) => match read_scenario(alloc, &mut Plain::new(file)) {
+            Ok(scenario) => Ok(scenario.with_options(engine)),
+            Err(why) => Err(why),
+        },
+        Err(_) => Err(ScenarioFault::Read),
     }
 }
 

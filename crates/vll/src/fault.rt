@@ -2,6 +2,7 @@
 ghost use Rattle.std.specs.Prelude.{◌<◌};
 
 use thiserror::Error;
+use vll_command::CommandFault;
 use vll_draw::DrawFault;
 use vll_server::{ReplayFault, ScenarioFault, ServeFault, WriteFault};
 use vll_stream::StreamFault;
@@ -9,9 +10,9 @@ use vll_stream::StreamFault;
 /// Why the program ended without an outcome. Its text is the line that is printed.
 #[derive(Clone, Copy, Debug, Error)]
 pub(crate) enum Fault {
-    /// The program does not accept these words, or memory ran out while they were read.
-    #[error("vll: command line")]
-    CommandLine,
+    /// No action is performed, since the words ask for none, or the text that they ask for could not be printed.
+    #[error("vll: {0}")]
+    CommandLine(CommandFault),
     #[error("vll: scenario: {0}")]
     Scenario(ScenarioFault),
     #[error("vll: run: {0}")]
@@ -38,7 +39,7 @@ impl Fault {
         ensures { 0 < result }
     {
         match self {
-            Fault::CommandLine
+            Fault::CommandLine(_)
             | Fault::Scenario(_)
             | Fault::File(_)
             | Fault::Serve(StreamFault::Calls)

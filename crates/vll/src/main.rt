@@ -8,17 +8,16 @@ ghost use Rattle.std.specs.Process.{exit_status};
 ghost use Rattle.vll.specs.Private.Acting.{Performs};
 
 mod acting;
-mod command;
 mod fault;
 
 use crate::acting::act;
-use crate::command::{Action, action_of};
 use crate::fault::Fault;
 use std::process::ExitCode;
 use std::rt::{Env, Files};
 use std::sync::Wait;
 use std::thread::Threads;
 use std::{env, io};
+use vll_command::{Action, CommandFault, action_of};
 use vll_server::{Plain, Sink, Source};
 
 // It passes standard input as the reader, and standard output as the writer.
@@ -30,8 +29,8 @@ fn main(rt: HostRuntime) -> ExitCode {
 }
 
 // What the command line asks for.
-fn action_asked<R: Env + AllocGlobal>(rt: &R) -> Result<Action, Fault> {
-    let words = words_of(rt).map_err(|_| Fault::CommandLine)?;
+fn action_asked<R: Env + AllocGlobal>(rt: &R) -> Result<Action, CommandFault> {
+    let words = words_of(rt).map_err(|_| CommandFault)?;
     action_of(rt.alloc(), words.as_slice())
 }
 
@@ -44,7 +43,7 @@ fn words_of(rt: &(impl Env + AllocGlobal)) -> io::Result<Vec<String>> {
 // performed.
 fn work<R: Print + Eprint + AllocGlobal + Threads + Wait + Files + Sync, S: Source, W: Sink>(
     rt: &R,
-    asked: Result<Action, Fault>,
+    asked: Result<Action, CommandFault>,
     reader: &mut S,
     writer: &mut W,
 ) -> ExitCode
@@ -53,11 +52,23 @@ fn work<R: Print + Eprint + AllocGlobal + Threads + Wait + Files + Sync, S: Sour
     ensures { exit_status result ≡ 0 → Performs asked (S.remaining reader.old) (S.remaining reader.new)
         (Appends (W.contents writer.old) (W.contents writer.new)) }
 {
-    let done = perform(rt, asked, reader, writer);
-    if let Err(fault) = &done {
-        tell(rt, fault);
+    match asked {
+        Ok(action) => ended(rt, &act(rt, action, reader, writer)),
+        Err(why) => ended(rt, &Err(Fault::CommandLine(why))),
     }
-    exit_code(&done)
+}
+
+// Prints the line of a fault, and returns the exit status, which is 0 exactly if all went well.
+fn ended(rt: &(impl Print + Eprint), done: &Result<(), Fault>) -> ExitCode
+    ensures { (exit_status result ≡ 0) ↔ IsOk done.now }
+{
+    match done {
+        Ok(()) => ExitCode::from(0),
+        Err(fault) => {
+            tell(rt, fault);
+            ExitCode::from(fault.status())
+        }
+    }
 }
 
 // Prints the line of a fault, unless it was printed. A service's goes to standard error, since standard output has its
@@ -71,33 +82,5 @@ fn tell(rt: &(impl Print + Eprint), fault: &Fault) {
         _ => {
             let _ = println!(rt; "{fault}");
         }
-    }
-}
-
-// Performs the action, if the command line asks for one.
-fn perform<R: Print + Eprint + AllocGlobal + Threads + Wait + Files + Sync, S: Source, W: Sink>(
-    rt: &R,
-    asked: Result<Action, Fault>,
-    reader: &mut S,
-    writer: &mut W,
-) -> Result<(), Fault>
-    requires reader { S.failed reader.old ≡ false }
-    requires writer { W.failed writer.old ≡ false }
-    ensures { OnOk result (Performs asked (S.remaining reader.old) (S.remaining reader.new)
-        (Appends (W.contents writer.old) (W.contents writer.new))) }
-{
-    match asked {
-        Ok(action) => act(rt, action, reader, writer),
-        Err(why) => Err(why),
-    }
-}
-
-// The program's exit status, which is 0 exactly if all went well.
-fn exit_code(done: &Result<(), Fault>) -> ExitCode
-    ensures { (exit_status result ≡ 0) ↔ IsOk done.now }
-{
-    match done {
-        Ok(()) => ExitCode::from(0),
-        Err(fault) => ExitCode::from(fault.status()),
     }
 }

@@ -56,21 +56,24 @@ reopens : (records : ℕ) (old new : Config) → open_fault records old ≡ None
 reopens records old new h is =
     ap (λ b. if b then config_fault new else Some Records) (up_to_is MOST_RECORDS records (openable records old h).records_are) ∙ allowed_is new is
 
--- another cap, another number of bits and another limit within their bounds let a machine be opened too
-pub opens_with_cap : (records : ℕ) (config : Config) (cap : ℕ) → open_fault records config ≡ None → 1 ≤ cap → cap ≤ MOST_WAITING → open_fault records (record config { cap = cap }) ≡ None
-opens_with_cap records config cap h some few =
+-- another cap and another number of bits, and another limit, within their bounds let a machine be opened too
+pub opens_with_options : (records : ℕ) (config : Config) (cap bits : ℕ) → open_fault records config ≡ None → 1 ≤ cap → cap ≤ MOST_WAITING → 1 ≤ bits → bits ≤ MOST_BITS
+    → open_fault records (record config { cap = cap; bits = bits }) ≡ None
+opens_with_options records config cap bits h one few some places =
     let old = allowed config (openable records config h).config_is in
-    reopens records config (record config { cap = cap }) h (record { limit = old.limit; cap = record { some = some; few = few }; bits = old.bits })
-
-pub opens_with_bits : (records : ℕ) (config : Config) (bits : ℕ) → open_fault records config ≡ None → 1 ≤ bits → bits ≤ MOST_BITS → open_fault records (record config { bits = bits }) ≡ None
-opens_with_bits records config bits h some few =
-    let old = allowed config (openable records config h).config_is in
-    reopens records config (record config { bits = bits }) h (record { limit = old.limit; cap = old.cap; bits = record { some = some; few = few } })
+    reopens records config (record config { cap = cap; bits = bits }) h (record { limit = old.limit; cap = record { some = one; few = few }; bits = record { some = some; few = places } })
 
 pub opens_with_limit : (records : ℕ) (config : Config) (limit : ℕ) → open_fault records config ≡ None → 1 ≤ limit → limit ≤ MOST_CALLS → open_fault records (record config { limit = limit }) ≡ None
 opens_with_limit records config limit h some few =
     let old = allowed config (openable records config h).config_is in
     reopens records config (record config { limit = limit }) h (record { limit = record { some = some; few = few }; cap = old.cap; bits = old.bits })
+
+-- what lets a machine be opened is within its bounds
+pub cap_is_allowed : (records : ℕ) (config : Config) → open_fault records config ≡ None → (1 ≤ config.cap) × (config.cap ≤ MOST_WAITING)
+cap_is_allowed records config h = let cap = (allowed config (openable records config h).config_is).cap in (cap.some, cap.few)
+
+pub bits_are_allowed : (records : ℕ) (config : Config) → open_fault records config ≡ None → (1 ≤ config.bits) × (config.bits ≤ MOST_BITS)
+bits_are_allowed records config h = let bits = (allowed config (openable records config h).config_is).bits in (bits.some, bits.few)
 
 -- nothing is there
 pub none_there : {A : Type 0} (o : Option A) → is_some o ≡ false → o ≡ None

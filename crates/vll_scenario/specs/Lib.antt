@@ -4,6 +4,7 @@ pub mod Syntax
 pub mod Schedule
 pub mod Shape
 pub mod Setup
+pub mod Options
 pub mod Scenario
 pub mod Reading
 pub mod Line

@@ -12,6 +12,7 @@
 //! ```
 #![tactic(auto)]
 
+mod engine_options;
 mod event_range;
 mod fault;
 mod limits;
@@ -22,6 +23,7 @@ mod stream;
 mod up_to;
 mod writing;
 
+pub use engine_options::{Bits, Cap, EngineOptions};
 pub use event_range::{EventRange, MOST_COLUMNS};
 pub use fault::{Part, ScenarioFault, Spot};
 pub use limits::{MOST_BYTES, MOST_CLIENTS, MOST_EVENTS, MOST_PROCS};

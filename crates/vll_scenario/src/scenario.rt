@@ -1,24 +1,25 @@
 //! A checked scenario, and what callers do with it: take its parts, or change its cap and its bits.
-ghost use Rattle.std.specs.Prelude.{◌≡◌, ◌≤◌, All, length};
+ghost use Rattle.std.specs.Prelude.{◌≡◌, All, length};
 ghost use Rattle.vll_check.specs.Calls.{Fits};
 ghost use Rattle.vll_scenario.specs.Headline.Setup.{catalog_of};
+ghost use Rattle.vll_scenario.specs.Options.{with_options};
 ghost use Rattle.vll_scenario.specs.Setup.{lists_of, IsSetup, setup_with};
 
+use crate::engine_options::{EngineOptions, number_or};
 use sqlite_items::Items;
 use std::marker::Model;
 use vll_check::Library;
-use vll_core::{Config, Event, MOST_WAITING};
+use vll_core::{Config, Event};
 use vll_proc::Call;
-use vll_sca::{MOST_BITS, Placing};
+use vll_sca::Placing;
 
 /// A scenario: the records' first values, the procedures, each client's script of calls, the machine's settings, and
 /// the events that a replay takes.
 ///
 /// Made by `read_scenario` and `reading_of`, of parts in memory by `from_parts`, and from another scenario by
-/// `with_cap` and `with_bits`. It keeps the
-/// limits on a scenario's sizes, each of its procedures is well-formed for its records, and each of its calls was made
-/// for one of its procedures, on existing records; `into_parts` states this for callers. In contracts its procedures
-/// stand for the library, and each of its lists is a plain list.
+/// `with_options`. It keeps the limits on a scenario's sizes, each of its procedures is well-formed for its records,
+/// and each of its calls was made for one of its procedures, on existing records; `into_parts` states this for callers.
+/// In contracts its procedures stand for the library, and each of its lists is a plain list.
 #[derive(Drop)]
 pub struct Scenario {
     parts: ScenarioParts,
@@ -83,25 +84,12 @@ impl Scenario {
         self.parts
     }
 
-    /// Returns the scenario with the cap `cap`, the number of calls that may wait at a time, 1 to `MOST_WAITING` of
-    /// `vll_core`. All else is unchanged.
-    pub fn with_cap(mut self, cap: u32) -> Scenario
-        requires least { 1 ≤ cap }
-        requires most { cap ≤ MOST_WAITING }
-        ensures { result ≡ record self { config = record self.config { cap = cap } } }
+    /// Returns the scenario with the cap and the number of bits that the options give. All else is unchanged.
+    pub fn with_options(mut self, options: EngineOptions) -> Scenario
+        ensures { result ≡ with_options options self }
     {
-        self.parts.config.cap = cap;
-        self
-    }
-
-    /// Returns the scenario with `bits` places for the contention analysis, 1 to `MOST_BITS` of `vll_sca`. All else is
-    /// unchanged.
-    pub fn with_bits(mut self, bits: u32) -> Scenario
-        requires least { 1 ≤ bits }
-        requires most { bits ≤ MOST_BITS }
-        ensures { result ≡ record self { config = record self.config { bits = bits } } }
-    {
-        self.parts.config.bits = bits;
+        self.parts.config.cap = number_or(options.cap, self.parts.config.cap);
+        self.parts.config.bits = number_or(options.bits, self.parts.config.bits);
         self
     }
 }

@@ -1,5 +1,4 @@
 pub mod Headline
 pub mod Text
 pub mod Scripts
-pub mod Options
 pub mod Private

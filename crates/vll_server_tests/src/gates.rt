@@ -1,4 +1,6 @@
 //! Tests of gates that hold calls back while a scenario is served.
+ghost use Rattle.std.specs.Prelude.{◌≤◌};
+
 use crate::asserts::{equal, holds};
 use std::alloc::{AllocError, Global};
 use std::hint;
@@ -7,8 +9,8 @@ use std::sync::atomic::{AtomicU64, Ordering};
 use std::test::Fail;
 use std::thread::Threads;
 use vll_core::Ticket;
-use vll_server::{Plain, RunOptions, UpTo, read_scenario, serve_as};
-use vll_workers::Gate;
+use vll_server::{Plain, read_scenario, serve};
+use vll_workers::{Gate, MOST_WORKERS};
 
 // Two clients, each of which changes a record of its own.
 const TWO_CLIENTS: &str = r#"{"version":1,"records":[0,0],
@@ -33,22 +35,16 @@ fn is_served<R: Threads + Wait + Sync, G: Gate + Sync>(
     scenario: &str,
     workers: u32,
     gate: &G,
-) -> bool {
+) -> bool
+    requires { (1 ≤ workers) × (workers ≤ MOST_WORKERS) }
+{
     let mut reader = Plain::new(scenario.as_bytes());
     let Ok(scenario) = read_scenario(alloc, &mut reader) else {
         return false;
     };
-    let Some(workers) = UpTo::new(workers) else {
-        return false;
-    };
-    let options = RunOptions {
-        workers,
-        cap: None,
-        bits: None,
-    };
     let mut text = Vec::new(alloc);
     let mut writer = Plain::new(&mut text);
-    serve_as(rt, alloc, scenario, options, gate, &mut writer).is_ok()
+    serve(rt, rt, alloc, scenario, workers, gate, &mut writer).is_ok()
 }
 
 // Waits until a counter is at least `number`, for `turns` turns at most. Returns whether it got there.

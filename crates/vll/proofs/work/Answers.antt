@@ -6,5 +6,8 @@ on_ok : {A E : Type 0} (r : Result A E) (T : Type 0) → IsOk r → OnOk r T →
 on_ok (Ok a) T is on = on
 on_ok (Err e) T is on = absurd (cc is)
 
-pub returns : goal.returns
-returns g c = λ zero. on_ok c.perform-done.result _ (c.exit_code.ensures.0 zero) c.perform-done.ensures
+pub returns-in-Ok : goal.returns-in-Ok
+returns-in-Ok g c = λ zero. (c.in-Ok.action, c.in-Ok.is, on_ok c.act.result _ (c.ended.ensures.0 zero) c.act.ensures.ok)
+
+pub returns-in-Err : goal.returns-in-Err
+returns-in-Err g c = λ zero. absurd (cc (c.ended-in-Err.ensures.0 zero))

@@ -1,27 +1,28 @@
 -- The meaning of the actions of the command line.
-use Rattle.std.specs.Prelude.{◌≡◌, ℕ, List, [], Option, None, Result, Ok, unwrap_or}
+use Rattle.std.specs.Prelude.{◌≡◌, ℕ, List, [], Option, None, Result, Ok}
 use Rattle.vll_draw.specs.Page.{Draws}
 use Rattle.vll_explain.specs.Explained.{Explains}
 use Rattle.vll_scenario.specs.Headline.Setup.{Setup}
-use Rattle.vll_server.specs.Options.{with_options}
+use Rattle.vll_scenario.specs.Options.{with_options}
+use Rattle.vll_scenario.specs.declared.engine_options.EngineOptions.{EngineOptions}
 use Rattle.vll_scenario.specs.Reading.{IsRead}
 use Rattle.vll_replay.specs.Replay.{Replays}
 use Rattle.vll_server.specs.Headline.Serve.{Serves}
 use Rattle.vll_replay.specs.Headline.Text.{Text}
-use Rattle.vll_server.specs.declared.options.RunOptions.{RunOptions}
-use Rattle.vll.specs.declared.command.Action.{Action}
+use Rattle.vll_command.specs.declared.action.Action.{Action}
+use Rattle.vll_command.specs.declared.action.RunOptions.{RunOptions}
+use Rattle.vll_command.specs.declared.fault.CommandFault.{CommandFault}
 use Rattle.vll_stream.specs.Served.{EndsEarly, ServesLines}
 use Rattle.vll_stream.specs.declared.fault.StreamFault.{StreamFault}
-use Rattle.vll.specs.declared.fault.Fault.{Fault}
-use Rattle.vll.specs.declared.command.Action.TheVariants as action
+use Rattle.vll_command.specs.declared.action.Action.TheVariants as action
 
 -- a scenario was read, and this holds of the text of serving it with these options
 abbrev pub Runs : RunOptions → Option (List ℕ) → Option (List ℕ) → (Text → Type 0) → Type 0
-Runs options old new Holds = (setup : Setup) × IsRead old new (Ok setup) × Serves (with_options options setup) Holds
+Runs options old new Holds = (setup : Setup) × IsRead old new (Ok setup) × Serves (with_options options.engine setup) Holds
 
--- a scenario with the cap and the number of bits that are given, and the same in all else
-abbrev pub with_limits : Option ℕ → Option ℕ → Setup → Setup
-with_limits cap bits s = record s { config = record s.config { cap = unwrap_or cap s.config.cap; bits = unwrap_or bits s.config.bits } }
+-- some scenario with these options
+abbrev pub IsWith : EngineOptions → Setup → Type 0
+IsWith options s = (setup : Setup) × (s ≡ with_options options setup)
 
 -- the calls that were asked for were served over some scenario, and this holds of the text
 abbrev pub ServesFile : Option (List ℕ) → Option (List ℕ) → (Text → Type 0) → Type 0
@@ -42,5 +43,5 @@ Does (action.Draw window) old new Holds = Draws old new Holds
 Does (action.Tell text) old new Holds = (new ≡ old) × Holds []
 
 -- the action that was asked for was performed, and this holds of the text
-abbrev pub Performs : Result Action Fault → Option (List ℕ) → Option (List ℕ) → (Text → Type 0) → Type 0
+abbrev pub Performs : Result Action CommandFault → Option (List ℕ) → Option (List ℕ) → (Text → Type 0) → Type 0
 Performs asked old new Holds = (action : Action) × (asked ≡ Ok action) × Does action old new Holds

@@ -1,8 +1,8 @@
 use Rattle.std.proofs.Common.{ℕ, List, [], Option, None, Some, Result, Ok, Err, OnOk, refl, subst, sym, append-nil}
 use Rattle.std.specs.Io.KnownBytes.{Appends}
 use Rattle.vll.specs.Private.Acting.{Does}
-use Rattle.vll.specs.declared.command.Action.{Action}
-use Rattle.vll.specs.declared.command.Action.TheVariants as action
+use Rattle.vll_command.specs.declared.action.Action.{Action}
+use Rattle.vll_command.specs.declared.action.Action.TheVariants as action
 use Rattle.vll.proofs.acting.act.Goals as goal
 
 always : {A E : Type 0} (P : Type 0) (r : Result A E) → P → OnOk r P

@@ -26,7 +26,7 @@ returns-in-Err-clause-unexplained g c why is = absurd (cc is)
 
 -- its calls were served
 pub returns-in-Ok-serve_stream-clause-ok : goal.returns-in-Ok-serve_stream-clause-ok
-returns-in-Ok-serve_stream-clause-ok g c = (c.limited-scenario.result, c.in-Ok-serve_stream.ensures.ok)
+returns-in-Ok-serve_stream-clause-ok g c = (c.in-Ok.scenario, c.in-Ok-serve_stream.ensures.ok)
 
 pub returns-in-Ok-serve_stream-clause-early : goal.returns-in-Ok-serve_stream-clause-early
 returns-in-Ok-serve_stream-clause-early g c why is = absurd (cc is)
@@ -52,7 +52,7 @@ returns-clause-early g c why is =
     let same : c.in-Err-serve_stream.why ≡ why = cc is in
     let left = g.S.Source.remaining c.serve_stream.new.reader in
     let written = g.W.Sink.contents c.serve_stream.new.writer in
-    (c.limited-scenario.result, subst (λ (w : StreamFault). EndsEarly c.limited-scenario.result w (g.S.Source.remaining c.args.reader.now) left (g.W.Sink.contents c.args.writer.now) written) same c.in-Err-serve_stream.ensures.err)
+    (c.in-Ok.scenario, subst (λ (w : StreamFault). EndsEarly c.in-Ok.scenario w (g.S.Source.remaining c.args.reader.now) left (g.W.Sink.contents c.args.writer.now) written) same c.in-Err-serve_stream.ensures.err)
 
 pub returns-clause-read : goal.returns-clause-read
 returns-clause-read g c = (

@@ -1,5 +1,5 @@
 use Rattle.std.proofs.Common.{rules}
-use Rattle.vll.proofs.command.range_of.Goals as goal
+use Rattle.vll_command.proofs.values.range_of.Goals as goal
 
 pub returns-clause-from : goal.returns-clause-from
 returns-clause-from c = search rules

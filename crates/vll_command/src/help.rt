@@ -1,0 +1,66 @@
+//! The texts of the help.
+
+pub(crate) const EXAMPLES: &str = "Examples:
+  vll run < scenario.json
+  vll run --workers 8 --cap 64 < scenario.json
+  vll serve scenario.json < calls
+  vll replay < scenario.json
+  vll explain < scenario.json
+  vll draw < scenario.json > page.html
+
+docs/SCENARIO.md describes the format of a scenario, and what is printed.";
+
+pub(crate) const RUN_EXAMPLES: &str = "Examples:
+  vll run < scenario.json
+  vll run --workers 8 --cap 64 < scenario.json
+
+A smaller --cap can be worth it where many calls want the same few records, so that most of them wait: the
+scan for a call that may run then goes through fewer waiting ones, and fewer of them have open claims, each of
+which holds later calls back. The price is that a call that finds the cap reached is refused, and
+is tried again later. No option changes which outcomes are lawful.
+
+docs/SCENARIO.md describes the format of a scenario, and what is printed.";
+
+pub(crate) const SERVE_EXAMPLES: &str = "Examples:
+  vll serve scenario.json < calls
+  vll serve --cap 64 scenario.json < calls
+
+Each line of standard input asks for a call, and each line of standard output answers one:
+  {\"id\":7,\"client\":0,\"proc\":\"transfer\",\"args\":[0,1,30]}
+  {\"id\":7,\"call\":0,\"committed\":[70]}
+
+docs/SERVICE.md describes the lines, and docs/SCENARIO.md the scenario.";
+
+pub(crate) const FILE: &str =
+    "The scenario: its records, its procedures, and as many clients as it has scripts, all of which are empty";
+
+pub(crate) const REPLAY_EXAMPLE: &str = "Example:
+  vll replay < scenario.json
+
+docs/SCENARIO.md describes the format of a scenario with its schedule, and what is printed.";
+
+pub(crate) const EXPLAIN_EXAMPLE: &str = "Example:
+  vll explain < scenario.json
+
+For a scenario that run refuses, it prints the same line, where the mistake is, and what is wrong there. For a valid
+scenario it prints ok and a summary. The exit status is that of run for a refused scenario, otherwise 0.
+
+docs/SCENARIO.md describes the format of a scenario, and what is printed.";
+
+pub(crate) const DRAW_EXAMPLES: &str = "Examples:
+  vll draw < scenario.json > page.html
+  vll draw --from 1000 --count 100 < scenario.json > page.html
+
+docs/SCENARIO.md describes the format of a scenario with its schedule, and the page.";
+
+pub(crate) const FROM: &str = "The number of the first event to draw, 0 to 1048576";
+
+pub(crate) const COUNT: &str = "The maximum number of events to draw, 1 to 3600";
+
+pub(crate) const WORKERS: &str = "Threads that make the calls, 1 to 64";
+
+pub(crate) const CAP: &str =
+    "Calls that may wait at a time, 1 to 65536 [default: the scenario's cap]";
+
+pub(crate) const BITS: &str =
+    "Places of the contention analysis, 1 to 1048576 [default: the scenario's bits]";
