@@ -2,21 +2,8 @@
 #![tactic(auto, using(vll_record::proofs::WithClaim::lengths))]
 
 use crate::asserts::{equal, holds};
-use vll_record::{Claim, Claims, MOST_CLAIMS, Mode, RecordId};
-
-fn read(id: u32) -> Claim {
-    Claim {
-        id: RecordId(id),
-        mode: Mode::Read,
-    }
-}
-
-fn write(id: u32) -> Claim {
-    Claim {
-        id: RecordId(id),
-        mode: Mode::Write,
-    }
-}
+use crate::made::{read, write};
+use vll_record::{Claims, MOST_CLAIMS};
 
 #[test]
 fn claims_stand_in_rising_order(rt: HostRuntime) {

@@ -1,15 +1,15 @@
 //! Tests of scans: the number of bits, collisions, and which entries hold later ones back.
 use crate::asserts::equal;
+use crate::made::one_claim;
 use std::test::Fail;
 use vll_record::Mode::{self, Read, Write};
-use vll_record::{Claim, Claims, RecordId};
+use vll_record::{Claim, RecordId};
 use vll_sca::Status::{self, Gone, Running, Waiting};
 use vll_sca::{Bits, BitsFault, Entry, Place, Placing};
 
 // Returns an entry with one claim.
 fn entry(status: Status, mode: Mode, id: u32) -> Entry {
-    let mut claims = Claims::new();
-    claims.add(Claim {
+    let claims = one_claim(Claim {
         id: RecordId(id),
         mode,
     });

@@ -1,6 +1,6 @@
 -- The claims and the cells are those that the keys ask for.
 use Rattle.std.proofs.Common.{refl}
-use Rattle.vll_proc_tests.proofs.frame.of_record_5.Goals as goal
+use Rattle.vll_language_tests.proofs.frame.of_record_5.Goals as goal
 
 pub returns : goal.returns
 returns c = (

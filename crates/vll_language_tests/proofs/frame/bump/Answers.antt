@@ -1,7 +1,7 @@
 -- The procedure is built as in `Rows`, whatever its name.
 use Rattle.std.proofs.Common.{◌≡◌, rules}
 use Rattle.vll_proc.proofs.Rows.{bump_keys, bump_body, bump_is_well_formed}
-use Rattle.vll_proc_tests.proofs.frame.bump.Goals as goal
+use Rattle.vll_language_tests.proofs.frame.bump.Goals as goal
 
 pub returns-clause-formed : goal.returns-clause-formed
 returns-clause-formed c =
