@@ -17,16 +17,10 @@ TOP = Path(__file__).resolve().parent.parent
 TRANSFER = TOP / 'scenarios/transfer.json'
 OUTCOME = b'call 0 client 0 committed 70\nrecord 0 value 70 pair 0\n'
 
-# In place of rt: it notes how it was called, and prints as `rt try`, `rt run` and `rt lib` do. Where something is proved
-# beside, what is proved here ends once that has been noted, or after a minute.
+# In place of rt: it notes how it was called, and prints as `rt try`, `rt run` and `rt lib` do.
 RT = '''#!/usr/bin/env bash
 if [[ $1 == lib ]]; then
-  pwd >>"$ROOM/libraries"
-  if [[ $PWD != "$ROOM"/* ]]; then
-    ls >"$ROOM/copied"; cp ../../crates.txt "$ROOM/half"; mv "$ROOM/half" "$ROOM/listed"
-  elif [[ -e $ROOM/beside ]]; then
-    for ((i = 0; i < 600; i++)); do [[ ! -e $ROOM/listed ]] || break; sleep 0.1; done
-  fi
+  basename "$PWD" >>"$ROOM/libraries"
   printf 'so far: 3 of 9 functions checked; the verdict comes last\\n'
   [[ ! -e $ROOM/unproved ]]; exit
 fi
@@ -97,12 +91,6 @@ class WithStandIn(unittest.TestCase):
         """The folder and the words with which rt was called last to run something; nothing if it was not."""
         words = self.room / 'words'
         return words.read_text().splitlines() if words.exists() else []
-
-    def libraries(self):
-        """The folders in which a library was proved, those here and those elsewhere."""
-        folders = list(map(Path, (self.room / 'libraries').read_text().splitlines()))
-        here = [folder for folder in folders if self.room in folder.parents]
-        return here, [folder for folder in folders if folder not in here]
 
     def test_words_and_input_reach_the_program(self):
         """The word --unproved counts in any place, and the input comes from a file."""
@@ -187,35 +175,16 @@ class WithStandIn(unittest.TestCase):
     def test_each_library_is_proved_after_those_below_it(self):
         """It tells how far the proofs are."""
         said = self.vll('run').stderr.decode()
-        here, elsewhere = self.libraries()
-        self.assertEqual(([folder.name for folder in here], elsewhere), (['vll_deep', 'vll_part'], []))
-        for part in 'this proves 3 crates', 'proving vll_deep\n', \
-                'vll_deep: 3 of 9 functions checked; 0 of 3 crates are proved', \
+        self.assertEqual((self.room / 'libraries').read_text().split(), ['vll_deep', 'vll_part'])
+        for part in 'this proves 3 crates', 'proving vll_deep\n', 'vll_deep: 3 of 9 functions checked\n', \
                 'vll_deep is proved: 1 of 3 crates, after 0 minutes', 'proving vll\n', \
                 'vll is proved: 3 of 3 crates, after 0 minutes':
             self.assertIn(part, said)
 
     def test_a_library_that_is_not_proved_is_status_3(self):
         self.write('unproved', '')
-        self.check(['run'], 3, b'', b'proving: vll_deep\nso far: 3 of 9')
-        self.assertEqual((len(self.libraries()[0]), self.called()), (1, []))
-
-    def test_what_stands_beside_the_engine_is_proved_in_a_copy_meanwhile(self):
-        """If the machine holds two checks at a time, and the program is made from vll_draw."""
-        self.write('tools/room.py', 'print(2)\n')
-        self.write('beside', '')
-        for part in 'src', 'must-fail', 'out':
-            self.write(f'crates/vll_draw/{part}/file', '')
-        self.list_crates(['vll_draw:', 'vll_deep:', 'vll: vll_draw vll_deep', 'vll_other: vll_draw'])
-        self.assertTrue(self.is_built_for('run'))
-        here, elsewhere = self.libraries()
-        self.assertEqual([folder.name for folder in here], ['vll_deep', 'vll_draw'])
-        self.assertEqual([folder.parts[-2:] for folder in elsewhere], [('crates', 'vll_draw')])
-        self.assertEqual((self.room / 'copied').read_text().split(), ['src'])
-        listed = [line.split(':')[0] for line in (self.room / 'listed').read_text().splitlines()]
-        self.assertIn('vll_draw', listed)
-        self.assertNotIn('vll_other', listed)
-        self.assertFalse(elsewhere[0].exists())
+        self.check(['run'], 3, b'', b'so far: 3 of 9', b'vll_deep could not be built')
+        self.assertEqual(((self.room / 'libraries').read_text(), self.called()), ('vll_deep\n', []))
 
     def test_the_program_is_built_anew_for_what_it_is_made_from_alone(self):
         self.assertTrue(self.is_built_for('run'))
