@@ -4,7 +4,6 @@
 """
 import json
 import re
-import subprocess
 import sys
 import xml.etree.ElementTree
 from html.parser import HTMLParser
@@ -12,10 +11,10 @@ from html.parser import HTMLParser
 from cases import TOP, bytes_of, read_cases, status_of
 from generate import SIZES, scenario_of, text_of
 from model import Unlawful
+from running import called, unlike
 
 PICTURE = TOP / 'docs/replay.svg'
 PICTURED = TOP / 'examples/09_contention_analysis.json'
-SECONDS = 120
 SEEDS = 300
 # How many events are drawn if nothing is said, and a window that is asked for.
 DRAWN = 360
@@ -90,24 +89,18 @@ def judge(page, text, first=0, count=DRAWN):
     demand(drawn == wanted, f'{sorted(drawn ^ wanted)[:9]} are drawn but not asked for, or missing')
 
 
-def printed(program, text, *words):
-    ran = subprocess.run([program, *words], input=text, capture_output=True, timeout=SECONDS, check=False)
-    return ran.returncode, ran.stdout, ran.stderr
-
-
 def unlike_replay(program, name, text, *window):
     """What is wrong with the page of a scenario. A scenario that is refused is refused with the same line."""
-    status, replayed, _ = printed(program, text, 'replay')
+    replayed = called([program, 'replay'], text)
     options = [f'{option}={value}' for option, value in zip(('--from', '--count'), window)]
-    found, page, said = printed(program, text, 'draw', *options)
-    if (found, said) != (status, b''):
-        yield f'{name}: the status is {found}, and not {status}; on standard error came {said[:200]!r}'
-    elif status:
-        if page != replayed:
-            yield f'{name}: it printed {page[:200]!r}'
+    drawn = called([program, 'draw', *options], text)
+    if replayed.returncode:
+        yield from unlike(name, drawn, replayed.returncode, replayed.stdout)
+    elif drawn.returncode or drawn.stderr:
+        yield f'{name}: the status is {drawn.returncode}, and on standard error came {drawn.stderr[:200]!r}'
     else:
         try:
-            judge(page.decode(), replayed.decode(), *window)
+            judge(drawn.stdout.decode(), replayed.stdout.decode(), *window)
         except (Unlawful, ValueError, LookupError) as why:
             yield f'{name}: {why}'
 
@@ -159,14 +152,15 @@ def of_large(program):
             'schedule': schedule + [['claim']] * (events - len(schedule))}
     for scenario, least, largest in (many, 4000000, 8000000), (most, 75000000, 150000000):
         text = json.dumps(scenario, separators=(',', ':')).encode()
-        status, page, _ = printed(program, text, 'draw', '--count', '3600')
-        if status or not least < len(page) < largest:
-            yield f'the status is {status}, and the page of {len(scenario["schedule"])} events has {len(page)} bytes'
+        ran = called([program, 'draw', '--count', '3600'], text)
+        if ran.returncode or not least < len(ran.stdout) < largest:
+            yield (f'the status is {ran.returncode}, and the page of {len(scenario["schedule"])} events has '
+                   f'{len(ran.stdout)} bytes')
 
 
 def picture(program):
     """The first drawing of the example's page."""
-    page = printed(program, PICTURED.read_bytes(), 'draw')[1].decode()
+    page = called([program, 'draw'], PICTURED.read_bytes()).stdout.decode()
     found = re.search('<svg.*?</svg>\n', page, re.DOTALL)
     return found and found[0]
 

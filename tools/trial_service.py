@@ -12,11 +12,12 @@ import threading
 from pathlib import Path
 
 from cases import TOP
+from running import SECONDS, Skipped, called, unlike
 
 BANK = TOP / 'examples/serve/bank.json'
 CLIENT = TOP / 'examples/serve/transfers.py'
 SOCKET = TOP / 'examples/serve/socat.sh'
-ACCOUNTS, CLIENTS, MOST_CLIENTS, SECONDS = 8, 10, 1024, 300
+ACCOUNTS, CLIENTS, MOST_CLIENTS = 8, 10, 1024
 
 # Lines that ask for no call, and what is said of each.
 FAULTY = [
@@ -55,10 +56,6 @@ NO_UTF8 = [line.encode('latin-1') for line in (
 BALANCE = b'{"client":0,"proc":"balance","args":[0]}'
 NO_JSON = 'no JSON text: column'
 CANNOT_WRITE = b'vll: serve: write\n'
-
-
-class Skipped(Exception):
-    """What cannot be tried on this machine; the message says why."""
 
 
 class Bank:
@@ -120,7 +117,7 @@ def text_of(answers):
 
 
 def served(program, text, *words, file=BANK):
-    return subprocess.run([program, 'serve', file, *words], input=text, capture_output=True, timeout=SECONDS, check=False)
+    return called([program, 'serve', file, *words], text)
 
 
 @contextlib.contextmanager
@@ -159,13 +156,6 @@ def one_by_one(running, pieces):
 def ended(running, found):
     """How a service ends, of which this was read."""
     return subprocess.CompletedProcess((), running.wait(SECONDS), found, running.stderr.read())
-
-
-def unlike(what, ran, status, printed, said=b''):
-    if (ran.returncode, ran.stdout, ran.stderr) != (status, printed, said):
-        at = next((i for i, (a, b) in enumerate(zip(ran.stdout, printed)) if a != b), min(len(ran.stdout), len(printed)))
-        yield (f'{what}: status {ran.returncode}, {ran.stderr[:200]!r}; from byte {at} on it printed '
-               f'{ran.stdout[at:at + 100]!r}, and not {printed[at:at + 100]!r}')
 
 
 def random_streams(program):
@@ -269,9 +259,8 @@ def closed_output(program):
 
 def long_line(program):
     """A line of 100 MB is read over, in little memory."""
-    ran = subprocess.run(['bash', '-c', f'(head -c 100000000 /dev/zero; echo; echo \'{{"client":0,"proc":"balance","args":[0]}}\') | '
-                          '(ulimit -v 300000; exec "$@")', 'bash', program, 'serve', BANK],
-                         capture_output=True, timeout=SECONDS, check=False)
+    ran = called(['bash', '-c', f"(head -c 100000000 /dev/zero; echo; echo '{BALANCE.decode()}') | "
+                  '(ulimit -v 300000; exec "$@")', 'bash', program, 'serve', BANK])
     answers = [{'fault': 'the line has more than 65536 bytes'}, {'call': 0, 'committed': [100]}]
     yield from unlike('100 MB', ran, 0, text_of([*answers, {'calls': 1, 'records': [100] * ACCOUNTS}]))
 
@@ -280,14 +269,12 @@ def refused_files(program):
     """A scenario that is refused, that is not there, or that has calls."""
     for path, said in ((TOP / 'README.md', b'vll: scenario: json\n'), ('/nowhere', b'vll: scenario: read\n'),
                        (TOP / 'scenarios/transfer.json', b'vll: serve: calls\n')):
-        ran = subprocess.run([program, 'serve', path], input=b'', capture_output=True, timeout=SECONDS, check=False)
-        yield from unlike(str(path), ran, 2, b'', said)
+        yield from unlike(str(path), served(program, b'', file=path), 2, b'', said)
 
 
 def other_language(program):
     """The client in Python: ten threads move money, and the total stays."""
-    ran = subprocess.run([sys.executable, CLIENT, program], capture_output=True, timeout=SECONDS, check=False)
-    yield from unlike('the client', ran, 0, b'1000 transfers, 800 in all accounts\n')
+    yield from unlike('the client', called([sys.executable, CLIENT, program]), 0, b'1000 transfers, 800 in all accounts\n')
 
 
 def socket(program):
@@ -295,8 +282,7 @@ def socket(program):
     if not shutil.which('socat'):
         raise Skipped('there is no socat')
     bank = Bank()
-    ran = subprocess.run([SOCKET, program], capture_output=True, timeout=SECONDS, check=False)
-    yield from unlike('the script', ran, 0, text_of([bank.call('transfer', [0, 1, 30]), bank.last()]))
+    yield from unlike('the script', called([SOCKET, program]), 0, text_of([bank.call('transfer', [0, 1, 30]), bank.last()]))
 
 
 def service(words, _):

@@ -1,0 +1,23 @@
+"""How trials run a program, and tell how that was not as it has to be."""
+import subprocess
+
+SECONDS = 300
+
+
+class Skipped(Exception):
+    """What cannot be tried on this machine; the message says why."""
+
+
+def called(words, text=b'', **how):
+    """How a command ended that reads this, and what it printed."""
+    streams = {'stdout': subprocess.PIPE, 'stderr': subprocess.PIPE, **how}
+    return subprocess.run(words, input=text, timeout=SECONDS, check=False, **streams)
+
+
+def unlike(what, ran, status, printed, said=b''):
+    """Why a run is not as it has to be: its status, what it prints, and what comes on standard error."""
+    if (ran.returncode, ran.stdout, ran.stderr) != (status, printed, said):
+        pairs = enumerate(zip(ran.stdout, printed))
+        at = next((at for at, (one, other) in pairs if one != other), min(len(ran.stdout), len(printed)))
+        yield (f'{what}: status {ran.returncode}, and not {status}; {ran.stderr[:200]!r} on standard error; from byte {at}'
+               f' on it printed {ran.stdout[at:at + 100]!r}, and not {printed[at:at + 100]!r}')
