@@ -3,7 +3,7 @@ use Rattle.std.proofs.Common.{◌≡◌, ℕ, ◌+◌, ◌<◌, true, List, [], 
 use Rattle.vll_core.proofs.Common.{enumerate_from, range_with_len, option_map, true≢false, slice_get-map, slice_get-get_or, Entry, Status, Waiting, Gone, is_waiting, scan, scan_numbered, scanned_within, scanned_waits, Queued, statuses, found_by, Line, seen, left_among, numbered, kept, IsKept}
 use Rattle.vll_sca.proofs.Leaving.{gone_entries_do_not_matter}
 use Rattle.vll_core.specs.declared.queue.Queue.TheInside.{Inside}
-use Rattle.vll_core.proofs.Entries.{shown_statuses}
+use Rattle.vll_core.proofs.Entries.{shown_statuses, shown_waiting, starts}
 use Rattle.vll_core.proofs.Analysed.{seen_statuses}
 use Rattle.vll_core.proofs.WindowEntries.{numbered_left, numbered_all}
 
@@ -66,6 +66,16 @@ found_waits place a q t h is found =
     ∙ (slice_get-map (λ (e : Entry). e.status) es t
     ∙ (ap (option_map (λ (e : Entry). e.status)) at
     ∙ ap Some (waits_alone _ (scanned_waits (place a.hash) a.bits es t _ here at))))
+
+-- while no call waits, none is found
+pub none_waits : {H : Type 0} (place : H → ℕ → ℕ) (a : Inside H) (q : Queued H) → IsKept place a → kept a ≡ q → a.waiting ≡ 0 → found_by place q ≡ None
+none_waits place a q h is none = by_found (found_by place q) refl
+  where
+    by_found : (o : Option ℕ) → found_by place q ≡ o → found_by place q ≡ None
+    by_found None found = found
+    by_found (Some t) found =
+        let start = starts (statuses q) t (found_waits place a q t h is found) in
+        absurd (omega (arith, start.waiting, h.waiting, shown_waiting a q h is, none))
 
 -- the number of bits stays where a scan leaves it
 pub shown_bits : {H : Type 0} (a : Inside H) (q : Queued H) (bits : ℕ) → kept a ≡ q → bits ≡ a.bits → kept (record a { bits = bits }) ≡ q

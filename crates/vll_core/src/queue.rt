@@ -245,13 +245,13 @@ impl<H: Place> Queue<H> {
 
     /// Starts the first waiting call that, by the contention analysis, is in hash conflict with no earlier one that
     /// runs or waits, and returns its ticket. If there is none, returns `None` and changes nothing. It walks over the
-    /// calls that run or wait, and at most as many that are gone; and over none, if the last scan found none and since
-    /// then no call was removed and no waiting one entered. Allocates nothing.
+    /// calls that run or wait, and at most as many that are gone; and over none, if no call waits, or if the last scan
+    /// found none and since then no call was removed and no waiting one entered. Allocates nothing.
     pub fn scan(&mut self) -> Option<Ticket>
         ensures ticket { result ≡ found_by H.place_of self.old }
         ensures scanned { self.new ≡ scanned H.place_of self.old }
     {
-        if self.is_fruitless {
+        if self.is_fruitless() {
             return None;
         }
         let found = self
@@ -263,12 +263,12 @@ impl<H: Place> Queue<H> {
         Some(ticket)
     }
 
-    /// Reports whether the queue remembers that a scan finds none, so that it would walk over nothing. It is a hint of
-    /// what the next scan costs: `false` says nothing of what it finds.
+    /// Reports whether the queue knows that a scan finds none, so that it would walk over nothing: no call waits, or it
+    /// remembers that. It is a hint of what the next scan costs: `false` says nothing of what it finds.
     pub fn is_fruitless(&self) -> bool
         ensures { IsTrue result → found_by H.place_of self.now ≡ None }
     {
-        self.is_fruitless
+        self.waiting == 0 || self.is_fruitless
     }
 
     // Starts a waiting call.
