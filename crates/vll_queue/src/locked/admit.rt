@@ -22,7 +22,8 @@ use vll_record::granted;
 use vll_sca::Place;
 
 impl<N: Name, H: Place> Locked<N, H> {
-    /// Enters a ready call of the session's client, which requests all its claims and gets a ticket, or refuses it.
+    /// Enters a ready call of the session's client, which requests all its claims and gets a ticket, or refuses it. The
+    /// call runs if all its requests were granted, else it waits.
     #[inline(always)]
     pub fn admit(&mut self, words: &Words, session: &mut Session, call: &Call) -> Admission
         requires words { words.now ≡ words_of N.engine }
@@ -40,12 +41,20 @@ impl<N: Name, H: Place> Locked<N, H> {
         let Some(seat) = session.seat.take() else {
             unreachable!()
         };
-        let (admission, seat) = match self.refusal() {
-            Some(why) => (Admission::Refused(why), self.visit(words, seat)),
-            None => self.enter(words, seat, session.client, call),
-        };
-        session.seat = Some(seat);
-        admission
+        if let Some(why) = self.refusal() {
+            session.seat = Some(self.visit(words, seat));
+            return Admission::Refused(why);
+        }
+        words.join_session(&mut self.seat, seat, Some(call));
+        let free = request_all(words, &mut self.seat, session.client, call);
+        let ticket = self.queue.admit(session.client, call, free);
+        if !free {
+            session.seat = Some(words.give_session(&mut self.seat, None));
+            return Admission::Blocked(ticket);
+        }
+        let pass = words.give_pass(&mut self.seat, ticket);
+        session.seat = Some(words.give_session(&mut self.seat, None));
+        Admission::Free(pass, ticket)
     }
 
     // Returns why no call may begin, if none may.
@@ -77,41 +86,6 @@ impl<N: Name, H: Place> Locked<N, H> {
     {
         words.join_session(&mut self.seat, session, None);
         words.give_session(&mut self.seat, None)
-    }
-
-    // Enters the call, which requests all its claims. It runs if all were granted, else it waits.
-    fn enter(
-        &mut self,
-        words: &Words,
-        session: SessionSeat,
-        client: u32,
-        call: &Call,
-    ) -> (Admission, SessionSeat)
-        requires words { words.now ≡ words_of N.engine }
-        requires session { session.table ≡ N.engine.table }
-        requires client { session.session.client ≡ client }
-        requires catalog { IsCatalog (library_of N.engine) }
-        requires ready { IsReady (library_of N.engine) call.now }
-        requires looked_up { IsLookedUp N.engine session.session call.now }
-        requires room { refusal self.old ≡ None }
-        requires kept { IsQueued self.old }
-        ensures answer { Begins N.engine session.session result.1.session call.now (begun result.0) }
-        ensures seat { IsSeatOf call.now result.0 }
-        ensures queue { self.new ≡ begun_by self.old client call.now (begun result.0) }
-        ensures entered { IsRefusedBy None (begun result.0) }
-        ensures given { result.1.session.given ≡ session.session.given }
-        ensures session { result.1.table ≡ session.table }
-    {
-        words.join_session(&mut self.seat, session, Some(call));
-        let free = request_all(words, &mut self.seat, client, call);
-        let ticket = self.queue.admit(client, call, free);
-        if !free {
-            let session = words.give_session(&mut self.seat, None);
-            return (Admission::Blocked(ticket), session);
-        }
-        let seat = words.give_pass(&mut self.seat, ticket);
-        let session = words.give_session(&mut self.seat, None);
-        (Admission::Free(seat, ticket), session)
     }
 }
 
