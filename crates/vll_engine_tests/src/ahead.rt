@@ -1,18 +1,21 @@
-//! Tests of calls with an indirect key, which find their record before they ask for the lock.
+//! Tests of when a call with an indirect key finds its record: before it asks for the lock if it is begun, and under the
+//! lock if it is made.
 ghost use Rattle.std.specs.Prelude.{◌≡◌};
 ghost use Rattle.vll_queue.specs.Shown.{name_of};
 ghost use Rattle.vll_sca.specs.Placing.{placing};
 
 use crate::asserts::{equal, fail};
 use crate::opening::opening_over;
-use crate::playing::{begins_free, call_of, ends, last_of, output_of, releases, started};
+use crate::playing::{
+    begins_free, call_of, ends, last_client, last_of, output_of, releases, started,
+};
 use std::marker::Brand;
 use std::process::Abort;
 use std::sync::Wait;
 use std::sync::atomic::{AtomicBool, Ordering};
 use std::test::*;
 use std::thread::{Threads, join, yield_now};
-use vll_engine::{Begun, Engine, Name, Opening, Session};
+use vll_engine::{Begun, Client, Engine, EngineSpent, Name, Opening, Session};
 use vll_proc::{Reason, Reply};
 use vll_sca::Placing;
 
@@ -26,6 +29,15 @@ struct Progress {
     is_held: AtomicBool,
     // The other one is about to begin a call.
     is_near: AtomicBool,
+}
+
+impl Progress {
+    fn new() -> Progress {
+        Progress {
+            is_held: AtomicBool::new(false),
+            is_near: AtomicBool::new(false),
+        }
+    }
 }
 
 // Executes and releases a bump of record 0, which is 1, under a hold: a while after another thread is about to begin a
@@ -56,6 +68,17 @@ fn bumps_under_a_hold<N: Name, R: Wait + Abort>(
     ends(rt, engine, released, 2);
 }
 
+// Returns once another thread keeps the hold, and reports that a call is about to begin.
+fn comes_near<R: Wait>(rt: &R, progress: &Progress) {
+    for _ in rt.forever() {
+        if progress.is_held.load(Ordering::SeqCst) {
+            break;
+        }
+        yield_now();
+    }
+    progress.is_near.store(true, Ordering::SeqCst);
+}
+
 // Begins, during that hold, a call that finds by record 0. Returns its reply.
 fn begins_beside_a_hold<N: Name, R: Wait + Abort>(
     rt: &R,
@@ -67,13 +90,7 @@ fn begins_beside_a_hold<N: Name, R: Wait + Abort>(
 {
     let mut session = session;
     let via = call_of(rt, engine.library(), "via", 0);
-    for _ in rt.forever() {
-        if progress.is_held.load(Ordering::SeqCst) {
-            break;
-        }
-        yield_now();
-    }
-    progress.is_near.store(true, Ordering::SeqCst);
+    comes_near(rt, progress);
     match engine.begin(rt, &mut session, &via) {
         Begun::Free(pass) => {
             let released = releases(rt, engine, pass);
@@ -94,10 +111,7 @@ fn finds_beside_a_hold<N: Name + Send + Sync, R: Wait + Threads + Abort + Sync>(
     let (engine, mut sessions) = started::<N>(opening);
     let other = last_of::<N>(rt, &mut sessions);
     let own = last_of::<N>(rt, &mut sessions);
-    let progress = Progress {
-        is_held: AtomicBool::new(false),
-        is_near: AtomicBool::new(false),
-    };
+    let progress = Progress::new();
     let (engine_now, so_far) = (&engine, &progress);
     let (reply, ()) = join(
         rt,
@@ -128,4 +142,52 @@ fn begin_finds_ahead_of_the_lock(rt: HostRuntime) -> Result<(), Fail> {
         }
     }
     Err(Fail::new("no call has found what was there before the hold"))
+}
+
+// Makes, during that hold, a call that finds by record 0. Returns its reply.
+fn makes_beside_a_hold<N: Name, R: Wait + Abort>(
+    rt: &R,
+    engine: &Engine<N, Placing>,
+    mut client: Client<N>,
+    progress: &Progress,
+) -> Reply {
+    let via = call_of(rt, engine.library(), "via", 0);
+    comes_near(rt, progress);
+    match client.make(rt, engine, &via) {
+        Ok((_, reply)) => reply,
+        Err(EngineSpent) => fail(rt, "the engine is spent"),
+    }
+}
+
+// Record 0 becomes 2 under a hold, while another thread makes a call that finds by it: that call finds the 2.
+fn makes_behind_a_hold<N: Name + Send + Sync, R: Wait + Threads + Abort + Sync>(
+    rt: &R,
+    opening: Opening<Placing>,
+)
+    requires { N.engine ≡ name_of placing opening }
+{
+    let (engine, mut clients) = opening.start_clients::<N>();
+    let other = last_client(rt, &mut clients);
+    let mut sessions = clients.into_sessions();
+    let own = last_of::<N>(rt, &mut sessions);
+    let progress = Progress::new();
+    let (engine_now, so_far) = (&engine, &progress);
+    let (reply, ()) = join(
+        rt,
+        move || makes_beside_a_hold(rt, engine_now, other, so_far),
+        move || -> ()
+            requires { own.table ≡ N.engine.table }
+        { bumps_under_a_hold(rt, engine_now, own, so_far) },
+    );
+    equal(rt, output_of(&reply), Some(21));
+}
+
+// A call that found before it asked for the lock would be aborted in some of these tries.
+#[test]
+fn call_that_is_made_finds_under_the_lock(rt: HostRuntime) -> Result<(), Fail> {
+    for _ in 0..MOST_TRIES {
+        let opening = opening_over(rt.alloc(), [1, 10, 20], 2, 2)?;
+        makes_behind_a_hold::<Brand, HostRuntime>(&rt, opening);
+    }
+    Ok(())
 }

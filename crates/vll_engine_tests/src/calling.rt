@@ -111,6 +111,34 @@ fn call_that_meets_a_full_queue_helps(rt: HostRuntime) -> Result<(), Fail> {
     Ok(())
 }
 
+// Ticket 0 keeps running. Behind it waits a call that only the scan finds: a call that meets a full queue, or waits for
+// that one, brings it to its end.
+fn helps_by_a_scan<N: Name, R: Wait + Abort>(rt: &R, opening: Opening<Placing>)
+    requires { N.engine ≡ name_of placing opening }
+{
+    let (engine, mut clients) = opening.start_clients::<N>();
+    let mut client = last_client(rt, &mut clients);
+    let mut sessions = clients.into_sessions();
+    let mut session = last_of::<N>(rt, &mut sessions);
+    let zero = begins_free(rt, &engine, &mut session, 0, 0);
+    let one = begins_free(rt, &engine, &mut session, 1, 1);
+    begins_blocked(rt, &engine, &mut session, 1, 2);
+    finishes(rt, &engine, one, 1);
+    equal(rt, bumps(rt, &engine, &mut client, 1), (Ticket(3), 3));
+    finishes(rt, &engine, zero, 1);
+    closes(rt, engine, sessions, &[1, 3], &[0, 0, 0, 1]);
+}
+
+// Without the scan the call would wait for ever.
+#[test]
+fn call_that_waits_scans(rt: HostRuntime) -> Result<(), Fail> {
+    for cap in [1, 2] {
+        let opening = opening(rt.alloc(), 2, 4, cap, 2)?;
+        helps_by_a_scan::<Brand, HostRuntime>(&rt, opening);
+    }
+    Ok(())
+}
+
 fn is_spent<N: Name, R: Wait + Abort>(rt: &R, opening: Opening<Placing>)
     requires { N.engine ≡ name_of placing opening }
 {
