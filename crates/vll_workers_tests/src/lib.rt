@@ -8,6 +8,8 @@ mod crowded;
 #[cfg(test)]
 mod gates;
 #[cfg(test)]
+mod indirect;
+#[cfg(test)]
 mod limited;
 #[cfg(test)]
 mod opening;

@@ -34,12 +34,17 @@ pub(crate) fn bump_of(rt: &impl Abort, library: &Library, record: u64) -> Call
     call_of(rt, library, "bump", record)
 }
 
-// Makes a script of `times` calls of a procedure for a record.
+// The first of two names for an even index, and the second for an odd one.
+fn in_turn<'a>(names: (&'a str, &'a str), index: u32) -> &'a str {
+    if index % 2 == 0 { names.0 } else { names.1 }
+}
+
+// Makes a script of `times` calls for a record, of two procedures in turn.
 fn script(
     rt: &impl Abort,
     alloc: Global,
     library: &Library,
-    name: &str,
+    names: (&str, &str),
     record: u64,
     times: u32,
 ) -> Result<Vec<Call>, Fail>
@@ -47,7 +52,8 @@ fn script(
     ensures few { IfOk result (λ s. length s.items < 2 ^ 32) }
 {
     let mut script = Vec::with_capacity(alloc, times as usize)?;
-    for _ in 0..times {
+    for index in 0..times {
+        let name = in_turn(names, index);
         script.push_reserved(call_of(rt, library, name, record));
     }
     Ok(script)
@@ -68,7 +74,25 @@ pub(crate) fn calling<N: Name>(
     ensures fit { IfOk result (IsFit N.engine) }
     ensures client { IfOk result (λ t. t.client ≡ session.session.client) }
 {
-    let script = script(rt, alloc, library, name, record, times)?;
+    calling_in_turn::<N>(rt, alloc, library, session, (name, name), record, times)
+}
+
+// Makes a token of `times` calls for a record, of two procedures in turn.
+fn calling_in_turn<N: Name>(
+    rt: &impl Abort,
+    alloc: Global,
+    library: &Library,
+    session: Session,
+    names: (&str, &str),
+    record: u64,
+    times: u32,
+) -> Result<Token, Fail>
+    requires library { library.now ≡ library_of N.engine }
+    requires session { session.table ≡ N.engine.table }
+    ensures fit { IfOk result (IsFit N.engine) }
+    ensures client { IfOk result (λ t. t.client ≡ session.session.client) }
+{
+    let script = script(rt, alloc, library, names, record, times)?;
     Ok(Token::new(session.client(), session, script))
 }
 
@@ -105,11 +129,30 @@ pub(crate) fn all_calling<N: Name>(
     ensures fit { IfOk result (λ t. AreFit N.engine t.items) }
     ensures distinct { IfOk result (λ t. IsDistinct nat_eq (clients_of t.items)) }
 {
+    all_calling_in_turn::<N>(rt, alloc, library, sessions, (name, name), records, times)
+}
+
+// As `all_calling`, of two procedures in turn.
+pub(crate) fn all_calling_in_turn<N: Name>(
+    rt: &impl Abort,
+    alloc: Global,
+    library: &Library,
+    sessions: Vec<Session>,
+    names: (&str, &str),
+    records: u32,
+    times: u32,
+) -> Result<Vec<Token>, Fail>
+    requires library { library.now ≡ library_of N.engine }
+    requires sessions { AreNewSessions N.engine.table (length sessions.items) sessions.items }
+    requires records { 0 < records }
+    ensures fit { IfOk result (λ t. AreFit N.engine t.items) }
+    ensures distinct { IfOk result (λ t. IsDistinct nat_eq (clients_of t.items)) }
+{
     let mut sessions = sessions;
     let mut tokens = Vec::new(alloc);
     while let Some(session) = sessions.pop() {
         let record = u64::from(session.client() % records);
-        let token = calling::<N>(rt, alloc, library, session, name, record, times)?;
+        let token = calling_in_turn::<N>(rt, alloc, library, session, names, record, times)?;
         tokens.push(token)?;
     }
     Ok(tokens)

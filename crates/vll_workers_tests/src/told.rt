@@ -146,12 +146,14 @@ impl<N: Name> Notes<N> {
 }
 
 // A gate that asks for the reply of each call for which it is called. The engine takes its lock for that, so that a
-// function of the gate that was called under the lock would not return.
+// function of the gate that was called under the lock would not return. If it may not wait, workers execute several calls
+// between two holds.
 #[derive(Drop)]
 struct Asking<'a, N: Name, X, R: Wait> {
     rt: &'a R,
     shared: &'a X,
     notes: Mutex<Notes<N>>,
+    may_wait: bool,
 }
 
 impl<N: Name, X: Shared<N>, R: Wait> Gate for Asking<'_, N, X, R> {
@@ -163,6 +165,10 @@ impl<N: Name, X: Shared<N>, R: Wait> Gate for Asking<'_, N, X, R> {
     fn after(&self, ticket: Ticket) {
         let mut notes = self.notes.lock(self.rt);
         notes.is_told_after(self.rt, self.shared.engine(), ticket);
+    }
+
+    fn may_wait(&self) -> bool {
+        self.may_wait
     }
 }
 
@@ -222,6 +228,7 @@ fn runs_asking<N: Name + Send + Sync, X: Shared<N> + Sync, R: Wait + Threads + A
     shared: &X,
     tokens: Vec<Token>,
     workers: u32,
+    may_wait: bool,
     notes: Notes<N>,
 ) -> Notes<N>
     requires workers { (1 ≤ workers) × (workers ≤ MOST_WORKERS) }
@@ -232,12 +239,14 @@ fn runs_asking<N: Name + Send + Sync, X: Shared<N> + Sync, R: Wait + Threads + A
         rt,
         shared,
         notes: Mutex::new(notes),
+        may_wait,
     };
     runs_to_its_end(rt, alloc, engine, tokens, workers, &gate);
     let Asking {
         rt: _,
         shared: _,
         notes,
+        may_wait: _,
     } = gate;
     notes.into_inner()
 }
@@ -250,6 +259,7 @@ fn is_told_once<N: Name + Send + Sync, R: Wait + Threads + Abort + Sync>(
     opening: Opening<Placing>,
     workers: u32,
     records: u32,
+    may_wait: bool,
 ) -> Result<(), Fail>
     requires name { N.engine ≡ name_of placing opening }
     requires workers { (1 ≤ workers) × (workers ≤ MOST_WORKERS) }
@@ -267,7 +277,9 @@ fn is_told_once<N: Name + Send + Sync, R: Wait + Threads + Abort + Sync>(
         CALLS,
     )?;
     let notes = Notes::new(alloc, session, 4 * CALLS)?;
-    let notes = runs_asking(rt, alloc, &engine, &engine, tokens, workers, notes);
+    let notes = runs_asking(
+        rt, alloc, &engine, &engine, tokens, workers, may_wait, notes,
+    );
     holds(rt, !notes.has_stray);
     for told in notes.told.as_slice() {
         equal(rt, *told, ONCE);
@@ -277,13 +289,21 @@ fn is_told_once<N: Name + Send + Sync, R: Wait + Threads + Abort + Sync>(
     Ok(())
 }
 
-// With one worker and records of their own, four calls begin under one hold; on one record they run one after the
-// other.
+// With one worker, records of their own and a gate that does not wait, several calls begin under one hold; on one record
+// they run one after the other.
 #[test]
 fn gate_is_told_of_each_call_once_outside_the_hold(rt: HostRuntime) -> Result<(), Fail> {
-    for (workers, records) in [(1, 4), (1, 1), (4, 4), (4, 1)] {
+    for (workers, records, may_wait) in [
+        (1, 4, false),
+        (1, 4, true),
+        (1, 1, false),
+        (1, 1, true),
+        (4, 4, false),
+        (4, 4, true),
+        (4, 1, true),
+    ] {
         let opening = opening(rt.alloc(), 4, 4 * CALLS, 5)?;
-        is_told_once::<Brand, HostRuntime>(&rt, rt.alloc(), opening, workers, records)?;
+        is_told_once::<Brand, HostRuntime>(&rt, rt.alloc(), opening, workers, records, may_wait)?;
     }
     Ok(())
 }

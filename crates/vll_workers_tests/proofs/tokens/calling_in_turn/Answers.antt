@@ -3,7 +3,7 @@ use Rattle.vll_check.specs.Calls.{Fits}
 use Rattle.vll_check.specs.Headline.Catalog.{Catalog}
 use Rattle.vll_queue.specs.Shown.{library_of}
 use Rattle.vll_tokens.specs.Tokens.{IsFit}
-use Rattle.vll_workers_tests.proofs.tokens.calling.Goals as goal
+use Rattle.vll_workers_tests.proofs.tokens.calling_in_turn.Goals as goal
 
 pub returns-clause-fit : goal.returns-clause-fit
 returns-clause-fit g c =

@@ -3,7 +3,7 @@ use Rattle.std.proofs.Common.{◌≤◌, All, length, nat_eq, vec_len}
 use Rattle.std.specs.List.{IsDistinct}
 use Rattle.vll_counters.specs.Shown.{AreNewSessions}
 use Rattle.vll_tokens.specs.Tokens.{AreFit, clients_of}
-use Rattle.vll_workers_tests.proofs.tokens.all_calling.Given as goal
+use Rattle.vll_workers_tests.proofs.tokens.all_calling_in_turn.Given as goal
 
 abbrev pub invariant-loop-session : goal.invariant-loop-session
 invariant-loop-session g l = record {

@@ -6,7 +6,7 @@ use Rattle.vll_tokens.specs.Tokens.{AreFit}
 use Rattle.vll_tokens.proofs.Distinct.{above_push, distinct_none, distinct_push}
 use Rattle.vll_tokens.proofs.Fit.{fit_push}
 use Rattle.vll_workers_tests.proofs.Sessions.{last_session}
-use Rattle.vll_workers_tests.proofs.tokens.all_calling.Goals as goal
+use Rattle.vll_workers_tests.proofs.tokens.all_calling_in_turn.Goals as goal
 
 pub loop-session-init : goal.loop-session-init
 loop-session-init g c =
@@ -18,8 +18,8 @@ loop-session-init g c =
       distinct = distinct_none c.new-tokens.result.items none;
     }
 
-pub calling-requires-clause-session : goal.calling-requires-clause-session
-calling-requires-clause-session g c =
+pub calling_in_turn-requires-clause-session : goal.calling_in_turn-requires-clause-session
+calling_in_turn-requires-clause-session g c =
     let new = c.pop.new.self.items in
     let last = last_session g.N.Name.engine.table (length c.loop-session.sessions.items) (length new) c.loop-session.sessions.items new c.in-Some.session c.loop-session.invariant.sessions c.in-Some.ensures.items refl in
     ap (λ (s : SessionShown). s.table) last.last
