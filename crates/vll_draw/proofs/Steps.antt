@@ -18,6 +18,7 @@ use Rattle.vll_replay.specs.Steps.{Step, step_of, steps}
 use Rattle.vll_draw.specs.Columns.{AreColumns, AreSteps, AreWordsOf, IsColumn, next_words, words_after, words_at}
 use Rattle.vll_draw.specs.declared.picture.column.Column.{Column}
 use Rattle.vll_draw.specs.declared.picture.column.RecordWords.{RecordWords}
+use Rattle.vll_draw.specs.declared.picture.drawing.Standing.{Standing}
 use Rattle.vll_draw.specs.Taped.{HasTaped, Stands, drawn}
 use Rattle.vll_draw.specs.declared.tape.Tape.{Tape}
 use Rattle.vll_scenario.specs.declared.event_range.EventRange.{EventRange}
@@ -142,18 +143,18 @@ within_window : (o : Opening) (count : ℕ) (ss : List Step) → AreOf o ss → 
 within_window o count ss of = record { from = of.from; events = take count of.events; are = ap (take count) of.are ∙ first o of.from count of.events }
 
 -- the words before the first one are those that stand
-by_standing : (o : Opening) (s : State) (es : List Event) (words : List ℕ) (cs : List Column) → AreColumns o.base (steps o s es) cs
-    → ((x : Step) (more : List Step) → steps o s es ≡ x ∷ more → Stands o x.before words) → AreSteps o.base (words_at words) (steps o s es) cs
-by_standing o s [] words cs are standing = λ n x r at within. absurd (cc at)
-by_standing o s (e ∷ es) words cs are standing =
+by_standing : (o : Opening) (s : State) (es : List Event) (stood : Standing) (cs : List Column) → AreColumns o.base (steps o s es) cs
+    → ((x : Step) (more : List Step) → steps o s es ≡ x ∷ more → Stands o x.before stood) → AreSteps o.base (words_at stood.words.items) (steps o s es) cs
+by_standing o s [] stood cs are standing = λ n x r at within. absurd (cc at)
+by_standing o s (e ∷ es) stood cs are standing =
     let stands = standing (step_of o s e) (steps o (state_after s (step o s e)) es) refl in
-    steps_are o s (e ∷ es) cs (words_at words) stands.0 are (λ r within. record { value = stands.1.values r within; pair = stands.1.pairs r within })
+    steps_are o s (e ∷ es) cs (words_at stood.words.items) stands.reached are (λ r within. record { value = stands.words.values r within; pair = stands.words.pairs r within })
 
 pub drawn_steps : (o : Opening) (w : EventRange) (s : State) (es : List Event) (t : Tape) → HasTaped o w (steps o s es) t
     → AreSteps o.base (words_at t.standing.words.items) (drawn w (steps o s es)) t.columns.items
 drawn_steps o w s es t has =
     let of = within_window o w.count (drop w.from (steps o s es)) (left o s w.from es) in
     subst (λ (ss : List Step). AreSteps o.base (words_at t.standing.words.items) ss t.columns.items) (sym of.are)
-    (by_standing o of.from of.events t.standing.words.items t.columns.items
+    (by_standing o of.from of.events t.standing t.columns.items
     (subst (λ (ss : List Step). AreColumns o.base ss t.columns.items) of.are has.columns)
     (λ x more is. has.standing x more (of.are ∙ is)))

@@ -6,7 +6,8 @@ ghost use Rattle.vll_core.specs.Shown.{opening_of};
 ghost use Rattle.vll_core.specs.Next.{claim_of};
 ghost use Rattle.vll_replay.specs.Steps.{Step};
 ghost use Rattle.vll_draw.specs.Columns.{AreWordsOf, IsColumn, ticket_in, ticket_seen};
-ghost use Rattle.vll_draw.specs.Taped.{HasTaped, Stands, StandsBefore};
+ghost use Rattle.vll_draw.specs.Taped.{HasTaped, Stands, StandsBefore, phases_in};
+ghost use Rattle.vll_draw.specs.Taped.{phase_of as phase_by_status};
 ghost use Rattle.vll_scenario.specs.declared.event_range.EventRange.{EventRange};
 
 use crate::picture::{Column, Phase, RecordWords, Standing};
@@ -214,7 +215,7 @@ fn ticket_in(event: &Event) -> Option<usize>
 
 // The machine's words, and the phase of each entered call.
 fn standing_of(alloc: Global, core: &Core<Placing>) -> Result<Standing, AllocError>
-    ensures { IfOk result (λ standing. Stands (opening_of placing core.now) core.now.state standing.words.items) }
+    ensures { IfOk result (λ standing. Stands (opening_of placing core.now) core.now.state standing) }
 {
     let mut words = Vec::new(alloc);
     words.extend_from_slice(core.words())?;
@@ -223,7 +224,9 @@ fn standing_of(alloc: Global, core: &Core<Placing>) -> Result<Standing, AllocErr
 }
 
 // The phase of each entered call.
-fn phases_of(alloc: Global, core: &Core<Placing>) -> Result<Vec<Phase>, AllocError> {
+fn phases_of(alloc: Global, core: &Core<Placing>) -> Result<Vec<Phase>, AllocError>
+    ensures { IfOk result (λ phases. phases.items ≡ phases_in core.now.state) }
+{
     let mut phases = Vec::new(alloc);
     for ticket in 0..core.journal().len() {
         phases.push(phase_of(core.state(Ticket(ticket as u32))))?;
@@ -231,7 +234,9 @@ fn phases_of(alloc: Global, core: &Core<Placing>) -> Result<Vec<Phase>, AllocErr
     Ok(phases)
 }
 
-fn phase_of(status: Option<Status>) -> Phase {
+fn phase_of(status: Option<Status>) -> Phase
+    ensures { result ≡ phase_by_status status }
+{
     match status {
         Some(Status::Waiting) => Phase::Waiting,
         Some(Status::Running) => Phase::Running,
