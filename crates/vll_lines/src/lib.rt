@@ -1,10 +1,10 @@
 //! Calls as lines of text: what a service reads from a pipe, and what it answers. A line of JSON asks for a call of one
 //! client, and its answer is a line of JSON too. Proved: which call or which fault a line is, as the kit's JSON reader
-//! reads it; the text of each answer; and that bytes are cut into lines at line feeds. Start at `read_round`, `LineReader`
-//! and `push_reply`.
+//! reads it; the text of each answer; and that bytes are cut into lines at line feeds. Start at `RoundReader`,
+//! `LineReader` and `push_reply`.
 //!
 //! ```rattle
-//! let round = read_round(wait, alloc, &library, clients, &mut source, &mut tail)?;
+//! let round = rounds.read(wait, &library, clients, &mut source, &mut tail)?;
 //! let text = push_reply(text, &request.id, number, &reply)?;
 //! ```
 #![tactic(auto)]
@@ -20,5 +20,5 @@ mod tokens;
 pub use limits::{MOST_ID, MOST_LINE, MOST_ROUND};
 pub use replying::{push_end, push_fault, push_reply};
 pub use request::{ClientCall, Id, LineFault, Request};
-pub use round::{Round, RoundFault, read_round};
+pub use round::{Round, RoundFault, RoundReader};
 pub use tokens::LineReader;

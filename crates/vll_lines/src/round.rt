@@ -47,52 +47,78 @@ impl From<AllocError> for RoundFault {
     }
 }
 
-/// Reads on until a line is complete or the input ends, and returns what the lines ask for that are complete then, of
-/// clients below `clients`. A last line without a line feed counts as a line. `tail` keeps the bytes of the line that
-/// has begun from one round to the next: it is empty at first.
-///
-/// It asks for no more bytes once a line is complete. A line that is too long is read over, and not kept. `Read` is
-/// returned exactly if the source has failed.
-pub fn read_round<S: Source>(
-    wait: &impl Wait,
+/// Reads rounds, one after the other. It keeps the memory that reading takes.
+#[derive(Drop)]
+pub struct RoundReader {
     alloc: Global,
-    library: &Library,
-    clients: u32,
-    source: &mut S,
-    tail: &mut Vec<u8>,
-) -> Result<Round, RoundFault>
-    requires source { S.failed source.old ≡ false }
-    requires tail { has_feed tail.old.items ≡ false }
-    ensures round { IfOk result (IsRound library.now clients (S.remaining source.old) (S.remaining source.new) tail.old.items tail.new.items) }
-    ensures fits { IfOk result (λ round. All (λ c. Fits library.now c.call) (calls_of round.requests.items)) }
-    ensures clients { IfOk result (λ round. All (λ c. c.client < clients) (calls_of round.requests.items)) }
-    ensures tail { OnOk result (has_feed tail.new.items ≡ false) }
-    ensures err { IfErr result (IsBroken (S.remaining source.old) (S.remaining source.new)) }
-    ensures failed { (result ≡ Err round_fault.Read) ↔ (S.failed source.new ≡ true) }
-{
-    let mut lines = LineReader::new(alloc);
-    let mut requests = Vec::new(alloc);
-    let mut piece = [0; MOST_ROUND];
-    for _ in wait.forever() {
-        let Ok(count) = source.read(&mut piece) else {
-            return Err(RoundFault::Read);
-        };
-        if count == 0 {
-            end_line(&mut lines, library, clients, tail, &mut requests)?;
-            return Ok(Round {
-                requests,
-                is_last: true,
-            });
-        }
-        let bytes = &piece[..count];
-        if take_piece(&mut lines, library, clients, bytes, tail, &mut requests)? {
-            return Ok(Round {
-                requests,
-                is_last: false,
-            });
-        }
+    lines: LineReader,
+    // The bytes of a read.
+    piece: Box<[u8; MOST_ROUND]>,
+}
+
+impl RoundReader {
+    /// A reader of rounds. It takes `MOST_ROUND` bytes, and fails only if there are none.
+    pub fn new(alloc: Global) -> Result<RoundReader, AllocError> {
+        Ok(RoundReader {
+            alloc,
+            lines: LineReader::new(alloc),
+            piece: Box::new(alloc, [0; MOST_ROUND])?,
+        })
     }
-    unreachable!()
+
+    /// Reads on until a line is complete or the input ends, and returns what the lines ask for that are complete then,
+    /// of clients below `clients`. A last line without a line feed counts as a line. `tail` keeps the bytes of the line
+    /// that has begun from one round to the next: it is empty at first.
+    ///
+    /// It asks for no more bytes once a line is complete. A line that is too long is read over, and not kept. `Read` is
+    /// returned exactly if the source has failed.
+    pub fn read<S: Source>(
+        &mut self,
+        wait: &impl Wait,
+        library: &Library,
+        clients: u32,
+        source: &mut S,
+        tail: &mut Vec<u8>,
+    ) -> Result<Round, RoundFault>
+        requires source { S.failed source.old ≡ false }
+        requires tail { has_feed tail.old.items ≡ false }
+        ensures round { IfOk result (IsRound library.now clients (S.remaining source.old) (S.remaining source.new) tail.old.items tail.new.items) }
+        ensures fits { IfOk result (λ round. All (λ c. Fits library.now c.call) (calls_of round.requests.items)) }
+        ensures clients { IfOk result (λ round. All (λ c. c.client < clients) (calls_of round.requests.items)) }
+        ensures tail { OnOk result (has_feed tail.new.items ≡ false) }
+        ensures err { IfErr result (IsBroken (S.remaining source.old) (S.remaining source.new)) }
+        ensures failed { (result ≡ Err round_fault.Read) ↔ (S.failed source.new ≡ true) }
+    {
+        let mut requests = Vec::new(self.alloc);
+        let piece = &mut *self.piece;
+        for _ in wait.forever() {
+            let Ok(count) = source.read(piece) else {
+                return Err(RoundFault::Read);
+            };
+            if count == 0 {
+                end_line(&mut self.lines, library, clients, tail, &mut requests)?;
+                return Ok(Round {
+                    requests,
+                    is_last: true,
+                });
+            }
+            let bytes = &piece[..count];
+            if take_piece(
+                &mut self.lines,
+                library,
+                clients,
+                bytes,
+                tail,
+                &mut requests,
+            )? {
+                return Ok(Round {
+                    requests,
+                    is_last: false,
+                });
+            }
+        }
+        unreachable!()
+    }
 }
 
 // Reads the line at the end of the input, if one has begun.

@@ -18,7 +18,7 @@ use std::alloc::Global;
 use std::sync::Wait;
 use vll_core::{Line, MOST_CALLS};
 use vll_engine::{Engine, Name, Opening, Reopened, Session};
-use vll_lines::{MOST_ROUND, read_round};
+use vll_lines::{MOST_ROUND, RoundReader};
 use vll_sca::Placing;
 use vll_scenario::{MOST_CLIENTS, Sink, Source, write_text};
 
@@ -51,6 +51,7 @@ pub(crate) fn run_epoch<N: Name, S: Source, W: Sink>(
     wait: &impl Wait,
     alloc: Global,
     opening: Opening<Placing>,
+    rounds: &mut RoundReader,
     reader: &mut S,
     writer: &mut W,
     tail: &mut Vec<u8>,
@@ -77,7 +78,16 @@ pub(crate) fn run_epoch<N: Name, S: Source, W: Sink>(
 {
     let (engine, sessions) = opening.start::<N>();
     let mut callers = Callers::new::<N>(sessions, number);
-    let is_last = serve_rounds(wait, alloc, &engine, &mut callers, reader, writer, tail)?;
+    let is_last = serve_rounds(
+        wait,
+        alloc,
+        &engine,
+        &mut callers,
+        rounds,
+        reader,
+        writer,
+        tail,
+    )?;
     Ok(Ended {
         number: callers.number(),
         then: end_epoch(alloc, engine, callers, is_last, room)?,
@@ -91,6 +101,7 @@ fn serve_rounds<N: Name, S: Source, W: Sink>(
     alloc: Global,
     engine: &Engine<N, Placing>,
     callers: &mut Callers,
+    rounds: &mut RoundReader,
     reader: &mut S,
     writer: &mut W,
     tail: &mut Vec<u8>,
@@ -114,7 +125,7 @@ fn serve_rounds<N: Name, S: Source, W: Sink>(
     ensures write { (result ≡ Err fault.Write) ↔ (W.failed writer.new ≡ true) }
 {
     for _ in wait.forever() {
-        let is_last = serve_round(wait, alloc, engine, callers, reader, writer, tail)?;
+        let is_last = serve_round(wait, alloc, engine, callers, rounds, reader, writer, tail)?;
         if is_last || callers.calls() > LAST_ROUND {
             return Ok(is_last);
         }
@@ -128,6 +139,7 @@ fn serve_round<N: Name, S: Source, W: Sink>(
     alloc: Global,
     engine: &Engine<N, Placing>,
     callers: &mut Callers,
+    rounds: &mut RoundReader,
     reader: &mut S,
     writer: &mut W,
     tail: &mut Vec<u8>,
@@ -151,7 +163,7 @@ fn serve_round<N: Name, S: Source, W: Sink>(
     ensures write { (result ≡ Err fault.Write) ↔ (W.failed writer.new ≡ true) }
 {
     let clients = callers.clients::<N>();
-    let round = read_round(wait, alloc, engine.library(), clients, reader, tail)?;
+    let round = rounds.read(wait, engine.library(), clients, reader, tail)?;
     let text = answer_lines(wait, alloc, engine, callers, round.requests.as_slice())?;
     write_text(writer, text.as_slice())?;
     Ok(round.is_last)

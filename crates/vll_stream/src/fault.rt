@@ -1,5 +1,5 @@
 //! Why a service ends before its input does.
-use std::alloc::{AllocError, AllocFailed};
+use std::alloc::AllocError;
 use thiserror::Error;
 use vll_lines::RoundFault;
 use vll_scenario::WriteFault;
@@ -30,17 +30,6 @@ impl From<AllocError> for StreamFault {
     ghost from_gives = { λ _ e. e ≡ NoMemory };
 
     fn from(_: AllocError) -> StreamFault {
-        StreamFault::NoMemory
-    }
-}
-
-impl<T: Drop> From<AllocFailed<T>> for StreamFault {
-    ghost use Rattle.std.specs.Prelude.{◌≡◌};
-    ghost use Rattle.vll_stream.specs.declared.fault.StreamFault.TheVariants.{NoMemory};
-
-    ghost from_gives = { λ _ e. e ≡ NoMemory };
-
-    fn from(_: AllocFailed<T>) -> StreamFault {
         StreamFault::NoMemory
     }
 }

@@ -16,7 +16,7 @@ use std::marker::Brand;
 use std::sync::Wait;
 use vll_core::{Config, MOST_CALLS, OpenFault};
 use vll_engine::Opening;
-use vll_lines::push_end;
+use vll_lines::{RoundReader, push_end};
 use vll_proc::Call;
 use vll_sca::Placing;
 use vll_scenario::{MOST_CLIENTS, Scenario, ScenarioParts, Sink, Source, write_text};
@@ -52,11 +52,20 @@ pub fn serve_stream<S: Source, W: Sink>(
 {
     let mut opening = opening_of(alloc, scenario)?;
     let mut room = Vec::with_capacity(alloc, MOST_CALLS as usize)?;
+    let mut rounds = RoundReader::new(alloc)?;
     let mut tail = Vec::new(alloc);
     let mut number = 0;
     for _ in wait.forever() {
         let ended = run_epoch::<Brand, S, W>(
-            wait, alloc, opening, reader, writer, &mut tail, number, room,
+            wait,
+            alloc,
+            opening,
+            &mut rounds,
+            reader,
+            writer,
+            &mut tail,
+            number,
+            room,
         )?;
         let Ended {
             number: reached,

@@ -33,13 +33,13 @@ answer_lines-requires g c =
     search rules
 
 -- the round that was read
-read_of : (g : Over) (c : In_ok-round g) → IsRound (library_of g.N.Name.engine) g.N.Name.engine.clients (g.S.Source.remaining c.args.reader.now) (g.S.Source.remaining c.read_round.new.source) c.args.tail.now.items
-    c.read_round.new.tail.items c.in_ok-round.round
+read_of : (g : Over) (c : In_ok-round g) → IsRound (library_of g.N.Name.engine) g.N.Name.engine.clients (g.S.Source.remaining c.args.reader.now) (g.S.Source.remaining c.read.new.source) c.args.tail.now.items
+    c.read.new.tail.items c.in_ok-round.round
 read_of g c =
     let e = g.N.Name.engine in
     let old : Option (List ℕ) = g.S.Source.remaining c.args.reader.now in
-    let left : Option (List ℕ) = g.S.Source.remaining c.read_round.new.source in
-    let tail : List ℕ = c.read_round.new.tail.items in
+    let left : Option (List ℕ) = g.S.Source.remaining c.read.new.source in
+    let tail : List ℕ = c.read.new.tail.items in
     subst (λ (k : ℕ). IsRound (library_of e) k old left c.args.tail.now.items tail c.in_ok-round.round) c.clients-clients.ensures
     (subst (λ (l : Catalog). IsRound l c.clients-clients.result old left c.args.tail.now.items tail c.in_ok-round.round) c.library.ensures c.in_ok-round.ensures.round)
 
@@ -58,7 +58,7 @@ returns-clause-round g c =
     let contents = g.W.Sink.contents in
     let old : Place = place_of known contents c.args.reader.now c.args.tail.now.items c.args.writer.now c.args.callers.now.number in
     let wrote = subst (Appends old.output (contents c.write_text.new.writer)) c.as_slice-2.ensures.value c.in_ok-write_text.ensures.ok in
-    round_after g.N.Name.engine (made_so_far c.args.callers.now) (made_so_far c.answer_lines.new.callers) c.in_ok-round.round old (known c.read_round.new.source) c.read_round.new.tail.items (read_of g at.In_ok-round)
+    round_after g.N.Name.engine (made_so_far c.args.callers.now) (made_so_far c.answer_lines.new.callers) c.in_ok-round.round old (known c.read.new.source) c.read.new.tail.items (read_of g at.In_ok-round)
     c.answer_lines.new.callers.number c.in_ok-text.text.items (answered_of g at.In_ok-text) (contents c.write_text.new.writer) wrote
 
 pub returns-in_err-round-clause-err : goal.returns-in_err-round-clause-err
@@ -69,8 +69,8 @@ returns-in_err-round-clause-err g c =
     let old : Place = place_of known g.W.Sink.contents c.args.reader.now c.args.tail.now.items c.args.writer.now c.args.callers.now.number in
     let why = c.in_err-round.field-0.0 in
     let is : c.from_residual.result ≡ Err (fault_of_round why) = search rules in
-    subst (λ (r : Result Bool StreamFault). IfErr r (λ w. StopsAfter e.base e.clients calls w old (known c.read_round.new.source) old.output)) (sym is)
-    (round_broken e calls why old (known c.read_round.new.source) c.requires.callers.found c.requires.tail c.in_err-round.ensures.err)
+    subst (λ (r : Result Bool StreamFault). IfErr r (λ w. StopsAfter e.base e.clients calls w old (known c.read.new.source) old.output)) (sym is)
+    (round_broken e calls why old (known c.read.new.source) c.requires.callers.found c.requires.tail c.in_err-round.ensures.err)
 
 pub returns-in_err-text-clause-err : goal.returns-in_err-text-clause-err
 returns-in_err-text-clause-err g c =
@@ -81,8 +81,8 @@ returns-in_err-text-clause-err g c =
     let read = read_of g (goal.at.returns-in_err-text-clause-err g c).In_ok-round in
     let why = c.in_err-text.field-0.0 in
     let is : c.from_residual-in_err-text.result ≡ Err why = search rules in
-    subst (λ (r : Result Bool StreamFault). IfErr r (λ w. StopsAfter e.base e.clients calls w old (known c.read_round.new.source) old.output)) (sym is)
-    (round_unanswered e calls why c.in_ok-round.round old (known c.read_round.new.source) c.read_round.new.tail.items read c.requires.callers.found c.in_err-text.ensures.own)
+    subst (λ (r : Result Bool StreamFault). IfErr r (λ w. StopsAfter e.base e.clients calls w old (known c.read.new.source) old.output)) (sym is)
+    (round_unanswered e calls why c.in_ok-round.round old (known c.read.new.source) c.read.new.tail.items read c.requires.callers.found c.in_err-text.ensures.own)
 
 pub returns-in_err-write_text-clause-err : goal.returns-in_err-write_text-clause-err
 returns-in_err-write_text-clause-err g c =
@@ -94,6 +94,6 @@ returns-in_err-write_text-clause-err g c =
     let old : Place = place_of known contents c.args.reader.now c.args.tail.now.items c.args.writer.now c.args.callers.now.number in
     let wrote = subst (AppendsBeginning old.output (contents c.write_text.new.writer)) c.as_slice-2.ensures.value c.in_err-write_text.ensures.err in
     let is : c.from_residual-in_err-write_text.result ≡ Err fault.Write = search rules in
-    subst (λ (r : Result Bool StreamFault). IfErr r (λ w. StopsAfter e.base e.clients calls w old (known c.read_round.new.source) (contents c.write_text.new.writer))) (sym is)
-    (round_breaks_off e calls (made_so_far c.answer_lines.new.callers) c.in_ok-round.round old (known c.read_round.new.source) c.read_round.new.tail.items (read_of g at.In_ok-round) c.answer_lines.new.callers.number
+    subst (λ (r : Result Bool StreamFault). IfErr r (λ w. StopsAfter e.base e.clients calls w old (known c.read.new.source) (contents c.write_text.new.writer))) (sym is)
+    (round_breaks_off e calls (made_so_far c.answer_lines.new.callers) c.in_ok-round.round old (known c.read.new.source) c.read.new.tail.items (read_of g at.In_ok-round) c.answer_lines.new.callers.number
     c.in_ok-text.text.items (answered_of g at.In_ok-text) c.in_ok-text.ensures.callers.found (contents c.write_text.new.writer) c.in_ok-round.ensures.tail wrote)

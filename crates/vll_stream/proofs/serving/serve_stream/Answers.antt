@@ -85,7 +85,7 @@ text_of : (g : Over) (c : After-as_slice-in-Over g) → c.as_slice-in-Over.resul
 text_of g c =
     let n : ℕ = c.in_ok-ended.ended.number in
     c.as_slice-in-Over.ensures.value
-    ∙ (c.in_ok-text-in-Over.ensures ∙ (ap (λ (l : List ℕ). l ++ end_line n c.as_slice.result.now) c.new.ensures.items ∙ ap (end_line n) c.as_slice.ensures.value))
+    ∙ (c.in_ok-text-in-Over.ensures ∙ (ap (λ (l : List ℕ). l ++ end_line n c.as_slice.result.now) c.new-in-Over.ensures.items ∙ ap (end_line n) c.as_slice.ensures.value))
 
 pub returns-in-Over-clause-ok : goal.returns-in-Over-clause-ok
 returns-in-Over-clause-ok g c =
@@ -109,6 +109,13 @@ returns-in_err-room-clause-err g c =
     let known = g.S.Source.remaining c.args.reader.now in
     let contents = g.W.Sink.contents c.args.writer.now in
     let is : c.from_residual-in_err-room.result ≡ Err fault.NoMemory = search rules in
+    subst (λ (r : Result (Unit {0}) StreamFault). IfErr r (λ w. EndsEarly c.args.scenario w known known contents contents)) (sym is) (ends_at_once c.args.scenario fault.NoMemory known contents)
+
+pub returns-in_err-rounds-clause-err : goal.returns-in_err-rounds-clause-err
+returns-in_err-rounds-clause-err g c =
+    let known = g.S.Source.remaining c.args.reader.now in
+    let contents = g.W.Sink.contents c.args.writer.now in
+    let is : c.from_residual-in_err-rounds.result ≡ Err fault.NoMemory = search rules in
     subst (λ (r : Result (Unit {0}) StreamFault). IfErr r (λ w. EndsEarly c.args.scenario w known known contents contents)) (sym is) (ends_at_once c.args.scenario fault.NoMemory known contents)
 
 pub returns-in_err-ended-clause-err : goal.returns-in_err-ended-clause-err
