@@ -26,6 +26,8 @@ FAULTY = [
     ('{"client":-1,"proc":"balance","args":[0]}', 'CLIENT'),
     ('{"client":10,"proc":"balance","args":[0]}', 'there is no client 10'),
     ('{"client":0,"proc":"sum","args":[]}', 'no procedure has the name sum'),
+    (f'{{"client":0,"proc":"{"é" * 40}","args":[]}}', f'no procedure has the name {"é" * 40}'),
+    (f'{{"client":0,"proc":"{"é" * 30000}","args":[]}}', f'no procedure has the name {"é" * 40}..'),
     ('{"client":0,"proc":"balance","args":[]}', 'the number of arguments has to be 1'),
     ('{"client":0,"proc":"balance","args":[8]}', 'argument 0 has to be the number of a record'),
     ('{"client":0,"proc":"balance","args":[0],"at":1}', 'OBJECT'),

@@ -1,9 +1,7 @@
 //! Pieces of a scenario as shown to a person: in printable ASCII, and cut if they are long.
 use serde_json::Value;
 use std::fmt;
-
-// The number of characters of a text that are shown.
-const MOST_SHOWN: usize = 40;
+use vll_scenario::Shortened;
 
 // A text in quotation marks.
 #[derive(Clone, Copy)]
@@ -11,13 +9,12 @@ pub(crate) struct Quoted<'a>(pub &'a str);
 
 impl fmt::Display for Quoted<'_> {
     fn fmt<W: fmt::Write>(&self, f: &mut fmt::Formatter<W>) -> fmt::Result {
+        let shown = Shortened::new(self.0);
         f.write_str("\"")?;
-        for (count, c) in self.0.chars().enumerate() {
-            if count == MOST_SHOWN {
-                return f.write_str("..\"");
-            }
+        for c in shown.beginning.chars() {
             show_char(f, c)?;
         }
+        f.write_str(shown.dots)?;
         f.write_str("\"")
     }
 }

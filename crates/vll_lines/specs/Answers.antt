@@ -7,6 +7,7 @@ use Rattle.vll_proc.specs.declared.call.Reason.{Reason}
 use Rattle.vll_proc.specs.declared.call.Reason.TheVariants.{Code, Overflow, Underflow, ZeroDivisor, Moved}
 use Rattle.vll_proc.specs.declared.call.Reply.{Reply}
 use Rattle.vll_proc.specs.declared.call.Reply.TheVariants.{Committed, Aborted}
+use Rattle.vll_scenario.specs.Shown.{shortened}
 use Rattle.vll_lines.specs.declared.request.Request.{Request}
 use Rattle.vll_lines.specs.declared.request.ClientCall.{ClientCall}
 use Rattle.vll_lines.specs.declared.request.Id.{Id}
@@ -24,7 +25,7 @@ fault_words fault.Client = codes "client has to be the number of a client"
 fault_words fault.Proc = codes "proc has to be the name of a procedure"
 fault_words fault.Args = codes "args has to be a list of whole numbers"
 fault_words (fault.NoClient client) = codes "there is no client " ++ decimal client
-fault_words (fault.NoProc name) = codes "no procedure has the name " ++ name
+fault_words (fault.NoProc name) = codes "no procedure has the name " ++ shortened name
 fault_words (fault.ArgCount count) = codes "the number of arguments has to be " ++ decimal count
 fault_words (fault.NoRecord index) = codes "argument " ++ decimal index ++ codes " has to be the number of a record"
 

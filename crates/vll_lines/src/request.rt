@@ -1,6 +1,7 @@
 //! A line as it was read: the call that it asks for, or why it asks for none.
 use std::fmt;
 use vll_proc::{Call, Text};
+use vll_scenario::Shortened;
 
 /// What a client names a line by. It comes back with the answer.
 #[derive(Drop)]
@@ -66,7 +67,12 @@ impl fmt::Display for LineFault {
             LineFault::Proc => f.write_str("proc has to be the name of a procedure"),
             LineFault::Args => f.write_str("args has to be a list of whole numbers"),
             LineFault::NoClient(client) => write!(f, "there is no client {client}"),
-            LineFault::NoProc(name) => { write!(f, "no procedure has the name {}", name.as_str()) }
+            LineFault::NoProc(name) => {
+                let shown = Shortened::new(name.as_str());
+                f.write_str("no procedure has the name ")?;
+                f.write_str(shown.beginning)?;
+                f.write_str(shown.dots)
+            }
             LineFault::ArgCount(count) => write!(f, "the number of arguments has to be {count}"),
             LineFault::NoRecord(index) => write!(
                 f,

@@ -108,6 +108,14 @@ fn line_has_its_fault(rt: HostRuntime) -> Result<(), Fail> {
             r#"{"id":5,"fault":"no procedure has the name eight\n"}"#,
         ),
         (
+            r#"{"client":1,"proc":"éé34567890123456789012345678901234567890","args":[]}"#,
+            r#"{"fault":"no procedure has the name éé34567890123456789012345678901234567890"}"#,
+        ),
+        (
+            r#"{"client":1,"proc":"éé34567890123456789012345678901234567890é","args":[]}"#,
+            r#"{"fault":"no procedure has the name éé34567890123456789012345678901234567890.."}"#,
+        ),
+        (
             r#"{"id":5,"client":1,"proc":"bump","args":[]}"#,
             r#"{"id":5,"fault":"the number of arguments has to be 1"}"#,
         ),

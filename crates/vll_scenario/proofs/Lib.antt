@@ -9,4 +9,5 @@ pub mod Sizes
 pub mod Answering
 pub mod Written
 pub mod Results
+pub mod Characters
 mod Rows

@@ -11,4 +11,5 @@ pub mod Line
 pub mod Streams
 pub mod Bytes
 pub mod Plain
+pub mod Shown
 pub mod Private
