@@ -22,7 +22,9 @@ ACCOUNTS, CLIENTS, MOST_CLIENTS = 8, 10, 1024
 # Lines that ask for no call, and what is said of each.
 FAULTY = [
     ('', 'no JSON text: column 0'), ('{', 'no JSON text: column 1'), ('7', 'OBJECT'), ('{"client":0}', 'PROC'),
-    ('{"client":0,"proc":"balance"}', 'ARGS'), ('{"client":0,"proc":"balance","args":[0.5]}', 'ARGS'),
+    ('{"client":0,"proc":"balance"}', 'ARGS'), ('{"client":0,"proc":"balance","args":0}', 'ARGS'),
+    ('{"client":0,"proc":"balance","args":[0.5]}', 'argument 0 has to be a whole number of 64 bits without a sign'),
+    ('{"client":0,"proc":"transfer","args":[0,1,-30]}', 'argument 2 has to be a whole number of 64 bits without a sign'),
     ('{"client":-1,"proc":"balance","args":[0]}', 'CLIENT'),
     ('{"client":10,"proc":"balance","args":[0]}', 'there is no client 10'),
     ('{"client":0,"proc":"sum","args":[]}', 'no procedure has the name sum'),

@@ -24,6 +24,7 @@ fault_words fault.Object = codes "the line has to be an object with client, proc
 fault_words fault.Client = codes "client has to be the number of a client"
 fault_words fault.Proc = codes "proc has to be the name of a procedure"
 fault_words fault.Args = codes "args has to be a list of whole numbers"
+fault_words (fault.Arg index) = codes "argument " ++ decimal index ++ codes " has to be a whole number of 64 bits without a sign"
 fault_words (fault.NoClient client) = codes "there is no client " ++ decimal client
 fault_words (fault.NoProc name) = codes "no procedure has the name " ++ shortened name
 fault_words (fault.ArgCount count) = codes "the number of arguments has to be " ++ decimal count

@@ -1,8 +1,8 @@
 -- The call that a line asks for, or why it asks for none.
 use Rattle.std.specs.Prelude.{◌≡◌, ◌⊎◌, ◌<◌, ◌≤◌, ℕ, Bool, false, List, [], ◌∷◌, length, nat_le, nat_lt, Option, Some, None, Result, Ok, Err, if◌then◌else◌, codes}
 use Rattle.std.specs.Str.{bytes_eq}
-use Rattle.serde_json.specs.Data.{Data, null, boolean, number, string, array, object}
-use Rattle.serde_json.specs.Find.{as_str, get}
+use Rattle.serde_json.specs.Data.{Data, Items, null, boolean, number, string, array, object}
+use Rattle.serde_json.specs.Find.{as_array, as_str, get}
 use Rattle.vll_proc.specs.declared.call.Call.{Call}
 use Rattle.vll_proc.specs.declared.syntax.KeyAt.{KeyAt}
 use Rattle.vll_proc.specs.declared.syntax.KeyAt.TheVariants as at
@@ -15,7 +15,7 @@ use Rattle.vll_check.specs.declared.fault.CallFault.TheVariants as call
 use Rattle.vll_scenario.specs.Scenario.{IsTree}
 use Rattle.vll_scenario.specs.Shape.{◌>>=◌}
 use Rattle.vll_scenario.specs.Syntax.{has_only, member_at}
-use Rattle.vll_scenario.specs.Tree.{list_at, number_at, u32_at, whole}
+use Rattle.vll_scenario.specs.Tree.{each, number_at, u32_at}
 use Rattle.vll_lines.specs.declared.request.Request.{Request}
 use Rattle.vll_lines.specs.declared.request.ClientCall.{ClientCall}
 use Rattle.vll_lines.specs.declared.request.Id.{Id}
@@ -74,9 +74,19 @@ client_of d = or_fault fault.Client (u32_at (member_at (codes "client") d))
 abbrev pub name_of : Data → Result (List ℕ) LineFault
 name_of d = or_fault fault.Proc (as_str (member_at (codes "proc") d))
 
+-- the arguments that were read, or the index of the first that is none
+abbrev pub args_by : Result (List ℕ) ℕ → Result (List ℕ) LineFault
+args_by (Ok numbers) = Ok numbers
+args_by (Err i) = Err (fault.Arg i)
+
+-- the arguments of a list, if there is one
+abbrev pub args_in : Option Items → Result (List ℕ) LineFault
+args_in None = Err fault.Args
+args_in (Some ds) = args_by (each number_at ds)
+
 -- the arguments
 abbrev pub args_of : Data → Result (List ℕ) LineFault
-args_of d = or_fault fault.Args (whole (list_at number_at (member_at (codes "args") d)))
+args_of d = args_in (as_array (member_at (codes "args") d))
 
 -- the first procedure with a name
 abbrev pub proc_named : List ℕ → List Proc → Option Proc

@@ -4,10 +4,9 @@ ghost use Rattle.std.specs.List.{list_any};
 ghost use Rattle.std.specs.Str.{bytes_eq};
 ghost use Rattle.serde_json.specs.View.{items_view, members_view, view};
 ghost use Rattle.vll_scenario.specs.Syntax.{has_only};
-ghost use Rattle.vll_scenario.specs.Tree.{each, number_at, whole};
-ghost use Rattle.vll_lines.specs.Request.{IsRequest, args_of, request_of, call_asked, client_of, has_no_other, id_in, id_of, may_names, name_of, no_record, or_fault, declared_args, declared_keys, proc_named, refusal};
+ghost use Rattle.vll_scenario.specs.Tree.{each, number_at};
+ghost use Rattle.vll_lines.specs.Request.{IsRequest, args_by, args_of, request_of, call_asked, client_of, has_no_other, id_in, id_of, may_names, name_of, no_record, declared_args, declared_keys, proc_named, refusal};
 ghost use Rattle.vll_lines.specs.Private.Reading.{Gives, GivesArgs, Names, Settles};
-ghost use Rattle.vll_lines.specs.declared.request.LineFault.TheVariants as fault;
 
 use crate::limits::MOST_ID;
 use crate::request::{ClientCall, Id, LineFault, Request};
@@ -274,15 +273,15 @@ fn args_of(alloc: Global, tree: &Value) -> Result<Vec<u64>, ReadFault>
     }
 }
 
-// The numbers of a list.
+// The numbers of a list of arguments.
 fn numbers_in(alloc: Global, list: &[Value]) -> Result<Vec<u64>, ReadFault>
-    ensures { GivesArgs result (or_fault fault.Args (whole (each number_at (items_view list.now)))) }
+    ensures { GivesArgs result (args_by (each number_at (items_view list.now))) }
 {
     let mut numbers = Vec::with_capacity(alloc, list.len())?;
     for value in list {
         match value.as_u64() {
             Some(number) => numbers.push(number)?,
-            None => return Err(ReadFault::Faulty(LineFault::Args)),
+            None => return Err(ReadFault::Faulty(LineFault::Arg(numbers.len() as u64))),
         }
     }
     Ok(numbers)

@@ -33,8 +33,10 @@ pub enum LineFault {
     Client,
     /// The member `proc` is missing, or not a text.
     Proc,
-    /// The member `args` is missing, or not a list of whole numbers of 64 bits without a sign.
+    /// The member `args` is missing, or not a list.
     Args,
+    /// The first argument, by its index, that is not a whole number of 64 bits without a sign.
+    Arg(u64),
     /// There is no client with this number.
     NoClient(u32),
     /// No procedure has this name.
@@ -66,6 +68,10 @@ impl fmt::Display for LineFault {
             LineFault::Client => f.write_str("client has to be the number of a client"),
             LineFault::Proc => f.write_str("proc has to be the name of a procedure"),
             LineFault::Args => f.write_str("args has to be a list of whole numbers"),
+            LineFault::Arg(index) => write!(
+                f,
+                "argument {index} has to be a whole number of 64 bits without a sign"
+            ),
             LineFault::NoClient(client) => write!(f, "there is no client {client}"),
             LineFault::NoProc(name) => {
                 let shown = Shortened::new(name.as_str());

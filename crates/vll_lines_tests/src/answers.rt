@@ -88,16 +88,20 @@ fn line_has_its_fault(rt: HostRuntime) -> Result<(), Fail> {
             r#"{"id":5,"fault":"proc has to be the name of a procedure"}"#,
         ),
         (
-            r#"{"id":5,"client":1,"proc":"seven","args":[1.0]}"#,
+            r#"{"id":5,"client":1,"proc":"seven","args":7}"#,
             r#"{"id":5,"fault":"args has to be a list of whole numbers"}"#,
         ),
         (
-            r#"{"id":5,"client":1,"proc":"bump","args":[-0]}"#,
-            r#"{"id":5,"fault":"args has to be a list of whole numbers"}"#,
+            r#"{"id":5,"client":1,"proc":"seven","args":[1.0]}"#,
+            r#"{"id":5,"fault":"argument 0 has to be a whole number of 64 bits without a sign"}"#,
+        ),
+        (
+            r#"{"id":5,"client":1,"proc":"bump","args":[7,-0,[]]}"#,
+            r#"{"id":5,"fault":"argument 1 has to be a whole number of 64 bits without a sign"}"#,
         ),
         (
             r#"{"id":5,"client":1,"proc":"bump","args":[18446744073709551616]}"#,
-            r#"{"id":5,"fault":"args has to be a list of whole numbers"}"#,
+            r#"{"id":5,"fault":"argument 0 has to be a whole number of 64 bits without a sign"}"#,
         ),
         (
             r#"{"id":5,"client":1,"proc":"bump","args":[0]}]"#,
