@@ -21,7 +21,7 @@ ACCOUNTS, CLIENTS, MOST_CLIENTS = 8, 10, 1024
 
 # Lines that ask for no call, and what is said of each.
 FAULTY = [
-    ('', 'no JSON text: column 0'), ('{', 'no JSON text: column 1'), ('7', 'OBJECT'), ('{"client":0}', 'PROC'),
+    ('', 'the line is empty'), ('{', 'no JSON text: column 1'), ('7', 'OBJECT'), ('{"client":0}', 'PROC'),
     ('{"client":0,"proc":"balance"}', 'ARGS'), ('{"client":0,"proc":"balance","args":0}', 'ARGS'),
     ('{"client":0,"proc":"balance","args":[0.5]}', 'argument 0 has to be a whole number of 64 bits without a sign'),
     ('{"client":0,"proc":"transfer","args":[0,1,-30]}', 'argument 2 has to be a whole number of 64 bits without a sign'),
@@ -82,6 +82,8 @@ class Bank:
 
     def answer(self, line):
         """The answer to a line that asks for a call, or that is no JSON text: at which column is left open."""
+        if not line:
+            return {'fault': 'the line is empty'}
         try:
             asked = json.loads(line.decode())
         except ValueError:

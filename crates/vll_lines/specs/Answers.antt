@@ -18,6 +18,7 @@ use Rattle.vll_lines.specs.declared.request.LineFault.TheVariants as fault
 -- the words that are told of a fault
 abbrev pub fault_words : LineFault → List ℕ
 fault_words fault.Long = codes "the line has more than 65536 bytes"
+fault_words fault.Empty = codes "the line is empty"
 fault_words (fault.Json column) = codes "no JSON text: column " ++ decimal column
 fault_words fault.Id = codes "id has to be a whole number or a text of at most 64 bytes"
 fault_words fault.Object = codes "the line has to be an object with client, proc, args and perhaps id"

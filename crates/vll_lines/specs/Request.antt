@@ -1,5 +1,5 @@
 -- The call that a line asks for, or why it asks for none.
-use Rattle.std.specs.Prelude.{◌≡◌, ◌⊎◌, ◌<◌, ◌≤◌, ℕ, Bool, false, List, [], ◌∷◌, length, nat_le, nat_lt, Option, Some, None, Result, Ok, Err, if◌then◌else◌, codes}
+use Rattle.std.specs.Prelude.{◌≡◌, ◌⊎◌, ◌<◌, ◌≤◌, ℕ, Bool, false, List, [], ◌∷◌, length, nat_eq, nat_le, nat_lt, Option, Some, None, Result, Ok, Err, if◌then◌else◌, codes}
 use Rattle.std.specs.Str.{bytes_eq}
 use Rattle.serde_json.specs.Data.{Data, Items, null, boolean, number, string, array, object}
 use Rattle.serde_json.specs.Find.{as_array, as_str, get}
@@ -145,11 +145,15 @@ request_with (Err why) request = record { id = None; call = Err why }
 abbrev pub request_of : Catalog → ℕ → Data → Request
 request_of library clients d = request_with (id_of d) (call_asked library clients d)
 
--- what a line asks for: what its JSON tree does, or the fault at some column if it has none
+-- what is told of a line that is no JSON text, which was read up to a column
+abbrev pub no_text : List ℕ → ℕ → LineFault
+no_text line column = if nat_eq (length line) 0 then fault.Empty else fault.Json column
+
+-- what a line asks for: what its JSON tree does, or if it has none, that it is empty or the fault at some column
 abbrev pub IsRequest : Catalog → ℕ → List ℕ → Request → Type 0
 IsRequest library clients line request =
     ((tree : Data) × IsTree line (Some tree) × (request ≡ request_of library clients tree))
-    ⊎ (IsTree line None × ((column : ℕ) × (request ≡ record { id = None; call = Err (fault.Json column) })))
+    ⊎ (IsTree line None × ((column : ℕ) × (request ≡ record { id = None; call = Err (no_text line column) })))
 
 -- what a line asks for, whatever its length
 abbrev pub IsLine : Catalog → ℕ → List ℕ → Request → Type 0

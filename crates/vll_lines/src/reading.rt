@@ -5,7 +5,7 @@ ghost use Rattle.std.specs.Str.{bytes_eq};
 ghost use Rattle.serde_json.specs.View.{items_view, members_view, view};
 ghost use Rattle.vll_scenario.specs.Syntax.{has_only};
 ghost use Rattle.vll_scenario.specs.Tree.{each, number_at};
-ghost use Rattle.vll_lines.specs.Request.{IsRequest, args_by, args_of, request_of, call_asked, client_of, has_no_other, id_in, id_of, may_names, name_of, no_record, declared_args, declared_keys, proc_named, refusal};
+ghost use Rattle.vll_lines.specs.Request.{IsRequest, args_by, args_of, request_of, call_asked, client_of, has_no_other, id_in, id_of, may_names, name_of, no_record, no_text, declared_args, declared_keys, proc_named, refusal};
 ghost use Rattle.vll_lines.specs.Private.Reading.{Gives, GivesArgs, Names, Settles};
 
 use crate::limits::MOST_ID;
@@ -69,8 +69,19 @@ pub(crate) fn read_tree(
         Err(error) if error.is_memory() => Err(AllocError),
         Err(error) => Ok(Request {
             id: None,
-            call: Err(LineFault::Json(error.column() as u64)),
+            call: Err(no_text(line, error.column() as u64)),
         }),
+    }
+}
+
+// What is told of a line that is no JSON text.
+fn no_text(line: &[u8], column: u64) -> LineFault
+    ensures { result ≡ no_text line.now column }
+{
+    if line.is_empty() {
+        LineFault::Empty
+    } else {
+        LineFault::Json(column)
     }
 }
 

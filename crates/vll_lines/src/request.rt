@@ -23,6 +23,8 @@ pub struct ClientCall {
 pub enum LineFault {
     /// The line has more than `MOST_LINE` bytes.
     Long,
+    /// The line has no bytes.
+    Empty,
     /// The line is not a JSON text. The number is the column, from 1, up to which it was read.
     Json(u64),
     /// The member `id` is neither a whole number of 64 bits without a sign nor a text of at most `MOST_ID` bytes.
@@ -58,6 +60,7 @@ impl fmt::Display for LineFault {
     fn fmt<W: fmt::Write>(&self, f: &mut fmt::Formatter<W>) -> fmt::Result {
         match self {
             LineFault::Long => f.write_str("the line has more than 65536 bytes"),
+            LineFault::Empty => f.write_str("the line is empty"),
             LineFault::Json(column) => write!(f, "no JSON text: column {column}"),
             LineFault::Id => {
                 f.write_str("id has to be a whole number or a text of at most 64 bytes")

@@ -61,7 +61,8 @@ fn line_has_its_call(rt: HostRuntime) -> Result<(), Fail> {
 fn line_has_its_fault(rt: HostRuntime) -> Result<(), Fail> {
     let library = library(rt.alloc(), 8)?;
     for (line, wanted) in [
-        ("", r#"{"fault":"no JSON text: column 0"}"#),
+        ("", r#"{"fault":"the line is empty"}"#),
+        (" ", r#"{"fault":"no JSON text: column 1"}"#),
         (r#"{"client":0,}"#, r#"{"fault":"no JSON text: column 13"}"#),
         (
             "[]",

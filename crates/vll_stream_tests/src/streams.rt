@@ -34,7 +34,7 @@ fn each_line_is_answered(rt: HostRuntime) -> Result<(), Fail> {
 {"client":1,"proc":"transfer","args":[1,0,1]}"#;
     let wanted = r#"{"id":7,"call":0,"committed":[70]}
 {"id":"b","call":1,"aborted":"underflow"}
-{"fault":"no JSON text: column 0"}
+{"fault":"the line is empty"}
 {"fault":"there is no client 2"}
 {"call":2,"committed":[79]}
 {"calls":3,"records":[71,79]}
