@@ -9,6 +9,7 @@ import subprocess
 import sys
 import tempfile
 import threading
+import time
 from pathlib import Path
 
 from cases import TOP
@@ -239,6 +240,23 @@ def many_clients(program):
         yield from unlike('the clients', served(program, b'\n'.join(lines), file=file), 0, text_of([*answers, bank.last()]))
 
 
+def many_procedures(program):
+    """A line with a wrong number of arguments is answered about as fast as one with the right number."""
+    procs = [{'name': f'p{number}', 'args': 0, 'keys': [], 'body': []} for number in range(100000)]
+    scenario, took = {'version': 1, 'records': [0], 'procs': procs, 'clients': [[]]}, []
+    with tempfile.TemporaryDirectory() as room:
+        file = Path(room) / 'scenario.json'
+        file.write_text(json.dumps(scenario))
+        for args in '', '7':
+            text, start = f'{{"client":0,"proc":"p99999","args":[{args}]}}\n'.encode() * 4000, time.monotonic()
+            ran = served(program, text, file=file)
+            took.append(time.monotonic() - start)
+            if ran.returncode or len(ran.stdout.splitlines()) != 4001:
+                yield f'args [{args}]: status {ran.returncode}, {len(ran.stdout.splitlines())} lines'
+    if took[1] > 2 * took[0] + 1:
+        yield f'4,000 lines with a wrong number of arguments take {took[1]:.1f} s, and right ones {took[0]:.1f} s'
+
+
 def closed_output(program):
     """The output is closed behind some answers: with many lines in flight, before one more line, and before the end of
     the input. Those answers are right, and the service says that it cannot write."""
@@ -292,6 +310,6 @@ def socket(program):
 
 
 def service(words, _):
-    for trial in (random_streams, epochs, pauses, closed_input, no_utf8, many_clients, closed_output, long_line,
-                  refused_files, other_language, socket):
+    for trial in (random_streams, epochs, pauses, closed_input, no_utf8, many_clients, many_procedures, closed_output,
+                  long_line, refused_files, other_language, socket):
         yield trial.__name__.replace('_', ' '), trial(words.program)

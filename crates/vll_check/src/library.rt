@@ -81,7 +81,7 @@ impl Library {
 
     /// Returns the number of the procedure with a name, and the procedure. It allocates no memory, and takes about
     /// log n comparisons for n procedures.
-    pub(crate) fn named(&self, name: &str) -> Option<(u32, &Proc)>
+    pub fn named(&self, name: &str) -> Option<(u32, &Proc)>
         ensures number { option_map (λ found. found.0) result ≡ number_named name.now self.now.procs }
         ensures procedure { IfSome result (λ found. slice_get self.now.procs found.0 ≡ Some found.1.now) }
         ensures catalog { IsCatalog self.now }

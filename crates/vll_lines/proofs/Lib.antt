@@ -6,4 +6,3 @@ pub mod Cuts
 pub mod Fitting
 pub mod Calls
 pub mod Written
-pub mod Named

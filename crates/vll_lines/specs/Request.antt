@@ -1,6 +1,5 @@
 -- The call that a line asks for, or why it asks for none.
-use Rattle.std.specs.Prelude.{◌≡◌, ◌⊎◌, ◌<◌, ◌≤◌, ℕ, Bool, false, List, [], ◌∷◌, length, nat_eq, nat_le, nat_lt, Option, Some, None, Result, Ok, Err, if◌then◌else◌, codes}
-use Rattle.std.specs.Str.{bytes_eq}
+use Rattle.std.specs.Prelude.{◌≡◌, ◌⊎◌, ◌<◌, ◌≤◌, ℕ, Bool, false, List, [], ◌∷◌, length, nat_eq, nat_le, nat_lt, Option, Some, None, Result, Ok, Err, if◌then◌else◌, slice_get, codes}
 use Rattle.serde_json.specs.Data.{Data, Items, null, boolean, number, string, array, object}
 use Rattle.serde_json.specs.Find.{as_array, as_str, get}
 use Rattle.vll_proc.specs.declared.call.Call.{Call}
@@ -10,6 +9,7 @@ use Rattle.vll_proc.specs.declared.syntax.KeyDecl.{KeyDecl}
 use Rattle.vll_proc.specs.declared.syntax.Proc.{Proc}
 use Rattle.vll_check.specs.Calls.{call_made, place_is_there}
 use Rattle.vll_check.specs.Headline.Catalog.{Catalog}
+use Rattle.vll_check.specs.Names.{number_named}
 use Rattle.vll_check.specs.declared.fault.CallFault.{CallFault}
 use Rattle.vll_check.specs.declared.fault.CallFault.TheVariants as call
 use Rattle.vll_scenario.specs.Scenario.{IsTree}
@@ -88,10 +88,14 @@ args_in (Some ds) = args_by (each number_at ds)
 abbrev pub args_of : Data → Result (List ℕ) LineFault
 args_of d = args_in (as_array (member_at (codes "args") d))
 
+-- the procedure with a number, if a number is given
+abbrev pub proc_at : List Proc → Option ℕ → Option Proc
+proc_at procs None = None
+proc_at procs (Some n) = slice_get procs n
+
 -- the first procedure with a name
 abbrev pub proc_named : List ℕ → List Proc → Option Proc
-proc_named name [] = None
-proc_named name (p ∷ ps) = if bytes_eq p.name name then Some p else proc_named name ps
+proc_named name procs = proc_at procs (number_named name procs)
 
 -- the number of its arguments
 abbrev pub declared_args : Option Proc → ℕ

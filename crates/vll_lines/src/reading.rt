@@ -212,14 +212,8 @@ fn faulty_arg(library: &Library, name: &str, args: &[u64]) -> u8
 fn proc_named<'l>(library: &'l Library, name: &str) -> Option<&'l Proc>
     ensures { option_map (λ p. p.now) result ≡ proc_named name.now library.now.procs }
 {
-    let mut number = 0;
-    'procs: while let Some(procedure) = library.proc(number) {
-        if procedure.name.as_str() == name {
-            return Some(procedure);
-        }
-        number += 1;
-    }
-    None
+    let (_, procedure) = library.named(name)?;
+    Some(procedure)
 }
 
 // The argument by which the first of these keys names no record.
