@@ -3,11 +3,11 @@
 
     python3 tools/check_docs.py
 
-- DEFINITIONS: a name in the first column of a table is declared in the file of its row, or, if the table has no such
-  column, in the crate of its section. What stands under "What the headline needs" is just what the clause reaches, and
-  what is in the folders specs/Headline. Any other name is declared somewhere.
+- HEADLINE: what it quotes stands so in a source. A name in the first column of a table is declared in the file of its
+  row. What stands under "What the headline needs" is just what the clause reaches, and what is in the folders
+  specs/Headline. Any other name is declared somewhere.
 - PROMISES, ALGORITHM: a function stands in the crate that is named behind it, and the clauses of a row at one of its
-  functions. HEADLINE: what it quotes stands so in a source.
+  functions.
 - README.md: its scenario is scenarios/transfer.json, and its figures are those of docs/speed.csv, as the drawings are.
   examples/README.md: a block below a command has what is printed, behind the events of a schedule.
 - every page: a function that is named with its type is there, a link leads to a file and to a heading, and an outcome
@@ -31,8 +31,8 @@ IN_CRATE = re.compile(r'((?:`[^`]+`(?:, | and )?)+) \((vll\w*)\)')
 COMMAND = re.compile(r'`\./vll (?:run|replay)[^`<]*< ([\w./-]+)\.json`[^`]* prints$')
 EXAMPLE = re.compile(r'\./vll (.*) < examples/(\w+)\.json$')
 
-# Words of DEFINITIONS.md that stand in code marks and are no names of this repository.
-OTHERS = set('Appends Consumes null use'.split())
+# Words of HEADLINE.md that stand in code marks and are no names of this repository.
+OTHERS = set('Appends Ordering SeqCst atomic_table contents'.split())
 
 
 class Page:
@@ -246,9 +246,9 @@ def check(texts, sources, specs):
         checks.functions(page)
         checks.links(page, anchors)
         checks.outcomes(page)
-    for name, look in {'docs/ALGORITHM.md': checks.algorithm, 'docs/DEFINITIONS.md': checks.definitions,
-                       'docs/HEADLINE.md': checks.quotations, 'docs/PROMISES.md': checks.promises,
-                       'README.md': checks.readme, 'examples/README.md': checks.examples}.items():
+    for name, look in [('docs/ALGORITHM.md', checks.algorithm), ('docs/HEADLINE.md', checks.definitions),
+                       ('docs/HEADLINE.md', checks.quotations), ('docs/PROMISES.md', checks.promises),
+                       ('README.md', checks.readme), ('examples/README.md', checks.examples)]:
         looked = checks.looked
         look(pages[name])
         if checks.looked == looked:

@@ -8,7 +8,7 @@ calls made one at a time in the order in which it lists them: the tickets are 0,
 client are the calls of its script, in its order, and none is left out; each reply is what its call answers then; and
 the records are those at the end, each with the pair word 0. A call with an indirect key may also be aborted as moved,
 where it can have found an earlier value of its source (see Run.judge_find). What a call does is worked out from
-docs/SCENARIO.md and docs/DEFINITIONS.md, and nothing of the program is used.
+docs/SCENARIO.md and docs/HEADLINE.md, and nothing of the program is used.
 
 The first thing that is not lawful is printed, with status 1.
 """

@@ -3,7 +3,7 @@
 
     python3 tools/replay_model.py SCENARIO      prints that, if the program takes the scenario
 
-It is written from docs/SCENARIO.md and docs/DEFINITIONS.md, and uses nothing of the program.
+It is written from docs/SCENARIO.md and docs/HEADLINE.md, and uses nothing of the program.
 """
 import json
 import sys

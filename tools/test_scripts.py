@@ -107,10 +107,10 @@ UNEXPLAINED = [(b'check 1', b'check 2'), (b'procs 1', b'procs 2'), (b', body', b
 
 # What is spoiled: the page, the first place that a pattern matches there, what stands there then, and what is told.
 SPOILED = [
-    ('docs/DEFINITIONS.md', r'\n\| `[A-Z]\w+', r'\g<0>x', 'is not declared in'),
-    ('docs/DEFINITIONS.md', r'\n\n', '\n\nIt says `IsNothingAtAll`.\n\n', 'is not declared in any crate'),
-    ('docs/DEFINITIONS.md', r'`value_of`, ', '', 'value_of is reached from Serves'),
-    ('docs/DEFINITIONS.md', '## What the headline needs', '## What it needs', 'nothing is listed'),
+    ('docs/HEADLINE.md', r'\n\| `[A-Z]\w+', r'\g<0>x', 'is not declared in'),
+    ('docs/HEADLINE.md', r'\n\n', '\n\nIt says `IsNothingAtAll`.\n\n', 'is not declared in any crate'),
+    ('docs/HEADLINE.md', r'`value_of`, ', '', 'value_of is reached from Serves'),
+    ('docs/HEADLINE.md', '## What the headline needs', '## What it needs', 'nothing is listed'),
     ('docs/PROMISES.md', r'(\| `\w+::)\w+(` \(vll)', r'\1secret\2', 'is no function of vll_'),
     ('docs/PROMISES.md', r'(\) \| `)\w+', r'\1unheard_of', 'unheard_of is no clause of'),
     ('docs/PROMISES.md', r'\| Function \|', '| Functions |', 'no clause is looked at'),
