@@ -106,7 +106,7 @@ class Reader:
                 self.read_table(path)
             elif part:
                 parts.setdefault(path.with_name(part[1]), set()).add(path)
-            elif path.name != 'README.md':
+            elif path.name != 'README.md' and not (path.suffix == '.vll' and path.with_suffix('.json') in files):
                 self.faults.append(f'{self.place(path)} is no part of a case')
         for path, found in parts.items():
             if not self.are_of_rows(path, found):
