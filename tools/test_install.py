@@ -1,13 +1,16 @@
 #!/usr/bin/env python3
-"""Tests `./vll --install`, and what it makes of the help, with stand-ins for rt and for the program.
+"""Tests `./vll --install`, tools/release, and what both make of the help, with stand-ins for rt and for the program.
 
 tools/trial_install.py tries the program itself.
 """
+import hashlib
 import os
 import shutil
 import subprocess
 import sys
+import tarfile
 import tempfile
+import time
 import unittest
 from pathlib import Path
 
@@ -33,10 +36,11 @@ esac
 '''
 RT = '''#!/usr/bin/env bash
 case $1 in
+  version) printf 'a kit 7\\n' ;;
   run) mkdir -p out && cp "$ROOM/program" out/vll ;;
 esac
 '''
-TOOLS = ['cases.py', 'install.py', 'manual.py']
+TOOLS = ['cases.py', 'install.py', 'manual.py', 'release']
 PATHS = ['bin/vll', 'share/bash-completion/completions/vll', 'share/man/man1/vll.1', 'share/vll/clients/vllc.py']
 
 
@@ -76,6 +80,22 @@ class Repository(unittest.TestCase):
         status, printed, said = self.run_it('./vll', '--install', self.prefix)
         self.assertEqual(status, 0, said)
         return printed
+
+    def git(self, *words):
+        status, printed, said = self.run_it('git', '-c', 'user.name=a', '-c', 'user.email=b', *words)
+        self.assertEqual(status, 0, said)
+        return printed.strip()
+
+    def commit(self):
+        self.git('init', '-q')
+        self.git('add', '-A')
+        self.git('commit', '-q', '-m', 'all')
+
+    def release(self, folder):
+        """The archive that is made, or why none is."""
+        status, printed, said = self.run_it('tools/release', self.room / folder)
+        self.assertEqual(status, bool(said), said)
+        return said if status else Path(printed.strip())
 
     # ./vll --install
 
@@ -137,6 +157,61 @@ class Repository(unittest.TestCase):
                              (['run', '--workers', ''], ''), (['serve', '--'], '--cap --help'),
                              (['serve', str(self.room / 'fi')], str(self.room / 'file')), (['help', 'r'], 'run')):
             self.assertEqual(completed(path, 'vll', *words), set(found.split()), words)
+
+    # tools/release
+
+    @unittest.skipUnless(shutil.which('git'), 'there is no git')
+    def test_release_has_all_with_checksums(self):
+        self.commit()
+        self.install()
+        archive = self.release('one')
+        self.assertEqual(archive, self.room / 'one/vll-1.2.3-linux-x86_64.tar.gz')
+        subprocess.run(['sha256sum', '--quiet', '-c', 'SHA256SUMS'], cwd=archive.parent, check=True)
+        with tarfile.open(archive) as packed:
+            names = packed.getnames()
+            packed.extractall(self.room)
+        self.assertEqual(names, sorted(names, key=lambda name: name.split('/')))
+        folder = self.room / 'vll-1.2.3-linux-x86_64'
+        sums = (folder / 'SHA256SUMS').read_text()
+        for path in [*PATHS, 'RELEASE', 'CHANGELOG.md']:
+            self.assertIn(f'{hashlib.sha256((folder / path).read_bytes()).hexdigest()}  {path}\n', sums)
+        self.assertEqual(sums.count('\n') + 1, sum(path.is_file() for path in folder.rglob('*')))
+        told = (folder / 'RELEASE').read_text()
+        for part in 'vll 1.2.3\n', f'commit {self.git("rev-parse", "HEAD")}\n', 'with a kit 7:', 'vll_part, vll.', \
+                'No licence was chosen':
+            self.assertIn(part, told)
+
+    @unittest.skipUnless(shutil.which('git'), 'there is no git')
+    def test_release_is_the_same_bytes_again(self):
+        self.commit()
+        self.install()
+        one = self.release('one').read_bytes()
+        time.sleep(1.1)
+        self.assertEqual(self.release('two').read_bytes(), one)
+
+    @unittest.skipUnless(shutil.which('git'), 'there is no git')
+    def test_release_refuses_what_is_no_state_to_hand_on(self):
+        self.commit()
+        self.assertIn('there is no program', self.release('one'))
+        self.install()
+        self.assertTrue(self.release('one').is_file())
+        for path in 'CHANGELOG.md', 'not_added':
+            self.write(self.top / path, 'changed')
+            self.assertIn('the tree has changes', self.release('two'))
+            self.git('add', '-A')
+            self.git('commit', '-q', '-m', path)
+        for path in 'crates/vll_part/src/lib.rt', 'HANDLES':
+            os.utime(self.top / path)
+            self.assertIn('older than its sources', self.release('two'))
+            self.install()
+        (self.top / 'build/made_from').write_text('vll:\n')
+        self.assertIn('older than its sources', self.release('two'))
+        (self.top / 'build/made_from').write_text('vll_part: kit\nvll: vll_part \n')
+        self.write(self.program, f'{PROGRAM}# another\n', 0o755)
+        self.assertIn('did not build this program', self.release('two'))
+        (self.top / 'build/made_with').unlink()
+        self.assertIn('did not build the program', self.release('two'))
+        self.assertFalse((self.room / 'two').exists())
 
 
 if __name__ == '__main__':
