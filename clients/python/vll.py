@@ -1,0 +1,751 @@
+"""Calls the procedures of a `vll serve` from Python: one file, no packages, Python 3.8 or later.
+
+By threads, any number of which may share one service:
+
+    import vll
+
+    with vll.Service('bank.json') as bank:
+        reply = bank.transfer(0, 1, 30)            # a procedure of bank.json; waits for the answer
+        print(reply[0], reply.call)                # the outputs, and the call's place in the order of all calls
+        later = bank.submit('transfer', 1, 0, 5)   # does not wait
+        print(later.result())
+    print(bank.last.records)
+
+By asyncio:
+
+    async with vll.AsyncService('bank.json') as bank:
+        reply = await bank.transfer(0, 1, 30)
+
+`Service(file, socket=path)` calls the service behind `clients/broker.py`, which many processes can share, and starts
+none.
+
+A call that does not commit raises `Aborted` or, if it can be tried again, `Moved`; one that cannot be made raises
+`Fault`. Once the service has ended all raise `Ended`: whether a call that was in flight then was made is not known.
+"""
+import asyncio
+import functools
+import json
+import operator
+import os
+import select
+import socket as sockets
+import subprocess
+import tempfile
+import threading
+import time
+from collections import deque
+from typing import Any, Callable, Deque, Dict, List, NamedTuple, Optional, Union
+
+__all__ = ['AsyncService', 'Service', 'Future', 'Reply', 'Last', 'Error', 'Aborted', 'Moved', 'Fault', 'Ended']
+
+LARGEST = 2 ** 64 - 1
+# How much is read at a time, how often calls for which nobody waits are looked after, and how long a service may take
+# to end once it has closed its output.
+PIECE, TICK, PATIENCE = 1 << 16, 0.002, 60
+
+
+class Error(Exception):
+    """What a call raises that is not committed."""
+
+
+class Aborted(Error):
+    """The call was made, and aborted: no record has changed.
+
+    `reason` is the number with which its procedure aborted, or 'overflow', 'underflow', 'zero divisor' or 'moved';
+    `call` is its place in the order of all calls.
+    """
+
+    def __init__(self, call: int, reason: Union[int, str]):
+        super().__init__(call, reason)
+        self.call, self.reason = call, reason
+
+    def __str__(self) -> str:
+        return f'call {self.call} was aborted: {self.reason}'
+
+
+class Moved(Aborted):
+    """The value by which the call found a record has changed meanwhile: the call can be made again."""
+
+
+class Fault(Error):
+    """The line asks for no call, as one with a wrong number of arguments: nothing was done."""
+
+
+class Ended(Error):
+    """The service has ended, or was closed.
+
+    Raised by `submit`, it says that the call was not made. Raised for the answer to a call, it says nothing of the
+    call: it may have been made or not.
+    """
+
+
+class Reply(List[int]):
+    """The outputs of a committed call; `call` is its place in the order of all calls."""
+
+    __slots__ = ('call',)
+    call: int
+
+
+class Last(NamedTuple):
+    """What a service says when it ends: how many calls were made, and the records that they left."""
+
+    calls: int
+    records: List[int]
+
+
+Outcome = Union[Reply, Last, Error]
+
+
+def outcome_of(answer: Dict[str, Any]) -> Outcome:
+    """What a line of the service says."""
+    if 'committed' in answer:
+        reply = Reply(answer['committed'])
+        reply.call = answer['call']
+        return reply
+    if 'aborted' in answer:
+        kind = Moved if answer['aborted'] == 'moved' else Aborted
+        return kind(answer['call'], answer['aborted'])
+    if 'calls' in answer:
+        return Last(answer['calls'], answer['records'])
+    return Fault(answer['fault'])
+
+
+def whole(number: Any) -> int:
+    """An argument that is no plain `int` in range: one that converts without loss, or a fault."""
+    try:
+        number = int(operator.index(number))
+    except TypeError as why:
+        raise Fault(f'{number!r} is no whole number') from why
+    if not 0 <= number <= LARGEST:
+        raise Fault(f'{number} is not from 0 to {LARGEST}')
+    return number
+
+
+class Answers:
+    """Cuts what a service writes into its lines."""
+
+    def __init__(self) -> None:
+        self._begun: List[bytes] = []
+
+    def read(self, piece: bytes) -> List[Outcome]:
+        """The outcomes of the lines that this piece completes."""
+        lines, feed, rest = piece.rpartition(b'\n')
+        if not feed:
+            self._begun.append(piece)
+            return []
+        text = b''.join([*self._begun, lines])
+        self._begun = [rest]
+        # JSON has no line feed within a text, so all lines are one list once they have commas between them
+        return list(map(outcome_of, json.loads(b'[%b]' % text.replace(b'\n', b','))))
+
+
+class Procedures:
+    """The procedures of a scenario: their calls as lines, and a method `call` under each one's name."""
+
+    def __init__(self, file: Union[str, 'os.PathLike[str]']):
+        with open(file, encoding='utf-8') as text:
+            scenario = json.load(text)
+        try:
+            self._clients = len(scenario['clients'])
+            # of each procedure how many arguments it has, and what stands between client and arguments
+            self._heads = {proc['name']: (proc['args'], b',"proc":%b,"args":[' % json.dumps(proc['name']).encode())
+                           for proc in scenario['procs']}
+        except (KeyError, TypeError) as why:
+            raise ValueError(f'{file} is no scenario: vll explain says more') from why
+
+    def _line(self, proc: str, args: Any, client: int) -> bytes:
+        try:
+            count, head = self._heads[proc]
+        except KeyError:
+            raise Fault(f'there is no procedure {proc}') from None
+        if len(args) != count:
+            raise Fault(f'{proc} takes {count} arguments, and not {len(args)}')
+        if not 0 <= whole(client) < self._clients:
+            raise Fault(f'there is no client {client}')
+        text = ','.join([str(number if type(number) is int and 0 <= number <= LARGEST else whole(number))
+                         for number in args])
+        return b'{"client":%d%b%b]}\n' % (client, head, text.encode())
+
+    def call(self, proc: str, *args: int, client: int = 0) -> Any:
+        raise NotImplementedError
+
+    def __getattr__(self, name: str) -> Callable[..., Any]:
+        if name.startswith('__') or name not in self.__dict__.get('_heads', ()):
+            raise AttributeError(f'there is no procedure {name}')
+        method = functools.partial(self.call, name)
+        setattr(self, name, method)
+        return method
+
+
+class Child:
+    """A `vll serve` of our own, over two pipes."""
+
+    def __init__(self, file: Union[str, 'os.PathLike[str]'], program: Union[str, 'os.PathLike[str]']):
+        # a file takes all that is said on standard error, a pipe would have to be read
+        self._said = tempfile.TemporaryFile()
+        # Ctrl-C goes to all processes of a group: the service is in one of its own, and ends when its input does
+        try:
+            self._process = subprocess.Popen([program, 'serve', file], stdin=subprocess.PIPE, stdout=subprocess.PIPE,
+                                             stderr=self._said, bufsize=0, start_new_session=True)
+        except OSError:
+            self._said.close()
+            raise
+        self.to, self.back = self._process.stdin.fileno(), self._process.stdout.fileno()
+
+    def end_input(self) -> None:
+        self._process.stdin.close()
+
+    def kill(self) -> None:
+        self._process.kill()
+
+    def end(self) -> Optional[str]:
+        """Waits for its end, and says why it ended early."""
+        for pipe in self._process.stdin, self._process.stdout:
+            pipe.close()
+        try:
+            status = self._process.wait(PATIENCE)
+        except subprocess.TimeoutExpired:
+            self._process.kill()
+            status = self._process.wait()
+        with self._said as said:
+            return early(status, said)
+
+
+class Connection:
+    """A connection to a broker."""
+
+    def __init__(self, path: Union[str, 'os.PathLike[str]']):
+        self._socket = sockets.socket(sockets.AF_UNIX)
+        self._socket.connect(os.fspath(path))
+        self.to = self.back = self._socket.fileno()
+
+    def end_input(self) -> None:
+        self.kill(sockets.SHUT_WR)
+
+    def kill(self, how: int = sockets.SHUT_RDWR) -> None:
+        try:
+            self._socket.shutdown(how)
+        except OSError:
+            pass  # the broker has gone away
+
+    def end(self) -> str:
+        self._socket.close()
+        return 'the broker has closed the connection'
+
+
+def early(status: int, said: Any) -> Optional[str]:
+    """Why a service ended with this status and these words, if it did not end as it should."""
+    said.seek(max(0, said.seek(0, os.SEEK_END) - 2000))
+    words = said.read().decode(errors='replace').strip()
+    return f'status {status}: {words}' if status else None
+
+
+class Future:
+    """The answer to a call, which may not be there yet."""
+
+    __slots__ = ('_service', '_outcome', '_gates', '_callbacks')
+
+    def __init__(self, service: 'Service'):
+        self._service = service
+        self._outcome: Optional[Outcome] = None
+        # the locks on which threads sleep that wait for it
+        self._gates: Optional[List[threading.Lock]] = None
+        self._callbacks: Optional[List[Callable[['Future'], Any]]] = None
+
+    def done(self) -> bool:
+        """Whether the answer is there."""
+        return self._outcome is not None
+
+    def result(self, timeout: Optional[float] = None) -> Reply:
+        """Waits for the answer, and returns the outputs or raises why there are none.
+
+        Raises `TimeoutError` after so many seconds; the call is made all the same.
+        """
+        outcome = self._waited(timeout)
+        if isinstance(outcome, Error):
+            raise outcome
+        return outcome
+
+    def exception(self, timeout: Optional[float] = None) -> Optional[Error]:
+        """Waits for the answer, and returns why the call is not committed, or None if it is."""
+        outcome = self._waited(timeout)
+        return outcome if isinstance(outcome, Error) else None
+
+    def add_done_callback(self, callback: Callable[['Future'], Any]) -> None:
+        """Calls this function with the future once the answer is there, in any thread. It must not wait for calls."""
+        with self._service._lock:
+            if self._outcome is None:
+                self._callbacks = [*(self._callbacks or ()), callback]
+                return
+        callback(self)
+
+    def _waited(self, timeout: Optional[float]) -> Any:
+        if self._outcome is None:
+            self._service._wait(self, timeout)
+        return self._outcome
+
+
+class Service(Procedures):
+    """A service that threads call.
+
+    It is started from the scenario `file` by `program`, or is the one behind the broker at `socket`. At most
+    `in_flight` calls lack an answer at a time: `submit` waits while there are so many.
+
+    Whoever waits for an answer reads: the first who waits reads for all, and hands on once its own answer is there, so
+    that an answer needs no switch to another thread. A thread in the background looks every few milliseconds after
+    calls for which nobody waits: so all that was submitted is written, and all that is answered read.
+    """
+
+    def __init__(self, file: Union[str, 'os.PathLike[str]'], program: Union[str, 'os.PathLike[str]'] = 'vll',
+                 in_flight: int = 1000, socket: Union[None, str, 'os.PathLike[str]'] = None):
+        super().__init__(file)
+        if in_flight < 1:
+            raise ValueError('in_flight has to be at least 1')
+        self._in_flight = in_flight
+        self._service: Union[Child, Connection] = Connection(socket) if socket else Child(file, program)
+        os.set_blocking(self._service.to, False)
+        os.set_blocking(self._service.back, False)
+        # The lock guards all below; whoever has set `_reading` or `_writing` is the only one who reads or writes.
+        self._lock = threading.Lock()
+        self._reading = self._writing = self._closing = self._input_ended = False
+        self._lines: List[bytes] = []
+        self._pending: Deque[Future] = deque()
+        self._sleeping: Dict[threading.Lock, Future] = {}
+        self._answers = Answers()
+        self._last: Optional[Last] = None
+        self._end = Future(self)
+        self._due = threading.Event()
+        threading.Thread(target=self._look_after, daemon=True, name='vll').start()
+
+    @property
+    def last(self) -> Optional[Last]:
+        """The service's last line, once it has ended well. A broker writes that line itself, so there it is None."""
+        return self._last
+
+    def submit(self, proc: str, *args: int, client: int = 0) -> Future:
+        """Makes a call without waiting for its answer."""
+        line, future = self._line(proc, args, client), Future(self)
+        while True:
+            with self._lock:
+                if self._end._outcome is not None or self._closing:
+                    raise self._as_ended()
+                if len(self._pending) < self._in_flight:
+                    self._pending.append(future)
+                    self._lines.append(line)
+                    if not self._due.is_set():
+                        self._due.set()
+                    return future
+                oldest = self._pending[0]
+            self._wait(oldest, None)
+
+    def call(self, proc: str, *args: int, client: int = 0) -> Reply:
+        """Makes a call, waits for its answer, and returns the outputs or raises why there are none."""
+        return self.submit(proc, *args, client=client).result()
+
+    def close(self, timeout: Optional[float] = None) -> Optional[Last]:
+        """Waits until all calls are answered and the service has ended; returns its last line, None from a broker.
+
+        Raises `Ended` if the service ended otherwise, and `TimeoutError` after so many seconds; it can be called again.
+        """
+        with self._lock:
+            self._closing = True
+        self._wait(self._end, timeout)
+        if isinstance(self._end._outcome, Error):
+            raise self._end._outcome
+        return self._last
+
+    def kill(self) -> None:
+        """Ends the service, or the connection to the broker, at once: what is in flight has an unknown outcome."""
+        self._service.kill()
+
+    def __enter__(self) -> 'Service':
+        return self
+
+    def __exit__(self, kind: Any, *_: Any) -> None:
+        try:
+            self.close()
+        except Ended:
+            if kind is None:
+                raise
+
+    def _as_ended(self) -> Ended:
+        end = self._end._outcome
+        return Ended(*end.args) if isinstance(end, Ended) else Ended('the service was closed')
+
+    def _wait(self, future: Future, timeout: Optional[float]) -> None:
+        """Reads until this answer is there, or sleeps while another thread reads."""
+        until = None if timeout is None else time.monotonic() + timeout
+        self._write()
+        with self._lock:
+            if future._outcome is not None:
+                return
+            gate = self._gate_for(future) if self._reading else None
+            self._reading = True
+        if gate is None or self._sleep(gate, future, until):
+            try:
+                while future._outcome is None:
+                    self._turn(until)
+            finally:
+                self._hand_on()
+
+    def _gate_for(self, future: Future) -> threading.Lock:
+        gate = threading.Lock()
+        gate.acquire()
+        self._sleeping[gate] = future
+        if future._gates is None:
+            future._gates = []
+        future._gates.append(gate)
+        return gate
+
+    def _sleep(self, gate: threading.Lock, future: Future, until: Optional[float]) -> bool:
+        """Sleeps until the answer is there, or it is this thread's turn to read: it says whether that is so."""
+        try:
+            woken = gate.acquire(timeout=-1 if until is None else max(0, until - time.monotonic()))
+        except BaseException:
+            if not self._wakes_up(gate, future) and future._outcome is None:
+                self._hand_on()
+            raise
+        if not woken and self._wakes_up(gate, future):
+            raise TimeoutError('the answer is not there yet')
+        return future._outcome is None
+
+    def _wakes_up(self, gate: threading.Lock, future: Future) -> bool:
+        """Takes back a gate that nobody has opened, and says whether that is so."""
+        with self._lock:
+            if self._sleeping.pop(gate, None) is None:
+                return False
+            future._gates.remove(gate)
+            return True
+
+    def _hand_on(self) -> None:
+        """Whoever has waited longest reads now."""
+        with self._lock:
+            if not self._sleeping:
+                self._reading = False
+                return
+            gate = next(iter(self._sleeping))
+            self._sleeping.pop(gate)._gates.remove(gate)
+            gate.release()
+
+    def _look_after(self) -> None:
+        while self._end._outcome is None:
+            self._due.wait()
+            time.sleep(TICK)
+            with self._lock:
+                if not self._pending and not self._lines:
+                    self._due.clear()
+                    continue
+                reads = not self._reading
+                self._reading = True
+            self._write()
+            if reads:
+                try:
+                    self._turn(0)
+                except TimeoutError:
+                    pass
+                finally:
+                    self._hand_on()
+
+    def _turn(self, until: Optional[float]) -> None:
+        """Writes what is left, waits for answers, and gives them to those who wait for them."""
+        self._write()
+        if self._end._outcome is not None:
+            return
+        ready = select.poll()
+        ready.register(self._service.back, select.POLLIN)
+        if self._lines:
+            # the two are one if it is a socket
+            also = select.POLLIN if self._service.to == self._service.back else 0
+            ready.register(self._service.to, select.POLLOUT | also)
+        found = ready.poll(None if until is None else max(0, until - time.monotonic()) * 1000)
+        if not found:
+            raise TimeoutError('the answer is not there yet')
+        if any(event != select.POLLOUT for _, event in found):
+            self._read()
+
+    def _write(self) -> None:
+        """Writes all lines that there are, as far as the service takes them; not if another thread is about it."""
+        with self._lock:
+            if self._writing or self._input_ended or not (self._lines or self._closing):
+                return
+            self._writing = True
+        try:
+            while self._write_once():
+                pass
+        except BaseException:
+            # it is not known how much was written
+            self._service.kill()
+            with self._lock:
+                self._lines.clear()
+                self._writing, self._input_ended = False, True
+            raise
+
+    def _write_once(self) -> bool:
+        """Writes a piece, and says whether there may be more to write."""
+        with self._lock:
+            if not self._lines:
+                self._writing = False
+                if self._closing:
+                    self._input_ended = True
+                    self._service.end_input()
+                return False
+            text, self._lines = b''.join(self._lines), []
+        try:
+            count = os.write(self._service.to, text)
+        except BlockingIOError:
+            count = 0
+        except OSError:
+            count = len(text)  # the service has ended: who reads finds out
+        if count < len(text):
+            with self._lock:
+                self._lines.insert(0, text[count:])
+                self._writing = False
+                return False
+        return True
+
+    def _read(self) -> None:
+        try:
+            try:
+                piece = os.read(self._service.back, PIECE)
+            except BlockingIOError:
+                return
+            except OSError:
+                piece = b''
+            if piece:
+                self._give(self._answers.read(piece))
+            else:
+                self._finish(None)
+        except (ValueError, KeyError, IndexError, TypeError, AttributeError) as why:
+            self._service.kill()
+            self._finish(f'what it wrote is no answer: {why!r}')
+        except BaseException:
+            # an answer may have been lost, and those behind it would go to the wrong calls
+            self._service.kill()
+            self._finish('it was interrupted')
+            raise
+
+    def _give(self, outcomes: List[Outcome]) -> None:
+        """Gives the answers to the first calls that wait."""
+        called = []
+        with self._lock:
+            for outcome in outcomes:
+                if isinstance(outcome, Last):
+                    self._last = outcome
+                else:
+                    self._settle(self._pending.popleft(), outcome, called)
+        for future in called:
+            self._call_back(future)
+
+    def _settle(self, future: Future, outcome: Outcome, called: List[Future]) -> None:
+        future._outcome = outcome
+        if future._gates:
+            for gate in future._gates:
+                del self._sleeping[gate]
+                gate.release()
+            future._gates = None
+        if future._callbacks:
+            called.append(future)
+
+    @staticmethod
+    def _call_back(future: Future) -> None:
+        for callback in future._callbacks or ():
+            try:
+                callback(future)
+            except Exception:  # as concurrent.futures does: it is not the reader's fault
+                import traceback
+                traceback.print_exc()
+
+    def _finish(self, why: Optional[str]) -> None:
+        """The service has ended: all that lacks an answer has an unknown outcome."""
+        with self._lock:
+            if self._end._outcome is not None:
+                return
+            # nobody writes any more to a file that is closed now
+            self._input_ended = True
+        said = self._service.end()
+        is_well = why is None and self._closing and not self._pending
+        if isinstance(self._service, Child):
+            is_well = is_well and said is None and self._last is not None
+        if not is_well:
+            self._last = None
+        called: List[Future] = []
+        with self._lock:
+            end = Ended(f'the service has ended: {why or said or "its last line is missing"}')
+            self._lines.clear()
+            while self._pending:
+                self._settle(self._pending.popleft(), Ended(*end.args), called)
+            self._settle(self._end, Reply() if is_well else end, called)
+            self._due.set()
+        for future in called:
+            self._call_back(future)
+
+
+class AsyncService(Procedures):
+    """The same for asyncio: `submit` returns an asyncio future, `call` and the procedures are awaited.
+
+    At most `in_flight` lines lack an answer; calls beyond these wait in the client. If whoever awaits a call is
+    cancelled, the call is not made if its line is not written yet, else it is made all the same.
+    """
+
+    def __init__(self, file: Union[str, 'os.PathLike[str]'], program: Union[str, 'os.PathLike[str]'] = 'vll',
+                 in_flight: int = 1000, socket: Union[None, str, 'os.PathLike[str]'] = None):
+        super().__init__(file)
+        if in_flight < 1:
+            raise ValueError('in_flight has to be at least 1')
+        self._in_flight, self._socket = in_flight, socket
+        self._command = [os.fspath(program), 'serve', os.fspath(file)]
+        self._queue: Deque[Any] = deque()
+        self._pending: 'Deque[asyncio.Future[Reply]]' = deque()
+        self._answers = Answers()
+        self._last: Optional[Last] = None
+        self._writing = self._closing = False
+        self._why: Optional[str] = None
+
+    @property
+    def last(self) -> Optional[Last]:
+        """As of `Service`."""
+        return self._last
+
+    async def start(self) -> 'AsyncService':
+        """Starts the service; `async with` does so."""
+        self._loop = asyncio.get_running_loop()
+        self._end = self._loop.create_future()
+        if self._socket:
+            transport, _ = await self._loop.create_unix_connection(lambda: OverSocket(self), os.fspath(self._socket))
+            self._transport = self._input = transport
+            return self
+        self._said = tempfile.TemporaryFile()
+        self._transport, _ = await self._loop.subprocess_exec(
+            lambda: OverPipes(self), *self._command, stdin=subprocess.PIPE, stdout=subprocess.PIPE, stderr=self._said,
+            start_new_session=True)
+        self._input = self._transport.get_pipe_transport(0)
+        return self
+
+    def submit(self, proc: str, *args: int, client: int = 0) -> 'asyncio.Future[Reply]':
+        """Makes a call: the future has the outputs, or why there are none. It does not wait."""
+        line = self._line(proc, args, client)
+        if self._why is not None or self._closing:
+            raise Ended(self._why or 'the service was closed')
+        future = self._loop.create_future()
+        self._queue.append((future, line))
+        self._write_soon()
+        return future
+
+    async def call(self, proc: str, *args: int, client: int = 0) -> Reply:
+        """Makes a call, and returns the outputs or raises why there are none."""
+        return await self.submit(proc, *args, client=client)
+
+    async def close(self) -> Optional[Last]:
+        """As of `Service`; `asyncio.wait_for` limits the time."""
+        self._closing = True
+        self._write_soon()
+        await asyncio.shield(self._end)
+        if self._why is not None:
+            raise Ended(self._why)
+        return self._last
+
+    def kill(self) -> None:
+        """As of `Service`."""
+        if self._socket:
+            self._transport.abort()
+        else:
+            self._transport.kill()
+
+    async def __aenter__(self) -> 'AsyncService':
+        return await self.start()
+
+    async def __aexit__(self, kind: Any, *_: Any) -> None:
+        try:
+            await self.close()
+        except Ended:
+            if kind is None:
+                raise
+
+    def _write_soon(self) -> None:
+        """All lines of one turn of the loop are written at once."""
+        if not self._writing:
+            self._writing = True
+            self._loop.call_soon(self._write)
+
+    def _write(self) -> None:
+        self._writing = False
+        lines = []
+        while self._queue and len(self._pending) < self._in_flight:
+            future, line = self._queue.popleft()
+            if not future.cancelled():
+                self._pending.append(future)
+                lines.append(line)
+        if self._end.done() or self._input.is_closing():
+            return
+        self._input.write(b''.join(lines))
+        if self._closing and not self._queue:
+            self._input.write_eof()
+
+    def _read(self, piece: bytes) -> None:
+        try:
+            for outcome in self._answers.read(piece):
+                if isinstance(outcome, Last):
+                    self._last = outcome
+                else:
+                    settle(self._pending.popleft(), outcome)
+        except (ValueError, KeyError, IndexError, TypeError, AttributeError) as why:
+            self._why = f'the service has ended: what it wrote is no answer: {why!r}'
+            self.kill()
+        if self._queue:
+            self._write_soon()
+
+    def _finish(self, said: Optional[str]) -> None:
+        """The service has ended."""
+        is_well = self._closing and not self._pending and not self._queue
+        if not self._socket:
+            is_well = is_well and said is None and self._last is not None
+        if not is_well and self._why is None:
+            self._why = f'the service has ended: {said or "its last line is missing"}'
+        if self._why is not None:
+            self._last = None
+        for future in [*self._pending, *(future for future, _ in self._queue)]:
+            settle(future, Ended(self._why))
+        self._pending.clear()
+        self._queue.clear()
+        if not self._end.done():
+            self._end.set_result(None)
+
+
+def settle(future: 'asyncio.Future[Reply]', outcome: Outcome) -> None:
+    if future.done():
+        return  # who awaited it was cancelled
+    if isinstance(outcome, Error):
+        future.set_exception(outcome)
+    else:
+        future.set_result(outcome)
+
+
+class OverPipes(asyncio.SubprocessProtocol):
+    """What asyncio tells of a service of our own."""
+
+    def __init__(self, service: AsyncService):
+        self._service = service
+
+    def connection_made(self, transport: Any) -> None:
+        self._transport = transport
+
+    def pipe_data_received(self, fd: int, data: bytes) -> None:
+        self._service._read(data)
+
+    def connection_lost(self, why: Optional[Exception]) -> None:
+        with self._service._said as said:
+            self._service._finish(early(self._transport.get_returncode(), said))
+        self._transport.close()
+
+
+class OverSocket(asyncio.Protocol):
+    """What asyncio tells of a connection to a broker."""
+
+    def __init__(self, service: AsyncService):
+        self._service = service
+
+    def data_received(self, data: bytes) -> None:
+        self._service._read(data)
+
+    def connection_lost(self, why: Optional[Exception]) -> None:
+        self._service._finish('the broker has closed the connection')

@@ -1,0 +1,324 @@
+"""The client for Python: by threads and by asyncio."""
+import asyncio
+import json
+import os
+import random
+import signal
+import subprocess
+import sys
+import threading
+import time
+import unittest
+
+from common import ACCOUNTS, CLIENT_PATH, CLIENTS, HELD, PROGRAM, SECONDS, Case, Model
+import vll
+
+THREADS = 64
+# Answers each line with a place and the number of lines so far, but for these lines: ANSWERS.
+ANSWERING = '''
+number = 0
+for text in sys.stdin.buffer:
+    print(ANSWERS.get(number, '{"call":%d,"committed":[%d]}' % (number, number)), flush=True)
+    number += 1
+print('{"calls":%d,"records":[]}' % number)
+'''
+NEVER_ANSWERING = 'while os.read(0, 65536): pass\n'
+REFUSING = 'print("vll: scenario: json", file=sys.stderr); sys.exit(2)\n'
+
+
+def outcome(call):
+    """What a call gives, in the members of an answer."""
+    try:
+        reply = call()
+        return {'call': reply.call, 'committed': list(reply)}
+    except vll.Aborted as why:
+        return {'call': why.call, 'aborted': why.reason}
+
+
+def moves(seed, count):
+    """Random calls: a procedure and its arguments."""
+    draw = random.Random(seed)
+    for _ in range(count):
+        if draw.random() < 0.2:
+            yield 'balance', draw.randrange(ACCOUNTS)
+        else:
+            yield 'transfer', draw.randrange(ACCOUNTS), draw.randrange(ACCOUNTS), draw.randrange(60)
+
+
+class Both(Case):
+    """What holds of the calls of all clients."""
+
+    def judge(self, found, last):
+        """Calls and what each gave are those of the model, in the order of their places."""
+        model = Model()
+        found = sorted(found, key=lambda each: each[1]['call'])
+        self.assertEqual([given for _, given in found], [model.call(*asked) for asked, _ in found])
+        self.assertEqual(last, (model.calls, model.records))
+
+
+class Threads(Both):
+    def service(self, **how):
+        return vll.Service(self.file, **{'program': PROGRAM, **how})
+
+    def test_calls_have_outputs_and_places(self):
+        with self.service() as bank:
+            reply = bank.transfer(0, 1, 30)
+            self.assertEqual((reply, reply.call), ([70], 0))
+            reply = bank.call('balance', 1, client=9)
+            self.assertEqual((reply, reply.call), ([130], 1))
+            self.assertEqual(bank.submit('balance', 0).result(), [70])
+        self.assertEqual(bank.last, (3, [70, 130] + [HELD] * 6))
+
+    def test_wrong_calls_are_not_written(self):
+        with self.service() as bank:
+            for proc, args, client in [('transfer', (0, 1), 0), ('transfer', (0, 1, 2, 3), 0), ('balance', (0.5,), 0),
+                                       ('balance', ('0',), 0), ('balance', (-1,), 0), ('balance', (2 ** 64,), 0),
+                                       ('sum', (), 0), ('balance', (0,), 10), ('balance', (0,), -1)]:
+                with self.assertRaises(vll.Fault, msg=(proc, args, client)):
+                    bank.submit(proc, *args, client=client)
+            with self.assertRaises(AttributeError):
+                bank.sum(1)
+            self.assertEqual(bank.balance(True), [HELD])
+        self.assertEqual(bank.last.calls, 1)
+
+    def test_reasons_are_told_apart(self):
+        scenario = json.loads(self.file.read_text())
+        scenario['procs'] += [
+            {'name': 'add', 'args': 2, 'keys': [], 'body': [['reply', ['add', ['arg', 0], ['arg', 1]]]]},
+            {'name': 'é"%d', 'args': 1, 'keys': [], 'body': [['reply', ['div', 7, ['arg', 0]]]]}]
+        self.file.write_text(json.dumps(scenario))
+        with self.service() as bank:
+            self.assertEqual(bank.add(2 ** 64 - 2, 1), [2 ** 64 - 1])
+            for reason, call in [('overflow', lambda: bank.add(2 ** 64 - 1, 1)), (1, lambda: bank.transfer(0, 1, 101)),
+                                 ('zero divisor', lambda: bank.call('é"%d', 0))]:
+                with self.assertRaises(vll.Aborted) as raised:
+                    call()
+                self.assertEqual(raised.exception.reason, reason)
+                self.assertNotIsInstance(raised.exception, vll.Moved)
+            with self.assertRaises(vll.Fault):
+                bank.balance(ACCOUNTS)
+            self.assertEqual(bank.balance(0).call, 4)
+
+    def test_moved_is_an_exception_of_its_own(self):
+        answers = {1: '{"call":1,"aborted":"moved"}'}
+        with self.service(program=self.stand_in(f'ANSWERS = {answers!r}{ANSWERING}')) as bank:
+            futures = [bank.submit('balance', 0) for _ in range(3)]
+            self.assertEqual(futures[2].result(), [2])
+            self.assertIsInstance(futures[1].exception(), vll.Moved)
+            self.assertEqual(futures[0].result(), [0])
+
+    def test_many_threads_are_one_serial_run(self):
+        found = [[] for _ in range(THREADS)]
+
+        def work(number):
+            for asked in moves(number, 100):
+                found[number].append((asked, outcome(lambda: bank.call(*asked, client=number % CLIENTS))))
+
+        def work_ahead(number):
+            ahead = [(asked, bank.submit(*asked)) for asked in moves(number, 100)]
+            found[number] += [(asked, outcome(future.result)) for asked, future in ahead]
+        with self.service(in_flight=100) as bank:
+            threads = [threading.Thread(target=(work, work_ahead)[number % 2], args=[number])
+                       for number in range(THREADS)]
+            for thread in threads:
+                thread.start()
+            for thread in threads:
+                thread.join(SECONDS)
+        self.assertEqual([len(each) for each in found], [100] * THREADS)
+        for each in found:
+            self.assertEqual(sorted(given['call'] for _, given in each), [given['call'] for _, given in each])
+        self.judge([pair for each in found for pair in each], bank.last)
+
+    def test_many_calls_are_written_ahead(self):
+        """Far more than both pipes hold: whoever writes also reads."""
+        asked = list(moves(1, 50000))
+        for in_flight in 1, 100000:
+            with self.service(in_flight=in_flight) as bank:
+                count = 300 if in_flight == 1 else len(asked)
+                futures = [bank.submit(*each) for each in asked[:count]]
+                found = [(each, outcome(future.result)) for each, future in zip(asked, futures)]
+            self.judge(found, bank.last)
+
+    def test_nobody_has_to_wait(self):
+        done = threading.Event()
+        with self.service() as bank:
+            future = bank.submit('transfer', 0, 1, 30)
+            future.add_done_callback(lambda _: done.set())
+            self.assertTrue(done.wait(SECONDS))
+            self.assertTrue(future.done())
+            for _ in range(5000):
+                bank.submit('transfer', 0, 1, 0)
+        self.assertEqual(bank.last.calls, 5001)
+
+    def test_in_flight_is_kept(self):
+        """A service that counts what it can read before it answers never finds more."""
+        counting = self.stand_in('''
+most = calls = 0
+while True:
+    time.sleep(0.01)
+    text = os.read(0, 1 << 20)
+    if not text: break
+    lines = text.count(b'\\n'); most = max(most, lines)
+    for _ in range(lines):
+        print('{"call":%d,"committed":[]}' % calls); calls += 1
+    sys.stdout.flush()
+print('{"calls":%d,"records":[%d]}' % (calls, most))
+''')
+        with self.service(program=counting, in_flight=7) as bank:
+            for _ in range(100):
+                bank.submit('balance', 0)
+        self.assertEqual(bank.last, (100, [7]))
+
+    def test_time_runs_out(self):
+        with self.service(program=self.stand_in('time.sleep(0.5)\nANSWERS = {}' + ANSWERING)) as bank:
+            future = bank.submit('balance', 0)
+            with self.assertRaises(TimeoutError):
+                future.result(0.01)
+            sleeper = threading.Thread(target=future.result)
+            sleeper.start()
+            with self.assertRaises(TimeoutError):
+                future.exception(0.01)
+            self.assertEqual(future.result(SECONDS), [0])
+            sleeper.join(SECONDS)
+
+    def test_the_end_fails_what_is_in_flight(self):
+        bank = self.service(program=self.stand_in(NEVER_ANSWERING))
+        futures = [bank.submit('balance', 0) for _ in range(10)]
+        raised = []
+
+        def wait(future):
+            try:
+                future.result()
+            except vll.Ended as why:
+                raised.append(why)
+        threads = [threading.Thread(target=wait, args=[future]) for future in futures[:5]]
+        for thread in threads:
+            thread.start()
+        time.sleep(0.1)
+        bank.kill()
+        for thread in threads:
+            thread.join(SECONDS)
+        self.assertEqual(len(raised), 5)
+        for future in futures:
+            self.assertIsInstance(future.exception(SECONDS), vll.Ended)
+        for call in bank.close, lambda: bank.submit('balance', 0), lambda: bank.balance(0):
+            self.assertRaises(vll.Ended, call)
+        self.assertIsNone(bank.last)
+
+    def test_why_it_ended_is_told(self):
+        with self.assertRaisesRegex(vll.Ended, 'status 2: vll: scenario: json'):
+            with self.service(program=self.stand_in(REFUSING)) as bank:
+                bank.balance(0)
+        with self.assertRaisesRegex(vll.Ended, 'no answer'):
+            with self.service(program=self.stand_in('print("what?", flush=True)\n' + NEVER_ANSWERING)) as bank:
+                bank.balance(0)
+        self.assertRaises(FileNotFoundError, self.service, program='/nowhere/vll')
+
+    def test_an_error_of_the_caller_is_not_hidden(self):
+        with self.assertRaises(ZeroDivisionError):
+            with self.service(program=self.stand_in(REFUSING)):
+                1 // 0
+
+    def test_a_long_last_line(self):
+        scenario = json.loads(self.file.read_text())
+        scenario['records'] = [2 ** 64 - 1] * 65536
+        self.file.write_text(json.dumps(scenario))
+        with self.service() as bank:
+            self.assertEqual(bank.balance(65535), [2 ** 64 - 1])
+        self.assertEqual(bank.last.records, scenario['records'])
+
+    def test_interrupts(self):
+        """Ctrl-C reaches the caller alone, also while it waits for an answer, and spoils no other call."""
+        slow = self.stand_in('time.sleep(1)\nANSWERS = {}' + ANSWERING)
+        script = '''
+import sys, vll
+bank = vll.Service(sys.argv[1], sys.argv[2])
+first, second = bank.submit('balance', 0), bank.submit('balance', 0)
+try:
+    print('waits', flush=True)
+    first.result()
+    print('was not interrupted')
+except KeyboardInterrupt:
+    print(first.result(), second.result(), bank.balance(0), bank.close().calls)
+'''
+        running = subprocess.Popen([sys.executable, '-c', script, str(self.file), str(slow)], stdout=subprocess.PIPE,
+                                   start_new_session=True, env=CLIENT_PATH)
+        self.assertEqual(running.stdout.readline(), b'waits\n')
+        time.sleep(0.1)
+        os.killpg(running.pid, signal.SIGINT)
+        self.assertEqual(running.communicate(timeout=SECONDS)[0], b'[0] [1] [2] 3\n')
+
+
+class Asyncio(Both):
+    def service(self, **how):
+        return vll.AsyncService(self.file, **{'program': PROGRAM, **how})
+
+    def run_with(self, work, **how):
+        async def whole():
+            async with self.service(**how) as bank:
+                await work(bank)
+            return bank
+        return asyncio.run(asyncio.wait_for(whole(), SECONDS))
+
+    def test_many_tasks_are_one_serial_run(self):
+        found = []
+
+        async def work(bank, number):
+            for asked in moves(number, 20):
+                try:
+                    reply = await bank.call(*asked, client=number % CLIENTS)
+                    found.append((asked, {'call': reply.call, 'committed': list(reply)}))
+                except vll.Aborted as why:
+                    found.append((asked, {'call': why.call, 'aborted': why.reason}))
+
+        async def all_work(bank):
+            await asyncio.gather(*[work(bank, number) for number in range(300)])
+        for in_flight in 1000, 7:
+            found.clear()
+            bank = self.run_with(all_work, in_flight=in_flight)
+            self.assertEqual(len(found), 6000)
+            self.judge(found, bank.last)
+
+    def test_reasons_are_told_apart(self):
+        async def work(bank):
+            self.assertEqual(await bank.transfer(0, 1, 30), [70])
+            with self.assertRaises(vll.Aborted) as raised:
+                await bank.transfer(0, 1, 71)
+            self.assertEqual(raised.exception.reason, 1)
+            for wrong in lambda: bank.balance(), lambda: bank.balance(1.5), lambda: bank.balance(ACCOUNTS):
+                with self.assertRaises(vll.Fault):
+                    await wrong()
+            self.assertEqual((await bank.balance(0)).call, 2)
+        self.assertEqual(self.run_with(work).last.calls, 3)
+
+    def test_a_cancelled_call_leaves_the_others_right(self):
+        async def work(bank):
+            futures = [bank.submit('balance', number % ACCOUNTS) for number in range(10)]
+            await asyncio.sleep(0)
+            for future in futures[::2]:
+                future.cancel()
+            self.assertEqual([(await future).call for future in futures[1::2]], [1, 3, 5, 7, 9])
+        self.run_with(work)
+
+    def test_the_end_fails_what_is_in_flight(self):
+        async def work(bank):
+            futures = [bank.submit('balance', 0) for _ in range(10)]
+            await asyncio.sleep(0.1)
+            bank.kill()
+            for found in await asyncio.gather(*futures, return_exceptions=True):
+                self.assertIsInstance(found, vll.Ended)
+            with self.assertRaises(vll.Ended):
+                bank.submit('balance', 0)
+        for in_flight in 1000, 3:
+            with self.assertRaises(vll.Ended):
+                self.run_with(work, program=self.stand_in(NEVER_ANSWERING), in_flight=in_flight)
+
+    def test_why_it_ended_is_told(self):
+        async def work(bank):
+            await bank.balance(0)
+        with self.assertRaisesRegex(vll.Ended, 'status 2: vll: scenario: json'):
+            self.run_with(work, program=self.stand_in(REFUSING))
+
+
+if __name__ == '__main__':
+    unittest.main()
