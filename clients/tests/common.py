@@ -88,6 +88,12 @@ class Broker:
             self.running.kill()
         self.running.communicate()
 
+    def children(self):
+        """The processes that it has started and not seen end."""
+        with contextlib.suppress(FileNotFoundError):
+            return Path(f'/proc/{self.running.pid}/task/{self.running.pid}/children').read_text().split()
+        return []
+
     def ended(self):
         """Waits for its end: the status, the last line if there is one, and what it said."""
         out, said = self.running.communicate(timeout=SECONDS)
