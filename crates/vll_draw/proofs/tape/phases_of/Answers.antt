@@ -12,7 +12,7 @@ use Rattle.vll_draw.specs.Taped.{phase_of, phases_in}
 use Rattle.vll_draw.proofs.tape.phases_of.Goals as goal
 
 -- the phase of an entered call
-phase_in : Entered → Phase
+abbrev phase_in : Entered → Phase
 phase_in e = phase_of (Some e.status)
 
 pub loop-ticket-preserved : goal.loop-ticket-preserved
@@ -20,7 +20,7 @@ loop-ticket-preserved c =
     let core = c.args.core.now in
     let ticket = c.loop-ticket.ticket in
     let all = phases_in core.state in
-    let within : ticket < length core.state.entries = omega (arith, c.loop-ticket-test.true, journal-length core.base core.state, ap length c.journal.ensures.lines, c.len.ensures) in
+    let within : ticket < length core.state.entries = omega (arith, c.loop-ticket-test.true, journal-length core.base core.state, ap length c.journal-ticket-end.ensures.lines) in
     let entry = entry_at core.state.entries ticket within in
     let at : slice_get all ticket ≡ Some (phase_in entry.0) = slice_get-map phase_in core.state.entries ticket ∙ ap (λ (e : Option Entered). option_map phase_in e) entry.1 in
     let is : c.phase_of.result ≡ phase_in entry.0 =
@@ -34,5 +34,5 @@ pub returns : goal.returns
 returns c =
     let core = c.args.core.now in
     let past : length (phases_in core.state) ≤ c.loop-ticket.ticket =
-    omega (arith, length-map phase_in core.state.entries, c.loop-ticket-test.false, journal-length core.base core.state, ap length c.journal.ensures.lines, c.len.ensures) in
+    omega (arith, length-map core.state.entries phase_in, c.loop-ticket-test.false, journal-length core.base core.state, ap length c.journal-ticket-end.ensures.lines) in
     c.loop-ticket.invariant ∙ take_all c.loop-ticket.ticket (phases_in core.state) past
