@@ -107,6 +107,11 @@ def replies_of(statements):
                for statement, (turns, _, lists) in zip(statements, map(parts_of, statements)))
 
 
+def does_nothing(statements):
+    """Whether a list of statements does nothing: each is a repeat of no turn, or of such a list."""
+    return all(word == 'repeat' and (parts[0] == 0 or does_nothing(parts[1])) for word, *parts in statements)
+
+
 class Found(NamedTuple):
     """The value that was found for the indirect key of a call, by the number of records."""
     value: int
@@ -193,7 +198,7 @@ class Body:
             elif word == 'if':
                 self.run(parts[1] if self.value(parts[0]) != 0 else parts[2])
             elif word == 'repeat':
-                for _ in range(parts[0]):
+                for _ in range(0 if does_nothing(parts[1]) else parts[0]):
                     self.run(parts[1])
             elif word == 'abort':
                 raise Aborted(f'code {parts[0]}')

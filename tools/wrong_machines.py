@@ -2,7 +2,7 @@
 from copy import copy
 from types import SimpleNamespace
 
-from model import MOST, OPERATORS, Aborted, Body, Found
+from model import MOST, OPERATORS, Aborted, Body, Found, does_nothing
 from replay_model import Call, Machine
 
 MEETS, REFUSAL, STEP, VALUE, RUN = Machine.meets, Machine.refusal, Machine.step, Body.value, Body.run
@@ -84,6 +84,13 @@ def run_with_other_turns(turns_of):
         for word, *parts in statements:
             RUN(self, [[word, turns_of(parts[0]), parts[1]] if word == 'repeat' else [word, *parts]])
     return run
+
+
+def run_that_looks_at_first_statements(self, statements):
+    """A repeat is passed over if the first statement of its list does nothing."""
+    for word, *parts in statements:
+        if word != 'repeat' or not does_nothing(parts[1][:1]):
+            RUN(self, [[word, *parts]])
 
 
 def run_with_the_first(name):
@@ -216,6 +223,7 @@ WRONG = {
     'a repeat has a turn less': (Body, 'run', run_with_other_turns(lambda turns: max(turns - 1, 0))),
     'a repeat has a turn at least': (Body, 'run', run_with_other_turns(lambda turns: max(turns, 1))),
     'a repeat has one turn': (Body, 'run', run_with_other_turns(lambda turns: min(turns, 1))),
+    'a repeat is passed over if its first statement does nothing': (Body, 'run', run_that_looks_at_first_statements),
     'turns begin with the first locals': (Body, 'run', run_with_the_first('locals')),
     'turns begin with the first values': (Body, 'run', run_with_the_first('held')),
     'a repeat makes the replies of its last turn': (Body, 'run', run_with_the_first('replies')),

@@ -3,6 +3,7 @@ use std::marker::Brand;
 use vll_proc::{
     changes_claimed_records_alone, depends_on_claimed_records_alone, epochs_are_one_serial_run,
     invariants_carry_over, keeps_the_number_of_records, meets_nothing_undeclared, serial_runs_join,
+    weight_bounds_work,
 };
 use vll_record::{
     claims_are_of_what_was_asked, claims_are_the_only_ones, granted_where_no_claim_conflicts,
@@ -31,6 +32,7 @@ fn laws_of_calls_ask_for_nothing() {
     changes_claimed_records_alone();
     keeps_the_number_of_records();
     depends_on_claimed_records_alone();
+    weight_bounds_work();
     meets_nothing_undeclared();
     serial_runs_join();
     epochs_are_one_serial_run();

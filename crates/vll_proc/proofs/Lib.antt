@@ -3,6 +3,8 @@ pub mod Equations
 pub mod Noted
 pub mod Lists
 pub mod Turns
+pub mod Nothing
+pub mod Costs
 pub mod Copy
 pub mod Called
 pub mod Alike

@@ -3,6 +3,7 @@ pub mod Serial
 pub mod Text
 pub mod Epochs
 pub mod WellFormed
+pub mod Steps
 pub mod Made
 pub mod Same
 pub mod Cells

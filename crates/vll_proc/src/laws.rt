@@ -1,6 +1,6 @@
 //! Laws about each call of a well-formed procedure, and about calls that run one at a time, stated once for code that
 //! applies calls.
-ghost use Rattle.std.specs.Prelude.{◌≡◌, ◌≢◌, ℕ, ◌+◌, ◌<◌, List, ◌++◌, length, map, All, Some, slice_get, slice_index};
+ghost use Rattle.std.specs.Prelude.{◌≡◌, ◌≢◌, ℕ, ◌+◌, ◌<◌, ◌≤◌, List, ◌++◌, length, map, sum_by, All, Some, slice_get, slice_index};
 ghost use Rattle.vll_record.specs.Claim.{mode_on};
 ghost use Rattle.vll_record.specs.declared.claim.Mode.TheVariants.{Write};
 ghost use Rattle.vll_proc.specs.declared.call.Call.{Call};
@@ -11,9 +11,11 @@ ghost use Rattle.vll_proc.specs.Made.{IsCallOf};
 ghost use Rattle.vll_proc.specs.Headline.Meaning.{Scene, effect, in_turn};
 ghost use Rattle.vll_proc.specs.Headline.Serial.{Made, answer, applied, before, end};
 ghost use Rattle.vll_proc.specs.Serial.{Keeps, replies};
+ghost use Rattle.vll_proc.specs.Steps.{body_cost, own_steps, own_turns, own_tests};
 ghost use Rattle.vll_proc.specs.Undeclared.{AgreeOnDeclared, EndsAlike};
-ghost use Rattle.vll_proc.specs.WellFormed.{IsWellFormed};
+ghost use Rattle.vll_proc.specs.WellFormed.{IsWellFormed, weight};
 
+use crate::limits::MOST_WEIGHT;
 use crate::property::Property;
 
 /// A call changes no record that it does not claim for writing.
@@ -37,6 +39,16 @@ pub fn depends_on_claimed_records_alone()
     ensures values { (p : Proc) (c : Call) (m n : List ℕ) → IsWellFormed p → IsCallOf (length m) p c
         → IsCallOf (length n) p c → AgreeAt c.claims m n
         → AgreeAt c.claims (applied p c m).records (applied p c n).records }
+{}
+
+/// The weight of a body bounds the work of each run of it, wherever it begins: the steps (statements run, and
+/// expressions evaluated), the turns that `Repeat`s take, and the statements tested to tell whether a list does
+/// nothing are each at most the weight, and the weight is at most `MOST_WEIGHT`.
+pub fn weight_bounds_work()
+    ensures steps { (p : Proc) (s : Scene) → body_cost own_steps p.body s ≤ sum_by weight p.body }
+    ensures turns { (p : Proc) (s : Scene) → body_cost own_turns p.body s ≤ sum_by weight p.body }
+    ensures tests { (p : Proc) (s : Scene) → body_cost own_tests p.body s ≤ sum_by weight p.body }
+    ensures most { (p : Proc) → IsWellFormed p → sum_by weight p.body ≤ MOST_WEIGHT }
 {}
 
 /// A well-formed procedure depends on no key position or argument beyond those that it declares, and

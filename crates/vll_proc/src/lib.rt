@@ -21,12 +21,14 @@ mod outputs;
 mod property;
 mod run;
 mod syntax;
+mod taken;
 
 pub use call::{Call, Reason, Reply};
 pub use frame::Frame;
 pub use laws::{
     changes_claimed_records_alone, depends_on_claimed_records_alone, epochs_are_one_serial_run,
     invariants_carry_over, keeps_the_number_of_records, meets_nothing_undeclared, serial_runs_join,
+    weight_bounds_work,
 };
 pub use limits::{
     FIRST_MOST_KEYS, MOST_ARGS, MOST_DEPTH, MOST_LOCALS, MOST_NODES, MOST_OUTPUTS, MOST_TURNS,

@@ -10,6 +10,7 @@ use crate::frame::Frame;
 use crate::limits::{MOST_ARGS, MOST_LOCALS, MOST_OUTPUTS};
 use crate::outputs::Outputs;
 use crate::syntax::{Expr, Stmt};
+use crate::taken::turns_taken;
 use vll_record::MOST_CLAIMS;
 
 // What changes while a body runs, besides the cells of its frame.
@@ -84,7 +85,10 @@ impl Progress {
                 self.outputs.push(value);
                 Ok(())
             }
-            Stmt::Repeat(count, list) => self.turns(cells, *count, list.as_slice(), call),
+            Stmt::Repeat(count, list) => {
+                let list = list.as_slice();
+                self.turns(cells, turns_taken(*count, list), list, call)
+            }
         }
     }
 

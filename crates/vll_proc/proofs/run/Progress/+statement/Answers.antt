@@ -1,9 +1,11 @@
 -- An `If` does what the list that it chooses does, and a `Repeat` what the turns of its list do.
 use Rattle.std.proofs.Common.{rules, arith, map, sum_by, sym, ◌∙◌}
-use Rattle.vll_proc.proofs.Common.{MOST_CLAIMS, MOST_ARGS, effect, in_turn, scene_of, replies, key_is_below, set_is_below, arg_is_below, any_stmt, local_is_known, let_is_known}
+use Rattle.vll_proc.proofs.Common.{list_all, MOST_CLAIMS, MOST_ARGS, effect, in_turn, scene_of, replies, key_is_below, set_is_below, arg_is_below, any_stmt, local_is_known, let_is_known}
 use Rattle.std.proofs.lemmas.Grind.{common_steps}
 use Rattle.vll_proc.proofs.Lists.{effect_if, effect_repeat, throughout_if, throughout_repeat, replies_if, replies_repeat, stmt_nodes_if, stmt_nodes_repeat}
+use Rattle.vll_proc.proofs.Nothing.{repeated-taken, product-taken}
 use Rattle.vll_proc.proofs.Turns.{repeated-left, product-left}
+use Rattle.vll_proc.specs.Steps.{does_nothing}
 use Rattle.vll_proc.proofs.run.Progress.+statement.Goals as goal
 
 pub step-steps-requires : goal.step-steps-requires
@@ -63,7 +65,9 @@ step-returns-else-branch-ne0-clause-outputs t c =
 pub step-turns-requires : goal.step-turns-requires
 step-turns-requires t c =
     let is = c.in-Repeat.is in
-    let list = c.as_slice-in-Repeat.ensures in
+    let list = c.as_slice-list.ensures in
+    let taken = c.turns_taken.ensures in
+    let most = product-taken c.in-Repeat.count (list_all does_nothing c.in-Repeat.list) (sum_by replies c.in-Repeat.list) in
     let nodes = stmt_nodes_repeat c.in-Repeat.count c.in-Repeat.list in
     let replies = replies_repeat c.in-Repeat.count c.in-Repeat.list in
     let keys = throughout_repeat (key_is_below MOST_CLAIMS) (set_is_below MOST_CLAIMS) c.in-Repeat.count c.in-Repeat.list in
@@ -74,14 +78,18 @@ step-turns-requires t c =
 pub step-returns-in-Repeat-clause-effect : goal.step-returns-in-Repeat-clause-effect
 step-returns-in-Repeat-clause-effect t c =
     let is = c.in-Repeat.is in
-    let list = c.as_slice-in-Repeat.ensures in
+    let list = c.as_slice-list.ensures in
+    let taken = c.turns_taken.ensures in
     let turns = c.turns.ensures.effect in
+    let all = repeated-taken c.in-Repeat.count c.in-Repeat.list (scene_of c.args.call.now c.args.cells.now c.args.self.now) in
     grind (arith, common_steps, effect_repeat)
 
 pub step-returns-in-Repeat-clause-outputs : goal.step-returns-in-Repeat-clause-outputs
 step-returns-in-Repeat-clause-outputs t c =
     let is = c.in-Repeat.is in
-    let list = c.as_slice-in-Repeat.ensures in
+    let list = c.as_slice-list.ensures in
+    let taken = c.turns_taken.ensures in
+    let most = product-taken c.in-Repeat.count (list_all does_nothing c.in-Repeat.list) (sum_by replies c.in-Repeat.list) in
     let turns = c.turns.ensures.outputs in
     grind (arith, common_steps, replies_repeat)
 
