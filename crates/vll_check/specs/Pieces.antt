@@ -1,12 +1,12 @@
 -- Whether the pieces of a procedure pass its tests, each by what the piece has and what came before it.
-use Rattle.std.specs.Prelude.{ℕ, Bool, true, false, ◌&&◌, ◌||◌, not, nat_le, List, length, Some, sum_by, if◌then◌else◌}
+use Rattle.std.specs.Prelude.{ℕ, Bool, true, false, ◌&&◌, ◌||◌, not, nat_le, List, length, Some, slice_set, sum_by}
 use Rattle.std.specs.List.{list_all}
 use Rattle.vll_proc.specs.declared.limits.TheConstants.{MOST_OUTPUTS, MOST_DEPTH, MOST_NODES, MOST_WEIGHT}
 use Rattle.vll_proc.specs.declared.syntax.Expr.{Expr}
 use Rattle.vll_proc.specs.declared.syntax.KeyDecl.{KeyDecl}
 use Rattle.vll_proc.specs.declared.syntax.Proc.{Proc}
 use Rattle.vll_proc.specs.declared.syntax.Stmt.{Stmt}
-use Rattle.vll_proc.specs.WellFormed.{all_leaves, any_leaf, any_stmt, arg_is_below, argument_is_declared, body_depth, body_reads_set, has_declared_key_args, has_earlier_sources, has_few_args, has_few_keys, has_one_indirect_key, has_records, has_source, is_direct, key_is_below, let_is_known, local_is_known, local_is_set, nothing_set, reads_set, record_is_there, replies, set_behind, set_is_below, sets_no_read_key, stmt_depth, stmt_nodes, throughout, turns_are_few, weight}
+use Rattle.vll_proc.specs.WellFormed.{all_leaves, any_leaf, any_stmt, arg_is_below, argument_is_declared, body_depth, body_reads_set, body_set_behind, both_set, has_declared_key_args, has_earlier_sources, has_few_args, has_few_keys, has_one_indirect_key, has_records, has_source, is_direct, key_is_below, let_is_known, local_is_known, local_is_set, nothing_set, reads_set, record_is_there, replies, set_behind, set_is_below, sets_no_read_key, stmt_depth, stmt_nodes, throughout, turns_are_few, weight}
 use Rattle.vll_check.specs.declared.fault.CheckFault.{CheckFault}
 use Rattle.vll_check.specs.declared.piece.Before.{Before}
 use Rattle.vll_check.specs.declared.fault.CheckFault.TheVariants.{TooManyArgs, TooManyKeys, KeyArg, FixedRecord, UnknownKey, NotWritable, UnknownArg, UnknownLocal, UnsetLocal, TooManyReplies, TooDeep, TooLong, ThroughKey, TwoThrough, Turns, TooMuchWork}
@@ -19,9 +19,21 @@ nothing_before = record { indirect = false; set = nothing_set }
 abbrev pub after_key : Before → KeyDecl → Before
 after_key b k = record b { indirect = b.indirect || not (is_direct (Some k)) }
 
--- once a statement has come, if each local that it reads is surely set
+-- once a `Let` of a local has come
+abbrev pub with_local : Before → ℕ → Before
+with_local b i = record b { set = slice_set b.set i true }
+
+-- once an `If` has come, behind whose lists two states hold
+abbrev pub join : Before → Before → Before
+join b other = record b { set = both_set b.set other.set }
+
+-- once a statement has come
 abbrev pub after_statement : Before → Stmt → Before
-after_statement b st = record b { set = if reads_set b.set st then set_behind st b.set else b.set }
+after_statement b st = record b { set = set_behind st b.set }
+
+-- once a list of statements has come
+abbrev pub after_list : Before → List Stmt → Before
+after_list b list = record b { set = body_set_behind list b.set }
 
 -- the number of arguments passes the test with this fault
 abbrev pub args_pass : CheckFault → Proc → Bool

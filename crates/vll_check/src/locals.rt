@@ -39,7 +39,7 @@ impl Locals {
     }
 
     // No local has an index of `MOST_LOCALS` or more.
-    fn with(mut self, i: u8) -> Locals
+    pub(crate) fn with(mut self, i: u8) -> Locals
         ensures { result ≡ slice_set self i true }
     {
         let i = i as usize;
@@ -50,7 +50,7 @@ impl Locals {
     }
 
     // The locals that both have set.
-    fn both(&self, other: &Locals) -> Locals
+    pub(crate) fn both(&self, other: &Locals) -> Locals
         ensures { result ≡ both_set self.now other.now }
     {
         let mut set = self.set;

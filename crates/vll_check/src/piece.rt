@@ -3,7 +3,7 @@
 ghost use Rattle.std.specs.Prelude.{◌≡◌, ◌≤◌, true, length};
 ghost use Rattle.vll_proc.specs.WellFormed.{has_few_keys};
 ghost use Rattle.vll_record.specs.declared.claims.TheConstants.{MOST_CLAIMS};
-ghost use Rattle.vll_check.specs.Pieces.{after_key, after_statement, args_pass, expression_passes, key_passes, keys_pass, list_passes, nothing_before, statement_passes};
+ghost use Rattle.vll_check.specs.Pieces.{after_key, args_pass, expression_passes, join, key_passes, keys_pass, list_passes, nothing_before, statement_passes, with_local};
 
 use crate::checker::{
     argument_is_declared, has_declared_key_args, has_earlier_sources, has_one_indirect_key,
@@ -55,12 +55,23 @@ impl Before {
         self.indirect = self.indirect || !is_direct(Some(key));
     }
 
-    /// Notes that a statement comes before what is tested next.
-    pub fn pass_statement(&mut self, statement: &Stmt)
-        ensures { self.new ≡ after_statement self.old statement.now }
+    /// Once a `Let` of this local has come too.
+    pub fn with_local(self, index: u8) -> Before
+        ensures { result ≡ with_local self index }
     {
-        if let Some(set) = set_behind(statement, self.set) {
-            self.set = set;
+        Before {
+            indirect: self.indirect,
+            set: self.set.with(index),
+        }
+    }
+
+    /// Once an `If` has come, behind whose lists `self` and `other` hold: the locals that both have set.
+    pub fn join(self, other: &Before) -> Before
+        ensures { result ≡ join self other.now }
+    {
+        Before {
+            indirect: self.indirect,
+            set: self.set.both(&other.set),
         }
     }
 }

@@ -2,3 +2,5 @@ mod Forms
 mod Ways
 mod Refused
 mod Parts
+mod Searched
+mod Tests
