@@ -4,16 +4,20 @@
     python3 clients/tests/figures.py [--program PROGRAM] [--seconds N] [PART..]
 
 The parts are python, node, broker and log; the calls are transfers over 65,536 records. `--program` is
-crates/vll/out/vll without it.
+crates/vll/out/vll without it. Beside the broker with a log, in turn with it, the same calls are made by a Redis server
+that has each on the disk before it answers (`appendfsync always`), if there is one: version 7 or later.
 """
 import argparse
 import asyncio
+import contextlib
 import json
 import multiprocessing
 import random
+import shutil
 import socket
 import statistics
 import subprocess
+import sys
 import tempfile
 import threading
 import time
@@ -21,6 +25,9 @@ from pathlib import Path
 
 from common import BANK, PROGRAM, TOP, Broker, line
 import vll
+
+sys.path.append(str(TOP / 'tools/figures'))
+from service import FUNCTIONS, LIBRARY
 
 RECORDS, HELD, CLIENTS, ROUNDS = 65536, 1000, 64, 3
 # Processes, connections of each, and calls in flight on each connection.
@@ -98,11 +105,18 @@ def by_node(file, words):
     return float(subprocess.run(command, stdout=subprocess.PIPE, check=True).stdout)
 
 
-def texts_of(number, ahead):
+def line_of_vll(number, call):
+    return line('transfer', *call, client=number % CLIENTS)
+
+
+def line_of_redis(_, call):
+    return b'FCALL transfer 2 %d %d %d\r\n' % call
+
+
+def texts_of(number, ahead, line_of):
     """What a connection writes at a time."""
     draw = random.Random(number)
-    return [b''.join(line('transfer', *transfer(draw), client=number % CLIENTS) for _ in range(ahead))
-            for _ in range(20)]
+    return [b''.join(line_of(number, transfer(draw)) for _ in range(ahead)) for _ in range(20)]
 
 
 def write_and_read(connection, number, texts, ahead, until, counts):
@@ -115,11 +129,11 @@ def write_and_read(connection, number, texts, ahead, until, counts):
         counts[number] += ahead
 
 
-def process(path, shape, first, seconds, ready, start, told):
-    """One of the processes that call a broker."""
+def process(path, line_of, shape, first, seconds, ready, start, told):
+    """One of the processes that call a broker or a Redis server."""
     _, count, ahead = shape
     numbers = range(first, first + count)
-    connections = {number: (connect(path), number, texts_of(number, ahead)) for number in numbers}
+    connections = {number: (connect(path), number, texts_of(number, ahead, line_of)) for number in numbers}
     counts = dict.fromkeys(numbers, 0)
     ready.release()
     start.wait()
@@ -139,28 +153,60 @@ def connect(path):
     return connection
 
 
+def by_processes(path, line_of, shape, seconds):
+    """The calls a second that these processes make, which begin together."""
+    told, start, ready = multiprocessing.Queue(), multiprocessing.Event(), multiprocessing.Semaphore(0)
+    processes = [multiprocessing.Process(target=process, args=(
+        path, line_of, shape, number * shape[1], seconds, ready, start, told)) for number in range(shape[0])]
+    for each in processes:
+        each.start()
+    for _ in processes:
+        ready.acquire()
+    start.set()
+    found = sum(told.get() for _ in processes)
+    for each in processes:
+        each.join()
+    return found
+
+
 def by_broker(file, words, shape, room, with_log):
     log = room / 'log'
     if log.exists():
         log.unlink()
     more = ['--log', str(log)] if with_log else []
-    told, start, ready = multiprocessing.Queue(), multiprocessing.Event(), multiprocessing.Semaphore(0)
     with Broker(room / 'socket', file, *more, program=words.program) as broker:
         broker.connect().close()
-        processes = [multiprocessing.Process(target=process, args=(
-            broker.path, shape, number * shape[1], words.seconds, ready, start, told)) for number in range(shape[0])]
-        for each in processes:
-            each.start()
-        for _ in processes:
-            ready.acquire()
-        start.set()
-        found = sum(told.get() for _ in processes)
-        for each in processes:
-            each.join()
+        found = by_processes(broker.path, line_of_vll, shape, words.seconds)
         status, _, said = broker.end()
         if status:
             raise RuntimeError(said)
     return found
+
+
+@contextlib.contextmanager
+def redis_at_work(room):
+    """A Redis server with the records and the procedure, which has each call on the disk before it answers."""
+    path = str(room / 'redis')
+    words = ['--port', '0', '--unixsocket', path, '--dir', room, '--save', '', '--appendonly', 'yes',
+             '--appendfsync', 'always', '--auto-aof-rewrite-percentage', '0']
+    with subprocess.Popen(['redis-server', *words], stdout=subprocess.DEVNULL) as running:
+        while not Path(path).exists():
+            time.sleep(0.01)
+        function = LIBRARY.format(FUNCTIONS['two commands']).encode()
+        with connect(path) as connection:
+            held = b''.join(b'SET %d %d\r\n' % (record, HELD) for record in range(RECORDS))
+            connection.sendall(b'*3\r\n$8\r\nFUNCTION\r\n$4\r\nLOAD\r\n$%d\r\n%b\r\n%b' % (
+                len(function), function, held))
+            left = RECORDS + 2
+            while left > 0:
+                left -= connection.recv(1 << 16).count(b'\n')
+        yield path
+        running.terminate()
+
+
+def by_redis(words, shape, room):
+    with tempfile.TemporaryDirectory(dir=room) as name, redis_at_work(Path(name)) as path:
+        return by_processes(path, line_of_redis, shape, words.seconds)
 
 
 def show(what, measure):
@@ -191,8 +237,10 @@ def main():
             show('node, 1,000 in flight', lambda: by_node(file, words))
         for part in 'broker', 'log':
             for shape in SHAPES if part in words.parts else ():
-                show(f'{part}, {shape[0] * shape[1]} connections, {shape[2]} in flight each',
-                     lambda: by_broker(file, words, shape, room, part == 'log'))
+                how = f'{shape[0] * shape[1]} connections, {shape[2]} in flight each'
+                show(f'{part}, {how}', lambda: by_broker(file, words, shape, room, part == 'log'))
+                if part == 'log' and shutil.which('redis-server'):
+                    show(f'Redis, {how}', lambda: by_redis(words, shape, room))
 
 
 if __name__ == '__main__':
