@@ -4,13 +4,14 @@
     clients/vllc.py bank.vll > bank.json
     clients/vllc.py --text bank.json > bank.vll
 
-The file - is standard input. docs/SCENARIO.md has the language. A mistake is reported with its line and column on
-standard error, with status 2. It needs Python 3.8 or later.
+The file - is standard input. --help prints the language. A mistake is reported with its line and column on standard
+error, with status 2. It needs Python 3.8 or later.
 """
 import argparse
 import json
 import sys
 
+from vll_text import language
 from vll_text.compiler import scenario_of
 from vll_text.language import MOST_BYTES
 from vll_text.parts import At, Mistake
@@ -82,7 +83,9 @@ def text_of_json(text):
 
 
 def main():
-    parser = argparse.ArgumentParser(description='Compiles a scenario from text to JSON.')
+    parser = argparse.ArgumentParser(
+        description='Compiles a scenario from text to JSON.', epilog=language.__doc__.partition('\n\n')[2],
+        formatter_class=argparse.RawDescriptionHelpFormatter)
     parser.add_argument('--text', action='store_true', help='write the text of a scenario that is JSON')
     parser.add_argument('file', metavar='FILE', help='the text, or the JSON; - is standard input')
     words = parser.parse_args()
