@@ -7,7 +7,7 @@
   row. What stands under "What the headline needs" is just what the clause reaches, and what is in the folders
   specs/Headline. Any other name is declared somewhere.
 - PROMISES, ALGORITHM: a function stands in the crate that is named behind it, and the clauses of a row at one of its
-  functions.
+  functions. PROMISES lists just the public functions that can return that memory lacks, as their signatures say.
 - README.md: its scenario is scenarios/transfer.json, and its figures are those of docs/speed.csv, as the drawings are.
   examples/README.md: a block below a command has what is printed, behind the events of a schedule.
 - every page: a function that is named with its type is there, a link leads to a file and to a heading, and an outcome
@@ -22,6 +22,7 @@ from itertools import zip_longest
 
 from cases import TOP, read_cases
 from figures.speed import HEAD, rows_below, with_rows
+from listing import that_allocate
 from sources import Sources, Specs
 
 NAME = re.compile(r'`([^`]+)`')
@@ -29,6 +30,8 @@ HEADING = re.compile(r'(#+) +(.*)')
 # Names with the crate that has them behind them: `Queue::admit` (vll_core), or `delta`, `granted` (vll_record).
 IN_CRATE = re.compile(r'((?:`[^`]+`(?:, | and )?)+) \((vll\w*)\)')
 COMMAND = re.compile(r'`\./vll (?:run|replay)[^`<]*< ([\w./-]+)\.json`[^`]* prints$')
+# How many public functions allocate, and which, up to the end of the sentence.
+ALLOCATE = re.compile(r'\bonly (\d+) public functions allocate\b(.*?)\. ')
 EXAMPLE = re.compile(r'\./vll (.*) < examples/(\w+)\.json$')
 
 # Words of HEADLINE.md that stand in code marks and are no names of this repository.
@@ -153,6 +156,17 @@ class Checks:
             for name in NAME.findall(cells.get('Over the definitions', '')):
                 self.look(page, number, name in self.sources.names(None), f'{name} is not declared in any crate')
 
+    def memory(self, page):
+        rows = [(number, found) for number, line, _, _ in page.outside for found in ALLOCATE.finditer(line)]
+        self.look(page, 1, len(rows) == 1, 'it is not said once which public functions allocate')
+        for number, found in rows:
+            # what stands in parentheses is about the function before
+            names, wanted = NAME.findall(re.sub(r'\([^)]*\)', '', found[2])), that_allocate(self.sources)
+            for name in sorted(wanted | set(names)):
+                self.look(page, number, name in wanted, f'{name} cannot return that memory lacks')
+                self.look(page, number, names.count(name) == 1, f'{name} can return that memory lacks: list it once')
+            self.look(page, number, int(found[1]) == len(names), f'{len(names)} functions are listed')
+
     def algorithm(self, page):
         for number, line, _, _ in page.outside:
             for name, crate in names_with_crates(line):
@@ -248,7 +262,8 @@ def check(texts, sources, specs):
         checks.outcomes(page)
     for name, look in [('docs/ALGORITHM.md', checks.algorithm), ('docs/HEADLINE.md', checks.definitions),
                        ('docs/HEADLINE.md', checks.quotations), ('docs/PROMISES.md', checks.promises),
-                       ('README.md', checks.readme), ('examples/README.md', checks.examples)]:
+                       ('docs/PROMISES.md', checks.memory), ('README.md', checks.readme),
+                       ('examples/README.md', checks.examples)]:
         looked = checks.looked
         look(pages[name])
         if checks.looked == looked:

@@ -47,16 +47,30 @@ def contracts(crates):
         lib = sources.files.get(f'{crate}/src/lib.rt')
         if not lib or LEFT_OUT.fullmatch(crate):
             continue
-        text = '\n'.join(lib)
-        exports = {name for module, many, one in EXPORT.findall(text) if module in MODULE.findall(text)
-                   for name in re.findall(r'\w+', many or one)}
-        files = [file for file in sources.files if file.startswith(f'{crate}/src/')]
         rows = [(marked([function.name]), first_sentence(function.comment), marked(function.requires),
                  marked(function.ensures), marked([file[len(crate) + 1:]]))
-                for file in sorted(files, key=lambda file: file[:-len('.rt')])
-                for function in functions_of(sources.files[file]) if is_listed(function, exports)]
+                for file, function in public_functions(sources, crate)]
         purpose = first_sentence([line[3:].strip() for line in takewhile(lambda line: line.startswith('//!'), lib)])
         yield crate, [purpose, '', *table(['Function', 'Comment', 'Asks', 'Ensures', 'File'], rows)]
+
+
+def public_functions(sources, crate):
+    """The public functions of a library, each behind its file."""
+    text = '\n'.join(sources.files[f'{crate}/src/lib.rt'])
+    exports = {name for module, many, one in EXPORT.findall(text) if module in MODULE.findall(text)
+               for name in re.findall(r'\w+', many or one)}
+    files = [file for file in sources.files if file.startswith(f'{crate}/src/')]
+    return [(file, function) for file in sorted(files, key=lambda file: file[:-len('.rt')])
+            for function in functions_of(sources.files[file]) if is_listed(function, exports)]
+
+
+def that_allocate(sources):
+    """The names of the public functions of the program's libraries that can return that memory lacks, by their
+    signatures. A trait's function stands for those of the types that have it."""
+    faults, keepers = sources.types_with('NoMemory') | {'NoMemory'}, sources.types_with(r'\w+: Global')
+    libraries = [file.partition('/')[0] for file in sources.files if file.endswith('/src/lib.rt')]
+    return {function.name for crate in libraries if not LEFT_OUT.fullmatch(crate)
+            for _, function in public_functions(sources, crate) if function.can_lack_memory(faults, keepers)}
 
 
 def is_listed(function, exports):

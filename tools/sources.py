@@ -10,6 +10,7 @@ USE = re.compile(r'use Rattle\.(\w+)\.specs\.([\w.]+)\.\{(.*)\}')
 ITEM = re.compile(r'\s*(?:pub(?:\(\w+\))? )?(?:struct|enum|trait|const|type|fn) (\w+)')
 MEMBER = re.compile(r'    (?:(?:pub(?:\(\w+\))? )?([a-z_]\w*):|([A-Z]\w*)(?:\(.*\)| \{.*)?,?$)')
 FUNCTION = re.compile(r'(\s*)(pub )?(?:pub\(\w+\) )?(?:const )?fn (\w+)')
+TYPE = re.compile(r'(?:pub(?:\(\w+\))? )?(?:struct|enum) (\w+)')
 TRAIT = re.compile(r'(?:pub )?trait (\w+)')
 CLAUSE = re.compile(r'\s*(ensures|requires)\b\s*(\w*)')
 COMMENT = re.compile(r'\s*(?:--|//|$)')
@@ -30,13 +31,23 @@ def self_type(head):
 
 class Function(NamedTuple):
     """A function, as its head tells it: its name, as `Claims::add`; whether it is `pub` or one of a trait; whether an
-    `impl` of a trait has it; the `///` lines; and the names of its clauses in order, an empty one if it has none."""
+    `impl` of a trait has it; the `///` lines; the lines of its signature; and the names of its clauses in order, an
+    empty one if it has none."""
     name: str
     is_public: bool
     is_of_trait: bool
     comment: List[str]
+    signature: List[str]
     requires: List[str]
     ensures: List[str]
+
+    def can_lack_memory(self, faults, keepers):
+        """Its signature lets it return that memory lacks: it is given an allocator or answers `AllocError`; or its error
+        is one of these, and it grows a text or a list, or has one of these types that keep an allocator."""
+        takes, _, gives = ' '.join(self.signature).partition(' -> ')
+        takes, gives = set(re.findall(r'\w+', takes)), set(re.findall(r'\w+', gives))
+        grows = takes & {'String', 'Vec'} or self.name.partition('::')[0] in keepers
+        return 'Result' in gives and bool('Global' in takes or 'AllocError' in gives or grows and gives & faults)
 
 
 class Sources:
@@ -71,6 +82,18 @@ class Sources:
         return found
 
     @lru_cache(maxsize=None)
+    def types_with(self, member):
+        """The types of which one line, a field or a variant, is this."""
+        found, name = set(), ''
+        for file, lines in self.files.items():
+            for line in lines if file.endswith('.rt') else ():
+                declared = TYPE.match(line)
+                name = declared[1] if declared else name
+                if re.fullmatch(f'    {member},', line):
+                    found.add(name)
+        return found
+
+    @lru_cache(maxsize=None)
     def is_type(self, name):
         return any(function.startswith(f'{name}::') for function in self.functions(None))
 
@@ -100,10 +123,12 @@ def functions_of(lines):
         clause = CLAUSE.match(line)
         if found:
             name = f'{group}::{found[3]}' if group and found[1] else found[3]
-            head = Function(name, bool(found[2]) or of == 'trait', of == 'impl for', comment, [], [])
+            head = Function(name, bool(found[2]) or of == 'trait', of == 'impl for', comment, [], [], [])
             found_all.append(head)
-        elif head and clause:
+        if head and clause:
             getattr(head, clause[1]).append(clause[2])
+        elif head and not COMMENT.match(line) and not head.requires and not head.ensures:
+            head.signature.append(words)
         if words == '{' or words.endswith((' {', '{}')):
             head = None
         if words.startswith('///'):

@@ -16,7 +16,7 @@ import check_docs
 import check_schema
 from cases import TOP, bytes_of, read_cases
 from explaining import unexplained
-from sources import Sources, Specs
+from sources import Sources, Specs, functions_of
 
 TOOLS = Path(__file__).resolve().parent
 
@@ -114,6 +114,11 @@ SPOILED = [
     ('docs/PROMISES.md', r'(\| `\w+::)\w+(` \(vll)', r'\1secret\2', 'is no function of vll_'),
     ('docs/PROMISES.md', r'(\) \| `)\w+', r'\1unheard_of', 'unheard_of is no clause of'),
     ('docs/PROMISES.md', r'\| Function \|', '| Functions |', 'no clause is looked at'),
+    ('docs/PROMISES.md', r'only \d+ public', 'only 7 public', 'functions are listed'),
+    ('docs/PROMISES.md', r' public functions allocate', ' functions allocate', 'it is not said once'),
+    ('docs/PROMISES.md', r'`push_state`, ', '', 'push_state can return that memory lacks: list it once'),
+    ('docs/PROMISES.md', r'`push_state`, ', r'\g<0>\g<0>', 'push_state can return that memory lacks: list it once'),
+    ('docs/PROMISES.md', r'`Bits::new`', '`Bits::is_marked`', 'Bits::is_marked cannot return that memory lacks'),
     ('docs/ALGORITHM.md', r'`\w+` \(vll', '`claw` (vll', 'claw is not in vll'),
     ('docs/HEADLINE.md', r'\n```\n(\w+)', r'\n```\n\1x', 'no source has: '),
     ('docs/ARCHITECTURE.md', r'(`[A-Z]\w+::)[a-z]\w*`', r'\1unheard_of`', 'has no function unheard_of'),
@@ -121,6 +126,19 @@ SPOILED = [
     ('README.md', r'committed 70', 'committed 71', 'transfer.out is not what is quoted here'),
     ('README.md', r'(\| bodies of 500 nodes.*?\| )[\d,]+', r'\g<1>1', 'these are not the figures of docs/speed.csv'),
     ('examples/README.md', r'0 opened', '0 closed', 'this is not what is printed'),
+]
+
+# Signatures, the lines of a function's head, and whether they let it return that memory lacks.
+SIGNATURES = [
+    (['pub fn f(alloc: Global) -> Result<Bits, Other> {'], True),
+    (['pub fn f(alloc: Global) -> Reader {'], False),
+    (['pub fn f(', '    text: &mut String,', '    number: u64,', ') -> Result<(), Fault>', '    ensures {}', '{'], True),
+    (['pub fn f(text: &mut String) -> Result<(), Other> {'], False),
+    (['pub fn f(text: &str) -> Result<(), Fault>', '    requires { String }', '{'], False),
+    (['pub fn f(text: Vec<u8>) -> Result<Vec<u8>, Fault> {'], True),
+    (['pub fn f(&mut self, event: &Event) -> Result<(), AllocError> {'], True),
+    (['impl Keeper {', '    pub fn f(&mut self) -> Result<(), Fault> {'], True),
+    (['impl Other {', '    pub fn f(&mut self) -> Result<(), Fault> {'], False),
 ]
 
 
@@ -229,6 +247,12 @@ class Scripts(unittest.TestCase):
                 self.assertNotEqual(text, texts[name])
                 told = check_docs.check({**texts, name: text}, sources, specs).wrong
                 self.assertTrue([line for line in told if line.startswith(name) and words in line], told)
+
+    def test_signatures_that_can_lack_memory(self):
+        for lines, can in SIGNATURES:
+            with self.subTest(lines):
+                function, = functions_of(lines)
+                self.assertEqual(function.can_lack_memory({'Fault'}, {'Keeper'}), can)
 
 
 if __name__ == '__main__':
