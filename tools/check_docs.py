@@ -3,9 +3,8 @@
 
     python3 tools/check_docs.py
 
-- HEADLINE: what it quotes stands so in a source. A name in the first column of a table is declared in the file of its
-  row. What stands under "What the headline needs" is just what the clause reaches, and what is in the folders
-  specs/Headline. Any other name is declared somewhere.
+- HEADLINE: what it quotes stands so in a source, and each name is declared somewhere. What its sentences are about
+  reaches just what is in the folders specs/Headline, as many definitions as it says.
 - PROMISES, ALGORITHM: a function stands in the crate that is named behind it, and the clauses of a row at one of its
   functions. PROMISES lists just the public functions that can return that memory lacks, as their signatures say.
 - README.md: its scenario is scenarios/transfer.json, and its figures are those of docs/speed.csv, as the drawings are.
@@ -23,10 +22,10 @@ from itertools import zip_longest
 from cases import TOP, read_cases
 from figures.speed import HEAD, rows_below, with_rows
 from listing import that_allocate
-from sources import Sources, Specs
+from sources import SENTENCES, Sources, Specs
 
 NAME = re.compile(r'`([^`]+)`')
-HEADING = re.compile(r'(#+) +(.*)')
+HEADING = re.compile(r'#+ +(.*)')
 # Names with the crate that has them behind them: `Queue::admit` (vll_core), or `delta`, `granted` (vll_record).
 IN_CRATE = re.compile(r'((?:`[^`]+`(?:, | and )?)+) \((vll\w*)\)')
 COMMAND = re.compile(r'`\./vll (?:run|replay)[^`<]*< ([\w./-]+)\.json`[^`]* prints$')
@@ -45,13 +44,13 @@ class Page:
         self.path = path
         self.name = name
         self.text = text
-        # of a line outside: its number, itself, the heading of its section of second rank, and the heading above
+        # of a line outside: its number, and itself
         self.outside = []
-        # of a heading: its number and its words
+        # the words of each heading
         self.headings = []
         # of a block: its number, the last line of text above it, and its lines
         self.blocks = []
-        second = above = last = ''
+        last = ''
         block = None
         for number, line in enumerate(text.splitlines(), 1):
             found = HEADING.fullmatch(line)
@@ -62,17 +61,15 @@ class Page:
             elif block is not None:
                 block.append(line)
             elif found:
-                self.headings.append((number, found[2]))
-                above = found[2]
-                second = found[2] if len(found[1]) <= 2 else second
+                self.headings.append(found[1])
             else:
-                self.outside.append((number, line, second, above))
+                self.outside.append((number, line))
                 last = line.strip() or last
 
     def rows(self):
-        """Each row of a table: its number, the headings, and its cells by the words of the table's head."""
+        """Each row of a table: its number, and its cells by the words of the table's head."""
         head = None
-        for number, line, second, above in self.outside:
+        for number, line in self.outside:
             if not line.startswith('|'):
                 head = None
                 continue
@@ -80,11 +77,11 @@ class Page:
             if head is None:
                 head = cells
             elif not set(line) <= set('|-: '):
-                yield number, second, above, dict(zip(head, cells))
+                yield number, dict(zip(head, cells))
 
     def anchors(self):
         """What a link can name after '#'."""
-        words = [re.sub(r'[^\w\- ]', '', heading.lower()).replace(' ', '-') for _, heading in self.headings]
+        words = [re.sub(r'[^\w\- ]', '', heading.lower()).replace(' ', '-') for heading in self.headings]
         return {f'{word}-{words[:at].count(word)}' if word in words[:at] else word for at, word in enumerate(words)}
 
 
@@ -102,44 +99,23 @@ class Checks:
         if not is_so:
             self.wrong.append(f'{page.name}:{number}: {words}')
 
-    def definitions(self, page):
-        listed = {}
-        for number, second, above, cells in page.rows():
-            names = names_in(next(iter(cells.values())))
-            if second == 'What the headline needs':
-                listed.setdefault(above, {}).update(dict.fromkeys(names, number))
-            crate = crate_in(above) or crate_in(second)
-            where = [f'{crate}/{file}' if crate else file for file in NAME.findall(cells.get('File', ''))]
-            for name in names:
-                is_so = any(name in self.sources.names_of(file) for file in where) if where else \
-                    name in self.sources.names(crate)
-                self.look(page, number, is_so, f'{name} is not declared in {" or ".join(where) or crate}')
-        for number, line, _, _ in page.outside:
+    def headline(self, page):
+        for number, line in page.outside:
             for name in names_in(line):
                 is_so = name in OTHERS or name in self.sources.names(None)
                 self.look(page, number, is_so, f'{name} is not declared in any crate')
-        self.look(page, 1, listed, 'nothing is listed under "What the headline needs"')
-        # Each list is what the names in its heading reach, but for those above it.
-        known = set()
-        for number, heading in page.headings:
-            names = listed.get(heading)
-            if names:
-                roots = NAME.findall(heading)
-                reached = {name for root in roots for name in self.specs.reached_from(root)}
-                for name in sorted(reached - known - set(names)):
-                    self.look(page, number, False, f'{name} is reached from {" and ".join(roots)}, and not listed')
-                for name, row in sorted(names.items()):
-                    self.look(page, row, name in reached, f'{name} is not reached from {" and ".join(roots)}')
-                known |= reached | set(names)
-        # All that is listed, and nothing else, stands in the folders of the headline.
-        apart = {name for _, file, name in self.specs.texts if file.startswith('Headline.')}
-        named = {name: number for names in listed.values() for name, number in names.items()}
-        for name in sorted(apart | set(named)):
-            is_so = name in apart and name in named
-            self.look(page, named.get(name, 1), is_so, f'{name} is not both listed and in a folder specs/Headline')
+        for sentences, roots in SENTENCES.items():
+            for root in roots:
+                self.look(page, 1, f'`{root}`' in page.text, f'{root} of {sentences} is not named')
+        reached = self.specs.reached_from(*(root for roots in SENTENCES.values() for root in roots))
+        apart = {key for key in self.specs.texts if key[1].startswith('Headline.')}
+        for key in sorted(apart | reached):
+            is_so = key in apart and key in reached
+            self.look(page, 1, is_so, f'{".".join(key)} is not both needed and in a folder specs/Headline')
+        self.look(page, 1, f'{len(reached)} definitions' in page.text, f'the headline needs {len(reached)} definitions')
 
     def promises(self, page):
-        rows = [(number, cells) for number, _, _, cells in page.rows() if 'Function' in cells]
+        rows = [(number, cells) for number, cells in page.rows() if 'Function' in cells]
         self.look(page, 1, rows, 'no clause is looked at')
         for number, cells in rows:
             functions = names_with_crates(cells['Function'])
@@ -157,7 +133,7 @@ class Checks:
                 self.look(page, number, name in self.sources.names(None), f'{name} is not declared in any crate')
 
     def memory(self, page):
-        rows = [(number, found) for number, line, _, _ in page.outside for found in ALLOCATE.finditer(line)]
+        rows = [(number, found) for number, line in page.outside for found in ALLOCATE.finditer(line)]
         self.look(page, 1, len(rows) == 1, 'it is not said once which public functions allocate')
         for number, found in rows:
             # what stands in parentheses is about the function before
@@ -168,7 +144,7 @@ class Checks:
             self.look(page, number, int(found[1]) == len(names), f'{len(names)} functions are listed')
 
     def algorithm(self, page):
-        for number, line, _, _ in page.outside:
+        for number, line in page.outside:
             for name, crate in names_with_crates(line):
                 is_so = name in self.sources.functions(crate) or name in self.sources.names(crate)
                 self.look(page, number, is_so, f'{name} is not in {crate}')
@@ -204,7 +180,7 @@ class Checks:
                           f'this is not what is printed of {case.name}')
 
     def functions(self, page):
-        for number, line, _, _ in page.outside:
+        for number, line in page.outside:
             for name in NAME.findall(line):
                 found = re.fullmatch(r'(?:vll_\w+::)?([A-Z]\w*)::([a-z]\w*)', name)
                 if found and self.sources.is_type(found[1]):
@@ -212,7 +188,7 @@ class Checks:
                     self.look(page, number, is_so, f'{found[1]} has no function {found[2]}')
 
     def links(self, page, anchors):
-        for number, line, _, _ in page.outside:
+        for number, line in page.outside:
             for target in re.findall(r'\]\((?!\w+:)([^)\s]+)\)', line):
                 file, _, anchor = target.partition('#')
                 path = (page.path.parent / file).resolve() if file else page.path
@@ -239,10 +215,6 @@ def names_with_crates(text):
     return [(name, crate) for names, crate in IN_CRATE.findall(text) for name in NAME.findall(names)]
 
 
-def crate_in(heading):
-    found = re.search(r'\bvll_\w+', heading)
-    return found[0] if found else None
-
 
 def texts_of_pages():
     """The texts of the pages, by their names."""
@@ -260,7 +232,7 @@ def check(texts, sources, specs):
         checks.functions(page)
         checks.links(page, anchors)
         checks.outcomes(page)
-    for name, look in [('docs/ALGORITHM.md', checks.algorithm), ('docs/HEADLINE.md', checks.definitions),
+    for name, look in [('docs/ALGORITHM.md', checks.algorithm), ('docs/HEADLINE.md', checks.headline),
                        ('docs/HEADLINE.md', checks.quotations), ('docs/PROMISES.md', checks.promises),
                        ('docs/PROMISES.md', checks.memory), ('README.md', checks.readme),
                        ('examples/README.md', checks.examples)]:

@@ -4,18 +4,22 @@
     python3 tools/listing.py contracts [CRATE ..]      the public functions of libraries, with the first sentence of the
                                                        comments and the names of the clauses
     python3 tools/listing.py definitions [CRATE ..]    the definitions of crates, with the comments that stand over them
+    python3 tools/listing.py headline                  by the sentences of docs/HEADLINE.md the definitions that each one
+                                                       needs beside those above it, those that others cite first
+    python3 tools/listing.py numbers                   how much is proved, and how much has to be read to believe it
 
 If no crate is named, it prints those of all, but no functions of libraries that serve tests and timings alone. A
 function is public if src/lib.rt exports it, or the type or the trait that has it. One that a type has by a trait is
 listed if it has a comment or a clause of its own. "unnamed" stands for a clause without a name. The definitions of
-specs/Private/ are left out, since no contract of an exported item cites them.
+specs/Private/ are left out, since no contract of an exported item cites them. Lines are counted without comments and
+empty ones, in the crates of libraries and programs, not in those of tests.
 """
 import re
 import sys
 from itertools import groupby, takewhile
 
 from cases import TOP
-from sources import Sources, Specs, functions_of
+from sources import COMMENT, SENTENCES, Sources, Specs, functions_of
 
 CRATE = re.compile(r'^(\w+):', re.MULTILINE)
 LEFT_OUT = re.compile(r'\w+_tests|vll_test_procedures')
@@ -99,6 +103,44 @@ def definitions(crates):
             yield crate, [*about, '', *table(['Definition', 'Says', 'File'], rows), *end]
 
 
+def headline(crates):
+    """For each group of sentences the table of the definitions that they need."""
+    specs, known = Specs(Sources(TOP)), set()
+    for sentences, roots in SENTENCES.items():
+        new = specs.reached_from(*roots) - known
+        known |= new
+        rows = []
+        for crate in crates:
+            for file in modules_of(TOP / 'crates' / crate / 'specs/Lib.antt'):
+                comments = {key: text for key, text in specs.comments.items() if key[:2] == (crate, file) and key in new}
+                rows += [(marked(key[2] for key in keys), text, f'`{crate}/specs/{file.replace(".", "/")}.antt`')
+                         for text, keys in groupby(comments, comments.get)]
+        yield f'{sentences}: {marked(roots)}', table(['Definition', 'Says', 'File'], rows)
+
+
+def counts():
+    """How many lines and things there are of each kind, by the kind's words."""
+    tests = re.compile(r'.*_tests|vll_test_procedures')
+    folders = [path for path in (TOP / 'crates').iterdir() if (path / 'src').is_dir() and not tests.fullmatch(path.name)]
+    files = {kind: [path for folder in folders for path in folder.glob(f'{kind}/**/*.*t')]
+             for kind in ('src', 'specs', 'specs/Headline', 'proofs')}
+    lines = {kind: sum(not COMMENT.match(line) for path in paths for line in path.read_text().splitlines())
+             for kind, paths in files.items()}
+    reached = Specs(Sources(TOP)).reached_from(*(root for roots in SENTENCES.values() for root in roots))
+    return {
+        'lines of code with contracts': lines['src'],
+        'lines of definitions': lines['specs'],
+        'lines of definitions that the headline needs': lines['specs/Headline'],
+        'definitions that the headline needs': len(reached),
+        'lines of lemmas and proofs': lines['proofs'],
+        'edits that must fail': len(list((TOP / 'crates').glob('*/must-fail/*.edit'))),
+    }
+
+
+def numbers(_):
+    yield 'vll', table(['What', 'Number'], [(what, f'{count:,}') for what, count in counts().items()])
+
+
 def modules_of(index):
     """The files that a list of modules names in reading order, but for Private, with those of Headline in its place."""
     found = []
@@ -112,11 +154,11 @@ def modules_of(index):
 
 def main(words):
     crates = CRATE.findall((TOP / 'crates.txt').read_text())
-    kinds = {'contracts': contracts, 'definitions': definitions}
+    kinds = {'contracts': contracts, 'definitions': definitions, 'headline': headline, 'numbers': numbers}
     wanted = words[1:] or crates
     sections = list(kinds[words[0]](wanted)) if words and words[0] in kinds and set(wanted) <= set(crates) else []
     if not sections:
-        print('usage: python3 tools/listing.py contracts|definitions [CRATE ..]; nothing to list', file=sys.stderr)
+        print('usage: python3 tools/listing.py contracts|definitions|headline|numbers [CRATE ..]; nothing to list', file=sys.stderr)
         return 2
     print('\n\n'.join('\n'.join([f'## {crate}', '', *lines]) for crate, lines in sections))
     return 0

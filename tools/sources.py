@@ -151,6 +151,15 @@ def comments_over(lines):
     return found
 
 
+# By the sentences of the theorem in docs/HEADLINE.md the definitions that they are about. What these reach, and nothing
+# else, stands in the folders specs/Headline.
+SENTENCES = {
+    'Sentences 1 to 4': ['Serves'],
+    'Sentence 5': ['open_in', 'claims_on', 'pair_word_of', 'pair_word_of_record'],
+    'Sentence 6': ['NewsOrdersEntries'],
+}
+
+
 class Specs:
     """The definitions of specs/, the comment over each, and which others each one cites."""
 
@@ -213,13 +222,13 @@ class Specs:
             if at in self.texts:
                 yield at
 
-    def reached_from(self, root):
-        """The names of what a definition cites, of what that cites, and so on, with its own."""
-        left = [key for key in self.texts if key[2] == root]
+    def reached_from(self, *roots):
+        """What definitions of these names cite, what that cites, and so on, with these: crate, file and name of each."""
+        left = [key for key in self.texts if key[2] in roots]
         reached = set(left)
         while left:
             for key in self.cited_by(left.pop()):
                 if key not in reached:
                     reached.add(key)
                     left.append(key)
-        return {name for _, _, name in reached}
+        return reached

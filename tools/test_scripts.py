@@ -107,10 +107,9 @@ UNEXPLAINED = [(b'check 1', b'check 2'), (b'procs 1', b'procs 2'), (b', body', b
 
 # What is spoiled: the page, the first place that a pattern matches there, what stands there then, and what is told.
 SPOILED = [
-    ('docs/HEADLINE.md', r'\n\| `[A-Z]\w+', r'\g<0>x', 'is not declared in'),
     ('docs/HEADLINE.md', r'\n\n', '\n\nIt says `IsNothingAtAll`.\n\n', 'is not declared in any crate'),
-    ('docs/HEADLINE.md', r'`value_of`, ', '', 'value_of is reached from Serves'),
-    ('docs/HEADLINE.md', '## What the headline needs', '## What it needs', 'nothing is listed'),
+    ('docs/HEADLINE.md', r'`claims_on`', '`open_in`', 'claims_on of Sentence 5 is not named'),
+    ('docs/HEADLINE.md', r'\d+ definitions', '3 definitions', 'definitions'),
     ('docs/PROMISES.md', r'(\| `\w+::)\w+(` \(vll)', r'\1secret\2', 'is no function of vll_'),
     ('docs/PROMISES.md', r'(\) \| `)\w+', r'\1unheard_of', 'unheard_of is no clause of'),
     ('docs/PROMISES.md', r'\| Function \|', '| Functions |', 'no clause is looked at'),
@@ -253,6 +252,18 @@ class Scripts(unittest.TestCase):
             with self.subTest(lines):
                 function, = functions_of(lines)
                 self.assertEqual(function.can_lack_memory({'Fault'}, {'Keeper'}), can)
+
+    def test_definition_that_is_needed_elsewhere_or_not_at_all_is_told_of(self):
+        texts, sources = check_docs.texts_of_pages(), Sources(TOP)
+        serves = 'vll_server', 'Headline.Serve', 'Serves'
+        needed, unneeded = Specs(sources), Specs(sources)
+        elsewhere = next(key for key in needed.texts if not key[1].startswith('Headline.'))
+        needed.imports[serves[:2]]['elsewhere'] = elsewhere
+        needed.texts[serves].append('elsewhere')
+        unneeded.texts[serves[:2] + ('unneeded',)] = ['unneeded = 0']
+        for specs, name in (needed, elsewhere[2]), (unneeded, 'unneeded'):
+            told = check_docs.check(texts, sources, specs).wrong
+            self.assertTrue([line for line in told if f'.{name} is not both needed' in line], told)
 
 
 if __name__ == '__main__':
