@@ -6,7 +6,7 @@
 - HEADLINE: what it quotes stands so in a source, and each name is declared somewhere. What its sentences are about
   reaches just what is in the folders specs/Headline, as many definitions as it says.
 - PROMISES, ALGORITHM: a function stands in the crate that is named behind it, and the clauses of a row at one of its
-  functions. PROMISES lists just the public functions that can return that memory lacks, as their signatures say.
+  functions. PROMISES has the number of the public functions that can return that memory lacks.
 - README.md: its scenario is scenarios/transfer.json, and its figures are those of docs/speed.csv, as the drawings are.
   examples/README.md: a block below a command has what is printed, behind the events of a schedule.
 - every page: a function that is named with its type is there, a link leads to a file and to a heading, and an outcome
@@ -30,7 +30,7 @@ HEADING = re.compile(r'#+ +(.*)')
 IN_CRATE = re.compile(r'((?:`[^`]+`(?:, | and )?)+) \((vll\w*)\)')
 COMMAND = re.compile(r'`\./vll (?:run|replay)[^`<]*< ([\w./-]+)\.json`[^`]* prints$')
 # How many public functions allocate, and which, up to the end of the sentence.
-ALLOCATE = re.compile(r'\bonly (\d+) public functions allocate\b(.*?)\. ')
+ALLOCATE = re.compile(r'\bonly (\d+) public functions allocate\b')
 EXAMPLE = re.compile(r'\./vll (.*) < examples/(\w+)\.json$')
 
 # Words of HEADLINE.md that stand in code marks and are no names of this repository.
@@ -133,15 +133,9 @@ class Checks:
                 self.look(page, number, name in self.sources.names(None), f'{name} is not declared in any crate')
 
     def memory(self, page):
-        rows = [(number, found) for number, line in page.outside for found in ALLOCATE.finditer(line)]
-        self.look(page, 1, len(rows) == 1, 'it is not said once which public functions allocate')
-        for number, found in rows:
-            # what stands in parentheses is about the function before
-            names, wanted = NAME.findall(re.sub(r'\([^)]*\)', '', found[2])), that_allocate(self.sources)
-            for name in sorted(wanted | set(names)):
-                self.look(page, number, name in wanted, f'{name} cannot return that memory lacks')
-                self.look(page, number, names.count(name) == 1, f'{name} can return that memory lacks: list it once')
-            self.look(page, number, int(found[1]) == len(names), f'{len(names)} functions are listed')
+        count = len(that_allocate(self.sources))
+        is_so = ALLOCATE.findall(page.text) == [str(count)]
+        self.look(page, 1, is_so, f'it does not say once that only {count} public functions allocate')
 
     def algorithm(self, page):
         for number, line in page.outside:

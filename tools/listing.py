@@ -7,6 +7,8 @@
     python3 tools/listing.py headline                  by the sentences of docs/HEADLINE.md the definitions that each one
                                                        needs beside those above it, those that others cite first
     python3 tools/listing.py numbers                   how much is proved, and how much has to be read to believe it
+    python3 tools/listing.py allocating [CRATE ..]     the public functions that can return that memory lacks
+    python3 tools/listing.py waiting [CRATE ..]        the public functions that may wait for another thread
 
 If no crate is named, it prints those of all, but no functions of libraries that serve tests and timings alone. A
 function is public if src/lib.rt exports it, or the type or the trait that has it. One that a type has by a trait is
@@ -68,13 +70,36 @@ def public_functions(sources, crate):
             for function in functions_of(sources.files[file]) if is_listed(function, exports)]
 
 
-def that_allocate(sources):
-    """The names of the public functions of the program's libraries that can return that memory lacks, by their
-    signatures. A trait's function stands for those of the types that have it."""
+def that_allocate(sources, crates=None):
+    """By its crate and name each public function of the program's libraries that can return that memory lacks, by its
+    signature. A trait's function stands for those of the types that have it."""
     faults, keepers = sources.types_with('NoMemory') | {'NoMemory'}, sources.types_with(r'\w+: Global')
     libraries = [file.partition('/')[0] for file in sources.files if file.endswith('/src/lib.rt')]
-    return {function.name for crate in libraries if not LEFT_OUT.fullmatch(crate)
+    return {(crate, function.name) for crate in crates or libraries if crate in libraries if not LEFT_OUT.fullmatch(crate)
             for _, function in public_functions(sources, crate) if function.can_lack_memory(faults, keepers)}
+
+
+def that_wait(sources, crates):
+    """By its crate and name each public function of the program's libraries that is given what may wait."""
+    return {(crate, function.name) for crate in crates
+            if f'{crate}/src/lib.rt' in sources.files and not LEFT_OUT.fullmatch(crate)
+            for _, function in public_functions(sources, crate) if re.search(r'\bWait\b', ' '.join(function.signature))}
+
+
+def by_crate(found, crates):
+    """A section for each crate with functions among these."""
+    for crate in crates:
+        names = sorted(name for of, name in found if of == crate)
+        if names:
+            yield crate, [marked(names)]
+
+
+def allocating(crates):
+    return by_crate(that_allocate(Sources(TOP), crates), crates)
+
+
+def waiting(crates):
+    return by_crate(that_wait(Sources(TOP), crates), crates)
 
 
 def is_listed(function, exports):
@@ -154,11 +179,12 @@ def modules_of(index):
 
 def main(words):
     crates = CRATE.findall((TOP / 'crates.txt').read_text())
-    kinds = {'contracts': contracts, 'definitions': definitions, 'headline': headline, 'numbers': numbers}
+    kinds = {'contracts': contracts, 'definitions': definitions, 'headline': headline, 'numbers': numbers,
+             'allocating': allocating, 'waiting': waiting}
     wanted = words[1:] or crates
     sections = list(kinds[words[0]](wanted)) if words and words[0] in kinds and set(wanted) <= set(crates) else []
     if not sections:
-        print('usage: python3 tools/listing.py contracts|definitions|headline|numbers [CRATE ..]; nothing to list', file=sys.stderr)
+        print('usage: python3 tools/listing.py contracts|definitions|headline|numbers|allocating|waiting [CRATE ..]; nothing to list', file=sys.stderr)
         return 2
     print('\n\n'.join('\n'.join([f'## {crate}', '', *lines]) for crate, lines in sections))
     return 0
