@@ -6,6 +6,7 @@
     python3 tools/listing.py definitions [CRATE ..]    the definitions of crates, with the comments that stand over them
     python3 tools/listing.py headline                  by the sentences of docs/HEADLINE.md the definitions that each one
                                                        needs beside those above it, those that others cite first
+    python3 tools/listing.py crates [CRATE ..]         what crates are for, from the lowest to the highest
     python3 tools/listing.py numbers                   how much is proved, and how much has to be read to believe it
     python3 tools/listing.py allocating [CRATE ..]     the public functions that can return that memory lacks
     python3 tools/listing.py waiting [CRATE ..]        the public functions that may wait for another thread
@@ -56,8 +57,18 @@ def contracts(crates):
         rows = [(marked([function.name]), first_sentence(function.comment), marked(function.requires),
                  marked(function.ensures), marked([file[len(crate) + 1:]]))
                 for file, function in public_functions(sources, crate)]
-        purpose = first_sentence([line[3:].strip() for line in takewhile(lambda line: line.startswith('//!'), lib)])
-        yield crate, [purpose, '', *table(['Function', 'Comment', 'Asks', 'Ensures', 'File'], rows)]
+        yield crate, [first_sentence(purpose(lib)), '', *table(['Function', 'Comment', 'Asks', 'Ensures', 'File'], rows)]
+
+
+def purpose(lines):
+    """The first lines of a crate, which say what it is for."""
+    return [line[3:].strip() for line in takewhile(lambda line: line.startswith('//!'), lines)]
+
+
+def purposes(crates):
+    files = Sources(TOP).files
+    for crate in crates:
+        yield crate, [' '.join(takewhile(bool, purpose(files.get(f'{crate}/src/lib.rt') or files[f'{crate}/src/main.rt'])))]
 
 
 def public_functions(sources, crate):
@@ -180,11 +191,12 @@ def modules_of(index):
 def main(words):
     crates = CRATE.findall((TOP / 'crates.txt').read_text())
     kinds = {'contracts': contracts, 'definitions': definitions, 'headline': headline, 'numbers': numbers,
-             'allocating': allocating, 'waiting': waiting}
+             'allocating': allocating, 'waiting': waiting, 'crates': purposes}
     wanted = words[1:] or crates
     sections = list(kinds[words[0]](wanted)) if words and words[0] in kinds and set(wanted) <= set(crates) else []
     if not sections:
-        print('usage: python3 tools/listing.py contracts|definitions|headline|numbers|allocating|waiting [CRATE ..]; nothing to list', file=sys.stderr)
+        print('usage: python3 tools/listing.py contracts|definitions|headline|allocating|waiting|crates|numbers [CRATE ..]; nothing '
+              'to list', file=sys.stderr)
         return 2
     print('\n\n'.join('\n'.join([f'## {crate}', '', *lines]) for crate, lines in sections))
     return 0
