@@ -212,7 +212,7 @@ def names_with_crates(text):
 
 def texts_of_pages():
     """The texts of the pages, by their names."""
-    paths = [path for folder in ('.', 'docs', 'examples', 'scenarios', 'tools/figures')
+    paths = [path for folder in ('.', 'docs', 'examples', 'scenarios')
              for path in sorted((TOP / folder).glob('*.md'))]
     return {str(path.relative_to(TOP)): path.read_text() for path in paths}
 
