@@ -7,7 +7,8 @@
   reaches just what is in the folders specs/Headline, as many definitions as it says.
 - PROMISES, ALGORITHM: a function stands in the crate that is named behind it, and the clauses of a row at one of its
   functions. PROMISES has the number of the public functions that can return that memory lacks.
-- README.md: its scenario is scenarios/transfer.json, and its figures are those of docs/speed.csv, as the drawings are.
+- README.md: its scenario is scenarios/transfer.json, its figures are those of docs/speed.csv, as the drawings are, and
+  what it counts of the sources is right within a tenth.
   examples/README.md: a block below a command has what is printed, behind the events of a schedule.
 - every page: a function that is named with its type is there, a link leads to a file and to a heading, and an outcome
   that stands below a command is the one beside the scenario.
@@ -21,7 +22,7 @@ from itertools import zip_longest
 
 from cases import TOP, read_cases
 from figures.speed import HEAD, rows_below, with_rows
-from listing import that_allocate
+from listing import counts, that_allocate
 from sources import SENTENCES, Sources, Specs
 
 NAME = re.compile(r'`([^`]+)`')
@@ -152,6 +153,10 @@ class Checks:
     def readme(self, page):
         scenario = (TOP / 'scenarios/transfer.json').read_text()
         self.look(page, 1, f'```json\n{scenario}```\n' in page.text, 'scenarios/transfer.json is not quoted here')
+        for words, count in counts().items():
+            found = re.search(rf'([\d,]+) {words}', page.text)
+            is_so = found and abs(int(found[1].replace(',', '')) - count) * 10 <= count
+            self.look(page, 1, is_so, f'there are {count} {words}')
         figures = (TOP / 'docs/speed.csv').read_text()
         self.look(page, 1, with_rows(page.text, figures) == page.text, 'these are not the figures of docs/speed.csv')
         for name in 'speed', 'sweep':
