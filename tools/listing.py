@@ -28,6 +28,26 @@ CRATE = re.compile(r'^(\w+):', re.MULTILINE)
 LEFT_OUT = re.compile(r'\w+_tests|vll_test_procedures')
 MODULE = re.compile(r'^mod (\w+);', re.MULTILINE)
 EXPORT = re.compile(r'^pub use (\w+)::(?:\w+::)*(?:\{([^}]*)\}|(\w+));', re.MULTILINE)
+# How a definition is read, which comes before the headline's.
+NOTATION = '''\
+- `≡` is "is the same as", `×` between statements "and", `A ⊎ B` "or", `¬ A` "not A".
+- `(x : A) × P` is "there is an x in A with P", `(x : A) → P` "for each x in A, P"; `{A : Type 0} →` is an argument that
+  is not written. `⊥` never holds, `Unit {0}` always.
+- `f x y` is f of x and y, `λ x. e` the function that gives e for x, `s.f` the field f of s, `record s { f = v }` is s
+  with v in its field f.
+- `[]` is the empty list, `x ∷ xs` a list with x in front, `xs ++ ys` one list after another. `slice_get xs i` is the
+  item at i, if any; `slice_index xs i` the number at i, 0 past the end; `slice_set xs i v` the list with v at i.
+- `ℕ` are the numbers from 0. `Some x`, `None`, `Ok x`, `Err e`, `p.0` and `p.1` are as in Rust.
+- `elim x [ p ↦ e .. ]` is e, if x has the form p. `record R .. : Type 0 where` is a value with the fields below, or a
+  statement that holds if there are such values and facts.
+- `module _ (place : ℕ → ℕ) (bits : ℕ) where`: each definition in it takes these first.
+- In `Add' p a q b`, `If' e m first n second` and `Repeat' turns m list`, no definition reads `p`, `q`, `m` and `n`.
+- `Rattle.vll_NAME.specs.FILE` is `specs/FILE.antt` of vll_NAME; with `specs.declared` a path leads to a type of the
+  code, and any other to the kit.
+- Definitions see what a value shows, not its private fields. `Claims` shows a list of claims, and most types a record
+  of their name, as `Session` a `SessionShown`. `Checked` shows an `Entry`, `Library` a `Catalog`, `Queue` a `Queued`,
+  `Machine` and `Core` a `Shown`, `Done` and `Released` a `DoneShown`, and a `Scenario` its `Setup`.
+'''
 SENTENCE = re.compile(r'.*?[.!?](?= |$)')
 
 
@@ -140,8 +160,9 @@ def definitions(crates):
 
 
 def headline(crates):
-    """For each group of sentences the table of the definitions that they need."""
+    """The notation, and for each group of sentences the table of the definitions that they need."""
     specs, known = Specs(Sources(TOP)), set()
+    yield 'How to read a definition', NOTATION.splitlines()
     for sentences, roots in SENTENCES.items():
         new = specs.reached_from(*roots) - known
         known |= new
