@@ -22,7 +22,7 @@ from itertools import zip_longest
 
 from cases import TOP, read_cases
 from figures.speed import HEAD, rows_below, with_rows
-from listing import counts, that_allocate
+from listing import all_crates, counts, that_allocate
 from sources import SENTENCES, Sources, Specs
 
 NAME = re.compile(r'`([^`]+)`')
@@ -134,7 +134,7 @@ class Checks:
                 self.look(page, number, name in self.sources.names(None), f'{name} is not declared in any crate')
 
     def memory(self, page):
-        count = len(that_allocate(self.sources))
+        count = len(that_allocate(self.sources, all_crates()))
         is_so = ALLOCATE.findall(page.text) == [str(count)]
         self.look(page, 1, is_so, f'it does not say once that only {count} public functions allocate')
 

@@ -1,10 +1,10 @@
 #!/usr/bin/env python3
 """Prints what crates promise or define, with the comments on it.
 
-    python3 tools/listing.py contracts [CRATE ..]      the public functions of libraries, with the first sentence of the
-                                                       comments and the names of the clauses
+    python3 tools/listing.py contracts [CRATE ..]      the public functions of libraries, with the first sentence of
+                                                       their comments and the names of the clauses
     python3 tools/listing.py definitions [CRATE ..]    the definitions of crates, with the comments that stand over them
-    python3 tools/listing.py headline                  by the sentences of docs/HEADLINE.md the definitions that each one
+    python3 tools/listing.py headline                  by the sentences of docs/HEADLINE.md the definitions that each
                                                        needs beside those above it, those that others cite first
     python3 tools/listing.py crates [CRATE ..]         what crates are for, from the lowest to the highest
     python3 tools/listing.py numbers                   how much is proved, and how much has to be read to believe it
@@ -70,14 +70,18 @@ def first_sentence(comment):
 def contracts(crates):
     """For each library its heading, what it is for, and a row for each of its functions, file by file."""
     sources = Sources(TOP)
-    for crate in crates:
-        lib = sources.files.get(f'{crate}/src/lib.rt')
-        if not lib or LEFT_OUT.fullmatch(crate):
-            continue
+    for crate in libraries(sources, crates):
+        lib = sources.files[f'{crate}/src/lib.rt']
         rows = [(marked([function.name]), first_sentence(function.comment), marked(function.requires),
                  marked(function.ensures), marked([file[len(crate) + 1:]]))
                 for file, function in public_functions(sources, crate)]
-        yield crate, [first_sentence(purpose(lib)), '', *table(['Function', 'Comment', 'Asks', 'Ensures', 'File'], rows)]
+        heads = ['Function', 'Comment', 'Asks', 'Ensures', 'File']
+        yield crate, [first_sentence(purpose(lib)), '', *table(heads, rows)]
+
+
+def libraries(sources, crates):
+    """Those of these crates that are libraries of the program."""
+    return [crate for crate in crates if f'{crate}/src/lib.rt' in sources.files and not LEFT_OUT.fullmatch(crate)]
 
 
 def purpose(lines):
@@ -86,9 +90,11 @@ def purpose(lines):
 
 
 def purposes(crates):
+    """For each crate the first paragraph about it."""
     files = Sources(TOP).files
     for crate in crates:
-        yield crate, [' '.join(takewhile(bool, purpose(files.get(f'{crate}/src/lib.rt') or files[f'{crate}/src/main.rt'])))]
+        lines = files.get(f'{crate}/src/lib.rt') or files[f'{crate}/src/main.rt']
+        yield crate, [' '.join(takewhile(bool, purpose(lines)))]
 
 
 def public_functions(sources, crate):
@@ -101,20 +107,20 @@ def public_functions(sources, crate):
             for function in functions_of(sources.files[file]) if is_listed(function, exports)]
 
 
-def that_allocate(sources, crates=None):
+def that_allocate(sources, crates):
     """By its crate and name each public function of the program's libraries that can return that memory lacks, by its
     signature. A trait's function stands for those of the types that have it."""
     faults, keepers = sources.types_with('NoMemory') | {'NoMemory'}, sources.types_with(r'\w+: Global')
-    libraries = [file.partition('/')[0] for file in sources.files if file.endswith('/src/lib.rt')]
-    return {(crate, function.name) for crate in crates or libraries if crate in libraries if not LEFT_OUT.fullmatch(crate)
+    return {(crate, function.name) for crate in libraries(sources, crates)
             for _, function in public_functions(sources, crate) if function.can_lack_memory(faults, keepers)}
 
 
 def that_wait(sources, crates):
     """By its crate and name each public function of the program's libraries that is given what may wait."""
-    return {(crate, function.name) for crate in crates
-            if f'{crate}/src/lib.rt' in sources.files and not LEFT_OUT.fullmatch(crate)
-            for _, function in public_functions(sources, crate) if re.search(r'\bWait\b', ' '.join(function.signature))}
+    return {(crate, function.name) for crate in libraries(sources, crates)
+            for _, function in public_functions(sources, crate)
+            if any(re.search(r'\bWait\b', line) for line in function.signature)}
+
 
 
 def by_crate(found, crates):
@@ -169,7 +175,8 @@ def headline(crates):
         rows = []
         for crate in crates:
             for file in modules_of(TOP / 'crates' / crate / 'specs/Lib.antt'):
-                comments = {key: text for key, text in specs.comments.items() if key[:2] == (crate, file) and key in new}
+                here = (key for key in specs.comments if key[:2] == (crate, file) and key in new)
+                comments = {key: specs.comments[key] for key in here}
                 rows += [(marked(key[2] for key in keys), text, f'`{crate}/specs/{file.replace(".", "/")}.antt`')
                          for text, keys in groupby(comments, comments.get)]
         yield f'{sentences}: {marked(roots)}', table(['Definition', 'Says', 'File'], rows)
@@ -177,8 +184,7 @@ def headline(crates):
 
 def counts():
     """How many lines and things there are of each kind, by the kind's words."""
-    tests = re.compile(r'.*_tests|vll_test_procedures')
-    folders = [path for path in (TOP / 'crates').iterdir() if (path / 'src').is_dir() and not tests.fullmatch(path.name)]
+    folders = [TOP / 'crates' / crate for crate in all_crates() if not LEFT_OUT.fullmatch(crate)]
     files = {kind: [path for folder in folders for path in folder.glob(f'{kind}/**/*.*t')]
              for kind in ('src', 'specs', 'specs/Headline', 'proofs')}
     lines = {kind: sum(not COMMENT.match(line) for path in paths for line in path.read_text().splitlines())
@@ -207,15 +213,18 @@ def modules_of(index):
     return found
 
 
+def all_crates():
+    return CRATE.findall((TOP / 'crates.txt').read_text())
+
+
 def main(words):
-    crates = CRATE.findall((TOP / 'crates.txt').read_text())
+    crates = all_crates()
     kinds = {'contracts': contracts, 'definitions': definitions, 'headline': headline, 'numbers': numbers,
              'allocating': allocating, 'waiting': waiting, 'crates': purposes}
     wanted = words[1:] or crates
     sections = list(kinds[words[0]](wanted)) if words and words[0] in kinds and set(wanted) <= set(crates) else []
     if not sections:
-        print('usage: python3 tools/listing.py contracts|definitions|headline|allocating|waiting|crates|numbers [CRATE ..]; nothing '
-              'to list', file=sys.stderr)
+        print(f'usage: python3 tools/listing.py {"|".join(kinds)} [CRATE ..]; nothing to list', file=sys.stderr)
         return 2
     print('\n\n'.join('\n'.join([f'## {crate}', '', *lines]) for crate, lines in sections))
     return 0
