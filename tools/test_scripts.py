@@ -14,9 +14,10 @@ from pathlib import Path
 
 import check_docs
 import check_schema
+import listing
 from cases import TOP, bytes_of, read_cases
 from explaining import unexplained
-from sources import Sources, Specs, functions_of
+from sources import SENTENCES, Sources, Specs, functions_of
 
 TOOLS = Path(__file__).resolve().parent
 
@@ -250,6 +251,13 @@ class Scripts(unittest.TestCase):
             with self.subTest(lines):
                 function, = functions_of(lines)
                 self.assertEqual(function.can_lack_memory({'Fault'}, {'Keeper'}), can)
+
+    def test_each_definition_of_the_headline_is_listed_once(self):
+        reached = Specs(Sources(TOP)).reached_from(*itertools.chain(*SENTENCES.values()))
+        rows = [line.split(' | ') for _, lines in listing.headline(listing.all_crates()) for line in lines]
+        listed = [(name, row[2]) for row in rows if row[0].startswith('| `') for name in re.findall('`(.+?)`', row[0])]
+        files = {(crate, file): f'`{crate}/specs/{file.replace(".", "/")}.antt` |' for crate, file, _ in reached}
+        self.assertEqual(sorted(listed), sorted((key[2], files[key[:2]]) for key in reached))
 
     def test_definition_that_is_needed_elsewhere_or_not_at_all_is_told_of(self):
         texts, sources = check_docs.texts_of_pages(), Sources(TOP)
