@@ -17,6 +17,7 @@ import check_schema
 import listing
 from cases import TOP, bytes_of, read_cases
 from explaining import unexplained
+from trial_pages import PICTURE, with_attributes
 from sources import SENTENCES, Sources, Specs, functions_of
 
 TOOLS = Path(__file__).resolve().parent
@@ -105,6 +106,27 @@ EXPLAINED = FAULT + b'at: procs 1 ("pay"), body, value\nwhy: local 3 is read bef
 UNEXPLAINED = [(b'check 1', b'check 2'), (b'procs 1', b'procs 2'), (b', body', b''), (b'why: ', b''),
                (b'set it\n', b''), (b'local 3 is read', b'key 3 is read'), (b'pay', b'\xc3\xa4'),
                (b'local 3', b'3' * 30000), (b'set it', b'a second look did not find it'), (b'it\n', b'it\nmore\n')]
+
+# A drawing whose colours are variables, and what it becomes.
+DRAWING = '''<svg>
+<style>
+:root { --ink: #111111; --good: #00ff00; }
+@media (prefers-color-scheme: dark) { :root { --ink: #eeeeee; --good: #88ff88; } }
+svg text { fill: var(--ink); }
+svg text.good, svg text.fine { fill: var(--good); font-weight: 600; }
+svg a:hover .cell { fill: var(--ink); }
+.cell { fill: transparent; }
+.box { fill: var(--ink); stroke: var(--good); stroke-width: 1.5; }
+.grid { stroke: var(--ink); fill: none; }
+</style>
+<text x="1">a</text><text class="fine" x="2">b</text><a><rect class="cell"/></a><rect class="box end"/>
+<path class="grid" d="M0 0"/></svg>
+'''
+ATTRIBUTED = DRAWING.partition('<text')[0] + '''\
+<text fill="#111111" x="1">a</text><text class="fine" fill="#00ff00" x="2">b</text><a><rect class="cell" fill="none"/></a>\
+<rect class="box end" fill="#111111" stroke="#00ff00"/>
+<path class="grid" stroke="#111111" fill="none" d="M0 0"/></svg>
+'''
 
 # What is spoiled: the page, the first place that a pattern matches there, what stands there then, and what is told.
 SPOILED = [
@@ -222,6 +244,10 @@ class Scripts(unittest.TestCase):
                 status, lines = self.said_of('random_tests', script, kind, *words)
                 self.assertEqual((status, lines[-1]), (1, f'{kind}: 0 passed, 3 failed'))
                 self.assertTrue(lines[0].endswith(f'; tools/random_tests {kind} 7 1 --size 30'), lines[0])
+
+    def test_drawing_has_its_light_colours_as_attributes(self):
+        self.assertEqual(with_attributes(DRAWING), ATTRIBUTED)
+        self.assertNotIn('var(', re.sub('<style>.*</style>', '', PICTURE.read_text(encoding='utf-8'), flags=re.DOTALL))
 
     def test_what_explains_no_longer_is_refused(self):
         self.assertIsNone(unexplained(FAULT, EXPLAINED))

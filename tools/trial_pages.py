@@ -158,11 +158,33 @@ def of_large(program):
                    f'{len(ran.stdout)} bytes')
 
 
+def with_attributes(drawing):
+    """A drawing whose elements also have as attributes the light colours that its style gives them. By these it is shown
+    where variables of a style are not known, as by librsvg and Inkscape; elsewhere the style is stronger, dark or light."""
+    style = drawing.partition('</style>')[0]
+    light = dict(re.findall(r'(--\w+): (#\w+)', style.partition('@media')[0]))
+    colours = {}
+    for selectors, rule in re.findall(r'^((?:svg text|\.)[^{:]*) { (.*) }$', style, re.MULTILINE):
+        for property, variable, word in re.findall(r'(fill|stroke): (?:var\((--\w+)\)|(\w+))', rule):
+            for selector in selectors.split(', '):
+                wanted = selector.rpartition('.')[2] if '.' in selector else 'text'
+                colours.setdefault(wanted, {})[property] = light.get(variable) or word.replace('transparent', 'none')
+
+    def element(found):
+        name, classes = found.groups()
+        given = dict(colours['text'] if name == 'text' else {})
+        for word in (classes or '').split():
+            given.update(colours.get(word, {}))
+        return found[0] + ''.join(f' {property}="{colour}"' for property, colour in given.items())
+
+    return re.sub(r'<(rect|path|text)(?: class="([^"]*)")?', element, drawing)
+
+
 def picture(program):
-    """The first drawing of the example's page."""
+    """The first drawing of the example's page, with attributes."""
     page = called([program, 'draw'], PICTURED.read_bytes()).stdout.decode()
     found = re.search('<svg.*?</svg>\n', page, re.DOTALL)
-    return found and found[0]
+    return found and with_attributes(found[0])
 
 
 def of_picture(program):
