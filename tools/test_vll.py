@@ -159,6 +159,26 @@ class WithStandIn(unittest.TestCase):
             self.assertNotIn(b'set -euo', ran.stdout)
         self.assertEqual(self.called(), [])
 
+    def test_version_comes_with_the_commit(self):
+        """Before the program is there, and with it; without a repository only the version comes."""
+        self.write('crates/vll_command/src/commands.rt', 'const VERSION: &str = "1.2.3";\n')
+        self.check(['--version'], 0, b'vll 1.2.3\n')
+        for words in 'init -q', 'add vll', '-c user.name=a -c user.email=b commit -qm one':
+            subprocess.run(['git', '-C', self.room, *words.split()], check=True)
+        found = subprocess.run(['git', '-C', self.room, 'rev-parse', 'HEAD'], stdout=subprocess.PIPE, check=True)
+        self.check(['--version'], 0, b'vll 1.2.3\ncommit ' + found.stdout.rstrip(b'\n') + b', with changes\n')
+        self.write('.git/info/exclude', '*\n')
+        self.check(['-V'], 0, b'vll 1.2.3\ncommit ' + found.stdout)
+        self.write('crates/vll/out/vll', '#!/usr/bin/env bash\necho vll 1.2.4\n', 0o755)
+        self.check(['--version'], 0, b'vll 1.2.4\ncommit ' + found.stdout)
+        inner = self.room / 'inner'
+        inner.mkdir()
+        shutil.copy(self.room / 'vll', inner)
+        shutil.copytree(self.room / 'crates', inner / 'crates')
+        shutil.copy(self.room / 'crates.txt', inner)
+        ran = subprocess.run([inner / 'vll', '--version'], stdout=subprocess.PIPE, check=True)
+        self.assertEqual(ran.stdout, b'vll 1.2.3\n')
+
     def test_what_is_no_command_is_refused_before_the_program_is_there(self):
         for words in [], ['rnu'], ['scenario.json'], ['--', 'run'], ['--unproved', 'rnu'], [b'\xff']:
             self.check(words, 2, b'vll: command line\n', b'--help')
