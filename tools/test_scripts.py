@@ -17,6 +17,7 @@ import check_schema
 import listing
 from cases import TOP, bytes_of, read_cases
 from explaining import unexplained
+from generate import chosen_by, scenario_of
 from trial_pages import PICTURE, with_attributes
 from sources import SENTENCES, Sources, Specs, functions_of
 
@@ -234,9 +235,12 @@ class Scripts(unittest.TestCase):
         right = f'"{sys.executable}" "{TOOLS}/replay_model.py" /dev/stdin'
         words = '7', '3', '--size', '30'
         self.assertEqual(self.said_of('random_tests', right, 'replay', *words), (0, ['replay: 3 passed, 0 failed']))
-        # of these seeds the last two ask for one worker
-        lines = self.said_of('random_tests', 'echo call 0 client 0 aborted moved', 'run', *words)[1]
-        self.assertEqual(['though there is one worker' in line for line in lines[:3]], [False, True, True])
+        alone = [f'run {seed}' for seed in range(7, 67)
+                 if chosen_by(scenario_of('run', seed, 30)[1]).get('--workers') == '1']
+        self.assertTrue(alone)
+        lines = self.said_of('random_tests', 'echo call 0 client 0 aborted moved', 'run', '7', '60', '--size', '30')[1]
+        told = [line.partition(':')[0] for line in lines if 'though there is one worker' in line]
+        self.assertEqual((told, lines[-1]), (alone, 'run: 0 passed, 60 failed'))
         for kind, script in [('replay', f'{right}; exit 1'), ('replay', f'{right}; echo x >&2'), ('replay', 'exit 0'),
                              ('replay', f'{right} | sed "$ s/value 0*/value 1/"'), ('run', 'echo call 0'),
                              ('run', 'cat'), ('run', 'kill -9 $$')]:
