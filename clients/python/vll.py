@@ -25,16 +25,16 @@ A call that does not commit raises `Aborted` or, if it can be tried again, `Move
 import asyncio
 import functools
 import json
-import operator
 import os
 import select
 import socket as sockets
+import struct
 import subprocess
 import tempfile
 import threading
 import time
 from collections import deque
-from typing import Any, Callable, Deque, Dict, List, NamedTuple, Optional, Union
+from typing import Any, Callable, Deque, Dict, Iterable, List, NamedTuple, Optional, Tuple, Union
 
 __all__ = ['AsyncService', 'Service', 'Future', 'Reply', 'Last', 'Error', 'Aborted', 'Moved', 'Fault', 'Ended']
 
@@ -79,7 +79,7 @@ class Ended(Error):
     """
 
 
-class Reply(List[int]):
+class Reply(list):
     """The outputs of a committed call; `call` is its place in the order of all calls."""
 
     __slots__ = ('call',)
@@ -110,15 +110,19 @@ def outcome_of(answer: Dict[str, Any]) -> Outcome:
     return Fault(answer['fault'])
 
 
-def whole(number: Any) -> int:
-    """An argument that is no plain `int` in range: one that converts without loss, or a fault."""
+def is_whole(number: Any) -> bool:
+    """Whether this converts without loss to a whole number in range."""
     try:
-        number = int(operator.index(number))
-    except TypeError as why:
-        raise Fault(f'{number!r} is no whole number') from why
-    if not 0 <= number <= LARGEST:
-        raise Fault(f'{number} is not from 0 to {LARGEST}')
-    return number
+        struct.pack('=Q', number)
+    except (struct.error, OverflowError):
+        return False
+    return True
+
+
+def form_of(name: str, count: int) -> bytes:
+    """A line that calls this procedure, where a client and so many arguments are to be put in."""
+    text = json.dumps(name).replace('%', '%%')
+    return f'{{"client":%d,"proc":{text},"args":[{",".join(["%d"] * count)}]}}\n'.encode()
 
 
 class Answers:
@@ -147,30 +151,39 @@ class Procedures:
             scenario = json.load(text)
         try:
             self._clients = len(scenario['clients'])
-            # of each procedure how many arguments it has, and what stands between client and arguments
-            self._heads = {proc['name']: (proc['args'], b',"proc":%b,"args":[' % json.dumps(proc['name']).encode())
-                           for proc in scenario['procs']}
-        except (KeyError, TypeError) as why:
+            # of each procedure how many arguments it has, what refuses numbers that are not whole, and a line
+            self._forms = {proc['name']: (proc['args'], struct.Struct(f'={1 + proc["args"]}Q').pack,
+                                          form_of(proc['name'], proc['args'])) for proc in scenario['procs']}
+        except (KeyError, TypeError, struct.error) as why:
             raise ValueError(f'{file} is no scenario: vll explain says more') from why
 
     def _line(self, proc: str, args: Any, client: int) -> bytes:
+        numbers = (client, *args)
         try:
-            count, head = self._heads[proc]
-        except KeyError:
-            raise Fault(f'there is no procedure {proc}') from None
-        if len(args) != count:
-            raise Fault(f'{proc} takes {count} arguments, and not {len(args)}')
-        if not 0 <= whole(client) < self._clients:
-            raise Fault(f'there is no client {client}')
-        text = ','.join([str(number if type(number) is int and 0 <= number <= LARGEST else whole(number))
-                         for number in args])
-        return b'{"client":%d%b%b]}\n' % (client, head, text.encode())
+            _, pack, form = self._forms[proc]
+            pack(*numbers)
+            if client < self._clients:
+                return form % numbers
+        except (KeyError, TypeError, struct.error, OverflowError):
+            pass
+        raise Fault(self._fault(proc, args, client))
+
+    def _fault(self, proc: str, args: Any, client: int) -> str:
+        """Why there is no such call."""
+        if proc not in self._forms:
+            return f'there is no procedure {proc}'
+        if len(args) != self._forms[proc][0]:
+            return f'{proc} takes {self._forms[proc][0]} arguments, and not {len(args)}'
+        for number in args:
+            if not is_whole(number):
+                return f'{number!r} is no whole number from 0 to {LARGEST}'
+        return f'there is no client {client!r}'
 
     def call(self, proc: str, *args: int, client: int = 0) -> Any:
         raise NotImplementedError
 
     def __getattr__(self, name: str) -> Callable[..., Any]:
-        if name.startswith('__') or name not in self.__dict__.get('_heads', ()):
+        if name.startswith('__') or name not in self.__dict__.get('_forms', ()):
             raise AttributeError(f'there is no procedure {name}')
         method = functools.partial(self.call, name)
         setattr(self, name, method)
@@ -261,14 +274,18 @@ class Future:
 
         Raises `TimeoutError` after so many seconds; the call is made all the same.
         """
-        outcome = self._waited(timeout)
+        if self._outcome is None:
+            self._service._wait(self, timeout)
+        outcome = self._outcome
         if isinstance(outcome, Error):
             raise outcome
         return outcome
 
     def exception(self, timeout: Optional[float] = None) -> Optional[Error]:
         """Waits for the answer, and returns why the call is not committed, or None if it is."""
-        outcome = self._waited(timeout)
+        if self._outcome is None:
+            self._service._wait(self, timeout)
+        outcome = self._outcome
         return outcome if isinstance(outcome, Error) else None
 
     def add_done_callback(self, callback: Callable[['Future'], Any]) -> None:
@@ -278,11 +295,6 @@ class Future:
                 self._callbacks = [*(self._callbacks or ()), callback]
                 return
         callback(self)
-
-    def _waited(self, timeout: Optional[float]) -> Any:
-        if self._outcome is None:
-            self._service._wait(self, timeout)
-        return self._outcome
 
 
 class Service(Procedures):
@@ -305,17 +317,30 @@ class Service(Procedures):
         self._service: Union[Child, Connection] = Connection(socket) if socket else Child(file, program)
         os.set_blocking(self._service.to, False)
         os.set_blocking(self._service.back, False)
+        self._answered, self._answered_or_free = self._polls()
         # The lock guards all below; whoever has set `_reading` or `_writing` is the only one who reads or writes.
         self._lock = threading.Lock()
         self._reading = self._writing = self._closing = self._input_ended = False
+        # whether the service did not take all that was written last
+        self._is_full = False
         self._lines: List[bytes] = []
         self._pending: Deque[Future] = deque()
         self._sleeping: Dict[threading.Lock, Future] = {}
         self._answers = Answers()
         self._last: Optional[Last] = None
         self._end = Future(self)
-        self._due = threading.Event()
+        self._is_due, self._due = False, threading.Event()
         threading.Thread(target=self._look_after, daemon=True, name='vll').start()
+
+    def _polls(self) -> Tuple[select.poll, select.poll]:
+        """What waits until there is an answer, and what waits also until more can be written."""
+        answered, either = select.poll(), select.poll()
+        answered.register(self._service.back, select.POLLIN)
+        either.register(self._service.back, select.POLLIN)
+        # the two are one if it is a socket
+        also = select.POLLIN if self._service.to == self._service.back else 0
+        either.register(self._service.to, select.POLLOUT | also)
+        return answered, either
 
     @property
     def last(self) -> Optional[Last]:
@@ -332,7 +357,8 @@ class Service(Procedures):
                 if len(self._pending) < self._in_flight:
                     self._pending.append(future)
                     self._lines.append(line)
-                    if not self._due.is_set():
+                    if not self._is_due:
+                        self._is_due = True
                         self._due.set()
                     return future
                 oldest = self._pending[0]
@@ -433,6 +459,7 @@ class Service(Procedures):
             time.sleep(TICK)
             with self._lock:
                 if not self._pending and not self._lines:
+                    self._is_due = False
                     self._due.clear()
                     continue
                 reads = not self._reading
@@ -451,12 +478,7 @@ class Service(Procedures):
         self._write()
         if self._end._outcome is not None:
             return
-        ready = select.poll()
-        ready.register(self._service.back, select.POLLIN)
-        if self._lines:
-            # the two are one if it is a socket
-            also = select.POLLIN if self._service.to == self._service.back else 0
-            ready.register(self._service.to, select.POLLOUT | also)
+        ready = self._answered_or_free if self._is_full else self._answered
         found = ready.poll(None if until is None else max(0, until - time.monotonic()) * 1000)
         if not found:
             raise TimeoutError('the answer is not there yet')
@@ -496,12 +518,12 @@ class Service(Procedures):
             count = 0
         except OSError:
             count = len(text)  # the service has ended: who reads finds out
-        if count < len(text):
+        self._is_full = count < len(text)
+        if self._is_full:
             with self._lock:
                 self._lines.insert(0, text[count:])
                 self._writing = False
-                return False
-        return True
+        return not self._is_full
 
     def _read(self) -> None:
         try:
@@ -525,26 +547,28 @@ class Service(Procedures):
             raise
 
     def _give(self, outcomes: List[Outcome]) -> None:
-        """Gives the answers to the first calls that wait."""
-        called = []
+        """Gives the answers to the first calls that lack one."""
         with self._lock:
-            for outcome in outcomes:
-                if isinstance(outcome, Last):
-                    self._last = outcome
-                else:
-                    self._settle(self._pending.popleft(), outcome, called)
+            if outcomes and isinstance(outcomes[-1], Last):
+                self._last = outcomes.pop()
+            called = self._settle(outcomes)
         for future in called:
             self._call_back(future)
 
-    def _settle(self, future: Future, outcome: Outcome, called: List[Future]) -> None:
-        future._outcome = outcome
-        if future._gates:
-            for gate in future._gates:
-                del self._sleeping[gate]
-                gate.release()
-            future._gates = None
-        if future._callbacks:
-            called.append(future)
+    def _settle(self, outcomes: Iterable[Outcome]) -> List[Future]:
+        """The same under the lock; the futures that have callbacks."""
+        called = []
+        for outcome in outcomes:
+            future = self._pending.popleft()
+            future._outcome = outcome
+            if future._gates:
+                for gate in future._gates:
+                    del self._sleeping[gate]
+                    gate.release()
+                future._gates = None
+            if future._callbacks:
+                called.append(future)
+        return called
 
     @staticmethod
     def _call_back(future: Future) -> None:
@@ -568,13 +592,12 @@ class Service(Procedures):
             is_well = is_well and said is None and self._last is not None
         if not is_well:
             self._last = None
-        called: List[Future] = []
         with self._lock:
             end = Ended(f'the service has ended: {why or said or "its last line is missing"}')
             self._lines.clear()
-            while self._pending:
-                self._settle(self._pending.popleft(), Ended(*end.args), called)
-            self._settle(self._end, Reply() if is_well else end, called)
+            ends: List[Outcome] = [Ended(*end.args) for _ in self._pending]
+            self._pending.append(self._end)
+            called = self._settle([*ends, Reply() if is_well else end])
             self._due.set()
         for future in called:
             self._call_back(future)
