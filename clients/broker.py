@@ -403,23 +403,22 @@ class Broker:
             if not self.to_replay:
                 self.replayed.set()
             return
-        text = self.begun + text
+        *lines, self.begun = (self.begun + text).split(b'\n')
         at = 0
-        while self.turns:
-            connection, count = turn = self.turns[0]
-            begin = at
-            while turn[1]:
-                end = text.find(b'\n', at) + 1
-                if not end:
-                    break
-                at = end
-                turn[1] -= 1
-            if at > begin:
-                connection.answer(text[begin:at], count - turn[1])
-            if turn[1]:
+        while at < len(lines):
+            if not self.turns:
+                # the last line
+                self.begun = b'\n'.join([*lines[at:], self.begun])
                 break
-            self.turns.popleft()
-        self.begun = text[at:]
+            turn = self.turns[0]
+            connection, left = turn
+            own = lines[at:at + left]
+            at += len(own)
+            turn[1] -= len(own)
+            if not turn[1]:
+                self.turns.popleft()
+            own.append(b'')
+            connection.answer(b'\n'.join(own), len(own) - 1)
 
     async def answer_what_was_read(self) -> None:
         """All that was read is answered, and the service ends."""
