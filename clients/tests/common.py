@@ -94,6 +94,17 @@ class Broker:
             return Path(f'/proc/{self.running.pid}/task/{self.running.pid}/children').read_text().split()
         return []
 
+    def files(self):
+        """How many files and connections it has open."""
+        return len(os.listdir(f'/proc/{self.running.pid}/fd'))
+
+    def without(self, connection):
+        """Closes a connection, and waits until the broker has done so too."""
+        wanted, until = self.files() - 1, time.monotonic() + SECONDS
+        connection.close()
+        while self.files() > wanted and time.monotonic() < until:
+            time.sleep(0.01)
+
     def ended(self):
         """Waits for its end: the status, the last line if there is one, and what it said."""
         out, said = self.running.communicate(timeout=SECONDS)

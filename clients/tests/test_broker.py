@@ -15,6 +15,14 @@ from common import ACCOUNTS, CLIENT_PATH, CLIENTS, HELD, SECONDS, Case, Model, a
 
 BALANCE = line('balance', 0)
 LONGEST = 65536
+# Answers the first line, and the others once there is the file GATE.
+WAITING = '''
+import json
+for number, text in enumerate(sys.stdin.buffer):
+    while number and not os.path.exists(GATE): time.sleep(0.01)
+    print('{"id":"%s","call":%d,"committed":[]}' % (json.loads(text)['id'], number), flush=True)
+print('{"calls":%d,"records":[]}' % (number + 1))
+'''
 
 
 class Sharing(Case):
@@ -177,6 +185,27 @@ class Trouble(Case):
             connection.sendall(line('balance', 1, id=number))
         for number, connection in enumerate(connections):
             self.assertEqual(json.loads(read_lines(connection, 1)[0])['id'], number)
+
+
+class Lost(Case):
+    def test_answers_of_lost_connections_go_to_nobody(self):
+        gate = self.room / 'gate'
+        waiting = self.stand_in(f'GATE = {str(gate)!r}{WAITING}')
+        with self.broker(program=waiting) as broker, broker.connect() as other:
+            with broker.connect() as lost:
+                lost.sendall(line('balance', 0, id='lost'))
+                self.assertEqual(lost.recv(1, socket.MSG_PEEK), b'{')
+                lost.sendall(line('balance', 0, id='lost') * 3)
+                # it has an answer that it has not read, so the broker sees at once that it is gone
+                broker.without(lost)
+            asked = [f'own {number}' for number in range(3)]
+            other.sendall(b''.join(line('balance', 1, id=name) for name in asked))
+            with broker.connect() as late:
+                late.sendall(line('balance', 1, id='late'))
+                gate.touch()
+                self.assertEqual([json.loads(each)['id'] for each in read_lines(other, 3)], asked)
+                self.assertEqual([json.loads(each)['id'] for each in read_lines(late, 1)], ['late'])
+            self.assertEqual(broker.end()[:2], (0, {'calls': 8, 'records': []}))
 
 
 class Ending(Case):

@@ -9,6 +9,7 @@ import json
 import os
 import random
 import resource
+import socket
 import subprocess
 import sys
 import threading
@@ -123,7 +124,9 @@ class Torn(Logged):
             self.log.write_bytes(text)
             log = broker_module.Log(str(self.log), broker_module.Scenario(str(self.file)))
             try:
-                kept = b''.join(log.lines())
+                # a line may begin in one piece and end in another
+                with mock.patch.object(broker_module, 'PIECE', 50 + cut):
+                    kept = b''.join(log.lines())
                 log.append(b'next\n')
             finally:
                 os.close(log.file)
@@ -150,19 +153,7 @@ class Torn(Logged):
 class Disk(Logged):
     def test_an_answer_waits_for_the_disk(self):
         """While fdatasync does not return no call is made; then all that came meanwhile is on the disk by one more."""
-        gate, count = self.room / 'gate', self.room / 'count'
-        slow = self.stand_in(f'''
-import runpy
-sync = os.fdatasync
-def wait(file):
-    open({str(count)!r}, 'a').write('x')
-    while not os.path.exists({str(gate)!r}): time.sleep(0.01)
-    sync(file)
-os.fdatasync = wait
-sys.argv[0] = {str(BROKER)!r}
-runpy.run_path(sys.argv[0], run_name='__main__')
-''')
-        with self.logged(command=[str(slow)]) as broker, broker.connect() as connection:
+        with self.logged(command=[self.slow()]) as broker, broker.connect() as connection:
             lines = list(transfers(1, 20))
             for each in lines:
                 connection.sendall(each)
@@ -171,11 +162,48 @@ runpy.run_path(sys.argv[0], run_name='__main__')
             with self.assertRaises(OSError):
                 connection.recv(1)
             connection.settimeout(SECONDS)
-            gate.touch()
+            self.gate.touch()
             self.assertEqual(len(read_lines(connection, 20)), 20)
             self.assertEqual(broker.end()[0], 0)
         self.assertEqual(self.entries(), lines)
-        self.assertLess(len(count.read_text()), 10)
+        self.assertLess(self.syncs(), 10)
+
+    def test_answers_of_lost_connections_go_to_nobody(self):
+        """Lines whose connection is lost while the disk is busy are made, and their answers dropped."""
+        with self.logged(command=[self.slow()]) as broker, broker.connect() as other:
+            self.gate.touch()
+            with broker.connect() as lost:
+                lost.sendall(line('balance', 0))
+                self.assertEqual(lost.recv(1, socket.MSG_PEEK), b'{')
+                self.gate.unlink()
+                lost.sendall(line('balance', 0, id='lost') * 3)
+                while self.syncs() < 2:
+                    time.sleep(0.01)
+                # it has an answer that it has not read, so the broker sees at once that it is gone
+                broker.without(lost)
+            other.sendall(line('balance', 1, id='own'))
+            self.gate.touch()
+            [answer] = read_lines(other, 1)
+            self.assertEqual(json.loads(answer)['id'], 'own')
+            self.assertEqual(broker.end()[1]['calls'], 5)
+
+    def slow(self):
+        """A broker whose fdatasync waits for the file `gate`; `syncs` counts its calls."""
+        self.gate, self.count = self.room / 'gate', self.room / 'count'
+        return str(self.stand_in(f'''
+import runpy
+sync = os.fdatasync
+def wait(file):
+    open({str(self.count)!r}, 'a').write('x')
+    while not os.path.exists({str(self.gate)!r}): time.sleep(0.01)
+    sync(file)
+os.fdatasync = wait
+sys.argv[0] = {str(BROKER)!r}
+runpy.run_path(sys.argv[0], run_name='__main__')
+'''))
+
+    def syncs(self):
+        return len(self.count.read_text()) if self.count.exists() else 0
 
     def test_a_full_disk(self):
         disk = self.room / 'disk'

@@ -138,6 +138,26 @@ test('whole numbers above 2^53 are BigInts', { timeout }, async t => {
   assert.ok(last.records.slice(5).every(value => value === LARGEST))
 })
 
+test('numbers come and go in their places, and in flight is kept', { timeout }, async t => {
+  const echoing = standIn('echoing', `
+    const lines = require('node:readline').createInterface({ input: process.stdin })
+    let calls = 0, waiting = [], most = 0
+    const answer = () => {
+      most = Math.max(most, waiting.length)
+      for (const [, client, args] of waiting) console.log('{"call":' + calls++ + ',"committed":[' + client + ',' + args + ']}')
+      waiting = []
+    }
+    lines.on('line', line => {
+      if (waiting.push(/"client":(\\d+).*"args":\\[(.*)\\]/.exec(line)) === 1) setTimeout(answer, 20)
+    })
+    lines.on('close', () => { answer(); console.log('{"calls":' + calls + ',"records":[' + most + ']}') })`)
+  const bank = open(t, bankFile, { program: echoing, inFlight: 7 })
+  assert.deepEqual([...await bank.call('transfer', [LARGEST, 0, 2n ** 53n + 1n], 7)], [7, LARGEST, 0, 2n ** 53n + 1n])
+  const found = await Promise.all(Array.from({ length: 50 }, (_, at) => bank.call('balance', [at], at % 10)))
+  assert.deepEqual(found.map(reply => [...reply]), found.map((_, at) => [at % 10, at]))
+  assert.deepEqual(await bank.close(), { calls: 51, records: [7] })
+})
+
 test('moved is an error of its own', { timeout }, async t => {
   const bank = open(t, bankFile, { program: standIn('moved', `
     process.stdin.once('data', () => process.stdout.write('{"call":0,"aborted":"moved"}\\n'))

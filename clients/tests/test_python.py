@@ -22,6 +22,26 @@ for text in sys.stdin.buffer:
     number += 1
 print('{"calls":%d,"records":[]}' % number)
 '''
+# Its last line has as a record how many lines it has found at most before it answers.
+COUNTING = '''
+most = calls = 0
+while True:
+    time.sleep(0.01)
+    text = os.read(0, 1 << 20)
+    if not text: break
+    lines = text.count(b'\\n'); most = max(most, lines)
+    for _ in range(lines):
+        print('{"call":%d,"committed":[]}' % calls); calls += 1
+    sys.stdout.flush()
+print('{"calls":%d,"records":[%d]}' % (calls, most))
+'''
+# Answers each line with its client and its arguments.
+ECHOING = '''
+import json
+for number, text in enumerate(map(json.loads, sys.stdin.buffer)):
+    print(json.dumps({'call': number, 'committed': [text['client'], *text['args']]}), flush=True)
+print('{"calls":%d,"records":[]}' % (number + 1))
+'''
 NEVER_ANSWERING = 'while os.read(0, 65536): pass\n'
 REFUSING = 'print("vll: scenario: json", file=sys.stderr); sys.exit(2)\n'
 
@@ -107,6 +127,11 @@ class Threads(Both):
             self.assertIsInstance(futures[1].exception(), vll.Moved)
             self.assertEqual(futures[0].result(), [0])
 
+    def test_numbers_come_and_go_in_their_places(self):
+        with self.service(program=self.stand_in(ECHOING)) as bank:
+            self.assertEqual(bank.transfer(2 ** 64 - 1, 0, 2 ** 53 + 1, client=7), [7, 2 ** 64 - 1, 0, 2 ** 53 + 1])
+            self.assertEqual(bank.submit('balance', 5, client=9).result(), [9, 5])
+
     def test_many_threads_are_one_serial_run(self):
         found = [[] for _ in range(THREADS)]
 
@@ -152,19 +177,7 @@ class Threads(Both):
 
     def test_in_flight_is_kept(self):
         """A service that counts what it can read before it answers never finds more."""
-        counting = self.stand_in('''
-most = calls = 0
-while True:
-    time.sleep(0.01)
-    text = os.read(0, 1 << 20)
-    if not text: break
-    lines = text.count(b'\\n'); most = max(most, lines)
-    for _ in range(lines):
-        print('{"call":%d,"committed":[]}' % calls); calls += 1
-    sys.stdout.flush()
-print('{"calls":%d,"records":[%d]}' % (calls, most))
-''')
-        with self.service(program=counting, in_flight=7) as bank:
+        with self.service(program=self.stand_in(COUNTING), in_flight=7) as bank:
             for _ in range(100):
                 bank.submit('balance', 0)
         self.assertEqual(bank.last, (100, [7]))
@@ -290,6 +303,25 @@ class Asyncio(Both):
                     await wrong()
             self.assertEqual((await bank.balance(0)).call, 2)
         self.assertEqual(self.run_with(work).last.calls, 3)
+
+    def test_in_flight_is_kept(self):
+        async def work(bank):
+            await asyncio.gather(*[bank.submit('balance', 0) for _ in range(100)])
+        bank = self.run_with(work, program=self.stand_in(COUNTING), in_flight=7)
+        self.assertEqual(bank.last, (100, [7]))
+
+    def test_numbers_come_and_go_in_their_places(self):
+        async def work(bank):
+            self.assertEqual(await bank.transfer(2 ** 64 - 1, 0, 2 ** 53 + 1, client=7),
+                             [7, 2 ** 64 - 1, 0, 2 ** 53 + 1])
+        self.run_with(work, program=self.stand_in(ECHOING))
+
+    def test_moved_is_an_exception_of_its_own(self):
+        async def work(bank):
+            with self.assertRaises(vll.Moved):
+                await bank.balance(0)
+        answers = {0: '{"call":0,"aborted":"moved"}'}
+        self.run_with(work, program=self.stand_in(f'ANSWERS = {answers!r}{ANSWERING}'))
 
     def test_a_cancelled_call_leaves_the_others_right(self):
         async def work(bank):
