@@ -326,6 +326,8 @@ class Service(Procedures):
         self._lines: List[bytes] = []
         self._pending: Deque[Future] = deque()
         self._sleeping: Dict[threading.Lock, Future] = {}
+        # the locks of those whose answer is there, and who still sleep
+        self._waking: Deque[threading.Lock] = deque()
         self._answers = Answers()
         self._last: Optional[Last] = None
         self._end = Future(self)
@@ -428,20 +430,30 @@ class Service(Procedures):
         try:
             woken = gate.acquire(timeout=-1 if until is None else max(0, until - time.monotonic()))
         except BaseException:
-            if not self._wakes_up(gate, future) and future._outcome is None:
+            if not self._gives_up(gate, future) and future._outcome is None:
                 self._hand_on()
             raise
-        if not woken and self._wakes_up(gate, future):
+        if not woken and self._gives_up(gate, future):
             raise TimeoutError('the answer is not there yet')
+        self._wake_next()
         return future._outcome is None
 
-    def _wakes_up(self, gate: threading.Lock, future: Future) -> bool:
-        """Takes back a gate that nobody has opened, and says whether that is so."""
+    def _gives_up(self, gate: threading.Lock, future: Future) -> bool:
+        """Sleeps no more, and says whether it would sleep on."""
         with self._lock:
-            if self._sleeping.pop(gate, None) is None:
-                return False
-            future._gates.remove(gate)
-            return True
+            if self._sleeping.pop(gate, None) is not None:
+                future._gates.remove(gate)
+                return True
+            if gate in self._waking:
+                self._waking.remove(gate)
+        self._wake_next()
+        return False
+
+    def _wake_next(self) -> None:
+        """Wakes one whose answer is there; it wakes the next one. All at once would only wait for each other."""
+        with self._lock:
+            if self._waking:
+                self._waking.popleft().release()
 
     def _hand_on(self) -> None:
         """Whoever has waited longest reads now."""
@@ -458,13 +470,15 @@ class Service(Procedures):
             self._due.wait()
             time.sleep(TICK)
             with self._lock:
-                if not self._pending and not self._lines:
+                if not (self._pending or self._lines or self._waking):
                     self._is_due = False
                     self._due.clear()
                     continue
                 reads = not self._reading
                 self._reading = True
             self._write()
+            # an interrupt can keep whoever was woken from waking the next one
+            self._wake_next()
             if reads:
                 try:
                     self._turn(0)
@@ -552,11 +566,12 @@ class Service(Procedures):
             if outcomes and isinstance(outcomes[-1], Last):
                 self._last = outcomes.pop()
             called = self._settle(outcomes)
+        self._wake_next()
         for future in called:
             self._call_back(future)
 
     def _settle(self, outcomes: Iterable[Outcome]) -> List[Future]:
-        """The same under the lock; the futures that have callbacks."""
+        """The same under the lock; the futures that have callbacks. `_wake_next` has to follow."""
         called = []
         for outcome in outcomes:
             future = self._pending.popleft()
@@ -564,7 +579,7 @@ class Service(Procedures):
             if future._gates:
                 for gate in future._gates:
                     del self._sleeping[gate]
-                    gate.release()
+                self._waking.extend(future._gates)
                 future._gates = None
             if future._callbacks:
                 called.append(future)
@@ -599,6 +614,8 @@ class Service(Procedures):
             self._pending.append(self._end)
             called = self._settle([*ends, Reply() if is_well else end])
             self._due.set()
+        while self._waking:
+            self._wake_next()
         for future in called:
             self._call_back(future)
 
