@@ -10,6 +10,7 @@ that has each on the disk before it answers (`appendfsync always`), if there is 
 import argparse
 import asyncio
 import contextlib
+import itertools
 import json
 import multiprocessing
 import random
@@ -59,14 +60,20 @@ def transfer(draw):
     return draw.randrange(RECORDS), draw.randrange(RECORDS), draw.randrange(100)
 
 
+def transfers(numbers):
+    """For each number the same calls over and over, which were drawn before anything is measured."""
+    return [itertools.cycle([transfer(draw) for _ in range(1000)]) for draw in map(random.Random, numbers)]
+
+
 def by_threads(file, words, threads, ahead):
     """So many threads, each of which makes so many calls and then waits for them."""
-    until, counts = time.perf_counter() + words.seconds, [0] * threads
+    calls, counts = transfers(range(threads)), [0] * threads
+    until = time.perf_counter() + words.seconds
 
     def work(number):
-        draw = random.Random(number)
         while time.perf_counter() < until:
-            futures = [bank.submit('transfer', *transfer(draw), client=number) for _ in range(ahead)]
+            futures = [bank.submit('transfer', *each, client=number)
+                       for each in itertools.islice(calls[number], ahead)]
             for future in futures:
                 future.exception()
             counts[number] += ahead
@@ -80,13 +87,12 @@ def by_threads(file, words, threads, ahead):
 
 
 def by_asyncio(file, words, tasks):
-    counts = [0] * tasks
+    calls, counts = transfers(range(tasks)), [0] * tasks
 
     async def work(bank, number, until):
-        draw = random.Random(number)
         while time.perf_counter() < until:
             try:
-                await bank.transfer(*transfer(draw))
+                await bank.transfer(*next(calls[number]))
             except vll.Aborted:
                 pass
             counts[number] += 1
