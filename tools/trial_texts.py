@@ -89,7 +89,7 @@ def scenarios_of_the_repository(most):
 
 
 def faults_of_examples():
-    for path in sorted((TOP / 'examples').glob('*.json')):
+    for path in sorted((TOP / 'examples').rglob('*.json')):
         text = path.with_suffix('.vll')
         if not text.is_file():
             yield f'{text.name} is missing'
