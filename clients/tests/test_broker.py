@@ -23,6 +23,16 @@ for number, text in enumerate(sys.stdin.buffer):
     print('{"id":"%s","call":%d,"committed":[]}' % (json.loads(text)['id'], number), flush=True)
 print('{"calls":%d,"records":[]}' % (number + 1))
 '''
+# Writes each answer, and the last line, in two pieces.
+IN_PIECES = '''
+def write(text):
+    os.write(1, text[:9])
+    time.sleep(0.02)
+    os.write(1, text[9:])
+for number, _ in enumerate(sys.stdin.buffer):
+    write(b'{"call":%d,"committed":[]}\\n' % number)
+write(b'{"calls":%d,"records":[]}\\n' % (number + 1))
+'''
 
 
 class Sharing(Case):
@@ -187,7 +197,15 @@ class Trouble(Case):
             self.assertEqual(json.loads(read_lines(connection, 1)[0])['id'], number)
 
 
-class Lost(Case):
+class Turns(Case):
+    def test_answers_come_in_pieces(self):
+        with self.broker(program=self.stand_in(IN_PIECES)) as broker, broker.connect() as one, broker.connect() as two:
+            for connection in one, two:
+                connection.sendall(BALANCE * 10)
+            calls = [[json.loads(answer)['call'] for answer in read_lines(each, 10)] for each in (one, two)]
+            self.assertEqual(sorted(calls), [list(range(10)), list(range(10, 20))])
+            self.assertEqual(broker.end()[:2], (0, {'calls': 20, 'records': []}))
+
     def test_answers_of_lost_connections_go_to_nobody(self):
         gate = self.room / 'gate'
         waiting = self.stand_in(f'GATE = {str(gate)!r}{WAITING}')

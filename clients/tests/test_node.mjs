@@ -32,6 +32,20 @@ function standIn (name, text) {
   return path
 }
 
+// Answers each line with its client and its arguments; its last record is how many lines it found at most at once.
+const echoing = () => standIn('echoing', `
+  const lines = require('node:readline').createInterface({ input: process.stdin })
+  let calls = 0, waiting = [], most = 0
+  const answer = () => {
+    most = Math.max(most, waiting.length)
+    for (const [, ...numbers] of waiting) console.log('{"call":' + calls++ + ',"committed":[' + numbers + ']}')
+    waiting = []
+  }
+  lines.on('line', line => {
+    if (waiting.push(/"client":(\\d+).*"args":\\[(.*)\\]/.exec(line)) === 1) setTimeout(answer, 20)
+  })
+  lines.on('close', () => { answer(); console.log('{"calls":' + calls + ',"records":[' + most + ']}') })`)
+
 function scenario (name, change) {
   const found = JSON.parse(readFileSync(bankFile, 'utf8'))
   change(found)
@@ -96,7 +110,8 @@ for (const inFlight of [1000, 7]) {
 }
 
 test('wrong calls are not written', { timeout }, async t => {
-  const bank = open(t, bankFile)
+  // this service commits each line
+  const bank = open(t, bankFile, { program: echoing() })
   for (const [proc, args, client] of [['transfer', [0, 1]], ['transfer', [0, 1, 2, 3]], ['sum', []], ['balance', [0.5]],
     ['balance', ['0']], ['balance', [-1]], ['balance', [-1n]], ['balance', [2 ** 53]], ['balance', [LARGEST + 1n]],
     ['balance', [0], 10], ['balance', [0], -1], ['balance', [0], '0']]) {
@@ -139,23 +154,19 @@ test('whole numbers above 2^53 are BigInts', { timeout }, async t => {
 })
 
 test('numbers come and go in their places, and in flight is kept', { timeout }, async t => {
-  const echoing = standIn('echoing', `
-    const lines = require('node:readline').createInterface({ input: process.stdin })
-    let calls = 0, waiting = [], most = 0
-    const answer = () => {
-      most = Math.max(most, waiting.length)
-      for (const [, client, args] of waiting) console.log('{"call":' + calls++ + ',"committed":[' + client + ',' + args + ']}')
-      waiting = []
-    }
-    lines.on('line', line => {
-      if (waiting.push(/"client":(\\d+).*"args":\\[(.*)\\]/.exec(line)) === 1) setTimeout(answer, 20)
-    })
-    lines.on('close', () => { answer(); console.log('{"calls":' + calls + ',"records":[' + most + ']}') })`)
-  const bank = open(t, bankFile, { program: echoing, inFlight: 7 })
+  const bank = open(t, bankFile, { program: echoing(), inFlight: 7 })
   assert.deepEqual([...await bank.call('transfer', [LARGEST, 0, 2n ** 53n + 1n], 7)], [7, LARGEST, 0, 2n ** 53n + 1n])
   const found = await Promise.all(Array.from({ length: 50 }, (_, at) => bank.call('balance', [at], at % 10)))
   assert.deepEqual(found.map(reply => [...reply]), found.map((_, at) => [at % 10, at]))
   assert.deepEqual(await bank.close(), { calls: 51, records: [7] })
+})
+
+test('close waits for all calls', { timeout }, async t => {
+  const bank = open(t, bankFile, { inFlight: 3 })
+  const calls = Array.from({ length: 50 }, () => bank.transfer(0, 1, 1))
+  const last = await bank.close()
+  assert.equal(last.calls, 50)
+  assert.deepEqual((await Promise.all(calls)).map(([left]) => left), calls.map((_, at) => 99 - at))
 })
 
 test('moved is an error of its own', { timeout }, async t => {
@@ -164,6 +175,14 @@ test('moved is an error of its own', { timeout }, async t => {
     process.stdin.on('end', () => process.stdout.write('{"calls":1,"records":[]}\\n'))`) })
   await assert.rejects(bank.balance(0), Moved)
   assert.deepEqual(await bank.close(), { calls: 1, records: [] })
+})
+
+test('a fault may have many digits', { timeout }, async t => {
+  const bank = open(t, bankFile, { program: standIn('digits', `
+    process.stdin.once('data', () => process.stdout.write('{"fault":"there is no p12345678901234567"}\\n'))
+    process.stdin.on('end', () => process.stdout.write('{"calls":0,"records":[]}\\n'))`) })
+  await assert.rejects(bank.balance(0), error => error instanceof Fault && /no p12345678901234567$/.test(error.message))
+  await bank.close()
 })
 
 test('the end fails what is in flight', { timeout }, async t => {

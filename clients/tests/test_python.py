@@ -9,6 +9,7 @@ import sys
 import threading
 import time
 import unittest
+from unittest import mock
 
 from common import ACCOUNTS, CLIENT_PATH, CLIENTS, HELD, PROGRAM, SECONDS, Case, Model
 import vll
@@ -90,7 +91,8 @@ class Threads(Both):
         self.assertEqual(bank.last, (3, [70, 130] + [HELD] * 6))
 
     def test_wrong_calls_are_not_written(self):
-        with self.service() as bank:
+        """A service that commits each line sees the last one alone."""
+        with self.service(program=self.stand_in(ECHOING)) as bank:
             for proc, args, client in [('transfer', (0, 1), 0), ('transfer', (0, 1, 2, 3), 0), ('balance', (0.5,), 0),
                                        ('balance', ('0',), 0), ('balance', (-1,), 0), ('balance', (2 ** 64,), 0),
                                        ('sum', (), 0), ('balance', (0,), 10), ('balance', (0,), -1)]:
@@ -98,7 +100,7 @@ class Threads(Both):
                     bank.submit(proc, *args, client=client)
             with self.assertRaises(AttributeError):
                 bank.sum(1)
-            self.assertEqual(bank.balance(True), [HELD])
+            self.assertEqual(bank.balance(True), [0, 1])
         self.assertEqual(bank.last.calls, 1)
 
     def test_reasons_are_told_apart(self):
@@ -163,6 +165,20 @@ class Threads(Both):
                 futures = [bank.submit(*each) for each in asked[:count]]
                 found = [(each, outcome(future.result)) for each, future in zip(asked, futures)]
             self.judge(found, bank.last)
+
+    def test_lines_wait_in_their_order(self):
+        """The service reads nothing at first, so not all is written at once, and more lines come meanwhile."""
+        count, write = 5000, os.write
+
+        def write_slowly(*words):
+            try:
+                return write(*words)
+            finally:
+                time.sleep(0.002)
+        with mock.patch.object(os, 'write', write_slowly), \
+                self.service(program=self.stand_in('time.sleep(0.3)\n' + ECHOING), in_flight=count) as bank:
+            futures = [bank.submit('balance', number) for number in range(count)]
+            self.assertEqual([future.result() for future in futures], [[0, number] for number in range(count)])
 
     def test_nobody_has_to_wait(self):
         done = threading.Event()
@@ -309,6 +325,14 @@ class Asyncio(Both):
             await asyncio.gather(*[bank.submit('balance', 0) for _ in range(100)])
         bank = self.run_with(work, program=self.stand_in(COUNTING), in_flight=7)
         self.assertEqual(bank.last, (100, [7]))
+
+    def test_close_waits_for_all_calls(self):
+        async def whole():
+            bank = await self.service(in_flight=3).start()
+            futures = [bank.submit('transfer', 0, 1, 1) for _ in range(50)]
+            last = await asyncio.wait_for(bank.close(), SECONDS)
+            return last.calls, [future.result()[0] for future in futures]
+        self.assertEqual(asyncio.run(whole()), (50, list(range(99, 49, -1))))
 
     def test_numbers_come_and_go_in_their_places(self):
         async def work(bank):
