@@ -1,6 +1,7 @@
 /* Refuses a program one allocation. It is loaded before the C library (LD_PRELOAD), and REFUSE=N has the Nth allocation
    answer NULL that is asked for between the lines 'begin' and 'end' on standard output; 0 or none refuses nothing. With
-   the line 'end' it tells on standard error how many were asked for. */
+   the line 'end' it tells on standard error how many were asked for. With LEAST=B too it is the Nth one of at least B
+   bytes since the start of the program. */
 
 typedef unsigned long size;
 
@@ -13,7 +14,7 @@ extern int *__errno_location(void);
 static const int no_memory = 12; /* ENOMEM */
 
 static int is_counting;
-static unsigned long asked, refused;
+static unsigned long asked, refused, least;
 
 static long system_write(int file, const void *bytes, size count) {
   long written;
@@ -22,10 +23,18 @@ static long system_write(int file, const void *bytes, size count) {
   return written;
 }
 
-__attribute__((constructor)) static void starts(void) {
-  const char *digit = getenv("REFUSE");
+static unsigned long number_in(const char *name) {
+  const char *digit = getenv(name);
+  unsigned long number = 0;
   for (; digit && *digit >= '0' && *digit <= '9'; digit++)
-    refused = refused * 10 + (unsigned long)(*digit - '0');
+    number = number * 10 + (unsigned long)(*digit - '0');
+  return number;
+}
+
+__attribute__((constructor)) static void starts(void) {
+  refused = number_in("REFUSE");
+  least = number_in("LEAST");
+  is_counting = least > 0;
 }
 
 static void tell_count(void) {
@@ -38,8 +47,8 @@ static void tell_count(void) {
   system_write(2, line + at, sizeof line - (size)at);
 }
 
-static int is_refused(void) {
-  if (!__atomic_load_n(&is_counting, __ATOMIC_SEQ_CST))
+static int is_refused(size count) {
+  if (count < least || !__atomic_load_n(&is_counting, __ATOMIC_SEQ_CST))
     return 0;
   if (__atomic_add_fetch(&asked, 1, __ATOMIC_SEQ_CST) != refused)
     return 0;
@@ -47,11 +56,11 @@ static int is_refused(void) {
   return 1;
 }
 
-void *malloc(size count) { return is_refused() ? 0 : __libc_malloc(count); }
+void *malloc(size count) { return is_refused(count) ? 0 : __libc_malloc(count); }
 
-void *calloc(size items, size count) { return is_refused() ? 0 : __libc_calloc(items, count); }
+void *calloc(size items, size count) { return is_refused(items * count) ? 0 : __libc_calloc(items, count); }
 
-void *realloc(void *block, size count) { return is_refused() ? 0 : __libc_realloc(block, count); }
+void *realloc(void *block, size count) { return is_refused(count) ? 0 : __libc_realloc(block, count); }
 
 /* The program looks at nothing but how many bytes were written. */
 long write(int file, const void *bytes, size count) {
