@@ -1,0 +1,113 @@
+"""The trial of `vll explain` on texts that are refused: it tells the way to the fault, and takes at most three times as
+long as `vll run` does to refuse the same text. The texts are large, wide or nested deeply, and the fault comes last, so
+each level that is read anew would show. What counts is processor time, since a machine may be busy."""
+import os
+import subprocess
+import tempfile
+import threading
+
+from running import SECONDS
+
+# How long explaining may take, in times of running, and in seconds what may come to it on a busy machine.
+TIMES, MORE = 3, 0.1
+SIZE = 1 << 20
+
+
+def scenario(procedures='', scripts='', records='0', version=2, more=''):
+    return f'{{"version":{version},"records":[{records}],"procs":[{procedures}],"clients":[{scripts}]{more}}}'
+
+
+def procedure(body, keys='', args=0, name='p'):
+    return f'{{"name":"{name}","args":{args},"keys":[{keys}],"body":[{body}]}}'
+
+
+def doubled(times, around, within):
+    """A full tree: each of its levels has the one below it twice."""
+    for _ in range(times):
+        within = around.format(within, within)
+    return within
+
+
+TREE = doubled(4, '["if",0,[{}],[{}]]', '["abort",0]')
+SUM = doubled(5, '["add",{},{}]', '1')
+CALL = '{"proc":"p","args":[]}'
+
+
+def listed(item, last, size=SIZE):
+    """Items of a list, as many as fit, and how many come before the last one."""
+    count = (size - len(last)) // (len(item) + 1)
+    return f'{item},' * count + last, count
+
+
+def in_ifs(last, levels=55):
+    """Full trees and what comes last within ifs, each in the second list of another one, and the way to the last."""
+    inside, count = listed(TREE, last)
+    return ('["if",0,[],[' * levels + inside + ']]' * levels,
+            ', body' + ', statement 0, second list' * levels + f', statement {count}')
+
+
+def in_operands(last, levels=90):
+    """Sums as left operands, what comes last as the innermost right one, and the way to it."""
+    left = doubled(9, '["add",{},{}]', '1')
+    value = f'["add",{left},' * levels + last + ']' * levels
+    return f'["reply",{value}]', ', body, statement 0, value' + ', right operand' * levels
+
+
+def texts():
+    """By what is at fault in it, each text, and the way that has to be told."""
+    first = 'procs 0 ("p")'
+    body, way = in_ifs('["let",0,["local",1]]')
+    yield 'unset local in lists', scenario(procedure(body)), f'{first}{way}, value'
+    body, way = in_ifs('["set",0,1]')
+    yield 'read key that is set, in lists', scenario(procedure(body, '["read","fixed",0]')), f'{first}{way}'
+    body, way = in_operands('["local",8]')
+    yield 'unknown local in operands', scenario(procedure(body)), f'{first}{way}'
+    inside, count = listed(TREE, '["reply",["local",0]]')
+    body = '["repeat",1,[' * 55 + inside + ']]' * 55
+    yield 'repeats', scenario(procedure(body)), f'{first}, body{", statement 0, list" * 55}, statement {count}, value'
+    body = f'["if",{SUM},[' * 55 + inside + '],[]]' * 55
+    way = ', body' + ', statement 0, first list' * 55
+    yield 'tests', scenario(procedure(body)), f'{first}{way}, statement {count}, value'
+    body, count = listed('["let",0,1]', '["let",0,1]')
+    yield 'long body', scenario(procedure(body)), f'{first}, body'
+    names = [f'p{number}' for number in range(SIZE // 64)]
+    many = ','.join(procedure('["reply",1]', name=name) for name in names)
+    unknown = procedure('["reply",["key",0]]', name='last')
+    yield 'many procedures', scenario(f'{many},{unknown}'), f'procs {len(names)} ("last"), body, statement 0, value'
+    yield 'name of an earlier procedure', scenario(f'{many},{procedure("", name="p0")}'), 'procs'
+    script, count = listed(CALL, '{"proc":"q","args":[]}')
+    yield 'call of no procedure', scenario(procedure(''), f'[{script}]'), f'clients 0, call {count}'
+    script, count = listed(CALL, '{"proc":"p","args":[0]}')
+    yield 'call with an argument too many', scenario(procedure(''), f'[],[{script}]'), f'clients 1, call {count}'
+
+
+def processor_time(program, command, text):
+    """How a command ended that reads this text, what it printed, and its processor time in seconds."""
+    with tempfile.TemporaryFile() as file, tempfile.TemporaryFile() as printed:
+        file.write(text)
+        file.seek(0)
+        running = subprocess.Popen([program, command], stdin=file, stdout=printed)
+        late = threading.Timer(SECONDS, running.kill)
+        late.start()
+        _, status, usage = os.wait4(running.pid, 0)
+        late.cancel()
+        running.returncode = os.waitstatus_to_exitcode(status)
+        printed.seek(0)
+        return running.returncode, printed.read(), usage.ru_utime + usage.ru_stime
+
+
+def explained(program, text, way):
+    """Both commands refuse the text by the same line, and the way to the fault is told in time."""
+    status, refused, took = processor_time(program, 'run', text.encode())
+    told, explanation, longer = processor_time(program, 'explain', text.encode())
+    lines = explanation.decode().splitlines()
+    if (status, told) != (2, 2) or not explanation.startswith(refused) or lines[1:2] != [f'at: {way}']:
+        yield f'status {status} and {told}; {refused[:100]!r}, {explanation[:100]!r} .. and not at: {way[-100:]}'
+    print(f'{took:.2f} s to refuse, {longer:.2f} s to explain')
+    if longer > TIMES * took + MORE:
+        yield f'to refuse {len(text)} bytes takes {took:.2f} s, and to explain that {longer:.2f} s'
+
+
+def faults(words, _):
+    for what, text, way in texts():
+        yield what, explained(words.program, text, way)
