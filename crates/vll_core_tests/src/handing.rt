@@ -4,46 +4,23 @@ ghost use Rattle.vll_check.specs.Calls.{IsReady};
 ghost use Rattle.vll_core.specs.Shown.{library_of};
 
 use self::Turn::{Hand, Then};
-use crate::acts::Step::{self, Admit, Claim, Enter, Find, Finish, Front, Load, Release, Store};
-use crate::acts::event;
 use crate::asserts::equal_at;
 use crate::words::{said, words_of};
 use std::alloc::{AllocError, Global};
 use std::process::Abort;
 use std::test::Fail;
 use vll_check::{CallFault, Library};
-use vll_core::Core;
+use vll_core::Event::{self, Admit, Claim, Enter, Find, Finish, Front, Load, Release, Store};
+use vll_core::{Core, Ticket};
 use vll_proc::Call;
 use vll_sca::Placing;
-use vll_test_procedures::parts;
-
-// One call may wait, and the script is empty. Two calls may enter, or three.
-const LIMIT_OF_2: &str = r#"{"version":1,"records":[0],
- "procs":[
-  {"name":"bump","args":1,"keys":[["write","arg",0]],
-   "body":[["set",0,["add",["key",0],1]],["reply",["key",0]]]}],
- "clients":[[]],"cap":1,"limit":2,"bits":64}"#;
-
-const LIMIT_OF_3: &str = r#"{"version":1,"records":[0],
- "procs":[
-  {"name":"bump","args":1,"keys":[["write","arg",0]],
-   "body":[["set",0,["add",["key",0],1]],["reply",["key",0]]]}],
- "clients":[[]],"cap":1,"limit":3,"bits":64}"#;
-
-// One call may wait, and the script has a call that adds 1 to the record that record 0 leads to.
-const VIA: &str = r#"{"version":1,"records":[0],
- "procs":[
-  {"name":"bump","args":1,"keys":[["write","arg",0]],
-   "body":[["set",0,["add",["key",0],1]],["reply",["key",0]]]},
-  {"name":"via","args":1,"keys":[["read","arg",0],["write","through",0]],
-   "body":[["set",1,["add",["key",1],1]],["reply",["key",1]]]}],
- "clients":[[{"proc":"via","args":[0]}]],"cap":1,"limit":4,"bits":64}"#;
+use vll_test_procedures::parts_with;
 
 // What is done to a core: the call is passed in for client 0, or an event is made.
 #[derive(Clone, Copy, Debug)]
 enum Turn {
     Hand,
-    Then(Step),
+    Then(Event),
 }
 
 // Returns the answer of a core when the call is passed in, in words.
@@ -59,6 +36,14 @@ fn handed(core: &mut Core<Placing>, call: &Call) -> &'static str
     }
 }
 
+// Returns the answer of a core to an event, in words.
+fn stepped(alloc: Global, core: &mut Core<Placing>, event: Event) -> Result<String, AllocError>
+    ensures library { library_of core.new ≡ library_of core.old }
+    ensures clients { length core.new.state.scripts ≡ length core.old.state.scripts }
+{
+    said(alloc, core.step(event))
+}
+
 fn answer(
     alloc: Global,
     core: &mut Core<Placing>,
@@ -72,7 +57,7 @@ fn answer(
 {
     match turn {
         Hand => String::from_str(alloc, handed(core, call)),
-        Then(step) => said(alloc, core.step(event(step))),
+        Then(event) => stepped(alloc, core, event),
     }
 }
 
@@ -105,11 +90,11 @@ fn bump(library: &Library) -> Result<Call, CallFault>
 }
 
 // Returns the core of a scenario that has a client, and a bump of record 0 that is ready for it.
-fn opened(alloc: Global, scenario: &str) -> Result<(Core<Placing>, Call), Fail>
+fn opened(alloc: Global, members: &str) -> Result<(Core<Placing>, Call), Fail>
     ensures client { IfOk result (λ r. 0 < length r.0.state.scripts) }
     ensures ready { IfOk result (λ r. IsReady (library_of r.0) r.1) }
 {
-    let parts = parts(alloc, scenario)?;
+    let parts = parts_with(alloc, members)?;
     let bump = bump(&parts.library)?;
     if parts.scripts.is_empty() {
         return Err(Fail::new("a scenario without a client"));
@@ -126,22 +111,28 @@ fn opened(alloc: Global, scenario: &str) -> Result<(Core<Placing>, Call), Fail>
 }
 
 // Makes these turns in order, on the core of a scenario. The call that is passed in is always a bump of record 0.
-fn run(
-    rt: &(impl AllocGlobal + Abort),
-    scenario: &str,
-    turns: &[(Turn, &str)],
-) -> Result<(), Fail> {
-    let (mut core, bump) = opened(rt.alloc(), scenario)?;
+fn run(rt: &(impl AllocGlobal + Abort), members: &str, turns: &[(Turn, &str)]) -> Result<(), Fail> {
+    let (mut core, bump) = opened(rt.alloc(), members)?;
     play(rt, &mut core, &bump, turns)
 }
 
-// If the entered calls have reached the limit, that is reported, even if the waiting ones have reached the cap.
+// One call may wait, and the script is empty. If the entered calls have reached the limit, that is reported, even if the
+// waiting ones have reached the cap.
 #[test]
 fn cap_and_limit_hold_of_calls_that_are_handed_in(rt: HostRuntime) -> Result<(), Fail> {
-    for (scenario, last) in [(LIMIT_OF_2, "refused spent"), (LIMIT_OF_3, "refused busy")] {
+    for (members, last) in [
+        (
+            r#""records":[0],"clients":[[]],"cap":1,"limit":2,"bits":64"#,
+            "refused spent",
+        ),
+        (
+            r#""records":[0],"clients":[[]],"cap":1,"limit":3,"bits":64"#,
+            "refused busy",
+        ),
+    ] {
         run(
             &rt,
-            scenario,
+            members,
             &[
                 (Hand, "opened"),
                 (Hand, "refused turn open"),
@@ -157,11 +148,12 @@ fn cap_and_limit_hold_of_calls_that_are_handed_in(rt: HostRuntime) -> Result<(),
     Ok(())
 }
 
+// One call may wait, and the script has a call that adds 1 to the record that record 0 leads to.
 #[test]
 fn value_is_kept_while_calls_are_handed_in(rt: HostRuntime) -> Result<(), Fail> {
     run(
         &rt,
-        VIA,
+        r#""records":[0],"clients":[[{"proc":"via","args":[0]}]],"cap":1,"limit":4,"bits":64"#,
         &[
             (Then(Find(0)), "found 0"),
             (Hand, "opened"),
@@ -172,10 +164,10 @@ fn value_is_kept_while_calls_are_handed_in(rt: HostRuntime) -> Result<(), Fail> 
             (Then(Claim), "claimed 4294967296 denied"),
             (Then(Admit), "blocked 1"),
             (Hand, "refused busy"),
-            (Then(Load(0)), "loaded 0"),
-            (Then(Store(0)), "stored"),
-            (Then(Release(0)), "released 8589934592"),
-            (Then(Finish(0)), "replied committed 1"),
+            (Then(Load(Ticket(0))), "loaded 0"),
+            (Then(Store(Ticket(0))), "stored"),
+            (Then(Release(Ticket(0))), "released 8589934592"),
+            (Then(Finish(Ticket(0))), "replied committed 1"),
             (Then(Front), "run 1"),
             (Then(Enter(0)), "opened"),
         ],

@@ -2,22 +2,20 @@
 #![tactic(auto)]
 
 #[cfg(test)]
-mod acts;
-#[cfg(test)]
 mod asserts;
 #[cfg(test)]
 mod crowd;
 #[cfg(test)]
-mod draining;
-#[cfg(test)]
 mod handing;
 #[cfg(test)]
-mod opening;
+mod openings;
+#[cfg(test)]
+mod played;
 #[cfg(test)]
 mod queue;
 #[cfg(test)]
-mod refusals;
+mod scanning;
 #[cfg(test)]
-mod running;
+mod steps;
 #[cfg(test)]
 mod words;

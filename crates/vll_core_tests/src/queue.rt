@@ -1,49 +1,127 @@
-//! Tests of the answers and the content of a queue.
-mod playing;
-mod scanning;
-
+//! A queue as the subject of transcripts, and tests of its answers and its content.
 use crate::asserts::equal;
-use playing::Act::{Busy, Counts, Line, Lines, Spent, Standing, Steps};
-use playing::Step::{Blocked, Finish, Free, Front, Scan};
-use playing::{config, run};
+use std::alloc::{AllocError, Global};
 use std::test::Fail;
-use vll_core::{OpenFault, Queue};
+use vll_core::{Config, Line, Queue, Ticket};
+use vll_proc::{Call, MOST_ARGS, Reason, Reply};
+use vll_record::{Claim, Claims, MOST_CLAIMS, Mode, RecordId};
 use vll_sca::{Placing, Status};
+use vll_test_procedures::{Event, Subject, play};
 
-#[test]
-fn lowest_fault_of_a_configuration_is_answered(rt: HostRuntime) {
-    for (chosen, fault) in [
-        (config(0, 0, 0), Some(OpenFault::Limit)),
-        (config(0, 1, 0), Some(OpenFault::Cap)),
-        (config(1, 1, 0), Some(OpenFault::Bits)),
-        (config(1, 1, 1), None),
-        (config(65_537, 65_537, 1_048_577), Some(OpenFault::Limit)),
-        (config(65_537, 65_536, 1_048_577), Some(OpenFault::Cap)),
-        (config(65_536, 65_536, 1_048_577), Some(OpenFault::Bits)),
-        (config(65_536, 65_536, 1_048_576), None),
-        (config(1, 65_537, 1), Some(OpenFault::Limit)),
-        (config(65_537, 1, 1), Some(OpenFault::Cap)),
-        (config(1, 1, 1_048_577), Some(OpenFault::Bits)),
-    ] {
-        let opened = Queue::open(rt.alloc(), chosen, Placing::Modulo);
-        equal(&rt, opened.err(), fault);
+// A call that writes one record.
+fn writes(number: u32, record: u32) -> Call {
+    let mut claims = Claims::new();
+    claims.add(Claim {
+        id: RecordId(record),
+        mode: Mode::Write,
+    });
+    Call {
+        number,
+        arg_count: 0,
+        args: [0; MOST_ARGS],
+        found: None,
+        claims,
+        cells: [0; MOST_CLAIMS],
     }
+}
+
+// Enters a call if the queue is neither spent nor busy: it writes `record`, and is of this client and this procedure.
+fn enter(queue: &mut Queue<Placing>, numbers: [u32; 3], free: bool) -> Option<Ticket> {
+    let [record, client, number] = numbers;
+    if queue.is_spent() || queue.is_busy() {
+        return None;
+    }
+    Some(queue.admit(client, &writes(number, record), free))
+}
+
+// Removes a call if it runs. Its reply is an abort with this code.
+fn finish(queue: &mut Queue<Placing>, ticket: Ticket, code: u32) -> Option<Ticket> {
+    let code = u16::try_from(code).ok()?;
+    match queue.status(ticket) {
+        Some(Status::Running) => {
+            queue.remove(ticket, &Reply::Aborted(Reason::Code(code)));
+            Some(ticket)
+        }
+        _ => None,
+    }
+}
+
+fn line_text(alloc: Global, line: &Line) -> Result<String, AllocError> {
+    let client = line.client;
+    let number = line.call.number;
+    match &line.reply {
+        Some(reply) => format!(in alloc; "client {client} call {number} {reply}"),
+        None => format!(in alloc; "client {client} call {number}"),
+    }
+}
+
+fn status_text(status: Option<Status>) -> &'static str {
+    match status {
+        Some(Status::Running) => "running",
+        Some(Status::Waiting) => "waiting",
+        Some(Status::Gone) => "gone",
+        None => "none",
+    }
+}
+
+fn ticket_text(alloc: Global, ticket: Option<Ticket>) -> Result<String, AllocError> {
+    match ticket {
+        Some(Ticket(ticket)) => format!(in alloc; "ticket {ticket}"),
+        None => String::from_str(alloc, "none"),
+    }
+}
+
+// A queue as the subject of transcripts.
+#[derive(Drop)]
+struct Played(Queue<Placing>);
+
+impl Subject for Played {
+    fn answer(&mut self, alloc: Global, event: &Event) -> Result<String, Fail> {
+        let [first, second, _] = event.numbers;
+        let ticket = Ticket(first);
+        let text = match event.name {
+            "free" => ticket_text(alloc, enter(&mut self.0, event.numbers, true))?,
+            "blocked" => ticket_text(alloc, enter(&mut self.0, event.numbers, false))?,
+            "finish" => ticket_text(alloc, finish(&mut self.0, ticket, second))?,
+            "front" => ticket_text(alloc, self.0.front())?,
+            "scan" => ticket_text(alloc, self.0.scan())?,
+            "counts" => self.standing(alloc)?,
+            "spent" => format!(in alloc; "{}", self.0.is_spent())?,
+            "busy" => format!(in alloc; "{}", self.0.is_busy())?,
+            "status" => String::from_str(alloc, status_text(self.0.status(ticket)))?,
+            "lines" => format!(in alloc; "{}", self.0.journal().len())?,
+            "line" => match self.0.line(ticket) {
+                Some(line) => line_text(alloc, line)?,
+                None => String::from_str(alloc, "none")?,
+            },
+            _ => return Err(Fail::new("no such event")),
+        };
+        Ok(text)
+    }
+
+    fn standing(&self, alloc: Global) -> Result<String, AllocError> {
+        format!(in alloc; "{} {}", self.0.running(), self.0.waiting())
+    }
+}
+
+pub(crate) fn sizes(cap: u32, limit: u32, bits: u32) -> Config {
+    Config { cap, limit, bits }
+}
+
+// Plays a transcript on an empty queue. Returns the number of lines of its journal.
+pub(crate) fn run(rt: &impl AllocGlobal, config: Config, transcript: &str) -> Result<usize, Fail> {
+    let mut played = Played(Queue::open(rt.alloc(), config, Placing::Modulo)?);
+    play(rt.alloc(), &mut played, transcript)?;
+    let Played(queue) = played;
+    Ok(queue.into_journal().len())
 }
 
 #[test]
 fn nothing_is_entered_at_first(rt: HostRuntime) -> Result<(), Fail> {
     run(
         &rt,
-        config(1, 1, 1),
-        &[
-            Spent(false),
-            Busy(false),
-            Steps(&[(Front, None), (Scan, None)]),
-            Counts(0, 0),
-            Standing(0, None),
-            Line(0, None),
-            Lines(0),
-        ],
+        sizes(1, 1, 1),
+        "spent: false; busy: false; front: none; scan: none; counts: 0 0; status 0: none; line 0: none; lines: 0",
     )?;
     Ok(())
 }
@@ -52,19 +130,10 @@ fn nothing_is_entered_at_first(rt: HostRuntime) -> Result<(), Fail> {
 fn calls_enter_in_order_up_to_the_limit(rt: HostRuntime) -> Result<(), Fail> {
     let lines = run(
         &rt,
-        config(2, 2, 1),
-        &[
-            Steps(&[(Free(3, 7, 0), Some(0))]),
-            Spent(false),
-            Steps(&[(Blocked(1, 8, 0), Some(1))]),
-            Spent(true),
-            Standing(0, Some(Status::Running)),
-            Standing(1, Some(Status::Waiting)),
-            Standing(2, None),
-            Counts(1, 1),
-            Line(0, Some((3, 7, None))),
-            Line(1, Some((1, 8, None))),
-        ],
+        sizes(2, 2, 1),
+        "free 0 3 7: ticket 0; spent: false; blocked 0 1 8: ticket 1; spent: true
+         status 0: running; status 1: waiting; status 2: none; counts: 1 1
+         line 0: client 3 call 7; line 1: client 1 call 8; lines: 2",
     )?;
     equal(&rt, lines, 2);
     Ok(())
@@ -74,24 +143,10 @@ fn calls_enter_in_order_up_to_the_limit(rt: HostRuntime) -> Result<(), Fail> {
 fn queue_is_busy_while_as_many_calls_as_the_cap_wait(rt: HostRuntime) -> Result<(), Fail> {
     run(
         &rt,
-        config(2, 5, 1),
-        &[
-            Steps(&[(Free(0, 0, 0), Some(0))]),
-            Busy(false),
-            Steps(&[(Blocked(0, 0, 0), Some(1))]),
-            Busy(false),
-            Steps(&[(Free(0, 0, 0), Some(2))]),
-            Busy(false),
-            Steps(&[(Blocked(0, 0, 0), Some(3))]),
-            Busy(true),
-            Spent(false),
-            Steps(&[(Finish(0, 0), Some(0))]),
-            Busy(true),
-            Steps(&[(Front, Some(1))]),
-            Busy(false),
-            Steps(&[(Blocked(0, 0, 0), Some(4))]),
-            Busy(true),
-        ],
+        sizes(2, 5, 1),
+        "free 0: ticket 0; busy: false; blocked 0: ticket 1; busy: false; free 0: ticket 2; busy: false
+         blocked 0: ticket 3; busy: true; spent: false; finish 0: ticket 0; busy: true
+         front: ticket 1; busy: false; blocked 0: ticket 4; busy: true",
     )?;
     Ok(())
 }
@@ -100,29 +155,10 @@ fn queue_is_busy_while_as_many_calls_as_the_cap_wait(rt: HostRuntime) -> Result<
 fn front_waits_for_all_before_it(rt: HostRuntime) -> Result<(), Fail> {
     run(
         &rt,
-        config(4, 4, 1),
-        &[
-            Steps(&[
-                (Free(0, 0, 0), Some(0)),
-                (Free(0, 0, 0), Some(1)),
-                (Blocked(0, 0, 0), Some(2)),
-                (Blocked(0, 0, 0), Some(3)),
-                (Front, None),
-                (Finish(1, 1), Some(1)),
-                (Front, None),
-                (Finish(0, 0), Some(0)),
-                (Front, Some(2)),
-                (Front, None),
-            ]),
-            Counts(1, 1),
-            Steps(&[
-                (Finish(2, 2), Some(2)),
-                (Front, Some(3)),
-                (Finish(3, 3), Some(3)),
-                (Front, None),
-            ]),
-            Counts(0, 0),
-        ],
+        sizes(4, 4, 1),
+        "free 0: ticket 0; free 0: ticket 1; blocked 0: ticket 2; blocked 0: ticket 3; front: none
+         finish 1: ticket 1; front: none; finish 0: ticket 0; front: ticket 2; front: none; counts: 1 1
+         finish 2: ticket 2; front: ticket 3; finish 3: ticket 3; front: none; counts: 0 0",
     )?;
     Ok(())
 }
@@ -131,18 +167,9 @@ fn front_waits_for_all_before_it(rt: HostRuntime) -> Result<(), Fail> {
 fn gone_call_keeps_its_line_with_the_reply(rt: HostRuntime) -> Result<(), Fail> {
     run(
         &rt,
-        config(1, 2, 1),
-        &[
-            Steps(&[
-                (Free(3, 7, 0), Some(0)),
-                (Free(1, 8, 0), Some(1)),
-                (Finish(0, 5), Some(0)),
-                (Finish(0, 6), None),
-            ]),
-            Standing(0, Some(Status::Gone)),
-            Line(0, Some((3, 7, Some(5)))),
-            Line(1, Some((1, 8, None))),
-        ],
+        sizes(1, 2, 1),
+        "free 0 3 7: ticket 0; free 0 1 8: ticket 1; finish 0 5: ticket 0; finish 0 6: none
+         status 0: gone; line 0: client 3 call 7 aborted code 5; line 1: client 1 call 8",
     )?;
     Ok(())
 }

@@ -66,24 +66,27 @@ fn push_calls(text: &mut String, core: &Core<Placing>) -> Result<(), AllocError>
         let client = line.client;
         write!(text, "call {ticket} client {client} ")?;
         push_state(text, core.state(Ticket(ticket)), line)?;
-        text.push_str("\n")?;
+        text.push_str(", ")?;
     }
     Ok(())
 }
 
-fn push_records(text: &mut String, words: &[u64]) -> Result<(), AllocError> {
-    for record in 0..words.len() / 2 {
-        if let (Some(value), Some(pair)) = (words.get(1 + 2 * record), words.get(2 + 2 * record)) {
-            writeln!(text, "record {record} value {value} pair {pair}")?;
-        }
+// Returns words, separated by spaces.
+pub(crate) fn written(alloc: Global, words: &[u64]) -> Result<String, AllocError> {
+    let mut text = String::new(alloc);
+    for word in words {
+        let gap = if text.is_empty() { "" } else { " " };
+        write!(text, "{gap}{word}")?;
     }
-    Ok(())
+    Ok(text)
 }
 
-// Returns the content of a core: a line for each entered call, then one for each record.
+// Returns the content of a core: each entered call, then the words.
 pub(crate) fn standing(alloc: Global, core: &Core<Placing>) -> Result<String, AllocError> {
     let mut text = String::new(alloc);
     push_calls(&mut text, core)?;
-    push_records(&mut text, core.words())?;
+    let words = written(alloc, core.words())?;
+    text.push_str("words ")?;
+    text.push_str(words.as_str())?;
     Ok(text)
 }

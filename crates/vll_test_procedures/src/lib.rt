@@ -1,7 +1,8 @@
 //! The procedures that the tests of several crates call, and scenarios from JSON text for such tests. `library` makes a
-//! checked library of seven small procedures for any number of records from 1, and `parts` reads the parts of any
-//! scenario that a test writes as text. The crate proves that a library is for the number of records asked for, and
-//! that the library of a scenario makes each call of its scripts. Start at `library` and `parts`.
+//! checked library of seven small procedures for any number of records from 1, `parts_with` reads the parts of a
+//! scenario of these procedures, and `parts` those of any scenario that a test writes as text. `play` makes the events
+//! of a transcript, and looks at each answer. The crate proves that a library is for the number of records asked for,
+//! and that the library of a scenario makes each call of its scripts. Start at `library`, `parts_with` and `play`.
 //!
 //! ```rattle
 //! let library = library(rt.alloc(), 2)?;
@@ -11,16 +12,19 @@
 //! ```
 #![tactic(auto)]
 
+mod transcript;
+
 ghost use Rattle.std.specs.Prelude.{◌≡◌, All, IfOk, length};
 ghost use Rattle.vll_check.specs.Calls.{Fits};
 
 use std::alloc::{AllocError, Global};
 use std::test::Fail;
+pub use transcript::{Event, Subject, play};
 use vll_check::Library;
 use vll_scenario::{Plain, ScenarioParts, read_scenario};
 
-// The procedures of `library`, up to the list of the records.
-const PROCEDURES: &str = r#"{"version":1,"clients":[],"procs":[
+// The procedures of `library`, up to a scenario's other members.
+const PROCEDURES: &str = r#"{"version":1,"procs":[
  {"name":"transfer","args":3,"keys":[["write","arg",0],["write","arg",1]],
   "body":[["set",0,["sub",["key",0],["arg",2]]],
           ["set",1,["add",["key",1],["arg",2]]],["reply",["key",0]]]},
@@ -37,7 +41,7 @@ const PROCEDURES: &str = r#"{"version":1,"clients":[],"procs":[
   "body":[["reply",7]]},
  {"name":"via","args":1,"keys":[["read","arg",0],["write","through",0]],
   "body":[["set",1,["add",["key",1],1]],["reply",["key",1]]]}],
- "records":["#;
+ "#;
 
 /// Returns the parts of the scenario that `text` describes. Fails if `read_scenario` refuses the text.
 pub fn parts(alloc: Global, text: &str) -> Result<ScenarioParts, Fail>
@@ -49,6 +53,16 @@ pub fn parts(alloc: Global, text: &str) -> Result<ScenarioParts, Fail>
     Ok(scenario.into_parts())
 }
 
+/// Returns the parts of a scenario with the procedures of `library`. `members` are its other members, as in JSON:
+/// `"records":[0],"clients":[[{"proc":"bump","args":[0]}]]`.
+pub fn parts_with(alloc: Global, members: &str) -> Result<ScenarioParts, Fail>
+    ensures records { IfOk result (λ p. p.library.records ≡ length p.records.items) }
+    ensures fits { IfOk result (λ p. All (λ script. All (Fits p.library) script.items) p.scripts.items) }
+{
+    let text = format!(in alloc; "{PROCEDURES}{members}}}")?;
+    parts(alloc, text.as_str())
+}
+
 /// Returns a library for `records` records, at least 1. Its procedures are, in order: `transfer` of an amount from one
 /// record to another, which replies what is left; `bump`, which adds 1 to a record and replies the sum; `sum2`, which
 /// replies the sum of two records; `read`, which replies a record; `take` of an amount from a record, which replies
@@ -57,8 +71,8 @@ pub fn parts(alloc: Global, text: &str) -> Result<ScenarioParts, Fail>
 pub fn library(alloc: Global, records: u32) -> Result<Library, Fail>
     ensures { IfOk result (λ l. l.records ≡ records) }
 {
-    let text = text_for(alloc, records)?;
-    let parts = parts(alloc, text.as_str())?;
+    let members = members_for(alloc, records)?;
+    let parts = parts_with(alloc, members.as_str())?;
     let library = parts.library;
     if library.records() != records {
         return Err(Fail::new("another number of records"));
@@ -66,12 +80,12 @@ pub fn library(alloc: Global, records: u32) -> Result<Library, Fail>
     Ok(library)
 }
 
-// The text of a scenario of these procedures with `records` records, each of which holds 0.
-fn text_for(alloc: Global, records: u32) -> Result<String, AllocError> {
-    let mut text = String::from_str(alloc, PROCEDURES)?;
+// The members of a scenario with `records` records, each of which holds 0, and without clients.
+fn members_for(alloc: Global, records: u32) -> Result<String, AllocError> {
+    let mut text = String::from_str(alloc, "\"clients\":[],\"records\":[")?;
     for _ in 1..records {
         text.push_str("0,")?;
     }
-    text.push_str("0]}")?;
+    text.push_str("0]")?;
     Ok(text)
 }
