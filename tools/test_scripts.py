@@ -229,7 +229,7 @@ class Scripts(unittest.TestCase):
         lines = self.said_of('trials', 'exit 0', '--refusals', self.room / 'program', 'command_line', 'faults',
                              'lacks', 'service', 'refused_memory')[1]
         # it cannot be tried everywhere how threads are lacked, and a socket needs socat
-        self.assertRegex(lines[-1], '^trials: 0 passed, (54 failed, 2|55 failed, 1|56 failed, 0) skipped$')
+        self.assertRegex(lines[-1], '^trials: 0 passed, (72 failed, 2|73 failed, 1|74 failed, 0) skipped$')
 
     def test_random_tests_of_wrong_programs_fail(self):
         right = f'"{sys.executable}" "{TOOLS}/replay_model.py" /dev/stdin'

@@ -79,6 +79,44 @@ def texts():
     yield 'call of no procedure', scenario(procedure(''), f'[{script}]'), f'clients 0, call {count}'
     script, count = listed(CALL, '{"proc":"p","args":[0]}')
     yield 'call with an argument too many', scenario(procedure(''), f'[],[{script}]'), f'clients 1, call {count}'
+    yield from shapes(first)
+
+
+def shapes(first):
+    """The same for texts in which a piece is not what it has to be."""
+    for what, last, behind in [('unknown statement', '["lot",0,1]', ''), ('statement without a value', '["let",0]', ''),
+                               ('negative index', '["let",0,["local",-1]]', ', value, index')]:
+        body, way = in_ifs(last)
+        yield f'{what} in lists', scenario(procedure(body)), f'{first}{way}{behind}'
+    for what, last in ('unknown operation', '["neg",1]'), ('list without a word', '[]'), ('object', '{}'):
+        body, way = in_operands(last)
+        yield f'{what} in operands', scenario(procedure(body)), f'{first}{way}'
+    inside, count = listed(TREE, '["let",0]')
+    body = '["repeat",1,[' * 55 + inside + ']]' * 55
+    yield 'faulty repeats', scenario(procedure(body)), f'{first}, body{", statement 0, list" * 55}, statement {count}'
+    body = f'["if",{SUM},[' * 55 + inside + '],[]]' * 55
+    yield 'faulty tests', scenario(procedure(body)), f'{first}, body{", statement 0, first list" * 55}, statement {count}'
+    body = '["if",0,[],[' * 55 + f'["foo",1,[{inside}],[]]' + ']]' * 55
+    way = ', body' + ', statement 0, second list' * 55
+    yield 'a large unknown statement', scenario(procedure(body)), f'{first}{way}, statement 0'
+    body, count = listed('["reply",["not",1]]', '["reply",["not",true]]')
+    yield 'wide body', scenario(procedure(body)), f'{first}, body, statement {count}, value, operand'
+    keys, count = listed('["read","arg",0]', '["read","arg",-1]')
+    yield 'wide keys', scenario(procedure('', keys, 1)), f'{first}, keys, key {count}, index'
+    records, count = listed('0', '-1')
+    yield 'records', scenario(records=records), f'records {count}'
+    procedures, count = listed(procedure(TREE), procedure('["reply"]'))
+    yield 'faulty procedures', scenario(procedures), f'procs {count} ("p"), body, statement 0'
+    scripts, count = listed(f'[{CALL}]', '[{"proc":"p","args":[0,-1]}]')
+    yield 'last call of many scripts', scenario(procedure(''), scripts), f'clients {count}, call 0, args, argument 1'
+    script, count = listed(CALL, '{"proc":1,"args":[]}')
+    yield 'last call of a long script', scenario(procedure(''), f'[{script}]'), f'clients 0, call {count}, proc'
+    events, count = listed('["enter",0]', '["enter",-1]')
+    yield 'events', scenario(more=f',"schedule":[{events}]'), f'schedule {count}, client'
+    members = ','.join(f'"m{number}":0' for number in range(SIZE // 10))
+    body = f'["reply",{{{members}}}]'
+    yield 'object with many members', scenario(procedure(body)), f'{first}, body, statement 0, value'
+    yield 'members that are not known', f'{{{members}}}', 'the scenario'
 
 
 def processor_time(program, command, text):

@@ -1,5 +1,7 @@
 mod Forms
 mod Ways
+mod Read
+mod Shapes
 mod Refused
 mod Parts
 mod Searched

@@ -1,5 +1,5 @@
 -- Whether a part passes a test, by the parts in it.
-use Rattle.std.proofs.Common.{◌≡◌, ◌∙◌, ◌⊎◌, ◌≤◌, ℕ, suc, max, min, Bool, true, false, ◌&&◌, List, [], ◌∷◌, Some, None, inl, inr, refl, ap, sym, subst, arith}
+use Rattle.std.proofs.Common.{◌≡◌, ◌∙◌, ◌≤◌, ℕ, suc, max, min, Bool, true, false, ◌&&◌, List, [], ◌∷◌, None, inl, inr, refl, ap, sym, subst, arith}
 use Rattle.std.proofs.lemmas.Bool.{and_from, and_right, le-leb, leb-false, leb-true, lt-leb}
 use Rattle.std.specs.List.{list_all}
 use Rattle.std.specs.Prelude.{nat_le, length}
@@ -8,7 +8,7 @@ use Rattle.vll_proc.specs.declared.syntax.Edition.{Edition}
 use Rattle.vll_proc.specs.declared.syntax.Expr.{Expr, Row_of-Expr, end_of-Expr, more_of-Expr, Num, Arg, Key, Local, Add', Sub', Mul', Div', Rem', Min', Max', Equal', Less', Not', Not}
 use Rattle.vll_proc.specs.declared.syntax.Proc.{Proc}
 use Rattle.vll_proc.specs.declared.syntax.Stmt.{Stmt, Let, Set, If, Abort, Reply, Repeat}
-use Rattle.vll_proc.specs.WellFormed.{all_leaves, any_leaf, any_stmt, arg_is_below, body_depth, body_reads_set, depth, key_is_below, let_is_known, local_is_known, local_is_set, may_repeat, operand_leaves, reads_set, set_is_below, sets_no_read_key, stmt_depth, throughout, turns_are_few}
+use Rattle.vll_proc.specs.WellFormed.{all_leaves, any_leaf, any_stmt, arg_is_below, body_depth, key_is_below, let_is_known, local_is_known, local_is_set, may_repeat, operand_leaves, set_is_below, sets_no_read_key, stmt_depth, throughout, turns_are_few}
 use Rattle.vll_proc.proofs.Equations.{all_leaves_not}
 use Rattle.vll_proc.proofs.Lists.{reads_set_if, reads_set_repeat, stmt_depth_if, stmt_depth_repeat, throughout_if, throughout_repeat, turns_are_few_if, turns_are_few_repeat}
 use Rattle.vll_proc.proofs.Noted.{IsOperation}

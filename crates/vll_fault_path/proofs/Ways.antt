@@ -1,5 +1,5 @@
--- A way goes from a piece to one that nests less deeply, and so it ends.
-use Rattle.std.proofs.Common.{◌≡◌, ℕ, suc, ◌<◌, ◌≤◌, ◌++◌, ◌==◌, max, Bool, true, false, List, [], ◌∷◌, length, Option, Some, None, Ordering, Less, Equal, Greater, if◌then◌else◌, is_some, option_map, refl, sym, ap, subst, subst₂, append-nil, ◌∙◌, ◌+◌, add-one, append_assoc, arith}
+-- The pieces in a piece nest less deeply than it, so a search of them ends.
+use Rattle.std.proofs.Common.{◌≡◌, ℕ, zero, suc, ◌<◌, ◌≤◌, ◌++◌, ◌==◌, max, Bool, true, false, List, [], ◌∷◌, length, get_or, map, Option, Some, None, Ordering, Less, Equal, Greater, if◌then◌else◌, is_some, refl, ap, subst, arith}
 use Rattle.std.specs.Prelude.{⊤, codes}
 use Rattle.std.specs.Ordering.{nat_cmp}
 use Rattle.std.specs.Cmp.Lexicographic.{slice_cmp}
@@ -7,7 +7,7 @@ use Rattle.std.specs.Ordering.{match_ordering}
 use Rattle.serde_json.specs.Data.{Data, string, array, object, Items, no_items, item, Members, no_members, member, depth, items_depth, members_depth}
 use Rattle.serde_json.specs.Events.{items_len}
 use Rattle.serde_json.specs.Find.{as_array, as_str, get, get_member}
-use Rattle.serde_json.specs.View.{items_of, items_view, view}
+use Rattle.serde_json.specs.View.{items_view, view}
 use Rattle.serde_json.specs.declared.value.Value.{Value}
 use Rattle.vll_proc.specs.declared.syntax.Edition.{Edition}
 use Rattle.vll_fault_path.specs.declared.piece.Kind.{Kind}
@@ -16,18 +16,15 @@ use Rattle.vll_fault_path.specs.declared.form.Slot.{Slot}
 use Rattle.vll_fault_path.specs.declared.piece.Step.{Step}
 use Rattle.vll_fault_path.specs.declared.piece.Step.TheVariants as step
 use Rattle.vll_fault_path.specs.Forms.{form_of}
-use Rattle.vll_fault_path.specs.Pieces.{Piece, item_kind, item_step, items_from, member_piece, piece_if, pieces_behind, pieces_by, pieces_of, pieces_of_call, pieces_of_form, pieces_of_key, pieces_of_list, pieces_of_place, pieces_of_procedure, pieces_of_slots, pieces_of_words}
+use Rattle.vll_fault_path.specs.Pieces.{Piece, items_from, member_piece, piece_if, pieces_behind, pieces_of_call, pieces_of_form, pieces_of_key, pieces_of_list, pieces_of_place, pieces_of_procedure, pieces_of_slots, pieces_of_words}
 use Rattle.vll_scenario.specs.Syntax.{has_exactly, mode_at, proc_names}
-use Rattle.vll_fault_path.specs.declared.piece_test.PieceTest.{PieceTest}
 use Rattle.vll_fault_path.specs.declared.way.Found.{Found}
-use Rattle.vll_fault_path.specs.PieceTests.{passes}
 use Rattle.vll_fault_path.specs.Private.{piece_of}
-use Rattle.vll_fault_path.specs.Ways.{Leads, first_faulty}
 
--- one more than how deeply a piece that was found nests; 0 if there is none
-abbrev pub height : Option Piece → ℕ
-height None = 0
-height (Some at) = suc (depth at.value)
+-- one more than how deeply the pieces of a list nest
+abbrev pub height : List Piece → ℕ
+height [] = 0
+height (p ∷ ps) = max (suc (depth p.value)) (height ps)
 
 -- each piece of a list nests less deep than a number
 abbrev pub Shallow : ℕ → List Piece → Type 0
@@ -116,86 +113,29 @@ shallow-form edition kind.Call d = shallow-call d
 shallow-form edition kind.Key d = shallow-key edition d
 shallow-form edition k d = shallow-words edition k d
 
-shallow-by : (edition : Edition) (k : Kind) (of : Option Kind) (d : Data) → Shallow (depth d) (pieces_by edition k of d)
-shallow-by edition k None d = shallow-form edition k d
-shallow-by edition k (Some of) d = shallow-list k of d
+shallow-height : (n : ℕ) (ps : List Piece) → Shallow n ps → height ps ≤ n
+shallow-height n [] all = omega arith
+shallow-height n (p ∷ ps) all = omega (arith, all.0, shallow-height n ps all.1)
 
-by_test : (n : ℕ) (b : Bool) (p at : Piece) (others : Option Piece) → (if b then others else Some p) ≡ Some at → (others ≡ Some at → depth at.value < n) → depth p.value < n → depth at.value < n
-by_test n true p at others is more here = more is
-by_test n false p at others is more here = let same : p ≡ at = cc in subst (λ (r : Piece). depth r.value < n) same here
+-- the pieces of a form nest less deep than it
+pub form-height : (edition : Edition) (k : Kind) (d : Data) → height (pieces_of_form edition k d) ≤ depth d
+form-height edition k d = shallow-height (depth d) _ (shallow-form edition k d)
 
--- what is found next nests less deep
-module _ (edition : Edition) (test : PieceTest) where
-  first-shallow : (n : ℕ) (ps : List Piece) (at : Piece) → Shallow n ps → first_faulty edition test ps ≡ Some at → depth at.value < n
-  first-shallow n [] at all is = absurd (cc)
-  first-shallow n (p ∷ ps) at all is =
-      by_test n (passes edition test p) p at (first_faulty edition test ps) is (λ found. first-shallow n ps at all.1 found) all.0
+-- each piece of a list nests less deep than its height
+pub height-get : (fs : List Found) (i : ℕ) (f : Found) → i < length fs → f ≡ get_or fs i f → depth (view f.value.now) < height (map piece_of fs)
+height-get [] i f within is = absurd (omega (arith, within))
+height-get (g ∷ fs) zero f within is = let same : f ≡ g = cc in rw same (omega arith)
+height-get (g ∷ fs) (suc i) f within is = omega (arith, height-get fs i f (omega (arith, within)) is)
 
-  height-less : (n : ℕ) (o : Option Piece) → ((at : Piece) → o ≡ Some at → depth at.value < n) → height o < suc n
-  height-less n None less = omega arith
-  height-less n (Some at) less = omega (arith, less at refl)
+-- and each item of one nests no deeper than all
+pub items-depth-get : (vs : List Value) (i : ℕ) (v : Value) → i < length vs → v ≡ get_or vs i v → depth (view v) ≤ items_depth (items_view vs)
+items-depth-get [] i v within is = absurd (omega (arith, within))
+items-depth-get (w ∷ vs) zero v within is = let same : v ≡ w = cc in rw same (omega arith)
+items-depth-get (w ∷ vs) (suc i) v within is = omega (arith, items-depth-get vs i v (omega (arith, within)) is)
 
-  found-less : (p : Piece) → height (first_faulty edition test (pieces_of edition p.kind p.value)) < height (Some p)
-  found-less p =
-      height-less (depth p.value) _ (λ at is. first-shallow (depth p.value) _ at (shallow-by edition p.kind (item_kind p.kind) p.value) is)
-
-  pub next-smaller : (now next : Option Found) (f : Found) → now ≡ Some f
-      → option_map piece_of next ≡ first_faulty edition test (pieces_of edition f.kind (view f.value.now)) → height (option_map piece_of next) < height (option_map piece_of now)
-  next-smaller now next f is found =
-      subst₂ (λ a b. height a < height b) (sym found) (sym (ap (option_map piece_of) is)) (found-less (piece_of f))
-
--- ---- a way goes on
-
--- the way so far, and the piece found next
-pub record OnWay (edition : Edition) (test : PieceTest) (start : List Piece) (steps : List Step) (next : Option Found) : Type 0 where
-  pub ps : List Piece
-  pub found : option_map piece_of next ≡ first_faulty edition test ps
-  pub on : (rest : List Step) → Leads edition test ps rest → Leads edition test start (steps ++ rest)
-
-module _ (edition : Edition) (test : PieceTest) (start : List Piece) where
-  pub way-begins : (steps : List Step) (next : Option Found) → steps ≡ [] → option_map piece_of next ≡ first_faulty edition test start → OnWay edition test start steps next
-  way-begins steps next is found = record {
-    ps = start;
-    found = found;
-    on = λ rest leads. subst (λ xs. Leads edition test start (xs ++ rest)) (sym is) leads;
-  }
-
-  pub way-goes_on : (steps new : List Step) (now next : Option Found) (f : Found) → now ≡ Some f → new ≡ steps ++ f.step ∷ []
-      → option_map piece_of next ≡ first_faulty edition test (pieces_of edition f.kind (view f.value.now)) → OnWay edition test start steps now → OnWay edition test start new next
-  way-goes_on steps new now next f is pushed found so_far =
-      let here : first_faulty edition test so_far.ps ≡ Some (piece_of f) = sym so_far.found ∙ ap (option_map piece_of) is in
-      let more : (rest : List Step) → steps ++ f.step ∷ rest ≡ new ++ rest = λ rest. sym (append_assoc steps (f.step ∷ []) rest) ∙ sym (ap (λ xs. xs ++ rest) pushed) in
-      record {
-        ps = pieces_of edition f.kind (view f.value.now);
-        found = found;
-        on = λ rest leads. subst (Leads edition test start) (more rest) (so_far.on (f.step ∷ rest) (piece_of f, here, refl, leads));
-      }
-
-  pub way-ends : (steps : List Step) (next : Option Found) → next ≡ None → OnWay edition test start steps next → Leads edition test start steps
-  way-ends steps next none so_far =
-      let last : first_faulty edition test so_far.ps ≡ None = sym so_far.found ∙ ap (option_map piece_of) none in
-      subst (Leads edition test start) (append-nil steps) (so_far.on [] last)
-
--- ---- the items from one on
-
-if-true : {A : Type 0} (b : Bool) (x y : A) → b ≡ true → (if b then x else y) ≡ x
-if-true true x y is = refl
-if-true false x y is = absurd (cc)
-
-if-false : {A : Type 0} (b : Bool) (x y : A) → b ≡ false → (if b then x else y) ≡ y
-if-false true x y is = absurd (cc)
-if-false false x y is = refl
-
-abbrev pub made : Step → Kind → Data → Piece
-made s k d = record { step = s; kind = k; value = d }
-
-pub items-next : (edition : Edition) (test : PieceTest) (list k : Kind) (i : ℕ) (d : Data) (ds : List Data) → passes edition test (made (item_step list i) k d) ≡ true
-    → first_faulty edition test (items_from list k (i + 1) (items_of ds)) ≡ first_faulty edition test (items_from list k i (items_of (d ∷ ds)))
-items-next edition test list k i d ds is = ap (λ j. first_faulty edition test (items_from list k j (items_of ds))) (add-one i) ∙ sym (if-true _ _ _ is)
-
-pub items-found : (edition : Edition) (test : PieceTest) (list k : Kind) (i : ℕ) (d : Data) (ds : List Data) → passes edition test (made (item_step list i) k d) ≡ false
-    → first_faulty edition test (items_from list k i (items_of (d ∷ ds))) ≡ Some (made (item_step list i) k d)
-items-found edition test list k i d ds is = if-false _ _ _ is
+pub array-depth : (d : Data) (ds : Items) → as_array d ≡ Some ds → depth d ≡ suc (items_depth ds)
+array-depth (array es) ds is = let same : es ≡ ds = cc in rw same refl
+array-depth _ ds is = absurd (cc)
 
 pub items_len-view : (vs : List Value) → items_len (items_view vs) ≡ length vs
 items_len-view [] = refl

@@ -12,8 +12,6 @@ use Rattle.vll_fault_path.specs.declared.piece.Kind.{Kind}
 use Rattle.vll_fault_path.specs.declared.piece.Kind.TheVariants as kind
 use Rattle.vll_fault_path.specs.declared.piece.Step.{Step}
 use Rattle.vll_fault_path.specs.declared.piece.Step.TheVariants as step
-use Rattle.vll_fault_path.specs.declared.piece_test.PieceTest.{PieceTest}
-use Rattle.vll_fault_path.specs.declared.piece_test.PieceTest.TheVariants as test
 use Rattle.vll_fault_path.specs.Pieces.{Piece, is_read}
 use Rattle.vll_scenario.specs.Tree.{u32_at}
 
@@ -42,7 +40,12 @@ has_size s kind.Schedule d = nat_le (count_in d) MOST_EVENTS
 has_size s kind.Whole d = unwrap_or (option_map (option_has_size s) (u32_at d)) true
 has_size s _ d = true
 
+-- a test of the pieces of a scenario: whether each is what it has to be, or whether each is within its limits
+pub data PieceTest : Type 0 where
+  Shape : PieceTest
+  Sizes : PieceTest
+
 -- whether a piece passes a test
 abbrev pub passes : Edition → PieceTest → Piece → Bool
-passes edition test.Shape p = is_read edition p.kind p.value
-passes edition test.Sizes p = has_size p.step p.kind p.value
+passes edition Shape p = is_read edition p.kind p.value
+passes edition Sizes p = has_size p.step p.kind p.value

@@ -1,5 +1,5 @@
 -- What the search for the piece at fault handles. Cited by private contracts alone.
-use Rattle.std.specs.Prelude.{◌≡◌, ◌⊎◌, ℕ, suc, min, Bool, true, false, nat_le, List, ◌++◌, Result, Ok, Err}
+use Rattle.std.specs.Prelude.{◌≡◌, ◌⊎◌, ℕ, suc, min, Bool, true, false, nat_le, List, ◌++◌, Option, Some, None, is_none, Result, Ok, Err}
 use Rattle.serde_json.specs.View.{view}
 use Rattle.vll_proc.specs.declared.limits.TheConstants.{MOST_DEPTH}
 use Rattle.vll_proc.specs.declared.syntax.Edition.{Edition}
@@ -17,11 +17,33 @@ use Rattle.vll_fault_path.specs.declared.part.Stop.TheVariants.{Fault, NoMemory}
 use Rattle.vll_fault_path.specs.declared.piece.Step.{Step}
 use Rattle.vll_fault_path.specs.declared.way.Found.{Found}
 use Rattle.vll_fault_path.specs.Parts.{LeadsIn, Part, list, part_passes, statement}
-use Rattle.vll_fault_path.specs.Pieces.{Piece}
+use Rattle.vll_fault_path.specs.PieceTests as test
+use Rattle.vll_fault_path.specs.PieceTests.{passes}
+use Rattle.vll_fault_path.specs.Pieces.{Piece, pieces_of}
+use Rattle.vll_fault_path.specs.Ways.{Leads, first_faulty}
 
 -- a piece that was found, as contracts see it
 abbrev pub piece_of : Found → Piece
 piece_of f = record { step = f.step; kind = f.kind; value = view f.value.now }
+
+-- no piece is other than what it has to be
+abbrev pub all_read : Edition → List Piece → Bool
+all_read edition ps = is_none (first_faulty edition test.Shape ps)
+
+-- a way through some pieces to the one that is not what it has to be has come behind some steps
+abbrev pub LeadsBehind : Edition → List Piece → List Step → List Step → Type 0
+LeadsBehind edition ps old new = (rest : List Step) × (new ≡ old ++ rest) × Leads edition test.Shape ps rest
+
+-- some pieces were searched: all are what they have to be, and the steps are as before, or one is not, and the way to it
+-- has come behind them
+abbrev pub EndsPieces : Edition → List Piece → Option Found → List Step → List Step → Type 0
+EndsPieces edition ps None old new = (new ≡ old) × (all_read edition ps ≡ true)
+EndsPieces edition ps (Some f) old new = (all_read edition ps ≡ false) × LeadsBehind edition ps old new
+
+-- a piece was searched
+abbrev pub EndsPiece : Edition → Piece → Option Found → List Step → List Step → Type 0
+EndsPiece edition p None old new = (new ≡ old) × (passes edition test.Shape p ≡ true)
+EndsPiece edition p (Some f) old new = (passes edition test.Shape p ≡ false) × LeadsBehind edition (pieces_of edition p.kind p.value) old new
 
 -- a way from a part to the one at fault has come behind some steps
 abbrev pub LeadsOn : Piecewise → Before → Part → List Step → List Step → Type 0

@@ -13,10 +13,9 @@ use Rattle.vll_scenario.specs.declared.fault.ScenarioFault.{ScenarioFault}
 use Rattle.vll_scenario.specs.declared.fault.ScenarioFault.TheVariants as fault
 use Rattle.vll_fault_path.specs.declared.piece.Step.{Step}
 use Rattle.vll_fault_path.specs.declared.piece.Step.TheVariants as step
-use Rattle.vll_fault_path.specs.declared.piece_test.PieceTest.{PieceTest}
-use Rattle.vll_fault_path.specs.declared.piece_test.PieceTest.TheVariants as test
 use Rattle.vll_fault_path.specs.Parts.{LeadsIn, whole}
-use Rattle.vll_fault_path.specs.PieceTests.{count_in, passes}
+use Rattle.vll_fault_path.specs.PieceTests as test
+use Rattle.vll_fault_path.specs.PieceTests.{PieceTest, count_in, passes}
 use Rattle.vll_fault_path.specs.Pieces.{Piece, pieces_of, pieces_of_scenario}
 use Rattle.vll_scenario.specs.Shape.{edition_of}
 use Rattle.vll_scenario.specs.Syntax.{proc_at}

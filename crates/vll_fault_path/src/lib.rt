@@ -15,6 +15,7 @@ mod laws;
 mod part;
 mod piece;
 mod piece_test;
+mod shape;
 mod way;
 
 pub use form::{Form, Slot, form_with, forms_of};

@@ -1,5 +1,5 @@
 //! The way into a procedure that is refused, to the part of it that is at fault.
-ghost use Rattle.std.specs.Prelude.{◌≡◌, ◌++◌, ◌∷◌, [], List, false, min, suc, OnOk};
+ghost use Rattle.std.specs.Prelude.{◌≡◌, [], List, false, min, suc, OnOk};
 ghost use Rattle.vll_proc.specs.WellFormed.{depth};
 ghost use Rattle.vll_proc.specs.declared.syntax.Stmt.{Repeat};
 ghost use Rattle.vll_check.specs.Pieces.{nothing_before};
@@ -7,7 +7,7 @@ ghost use Rattle.vll_fault_path.specs.Parts as part;
 ghost use Rattle.vll_fault_path.specs.Parts.{HasParts};
 ghost use Rattle.vll_fault_path.specs.Private.{EndsList, EndsSearch, EndsStatement, HasValue, IsDepth, LeadsOn, allows_repeat, is_counted, is_shallow};
 
-use crate::piece::Step;
+use crate::piece::{Step, step_back};
 use std::alloc::{AllocError, AllocFailed};
 use vll_check::{Before, CheckFault, Piecewise};
 use vll_proc::{Edition, Expr, KeyAt, KeyDecl, MOST_DEPTH, MOST_TURNS, Stmt};
@@ -75,13 +75,6 @@ pub(crate) fn push_parts(steps: &mut Vec<Step>, test: &Piecewise) -> Result<u64,
         Err(Stop::Fault(number)) => Ok(number),
         Err(Stop::NoMemory) => Err(AllocError),
     }
-}
-
-// Takes the last step back.
-fn step_back(steps: &mut Vec<Step>)
-    ensures { (others : List Step) (last : Step) → steps.old.items ≡ others ++ last ∷ [] → steps.new.items ≡ others }
-{
-    steps.pop();
 }
 
 // Whether a test is of the whole body, and of no statement in it.

@@ -1,5 +1,5 @@
 //! The pieces of a scenario, and how they nest.
-ghost use Rattle.std.specs.Prelude.{◌≡◌};
+ghost use Rattle.std.specs.Prelude.{◌≡◌, ◌++◌, ◌∷◌, [], List};
 ghost use Rattle.vll_fault_path.specs.Pieces.{item_kind, item_step};
 
 use std::fmt;
@@ -119,6 +119,13 @@ impl fmt::Display for Step {
             Step::Ticket => ", ticket",
         })
     }
+}
+
+// Takes the last step of a way back.
+pub(crate) fn step_back(steps: &mut Vec<Step>)
+    ensures { (others : List Step) (last : Step) → steps.old.items ≡ others ++ last ∷ [] → steps.new.items ≡ others }
+{
+    steps.pop();
 }
 
 // What the items of a piece have to be, if it is a list of any length.

@@ -3,14 +3,12 @@ ghost use Rattle.std.specs.Prelude.{◌≡◌, Option, IfOk, is_some, nat_le, op
 ghost use Rattle.serde_json.specs.Find.{as_array};
 ghost use Rattle.serde_json.specs.View.{items_view, view};
 ghost use Rattle.vll_core.specs.declared.config.TheConstants.{MOST_CALLS};
-ghost use Rattle.vll_fault_path.specs.PieceTests.{calls_in, count_in, has_size, option_has_size, passes};
+ghost use Rattle.vll_fault_path.specs.PieceTests.{calls_in, count_in, has_size, option_has_size};
 ghost use Rattle.vll_core.specs.Faults.{is_up_to};
 ghost use Rattle.vll_fault_path.specs.Pieces.{is_read};
 ghost use Rattle.vll_scenario.specs.Tree.{Gives, u32_at};
-ghost use Rattle.vll_fault_path.specs.Private.{piece_of};
 
 use crate::piece::{Kind, Step};
-use crate::way::Found;
 use serde_json::Value;
 use sqlite_items::Items;
 use std::alloc::{AllocError, Global};
@@ -22,35 +20,8 @@ use vll_scenario::{
     stmt_of, stmts_of, u32_of,
 };
 
-/// A test of the pieces of a scenario.
-#[derive(Clone, Copy)]
-pub enum PieceTest {
-    /// Whether a piece is what it has to be.
-    Shape,
-    /// Whether a part of the scenario is within its limits.
-    Sizes,
-}
-
-impl PieceTest {
-    // Whether a piece passes.
-    pub(crate) fn passes(
-        self,
-        alloc: Global,
-        edition: Edition,
-        piece: &Found<'_>,
-    ) -> Result<bool, AllocError>
-        ensures { IfOk result (λ is. is ≡ passes edition self (piece_of piece.now)) }
-    {
-        let Found { step, kind, value } = *piece;
-        match self {
-            PieceTest::Shape => is_read(alloc, edition, kind, value),
-            PieceTest::Sizes => has_size(step, kind, value),
-        }
-    }
-}
-
 // Whether a part is within its limits.
-fn has_size(step: Step, kind: Kind, value: &Value) -> Result<bool, AllocError>
+pub(crate) fn has_size(step: Step, kind: Kind, value: &Value) -> Result<bool, AllocError>
     ensures { IfOk result (λ has. has ≡ has_size step kind (view value.now)) }
 {
     let count = count_in(value);
@@ -118,7 +89,12 @@ fn is_up_to(most: u32, number: u32) -> bool
 }
 
 // Whether a value is what it has to be.
-fn is_read(alloc: Global, edition: Edition, kind: Kind, value: &Value) -> Result<bool, AllocError>
+pub(crate) fn is_read(
+    alloc: Global,
+    edition: Edition,
+    kind: Kind,
+    value: &Value,
+) -> Result<bool, AllocError>
     ensures { IfOk result (λ is. is ≡ is_read edition kind (view value.now)) }
 {
     match kind {

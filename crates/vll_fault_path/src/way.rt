@@ -1,15 +1,17 @@
 //! The way to the piece of a scenario that is at fault. It is searched for only if there is a fault.
 ghost use Rattle.std.specs.Prelude.{◌≡◌, ◌++◌, IfOk, OnOk, map, option_map};
 ghost use Rattle.serde_json.specs.View.{items_view, view};
-ghost use Rattle.vll_fault_path.specs.Pieces.{items_from, member_piece, pieces_behind, pieces_of, pieces_of_call, pieces_of_form, pieces_of_key, pieces_of_place, pieces_of_procedure, pieces_of_scenario, pieces_of_slots, pieces_of_words};
+ghost use Rattle.vll_fault_path.specs.PieceTests as test;
+ghost use Rattle.vll_fault_path.specs.Pieces.{member_piece, pieces_behind, pieces_of_call, pieces_of_form, pieces_of_key, pieces_of_place, pieces_of_procedure, pieces_of_scenario, pieces_of_slots, pieces_of_words};
 ghost use Rattle.vll_fault_path.specs.Private.{piece_of};
-ghost use Rattle.vll_fault_path.specs.Ways.{Leads, LeadsToFault, edition_in, first_faulty, procedure_in, records_in};
+ghost use Rattle.vll_fault_path.specs.Ways.{Leads, LeadsToFault, edition_in, procedure_in, records_in};
 ghost use Rattle.vll_scenario.specs.declared.fault.ScenarioFault.TheVariants.{Check};
 
 use crate::form::{Slot, form_of};
 use crate::part::push_parts;
-use crate::piece::{Kind, Step, item_kind, item_step};
-use crate::piece_test::{PieceTest, count_in, if_read, is_some};
+use crate::piece::{Kind, Step};
+use crate::piece_test::{count_in, has_size, if_read, is_some};
+use crate::shape::search_pieces;
 use serde_json::Value;
 use std::alloc::{AllocError, Global};
 use vll_check::{CheckFault, Piecewise};
@@ -48,8 +50,8 @@ pub fn way_to_fault<'v>(
     ensures { IfOk result (λ way. LeadsToFault (view tree.now) why way.steps.items) }
 {
     match why {
-        ScenarioFault::Shape(_) => way_in_scenario(alloc, tree, PieceTest::Shape),
-        ScenarioFault::Size => way_in_scenario(alloc, tree, PieceTest::Sizes),
+        ScenarioFault::Shape(_) => way_to_shape(alloc, tree),
+        ScenarioFault::Size => way_to_size(alloc, tree),
         ScenarioFault::Check { index, fault } => way_in_procedure(alloc, tree, index, fault),
         ScenarioFault::NameTwice => way_of(alloc, &[Step::Procs]),
         ScenarioFault::Call { client, index, .. } => {
@@ -71,36 +73,40 @@ fn way_of<'v>(alloc: Global, steps: &[Step]) -> Result<Way<'v>, AllocError>
     })
 }
 
-// The way from a scenario into the first piece that does not pass a test, and on.
-fn way_in_scenario<'v>(
-    alloc: Global,
-    tree: &'v Value,
-    test: PieceTest,
-) -> Result<Way<'v>, AllocError>
-    ensures { IfOk result (λ way. Leads (edition_in (view tree.now)) test (pieces_of_scenario (view tree.now)) way.steps.items) }
+// The way from a scenario to the piece that is not what it has to be.
+fn way_to_shape<'v>(alloc: Global, tree: &'v Value) -> Result<Way<'v>, AllocError>
+    ensures { IfOk result (λ way. Leads (edition_in (view tree.now)) test.Shape (pieces_of_scenario (view tree.now)) way.steps.items) }
 {
     let edition = edition_in(tree);
     let pieces = pieces_of_scenario(alloc, tree)?;
     let mut steps = Vec::new(alloc);
-    let mut piece = None;
     // `?` takes no value that has both a reference and locals
-    let mut next = match first_of(alloc, edition, test, pieces.as_slice()) {
-        Ok(next) => next,
-        Err(why) => return Err(why),
-    };
-    'steps: while let Some(found) = next {
-        steps.push(found.step)?;
-        piece = Some(found);
-        next = match first_in(alloc, edition, test, found) {
-            Ok(next) => next,
-            Err(why) => return Err(why),
-        };
+    match search_pieces(alloc, &mut steps, edition, pieces.as_slice()) {
+        Ok(piece) => Ok(Way {
+            steps,
+            piece,
+            number: 0,
+        }),
+        Err(why) => Err(why),
     }
-    Ok(Way {
-        steps,
-        piece,
-        number: 0,
-    })
+}
+
+// The way from a scenario to the first part that is not within its limits.
+fn way_to_size<'v>(alloc: Global, tree: &'v Value) -> Result<Way<'v>, AllocError>
+    ensures { IfOk result (λ way. Leads (edition_in (view tree.now)) test.Sizes (pieces_of_scenario (view tree.now)) way.steps.items) }
+{
+    let pieces = pieces_of_scenario(alloc, tree)?;
+    for piece in pieces.as_slice() {
+        let Found { step, kind, value } = *piece;
+        if !has_size(step, kind, value)? {
+            return Ok(Way {
+                steps: Vec::from_slice(alloc, &[step])?,
+                piece: Some(*piece),
+                number: 0,
+            });
+        }
+    }
+    way_of(alloc, &[])
 }
 
 // The way to a procedure that is refused, and on to the piece of it that does not pass the test.
@@ -161,72 +167,6 @@ fn edition_in(tree: &Value) -> Edition
     }
 }
 
-// The first piece inside another one that does not pass a test.
-fn first_in<'v>(
-    alloc: Global,
-    edition: Edition,
-    test: PieceTest,
-    outer: Found<'v>,
-) -> Result<Option<Found<'v>>, AllocError>
-    ensures { IfOk result (λ found. option_map piece_of found
-        ≡ first_faulty edition test (pieces_of edition outer.entry.kind (view outer.entry.value.now))) }
-{
-    let Found { kind, value, .. } = outer;
-    match item_kind(kind) {
-        Some(item) => match value.as_array() {
-            Some(list) => first_of_items(alloc, edition, test, kind, item, list.as_slice()),
-            None => Ok(None),
-        },
-        None => {
-            let pieces = pieces_of_form(alloc, edition, kind, value)?;
-            first_of(alloc, edition, test, pieces.as_slice())
-        }
-    }
-}
-
-// The first one of some pieces that does not pass a test.
-fn first_of<'v>(
-    alloc: Global,
-    edition: Edition,
-    test: PieceTest,
-    pieces: &[Found<'v>],
-) -> Result<Option<Found<'v>>, AllocError>
-    ensures { IfOk result (λ found. option_map piece_of found ≡ first_faulty edition test (map piece_of pieces.now)) }
-{
-    match pieces {
-        [] => Ok(None),
-        [piece, others @ ..] => {
-            if test.passes(alloc, edition, piece)? {
-                first_of(alloc, edition, test, others)
-            } else {
-                Ok(Some(*piece))
-            }
-        }
-    }
-}
-
-// The first item of a list that does not pass a test. No list is made of the others.
-fn first_of_items<'v>(
-    alloc: Global,
-    edition: Edition,
-    test: PieceTest,
-    list: Kind,
-    kind: Kind,
-    values: &'v [Value],
-) -> Result<Option<Found<'v>>, AllocError>
-    ensures { IfOk result (λ found. option_map piece_of found
-        ≡ first_faulty edition test (items_from list kind 0 (items_view values.now))) }
-{
-    for (i, value) in values.iter().enumerate() {
-        let step = item_step(list, i);
-        let piece = Found { step, kind, value };
-        if !test.passes(alloc, edition, &piece)? {
-            return Ok(Some(piece));
-        }
-    }
-    Ok(None)
-}
-
 // The pieces of a scenario.
 fn pieces_of_scenario<'v>(alloc: Global, tree: &'v Value) -> Result<Vec<Found<'v>>, AllocError>
     ensures { IfOk result (λ pieces. map piece_of pieces.items ≡ pieces_of_scenario (view tree.now)) }
@@ -253,7 +193,7 @@ fn pieces_of_scenario<'v>(alloc: Global, tree: &'v Value) -> Result<Vec<Found<'v
 }
 
 // The pieces of a value that is not a list of any length.
-fn pieces_of_form<'v>(
+pub(crate) fn pieces_of_form<'v>(
     alloc: Global,
     edition: Edition,
     kind: Kind,

@@ -1,7 +1,7 @@
-use Rattle.std.proofs.Common.{◌≡◌, ◌⊎◌, ◌∙◌, ◌++◌, ℕ, Bool, suc, max, false, true, List, [], ◌∷◌, ◌&&◌, inl, inr, ap, refl, subst, subst₂, sym}
+use Rattle.std.proofs.Common.{◌≡◌, ◌⊎◌, ◌∙◌, ◌++◌, ℕ, Bool, suc, max, [], ◌∷◌, ◌&&◌, inl, inr, ap, refl, subst, subst₂, sym}
 use Rattle.std.proofs.lemmas.Bool.{and_from, and_left, and_right}
 use Rattle.vll_proc.specs.declared.limits.TheConstants.{MOST_DEPTH}
-use Rattle.vll_proc.specs.declared.syntax.Expr.{Expr, Num, Arg, Key, Local, Not}
+use Rattle.vll_proc.specs.declared.syntax.Expr.{Expr, Arg, Key, Local, Not}
 use Rattle.vll_proc.specs.WellFormed.{depth}
 use Rattle.vll_proc.proofs.Equations.{depth_not}
 use Rattle.vll_proc.proofs.Noted.{is_operation}

@@ -3,7 +3,7 @@ use Rattle.std.proofs.lemmas.Bool.{and_from, and_left, and_right, cond-false, ne
 use Rattle.std.proofs.lemmas.List.{drop_all}
 use Rattle.vll_proc.specs.declared.limits.TheConstants.{MOST_DEPTH}
 use Rattle.vll_proc.specs.declared.syntax.Expr.{Expr}
-use Rattle.vll_proc.specs.declared.syntax.Stmt.{Stmt, Let, Set, If, Abort, Reply, Repeat}
+use Rattle.vll_proc.specs.declared.syntax.Stmt.{Stmt, If, Repeat}
 use Rattle.vll_proc.specs.WellFormed.{body_depth, body_set_behind, depth, stmt_depth}
 use Rattle.vll_proc.proofs.Lists.{set_behind_if, set_behind_repeat, stmt_depth_if, stmt_depth_repeat}
 use Rattle.vll_check.specs.declared.piece.Before.{Before}

@@ -1,4 +1,4 @@
-use Rattle.std.proofs.Common.{◌≡◌, ◌∙◌, ℕ, suc, List, [], ◌∷◌, ap, inl, inr, refl, subst, sym}
+use Rattle.std.proofs.Common.{◌∙◌, suc, [], ◌∷◌, inl, inr, refl, subst, sym}
 use Rattle.vll_proc.specs.declared.limits.TheConstants.{MOST_DEPTH}
 use Rattle.vll_proc.specs.declared.syntax.Expr.{Expr}
 use Rattle.vll_proc.specs.declared.syntax.Stmt.{Stmt}
