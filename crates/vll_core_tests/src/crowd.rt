@@ -2,18 +2,15 @@
 ghost use Rattle.std.specs.Prelude.{All, IfOk};
 ghost use Rattle.vll_check.specs.Calls.{Fits};
 
-use crate::asserts::equal;
 use crate::played::Played;
-use crate::words::said;
+use crate::transcript::play;
 use std::alloc::Global;
-use std::process::Abort;
 use std::test::Fail;
 use vll_check::{CallFault, Library};
-use vll_core::Event::{self, Admit, Claim, Enter};
 use vll_core::{Config, Core};
 use vll_proc::Call;
 use vll_sca::Placing;
-use vll_test_procedures::{library, play};
+use vll_test_procedures::library;
 
 // Returns a bump of record 0.
 fn bump(library: &Library) -> Result<Call, CallFault>
@@ -60,29 +57,14 @@ fn core(alloc: Global) -> Result<Core<Placing>, Fail> {
     Ok(core)
 }
 
-fn is_answered(
-    rt: &(impl AllocGlobal + Abort),
-    core: &mut Played,
-    event: Event,
-    words: &str,
-) -> Result<(), Fail> {
-    let answer = said(rt.alloc(), core.0.step(event))?;
-    equal(rt, answer.as_str(), words);
-    Ok(())
-}
-
 // Enters a bump after `others` others.
-fn enter_behind(
-    rt: &(impl AllocGlobal + Abort),
-    core: &mut Played,
-    others: u16,
-) -> Result<(), Fail> {
+fn enter_behind(alloc: Global, core: &mut Played, others: u16) -> Result<(), Fail> {
     let word = u64::from(others) * 4_294_967_296;
-    let claimed = format!(in rt.alloc(); "claimed {word} denied")?;
-    let admitted = format!(in rt.alloc(); "blocked {others}")?;
-    is_answered(rt, core, Enter(0), "opened")?;
-    is_answered(rt, core, Claim, claimed.as_str())?;
-    is_answered(rt, core, Admit, admitted.as_str())
+    let transcript = format!(in alloc;
+        "enter 0: opened; claim: claimed {word} denied; admit: blocked {others}"
+    )?;
+    play(alloc, core, transcript.as_str())?;
+    Ok(())
 }
 
 #[test]
@@ -94,12 +76,13 @@ fn as_many_calls_as_can_wait_for_one_record_and_end(rt: HostRuntime) -> Result<(
         "enter 0: opened; claim: claimed 0 granted; admit: free 0",
     )?;
     for others in 1..=65_535 {
-        enter_behind(&rt, &mut core, others)?;
+        enter_behind(rt.alloc(), &mut core, others)?;
     }
     // Four steps for the first, and five for each that waits.
     play(
         rt.alloc(),
         &mut core,
         "words: 0 0 281474976710656; enter 1: refused spent; drain: 327679; words: 0 65536 0",
-    )
+    )?;
+    Ok(())
 }

@@ -12,10 +12,14 @@ mod openings;
 #[cfg(test)]
 mod played;
 #[cfg(test)]
+mod playing;
+#[cfg(test)]
 mod queue;
 #[cfg(test)]
 mod scanning;
 #[cfg(test)]
 mod steps;
+#[cfg(test)]
+mod transcript;
 #[cfg(test)]
 mod words;

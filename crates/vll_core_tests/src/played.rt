@@ -1,10 +1,11 @@
 //! The core of a scenario as the subject of transcripts.
-use crate::words::{said, standing, written};
+use crate::transcript::{Event, Subject, play};
+use crate::words::{content, said, standing, written};
 use std::alloc::{AllocError, Global};
 use std::test::Fail;
 use vll_core::{Core, Ticket};
 use vll_sca::Placing;
-use vll_test_procedures::{Event, Subject, parts_with, play};
+use vll_test_procedures::parts_with;
 
 // The core of a scenario.
 #[derive(Drop)]
@@ -46,28 +47,29 @@ fn event_of(text: &Event) -> Option<vll_core::Event> {
 }
 
 impl Subject for Played {
-    // Besides the machine's events: the core is drained, how many calls run and wait, the words, and the content.
-    fn answer(&mut self, alloc: Global, event: &Event) -> Result<String, Fail> {
+    // Besides the machine's events: the core is drained, how many calls run and wait, the words, and what stands.
+    fn answer(&mut self, alloc: Global, event: &Event) -> Result<Option<String>, AllocError> {
         let text = match event.name {
             "drain" => format!(in alloc; "{}", self.0.drain())?,
             "counts" => format!(in alloc; "{} {}", self.0.running(), self.0.waiting())?,
             "words" => written(alloc, self.0.words())?,
-            "stands" => self.standing(alloc)?,
+            "stands" => standing(alloc, &self.0)?,
             _ => match event_of(event) {
                 Some(event) => said(alloc, self.0.step(event))?,
-                None => return Err(Fail::new("no such event")),
+                None => return Ok(None),
             },
         };
-        Ok(text)
+        Ok(Some(text))
     }
 
-    fn standing(&self, alloc: Global) -> Result<String, AllocError> {
-        standing(alloc, &self.0)
+    fn content(&self, alloc: Global) -> Result<String, AllocError> {
+        content(alloc, &self.0)
     }
 }
 
 // Plays a transcript on the core of a scenario.
 pub(crate) fn run(rt: &impl AllocGlobal, members: &str, transcript: &str) -> Result<(), Fail> {
     let mut played = Played::open(rt.alloc(), members)?;
-    play(rt.alloc(), &mut played, transcript)
+    play(rt.alloc(), &mut played, transcript)?;
+    Ok(())
 }

@@ -1,12 +1,12 @@
 //! A queue as the subject of transcripts, and tests of its answers and its content.
 use crate::asserts::equal;
+use crate::transcript::{Event, Subject, play};
 use std::alloc::{AllocError, Global};
 use std::test::Fail;
 use vll_core::{Config, Line, Queue, Ticket};
 use vll_proc::{Call, MOST_ARGS, Reason, Reply};
 use vll_record::{Claim, Claims, MOST_CLAIMS, Mode, RecordId};
 use vll_sca::{Placing, Status};
-use vll_test_procedures::{Event, Subject, play};
 
 // A call that writes one record.
 fn writes(number: u32, record: u32) -> Call {
@@ -76,7 +76,7 @@ fn ticket_text(alloc: Global, ticket: Option<Ticket>) -> Result<String, AllocErr
 struct Played(Queue<Placing>);
 
 impl Subject for Played {
-    fn answer(&mut self, alloc: Global, event: &Event) -> Result<String, Fail> {
+    fn answer(&mut self, alloc: Global, event: &Event) -> Result<Option<String>, AllocError> {
         let [first, second, _] = event.numbers;
         let ticket = Ticket(first);
         let text = match event.name {
@@ -85,7 +85,7 @@ impl Subject for Played {
             "finish" => ticket_text(alloc, finish(&mut self.0, ticket, second))?,
             "front" => ticket_text(alloc, self.0.front())?,
             "scan" => ticket_text(alloc, self.0.scan())?,
-            "counts" => self.standing(alloc)?,
+            "counts" => self.content(alloc)?,
             "spent" => format!(in alloc; "{}", self.0.is_spent())?,
             "busy" => format!(in alloc; "{}", self.0.is_busy())?,
             "status" => String::from_str(alloc, status_text(self.0.status(ticket)))?,
@@ -94,12 +94,12 @@ impl Subject for Played {
                 Some(line) => line_text(alloc, line)?,
                 None => String::from_str(alloc, "none")?,
             },
-            _ => return Err(Fail::new("no such event")),
+            _ => return Ok(None),
         };
-        Ok(text)
+        Ok(Some(text))
     }
 
-    fn standing(&self, alloc: Global) -> Result<String, AllocError> {
+    fn content(&self, alloc: Global) -> Result<String, AllocError> {
         format!(in alloc; "{} {}", self.0.running(), self.0.waiting())
     }
 }

@@ -50,6 +50,26 @@ fn refused_event_changes_nothing(rt: HostRuntime) -> Result<(), Fail> {
     )
 }
 
+// A call waits that could start, and the cap is reached in between.
+#[test]
+fn refused_event_starts_no_call(rt: HostRuntime) -> Result<(), Fail> {
+    run(
+        &rt,
+        r#""records":[0,0],"cap":2,"limit":4,"bits":64,"clients":[
+         [{"proc":"bump","args":[0]},{"proc":"bump","args":[0]},{"proc":"bump","args":[0]}],[{"proc":"bump","args":[1]}]]"#,
+        "enter 0: opened; claim: claimed 0 granted; admit: free 0
+         enter 0: opened; claim: claimed 4294967296 denied; admit: blocked 1
+         enter 0: opened; claim: claimed 8589934592 denied; admit: blocked 2
+         enter 1: refused busy; enter 0: refused no call
+         load 0: loaded 0; store 0: stored; release 0: released 12884901888; finish 0: replied committed 1
+         front: run 1; load 1: loaded 1; store 1: stored; release 1: released 8589934592; finish 1: replied committed 2
+         enter 1: opened; front: refused turn open; scan: refused turn open; load 2: refused not running
+         finish 2: refused turn open; claim: claimed 0 granted; front: refused turn open; scan: refused turn open
+         admit: free 3; scan: run 2; counts: 2 0; drain: 8
+         stands: call 0 client 0 committed 1, call 1 client 0 committed 2, call 2 client 0 committed 3, call 3 client 1 committed 1, words 0 3 0 1 0",
+    )
+}
+
 // Claims are in rising order of records, whatever the order of the keys, and a record that several keys name is claimed
 // once.
 #[test]

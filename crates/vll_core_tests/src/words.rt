@@ -1,6 +1,6 @@
 //! Answers, and the content of a core, in words.
 use std::alloc::{AllocError, Global};
-use vll_core::{Core, Line, Refusal, Seen, Ticket};
+use vll_core::{Core, Event, Line, Refusal, Seen, Ticket};
 use vll_sca::{Placing, Status};
 
 fn push_request(text: &mut String, old: u64, granted: bool) -> Result<(), AllocError> {
@@ -81,12 +81,44 @@ pub(crate) fn written(alloc: Global, words: &[u64]) -> Result<String, AllocError
     Ok(text)
 }
 
-// Returns the content of a core: each entered call, then the words.
+// Returns each entered call of a core, then the words.
 pub(crate) fn standing(alloc: Global, core: &Core<Placing>) -> Result<String, AllocError> {
     let mut text = String::new(alloc);
     push_calls(&mut text, core)?;
     let words = written(alloc, core.words())?;
     text.push_str("words ")?;
     text.push_str(words.as_str())?;
+    Ok(text)
+}
+
+// Writes the call of an open turn, and the claim that it requests next.
+fn push_turn(text: &mut String, core: &Core<Placing>) -> Result<(), AllocError> {
+    let Some(line) = core.line_of_turn() else {
+        return Ok(());
+    };
+    let client = line.client;
+    let number = line.call.number;
+    let next = core.claim_of(Event::Claim);
+    write!(text, "; client {client} enters call {number}, {next:?}")
+}
+
+// Writes what a call loads, stores and releases next if it runs.
+fn push_next(text: &mut String, core: &Core<Placing>, ticket: Ticket) -> Result<(), AllocError> {
+    let load = core.claim_of(Event::Load(ticket));
+    let store = core.claim_of(Event::Store(ticket));
+    let release = core.claim_of(Event::Release(ticket));
+    write!(text, "; {load:?} {store:?} {release:?}")
+}
+
+// Returns all that a core shows of itself: what stands, the open turn, and how far each call is. It does not show how far
+// the scripts are, nor what was found for a client: the answers to later events do.
+pub(crate) fn content(alloc: Global, core: &Core<Placing>) -> Result<String, AllocError> {
+    let mut text = standing(alloc, core)?;
+    push_turn(&mut text, core)?;
+    for (ticket, line) in (0..65_536).zip(core.journal()) {
+        let number = line.call.number;
+        write!(text, "; call {number}")?;
+        push_next(&mut text, core, Ticket(ticket))?;
+    }
     Ok(text)
 }

@@ -1,8 +1,8 @@
 //! The procedures that the tests of several crates call, and scenarios from JSON text for such tests. `library` makes a
 //! checked library of seven small procedures for any number of records from 1, `parts_with` reads the parts of a
-//! scenario of these procedures, and `parts` those of any scenario that a test writes as text. `play` makes the events
-//! of a transcript, and looks at each answer. The crate proves that a library is for the number of records asked for,
-//! and that the library of a scenario makes each call of its scripts. Start at `library`, `parts_with` and `play`.
+//! scenario of these procedures, and `parts` those of any scenario that a test writes as text. The crate proves that a
+//! library is for the number of records asked for, and that the library of a scenario makes each call of its scripts.
+//! Start at `library` and `parts_with`.
 //!
 //! ```rattle
 //! let library = library(rt.alloc(), 2)?;
@@ -12,14 +12,11 @@
 //! ```
 #![tactic(auto)]
 
-mod transcript;
-
 ghost use Rattle.std.specs.Prelude.{◌≡◌, All, IfOk, length};
 ghost use Rattle.vll_check.specs.Calls.{Fits};
 
 use std::alloc::{AllocError, Global};
 use std::test::Fail;
-pub use transcript::{Event, Subject, play};
 use vll_check::Library;
 use vll_scenario::{Plain, ScenarioParts, read_scenario};
 
