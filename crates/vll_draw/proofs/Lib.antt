@@ -1,3 +1,5 @@
 pub mod Windows
 pub mod Taped
 pub mod Steps
+pub mod PutBack
+pub mod OneByOne

@@ -1,3 +1,5 @@
 pub mod Columns
+pub mod OneByOne
 pub mod Page
 pub mod Taped
+pub mod Private

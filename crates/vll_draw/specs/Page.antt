@@ -7,6 +7,7 @@ use Rattle.vll_scenario.specs.Headline.Setup.{Setup}
 use Rattle.vll_scenario.specs.Reading.{IsRead}
 use Rattle.vll_replay.specs.Replay.{text_of_setup}
 use Rattle.vll_replay.specs.Headline.Text.{Text}
+use Rattle.vll_draw.specs.OneByOne.{with_schedule}
 
 -- the item of a line, with the line's number from 0
 abbrev pub item : ℕ × Text → Text
@@ -25,6 +26,7 @@ pub record Lists (page text : Text) : Type 0 where
   pub drawn : Text
   pub whole : page ≡ drawn ++ list_start ++ flat_map item (enumerate_from 0 (lines text)) ++ list_end
 
--- a scenario was read, and this holds of a page that lists the lines of its replay
+-- a scenario was read, and this holds of a page that lists the lines of its replay; if it has no schedule, then of the
+-- replay in which its calls are made one after the other
 abbrev pub Draws : Option (List ℕ) → Option (List ℕ) → (Text → Type 0) → Type 0
-Draws old new Holds = (setup : Setup) × IsRead old new (Ok setup) × ((page : Text) × Lists page (text_of_setup setup) × Holds page)
+Draws old new Holds = (setup : Setup) × IsRead old new (Ok setup) × ((page : Text) × Lists page (text_of_setup (with_schedule setup)) × Holds page)

@@ -8,12 +8,14 @@ ghost use Rattle.vll_scenario.specs.Reading.{IsRead};
 ghost use Rattle.vll_core.specs.Machine.{opened};
 ghost use Rattle.vll_replay.specs.Replay.{Replays, opening_for, text_of_setup};
 ghost use Rattle.vll_replay.specs.Steps.{steps};
+ghost use Rattle.vll_draw.specs.OneByOne.{with_schedule};
 ghost use Rattle.vll_draw.specs.Page.{Draws, Lists};
 ghost use Rattle.vll_draw.specs.Columns.{AreSteps, words_at};
 ghost use Rattle.vll_draw.specs.Taped.{HasTaped, drawn};
 ghost use Rattle.vll_draw.specs.declared.fault.DrawFault.TheVariants as fault;
 
 use crate::fault::DrawFault;
+use crate::one_by_one::{Origin, with_schedule};
 use crate::page::with_list;
 use crate::picture::{Counts, Drawing, push_bands, push_head, push_heading};
 use crate::tape::Tape;
@@ -24,7 +26,9 @@ use vll_sca::Placing;
 use vll_scenario::{EventRange, Scenario, Sink, Source, read_scenario, write_text};
 
 /// Reads a scenario, replays its schedule as `replay` of `vll_replay` does, and writes an HTML page. Its drawings show
-/// the events of the window; below them is a list of all lines of the replay's text.
+/// the events of the window; below them is a list of all lines of the replay's text. If the schedule has no event, the
+/// page is that of the schedule that makes the calls of the scripts one after the other, client by client: of as many
+/// calls as the limit lets enter, and at most `MOST_EVENTS` events.
 ///
 /// The whole page is built before its first byte is written. After `Scenario` and `NoMemory` nothing has been written,
 /// and after `Write` a prefix of the page. `Scenario` carries the fault that `read_scenario` returned, `NoMemory` means
@@ -55,11 +59,12 @@ pub fn draw<S: Source, W: Sink>(
 
 // The page of a scenario's replay.
 fn page_of(alloc: Global, scenario: Scenario, window: EventRange) -> Result<String, AllocError>
-    ensures { IfOk result (λ page. Lists (string_bytes page) (text_of_setup scenario)) }
+    ensures { IfOk result (λ page. Lists (string_bytes page) (text_of_setup (with_schedule scenario))) }
 {
     let first = window.from as usize;
+    let (scenario, origin) = with_schedule(alloc, scenario)?;
     let Taped { text, core, tape } = watched(alloc, scenario, window)?;
-    let drawn = drawings_of(alloc, core, tape, first)?;
+    let drawn = drawings_of(alloc, core, tape, first, origin)?;
     with_list(drawn, text.as_str())
 }
 
@@ -90,6 +95,7 @@ fn drawings_of(
     core: Core<Placing>,
     tape: Tape,
     first: usize,
+    origin: Origin,
 ) -> Result<String, AllocError> {
     let counts = Counts {
         calls: core.journal().len(),
@@ -117,7 +123,7 @@ fn drawings_of(
         library: &library,
     };
     let mut page = String::new(alloc);
-    push_head(&mut page, counts)?;
+    push_head(&mut page, counts, origin)?;
     push_bands(&mut page, &drawing, standing)?;
     push_heading(&mut page)?;
     Ok(page)

@@ -1,4 +1,5 @@
 //! The page around the drawings.
+use crate::one_by_one::Origin;
 use crate::picture::style;
 use std::alloc::AllocError;
 
@@ -24,8 +25,18 @@ const LEGEND: &str = "<dl>
 <p>Each mark shows its event on hover, and links to the event's line below.</p>
 ";
 
+// What the page says if the scenario has no schedule.
+const ONE_BY_ONE: &str =
+    "<p>The scenario has no schedule. Its calls are made one after the other, client by client: as many as its limit
+allows, and 1048576 events at most.</p>
+";
+
 /// Appends the page up to its drawings. After `AllocError` a prefix of it may have been appended.
-pub(crate) fn push_head(page: &mut String, counts: Counts) -> Result<(), AllocError> {
+pub(crate) fn push_head(
+    page: &mut String,
+    counts: Counts,
+    origin: Origin,
+) -> Result<(), AllocError> {
     page.push_str("<!DOCTYPE html>\n<html lang=\"en\">\n<head>\n<meta charset=\"utf-8\"/>\n")?;
     page.push_str("<meta name=\"viewport\" content=\"width=device-width, initial-scale=1\"/>\n")?;
     page.push_str("<title>Replay: ")?;
@@ -35,6 +46,10 @@ pub(crate) fn push_head(page: &mut String, counts: Counts) -> Result<(), AllocEr
     page.push_str("</head>\n<body>\n<h1>Replay: ")?;
     push_counts(page, counts)?;
     page.push_str("</h1>\n")?;
+    page.push_str(match origin {
+        Origin::Scenario => "",
+        Origin::OneByOne => ONE_BY_ONE,
+    })?;
     push_window(page, counts)?;
     page.push_str(LEGEND)
 }

@@ -6,6 +6,7 @@ use Rattle.vll_scenario.specs.Streams.{AppendsBeginning}
 use Rattle.vll_scenario.specs.Reading.{IsRead}
 use Rattle.vll_scenario.proofs.Results.{ok_before}
 use Rattle.vll_replay.specs.Replay.{text_of_setup}
+use Rattle.vll_draw.specs.OneByOne.{with_schedule}
 use Rattle.vll_draw.specs.Page.{Lists}
 use Rattle.vll_draw.proofs.drawing.draw.Goals as goal
 
@@ -15,8 +16,8 @@ returns-clause-ok g c =
     let was = ok_before c.read_scenario.result c.map_err.result _ setup c.map_err.ensures.cases c.map_err.ensures.variant c.in_ok-scenario.was in
     let read = subst (IsRead (g.S.Source.remaining c.args.reader.now) (g.S.Source.remaining c.read_scenario.new.reader)) was (c.read_scenario.ensures.answer, c.read_scenario.ensures.told) in
     let made = ok_before c.page_of.result c.map_err-2.result _ c.in_ok-page.page c.map_err-2.ensures.cases c.map_err-2.ensures.variant c.in_ok-page.was in
-    let listed = subst (λ r. IfOk r (λ page. Lists (string_bytes page) (text_of_setup setup))) made c.page_of.ensures in
-    let lists = subst (λ bytes. Lists bytes (text_of_setup setup)) (sym c.as_bytes.ensures.value) listed in
+    let listed = subst (λ r. IfOk r (λ page. Lists (string_bytes page) (text_of_setup (with_schedule setup)))) made c.page_of.ensures in
+    let lists = subst (λ bytes. Lists bytes (text_of_setup (with_schedule setup))) (sym c.as_bytes.ensures.value) listed in
     let written : OnOk c.map_err-3.result (Appends (g.W.Sink.contents c.args.writer.now) (g.W.Sink.contents c.write_text.new.writer) c.as_bytes.result.now) = grind (arith, common_steps) in
     on_ok_weaker c.map_err-3.result (λ w. (setup, read, (c.as_bytes.result.now, lists, w))) written
 
@@ -26,8 +27,8 @@ returns-clause-write g c failed =
     let was = ok_before c.read_scenario.result c.map_err.result _ setup c.map_err.ensures.cases c.map_err.ensures.variant c.in_ok-scenario.was in
     let read = subst (IsRead (g.S.Source.remaining c.args.reader.now) (g.S.Source.remaining c.read_scenario.new.reader)) was (c.read_scenario.ensures.answer, c.read_scenario.ensures.told) in
     let made = ok_before c.page_of.result c.map_err-2.result _ c.in_ok-page.page c.map_err-2.ensures.cases c.map_err-2.ensures.variant c.in_ok-page.was in
-    let listed = subst (λ r. IfOk r (λ page. Lists (string_bytes page) (text_of_setup setup))) made c.page_of.ensures in
-    let lists = subst (λ bytes. Lists bytes (text_of_setup setup)) (sym c.as_bytes.ensures.value) listed in
+    let listed = subst (λ r. IfOk r (λ page. Lists (string_bytes page) (text_of_setup (with_schedule setup)))) made c.page_of.ensures in
+    let lists = subst (λ bytes. Lists bytes (text_of_setup (with_schedule setup))) (sym c.as_bytes.ensures.value) listed in
     let written : AppendsBeginning (g.W.Sink.contents c.args.writer.now) (g.W.Sink.contents c.write_text.new.writer) c.as_bytes.result.now = grind (arith, common_steps) in
     (setup, read, (c.as_bytes.result.now, lists, written))
 
