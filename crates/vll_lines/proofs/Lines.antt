@@ -9,7 +9,7 @@ or_false false b none = (refl, none)
 one_more : (b : ℕ) (bytes : List ℕ) → (b == 10) ≡ false → lines_in (b ∷ bytes) ≡ at_front b (lines_in bytes)
 one_more b bytes other = ap (λ (x : Bool). if x then [] ∷ lines_in bytes else at_front b (lines_in bytes)) other
 
--- a line that is complete
+-- a complete line
 pub lines_ended : (l rest : List ℕ) → has_feed l ≡ false → lines_in (l ++ 10 ∷ rest) ≡ l ∷ lines_in rest
 lines_ended [] rest none = refl
 lines_ended (b ∷ l) rest none =

@@ -55,21 +55,21 @@ kept (Some a) r s f is h = is ∙ h
 
 -- ---- what they tell at first, and after each
 
-pub nothing_told : (args : List ℕ) → Says (record { id = None; client = None; name = None; has_args = false }) args no_members
-nothing_told args = record { only = refl; id = refl; client = tt; name = tt; list = λ no. absurd (false≢true no) }
+pub nothing_told : (args : List ℕ) → Says (record { id = None; client = 0; name = None; has_args = false }) args no_members
+nothing_told args = record { only = refl; id = refl; client = refl; name = tt; list = λ no. absurd (false≢true no) }
 
 pub told_id : (t : Told) (args : List ℕ) (found : Members) (k : List ℕ) (d : Data) (it : Id) → k ≡ codes "id" → id_in d ≡ Ok it → Says t args found
     → Says (record { id = Some it; client = t.client; name = t.name; has_args = t.has_args }) args (put k d found)
 told_id t args found k d it is read says = record {
   only = only_put k d found (ap (λ q. list_any (bytes_eq q) may_names) is) says.only;
   id = ap (λ q. id_of (object (put q d found))) is ∙ rw (get_member-put (codes "id") d found) (rw read refl);
-  client = kept t.client _ _ Ok (client_stays k d found (λ same. omega (arith, ap length (same ∙ is)))) says.client;
+  client = client_stays k d found (λ same. omega (arith, ap length (same ∙ is))) ∙ says.client;
   name = kept t.name _ _ (λ s. Ok s.now) (name_stays k d found (λ same. omega (arith, ap length (same ∙ is)))) says.name;
   list = λ has. args_stay k d found (λ same. omega (arith, ap length (same ∙ is))) ∙ says.list has;
 }
 
 pub told_client : (t : Told) (args : List ℕ) (found : Members) (k : List ℕ) (n : ℕ) → k ≡ codes "client" → n < 2 ^ 32 → Says t args found
-    → Says (record { id = t.id; client = Some n; name = t.name; has_args = t.has_args }) args (put k (number (unsigned n)) found)
+    → Says (record { id = t.id; client = n; name = t.name; has_args = t.has_args }) args (put k (number (unsigned n)) found)
 told_client t args found k n is small says = record {
   only = only_put k (number (unsigned n)) found (ap (λ q. list_any (bytes_eq q) may_names) is) says.only;
   id = id_stays k (number (unsigned n)) found (λ same. omega (arith, ap length (same ∙ is))) ∙ says.id;
@@ -83,7 +83,7 @@ pub told_name : (t : Told) (args : List ℕ) (found : Members) (k : List ℕ) (s
 told_name t args found k s is says = record {
   only = only_put k (string s.now) found (ap (λ q. list_any (bytes_eq q) may_names) is) says.only;
   id = id_stays k (string s.now) found (λ same. omega (arith, ap length (same ∙ is))) ∙ says.id;
-  client = kept t.client _ _ Ok (client_stays k (string s.now) found (λ same. omega (arith, ap length (same ∙ is)))) says.client;
+  client = client_stays k (string s.now) found (λ same. omega (arith, ap length (same ∙ is))) ∙ says.client;
   name = ap (λ q. name_of (object (put q (string s.now) found))) is ∙ rw (get_member-put (codes "proc") (string s.now) found) refl;
   list = λ has. args_stay k (string s.now) found (λ same. omega (arith, ap (λ q. get_or q 0 0) (same ∙ is))) ∙ says.list has;
 }
@@ -97,7 +97,7 @@ pub told_args : (t : Told) (before args : List ℕ) (found : Members) (k : List 
 told_args t before args found k is says = record {
   only = only_put k (array (numbers_in args)) found (ap (λ q. list_any (bytes_eq q) may_names) is) says.only;
   id = id_stays k (array (numbers_in args)) found (λ same. omega (arith, ap length (same ∙ is))) ∙ says.id;
-  client = kept t.client _ _ Ok (client_stays k (array (numbers_in args)) found (λ same. omega (arith, ap length (same ∙ is)))) says.client;
+  client = client_stays k (array (numbers_in args)) found (λ same. omega (arith, ap length (same ∙ is))) ∙ says.client;
   name = kept t.name _ _ (λ s. Ok s.now) (name_stays k (array (numbers_in args)) found (λ same. omega (arith, ap (λ q. get_or q 0 0) (same ∙ is)))) says.name;
   list = λ _. ap (λ q. args_of (object (put q (array (numbers_in args)) found))) is ∙ rw (get_member-put (codes "args") (array (numbers_in args)) found) (rw (each_number args) refl);
 }

@@ -66,9 +66,13 @@ has_no_other (string s) = false
 has_no_other (array ds) = false
 has_no_other (object ms) = has_only may_names ms
 
--- the number of a client
+-- the number of a client: 0 if it is left out
 abbrev pub client_of : Data → Result ℕ LineFault
-client_of d = or_fault fault.Client (u32_at (member_at (codes "client") d))
+client_of d = client_in (get (codes "client") d)
+  where
+    client_in : Option Data → Result ℕ LineFault
+    client_in None = Ok 0
+    client_in (Some member) = or_fault fault.Client (u32_at member)
 
 -- the name of a procedure
 abbrev pub name_of : Data → Result (List ℕ) LineFault

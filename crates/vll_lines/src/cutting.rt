@@ -14,7 +14,7 @@ use vll_check::Library;
 // The byte that ends a line.
 const LINE_FEED: u8 = 10;
 
-// The first line that is complete, and what follows its line feed.
+// The first complete line, and what follows its line feed.
 pub(crate) fn first_line(bytes: &[u8]) -> Option<(&[u8], &[u8])>
     ensures some { IfSome result (λ cut. (bytes.now ≡ cut.0.now ++ 10 ∷ cut.1.now) × (has_feed cut.0.now ≡ false)) }
     ensures none { IfNone result (has_feed bytes.now ≡ false) }

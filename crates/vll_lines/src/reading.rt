@@ -252,10 +252,14 @@ fn is_known(name: &str) -> bool
     matches!(name, "id" | "client" | "proc" | "args")
 }
 
+// The number of a client: 0 if it is left out.
 fn client_of(tree: &Value) -> Result<u32, LineFault>
     ensures { result ≡ client_of (view tree.now) }
 {
-    match tree.get("client").and_then(Value::as_u64) {
+    let Some(member) = tree.get("client") else {
+        return Ok(0);
+    };
+    match member.as_u64() {
         Some(number) if number < 4_294_967_296 => Ok(number as u32),
         _ => Err(LineFault::Client),
     }

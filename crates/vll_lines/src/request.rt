@@ -31,7 +31,7 @@ pub enum LineFault {
     Id,
     /// The JSON text is not an object, or has other members than `id`, `client`, `proc` and `args`.
     Object,
-    /// The member `client` is missing, or no whole number of 32 bits without a sign.
+    /// The member `client` is no whole number of 32 bits without a sign.
     Client,
     /// The member `proc` is missing, or not a text.
     Proc,
@@ -66,7 +66,9 @@ impl fmt::Display for LineFault {
                 f.write_str("id has to be a whole number or a text of at most 64 bytes")
             }
             LineFault::Object => {
-                f.write_str("the line has to be an object with client, proc, args and perhaps id")
+                f.write_str(
+                    "the line has to be an object with proc, args and perhaps client and id",
+                )
             }
             LineFault::Client => f.write_str("client has to be the number of a client"),
             LineFault::Proc => f.write_str("proc has to be the name of a procedure"),

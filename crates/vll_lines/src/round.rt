@@ -47,7 +47,7 @@ impl From<AllocError> for RoundFault {
     }
 }
 
-/// Reads rounds, one after the other. It keeps the memory that reading takes.
+/// Reads rounds one after the other, and uses the same memory for all of them.
 #[derive(Drop)]
 pub struct RoundReader {
     alloc: Global,
@@ -57,7 +57,7 @@ pub struct RoundReader {
 }
 
 impl RoundReader {
-    /// A reader of rounds. It takes `MOST_ROUND` bytes, and fails only if there are none.
+    /// Makes a reader of rounds. It allocates `MOST_ROUND` bytes, and fails only if that allocation fails.
     pub fn new(alloc: Global) -> Result<RoundReader, AllocError> {
         Ok(RoundReader {
             alloc,

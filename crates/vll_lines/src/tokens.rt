@@ -18,7 +18,7 @@ use std::str;
 use vll_check::Library;
 use vll_proc::Text;
 
-/// Reads lines, one after the other. It keeps the memory that reading takes.
+/// Reads lines one after the other, and uses the same memory for all of them.
 #[derive(Drop)]
 pub struct LineReader {
     alloc: Global,
@@ -28,7 +28,7 @@ pub struct LineReader {
 }
 
 impl LineReader {
-    /// A reader of lines. It has taken no memory.
+    /// Makes a reader of lines. It allocates nothing yet.
     pub fn new(alloc: Global) -> LineReader {
         LineReader {
             alloc,
@@ -76,7 +76,8 @@ impl LineReader {
 #[derive(Drop)]
 pub(crate) struct Told<'a> {
     id: Option<Id>,
-    client: Option<u32>,
+    // 0 if it is left out.
+    client: u32,
     // The name of a procedure.
     name: Option<&'a str>,
     // Whether there are arguments, which stand in a list of their own.
@@ -88,15 +89,17 @@ impl<'a> Told<'a> {
     fn request(self, library: &Library, clients: u32, args: &[u64]) -> Option<Request>
         ensures { IfSome result (λ request. (found : Members) → Says self.entry args.now found → request ≡ request_of library.now clients (object found)) }
     {
-        let client = self.client?;
         let name = self.name?;
-        if !self.has_args || client >= clients {
+        if !self.has_args || self.client >= clients {
             return None;
         }
         let call = library.call(name, args).ok()?;
         Some(Request {
             id: self.id,
-            call: Ok(ClientCall { client, call }),
+            call: Ok(ClientCall {
+                client: self.client,
+                call,
+            }),
         })
     }
 }
@@ -107,7 +110,7 @@ fn read_members<'a>(alloc: Global, reader: &mut Reader<'a>, args: &mut Vec<u64>)
 {
     let mut told = Told {
         id: None,
-        client: None,
+        client: 0,
         name: None,
         has_args: false,
     };
@@ -131,7 +134,10 @@ fn read_member<'a>(
 {
     match key {
         "id" => told.id = Some(read_id(alloc, reader)?),
-        "client" => told.client = Some(read_client(reader)?),
+        "client" => {
+            let number = read_client(reader)?;
+            told.client = number;
+        }
         "proc" => told.name = Some(read_text(reader)?),
         "args" => {
             read_args(reader, args)?;

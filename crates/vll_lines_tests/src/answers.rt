@@ -34,6 +34,10 @@ fn line_has_its_call(rt: HostRuntime) -> Result<(), Fail> {
             r#"{"id":"a\"é","call":12,"aborted":"underflow"}"#,
         ),
         (
+            r#"{"proc":"seven","args":[]}"#,
+            r#"{"call":12,"aborted":"underflow"}"#,
+        ),
+        (
             r#"{"id":18446744073709551615,"client":0,"proc":"seven","args":[]}"#,
             r#"{"id":18446744073709551615,"call":12,"aborted":"underflow"}"#,
         ),
@@ -66,7 +70,7 @@ fn line_has_its_fault(rt: HostRuntime) -> Result<(), Fail> {
         (r#"{"client":0,}"#, r#"{"fault":"no JSON text: column 13"}"#),
         (
             "[]",
-            r#"{"fault":"the line has to be an object with client, proc, args and perhaps id"}"#,
+            r#"{"fault":"the line has to be an object with proc, args and perhaps client and id"}"#,
         ),
         (
             r#"{"id":-1,"client":0,"proc":"seven","args":[]}"#,
@@ -74,7 +78,7 @@ fn line_has_its_fault(rt: HostRuntime) -> Result<(), Fail> {
         ),
         (
             r#"{"id":5,"client":0,"proc":"seven","args":[],"more":1}"#,
-            r#"{"id":5,"fault":"the line has to be an object with client, proc, args and perhaps id"}"#,
+            r#"{"id":5,"fault":"the line has to be an object with proc, args and perhaps client and id"}"#,
         ),
         (
             r#"{"id":5,"client":4294967296,"proc":"seven","args":[]}"#,

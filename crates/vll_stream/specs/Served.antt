@@ -78,8 +78,8 @@ Wrote fault.Read is_last old new text last = Appends old new text
 Wrote fault.NoMemory is_last old new text last = Appends old new text
 Wrote fault.Unfinished is_last old new text last = Appends old new text
 
--- where a service has ended early: before the end of the input and with no line that is complete and lacks its answer,
--- if the input failed, and with no such line if the output did
+-- where a service has ended early: if the input failed, before the input's end and once every complete line is answered;
+-- if the output failed, once every complete line is answered
 abbrev pub Stopped : StreamFault → Bool → List ℕ → Type 0
 Stopped fault.Read is_last tail = (is_last ≡ false) × (has_feed tail ≡ false)
 Stopped fault.Write is_last tail = has_feed tail ≡ false

@@ -22,8 +22,8 @@ use vll_lines::{MOST_ROUND, RoundReader};
 use vll_sca::Placing;
 use vll_scenario::{MOST_CLIENTS, Sink, Source, write_text};
 
-// The calls that a round may have: a line that asks for one has at least 32 bytes.
-const ROUND_CALLS: u32 = MOST_ROUND as u32 / 32;
+// The calls that a round may have: a line that asks for one has at least 22 bytes.
+const ROUND_CALLS: u32 = MOST_ROUND as u32 / 16;
 
 // With fewer calls left for an engine, the next one serves the next round.
 const LAST_ROUND: u64 = (MOST_CALLS - ROUND_CALLS) as u64;

@@ -21,17 +21,16 @@ use vll_proc::Call;
 use vll_sca::Placing;
 use vll_scenario::{MOST_CLIENTS, Scenario, ScenarioParts, Sink, Source, write_text};
 
-/// Serves the calls that the lines of the input ask for, and writes the answer to each line, in their order. Once the
-/// input has ended, writes a last line with the number of calls and the records. It is what `vll serve` runs.
+/// Makes the calls that the lines of the input ask for, and writes an answer to each line, in the order of the lines.
+/// Once the input has ended, it writes a last line with the number of calls and the records. It is what `vll serve` runs.
 ///
-/// It reads what has come, makes these calls one after the other in the order of their lines, writes their answers, and
-/// reads again.
+/// It reads what has come, makes these calls one after the other in the order of their lines, writes and flushes their
+/// answers, and reads again: it answers every complete line before it asks for more input.
 ///
-/// The records, procedures, cap, bits, hash and the number of clients are those of the scenario; its scripts have to be
-/// empty, or it returns `Calls`; its limit and its schedule are not read. No more input is asked for while a line that
-/// is complete lacks its answer, and the answers are flushed before. Any other fault ends the service before its input
-/// ends: what was written by then answers the first lines, as if no others had come. `Read` and `Write` are returned
-/// exactly if the reader or the writer has failed.
+/// The records, procedures, cap, bits, hash and the number of clients are those of the scenario. Its scripts must be
+/// empty, or the result is `Calls`; its limit and its schedule are ignored. Any other fault ends the service before the
+/// input ends: what was written by then answers the first lines, as if no others had come. The result is `Read` or
+/// `Write` exactly if the reader or the writer has failed.
 pub fn serve_stream<S: Source, W: Sink>(
     wait: &impl Wait,
     alloc: Global,

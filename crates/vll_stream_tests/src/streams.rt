@@ -12,7 +12,8 @@ use vll_stream::{StreamFault, serve_stream};
 const BANK: &str = r#"{"version":1,"records":[100,50],"procs":[
  {"name":"transfer","args":3,"keys":[["write","arg",0],["write","arg",1]],
   "body":[["set",0,["sub",["key",0],["arg",2]]],
-          ["set",1,["add",["key",1],["arg",2]]],["reply",["key",0]]]}],
+          ["set",1,["add",["key",1],["arg",2]]],["reply",["key",0]]]},
+ {"name":"p","args":0,"keys":[],"body":[]}],
  "clients":[[],[]]}"#;
 
 // What a service of the bank writes for an input.
@@ -75,11 +76,39 @@ fn last_line(text: &[u8]) -> Result<&str, Fail> {
 }
 
 #[test]
+fn client_that_is_left_out_is_the_first(rt: HostRuntime) -> Result<(), Fail> {
+    let input = r#"{"proc":"transfer","args":[0,1,30]}
+{"client":null,"proc":"transfer","args":[0,1,30]}
+{"client":0,"proc":"transfer","args":[0,1,30]}"#;
+    let wanted = r#"{"call":0,"committed":[70]}
+{"fault":"client has to be the number of a client"}
+{"call":1,"committed":[40]}
+{"calls":2,"records":[40,110]}
+"#;
+    let found = served(&rt, rt.alloc(), input)?;
+    equal(&rt, std::str::from_utf8(found.as_slice())?, wanted);
+    Ok(())
+}
+
+#[test]
 fn epochs_go_on_over_the_records(rt: HostRuntime) -> Result<(), Fail> {
     let input = transfers(rt.alloc(), 70_002)?;
     let found = served(&rt, rt.alloc(), input.as_str())?;
     let last = last_line(found.as_slice())?;
     equal(&rt, last, "{\"calls\":70002,\"records\":[98,52]}");
+    Ok(())
+}
+
+// A round of the shortest lines comes where an engine has room for some 1,300 more calls.
+#[test]
+fn round_of_short_lines_has_room(rt: HostRuntime) -> Result<(), Fail> {
+    let mut input = transfers(rt.alloc(), 64_300)?;
+    for _ in 0..4_000 {
+        input.push_str("{\"proc\":\"p\",\"args\":[]}\n")?;
+    }
+    let found = served(&rt, rt.alloc(), input.as_str())?;
+    let last = last_line(found.as_slice())?;
+    equal(&rt, last, "{\"calls\":68300,\"records\":[100,50]}");
     Ok(())
 }
 

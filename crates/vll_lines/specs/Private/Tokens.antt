@@ -25,6 +25,6 @@ AreRead tokens found rest = converted (λ ms. of_members ms no_members) (members
 pub record Says (told : Told) (args : List ℕ) (found : Members) : Type 0 where
   pub only : has_only may_names found ≡ true
   pub id : id_of (object found) ≡ Ok told.id
-  pub client : IfSome told.client (λ n. client_of (object found) ≡ Ok n)
+  pub client : client_of (object found) ≡ Ok told.client
   pub name : IfSome told.name (λ s. name_of (object found) ≡ Ok s.now)
   pub list : told.has_args ≡ true → args_of (object found) ≡ Ok args

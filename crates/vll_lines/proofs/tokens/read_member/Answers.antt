@@ -9,11 +9,11 @@ returns-in_ok-read_id-in-id-clause-read c =
     let got = c.in_ok-read_id-in-id.ensures.read in
     (got.0, got.1, λ found says. told_id c.args.told.now c.args.args.now.items found c.args.key.now got.0 c.in_ok-read_id-in-id.field-0 c.in-id.is got.2 says)
 
-pub returns-in_ok-read_client-in-client-clause-read : goal.returns-in_ok-read_client-in-client-clause-read
-returns-in_ok-read_client-in-client-clause-read c =
-    let n = c.in_ok-read_client-in-client.field-0 in
+pub returns-in_ok-number-in-client-clause-read : goal.returns-in_ok-number-in-client-clause-read
+returns-in_ok-number-in-client-clause-read c =
+    let n = c.in_ok-number-in-client.number in
     let small : n < 2 ^ 32 = omega arith in
-    (number (unsigned n), c.in_ok-read_client-in-client.ensures.read, λ found says. told_client c.args.told.now c.args.args.now.items found c.args.key.now n c.in-client.is small says)
+    (number (unsigned n), c.in_ok-number-in-client.ensures.read, λ found says. told_client c.args.told.now c.args.args.now.items found c.args.key.now n c.in-client.is small says)
 
 pub returns-in_ok-read_text-in-proc-clause-read : goal.returns-in_ok-read_text-in-proc-clause-read
 returns-in_ok-read_text-in-proc-clause-read c =
