@@ -88,7 +88,7 @@ class Service:
 
     @contextlib.contextmanager
     def at_work(self):
-        """Once it has made a call of nothing: where it is written to and read from, and the number of the process."""
+        """Where the server is written to and read from, and its process, once it has made a call that moves nothing."""
         with subprocess.Popen(self.command, stdin=subprocess.PIPE, stdout=subprocess.PIPE) as running:
             to, back = running.stdin.fileno(), running.stdout.fileno()
             os.write(to, self.text(0, (0, 1, 0)))
@@ -118,7 +118,7 @@ class Redis:
 
     @contextlib.contextmanager
     def at_work(self):
-        """As of `Service`."""
+        """As in `Service`."""
         path = str(self.room / 'redis')
         words = ['--port', '0', '--unixsocket', path, '--dir', self.room, '--save', '', '--appendonly', 'no']
         try:

@@ -19,6 +19,7 @@ set style line 6 lc '#b94a00' lw 2 pt 5  ps 0.8 dt 2
 set style line 7 lc '#8a5fa8' lw 2 pt 9  ps 1.0 dt 2
 set style line 8 lc '#9cc3e6' lw 2 pt 7  ps 0.7
 set style line 9 lc '#5a9bd0' lw 2 pt 7  ps 0.7
+set style line 10 lc '#3f8f4a' lw 2 pt 10 ps 1.1  # table
 
 # The number in a column of a row of a scenario and a way; nothing in other rows.
 of(scenario, way, column) = strcol(1) eq scenario && strcol(2) eq way ? column(column) : NaN
@@ -62,6 +63,7 @@ do for [i = 1:count] {
     plot csv every ::1 using (0.7):(of(names[i], 'serial', 4)):(3.6):(0) with vectors nohead ls 1, \
         csv every ::1 using (of(names[i], 'mutex', 3)):(of(names[i], 'mutex', 4)) with linespoints ls 2, \
         csv every ::1 using (of(names[i], 'locks', 3)):(of(names[i], 'locks', 4)) with linespoints ls 3, \
+        csv every ::1 using (of(names[i], 'table', 3)):(of(names[i], 'table', 4)) with linespoints ls 10, \
         csv every ::1 using (of(names[i], 'call', 3)):(of(names[i], 'call', 4)) with linespoints ls 4, \
         csv every ::1 using (of(names[i], 'engine', 3)):(of(names[i], 'engine', 4)) with linespoints ls 5
 }
@@ -70,11 +72,12 @@ unset title
 unset border
 unset tics
 unset grid
-set key at graph -0.1, graph 1 left top Left reverse samplen 4 spacing 1.6 font ',13'
+set key at graph -0.1, graph 1.05 left top Left reverse samplen 4 spacing 1.3 font ',13'
 set label 1 origin at graph -0.08, graph 0.12 left noenhanced font ',10' tc '#555555'
 plot NaN with lines ls 1 title 'serial: one thread, no lock', \
     NaN with linespoints ls 2 title 'one mutex round each call', \
     NaN with linespoints ls 3 title 'a lock in each record', \
+    NaN with linespoints ls 10 title 'a lock table', \
     NaN with linespoints ls 4 title 'Client::call', \
     NaN with linespoints ls 5 title "the engine's workers"
 unset multiplot

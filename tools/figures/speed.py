@@ -112,13 +112,13 @@ def rows_below(head, text):
 
 
 def with_rows(readme, text):
-    """The text of README.md with the figures of a file in its table, which has a row for each scenario: a mutex and
-    locks at their best, `Client::call` and workers on four threads."""
+    """The text of README.md with the figures of a file in its table, which has a row for each scenario: a mutex, locks and
+    a lock table at their best, `Client::call` and workers on four threads."""
     found = {}
     for scenario, way, threads, nanoseconds, *_ in rows_below(HEAD, text):
         found.setdefault(scenario, {}).setdefault(way, {})[threads] = int(nanoseconds)
     for scenario, ways in found.items():
-        best = min(ways['mutex'].values()), min(ways['locks'].values()), ways['call']['4'], ways['engine']['4']
+        best = *(min(ways[way].values()) for way in ('mutex', 'locks', 'table')), ways['call']['4'], ways['engine']['4']
         words = WORKLOADS[scenario][0]
         row = ' | '.join(['', words, *(f'{nanoseconds:,}' for nanoseconds in best), '']).strip()
         readme, count = re.subn(rf'^\| {re.escape(words)} \|.*$', row, readme, flags=re.MULTILINE)

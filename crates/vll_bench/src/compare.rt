@@ -10,10 +10,11 @@ use std::time::Clock;
 use vll_server::{Plain, ScenarioParts, read_scenario};
 
 // The ways, and the numbers of threads that each is measured with.
-const TEAMS: [(Way, &[u32]); 5] = [
+const TEAMS: [(Way, &[u32]); 6] = [
     (Way::Serial, &[1]),
     (Way::Mutex, &[1, 2, 4]),
     (Way::Locks, &[1, 2, 4]),
+    (Way::Table, &[1, 2, 4]),
     (Way::Call, &[1, 2, 4]),
     (Way::Engine, &[1, 2, 4]),
 ];

@@ -111,6 +111,7 @@ fn make_from(
     Ok(committed)
 }
 
-fn is_write(claim: Claim) -> bool {
+/// Whether a claim writes its record.
+pub(crate) fn is_write(claim: Claim) -> bool {
     matches!(claim.mode, Mode::Write)
 }

@@ -17,6 +17,7 @@ mod scans;
 mod setup;
 mod shapes;
 mod shares;
+mod table;
 mod task;
 mod threads;
 mod timed;
@@ -45,9 +46,9 @@ engine   what a call of the engine costs from begin to finish, on one thread
 scan     what a scan of the queue that finds no call costs, on one thread
 bodies   what a body costs, per run and per node, on one thread
 compare  what a call of the scenario costs without the engine, serially, under
-         one lock and with one lock per record, and in the engine, by its own
-         call and by workers: lines of comma-separated values, whose names are
-         in the first line
+         one lock, with one lock per record and with a lock table, and in the
+         engine, by its own call and by workers: lines of comma-separated
+         values, whose names are in the first line
 counts   what became of the scenario's calls by workers in the engine, and what
          these did: lines of that kind";
 

@@ -9,6 +9,7 @@ use crate::plain::{ByMutex, time_serial};
 use crate::runs;
 use crate::setup::{opened, parts_of};
 use crate::shares::time_shares;
+use crate::table::ByTable;
 use crate::timed::Timed;
 use std::marker::Brand;
 use std::sync::Wait;
@@ -26,6 +27,8 @@ pub(crate) enum Way {
     Mutex,
     /// On plain records, each with a lock of its own.
     Locks,
+    /// On plain records, with a lock table.
+    Table,
     /// In the engine, without workers: each thread uses `Client::make`.
     Call,
     /// By the engine's workers.
@@ -39,6 +42,7 @@ impl Way {
             Way::Serial => "serial",
             Way::Mutex => "mutex",
             Way::Locks => "locks",
+            Way::Table => "table",
             Way::Call => "call",
             Way::Engine => "engine",
         }
@@ -59,6 +63,7 @@ impl Way {
             Way::Serial => time_serially(rt, bytes),
             Way::Mutex => time_by_mutex(rt, bytes, workers as usize),
             Way::Locks => time_by_locks(rt, bytes, workers as usize),
+            Way::Table => time_by_table(rt, bytes, workers as usize),
             Way::Call => time_by_call(rt, bytes, workers as usize),
             Way::Engine => time_by_workers(rt, bytes, workers),
         }
@@ -100,6 +105,19 @@ fn time_by_locks<R: Threads + Wait + Clock + AllocGlobal + Sync>(
     let parts = parts_of(rt.alloc(), bytes)?;
     let scripts = parts.scripts.as_slice();
     let maker = ByLocks::new(rt, rt.alloc(), &parts.library, parts.records.as_slice())?;
+    time_shares(rt, rt.alloc(), &maker, scripts, threads)
+}
+
+fn time_by_table<R: Threads + Wait + Clock + AllocGlobal + Sync>(
+    rt: &R,
+    bytes: &[u8],
+    threads: usize,
+) -> Result<Timed, Fault>
+    requires { 0 < threads }
+{
+    let parts = parts_of(rt.alloc(), bytes)?;
+    let scripts = parts.scripts.as_slice();
+    let maker = ByTable::new(rt, rt.alloc(), &parts.library, parts.records.as_slice())?;
     time_shares(rt, rt.alloc(), &maker, scripts, threads)
 }
 
