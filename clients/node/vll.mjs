@@ -64,8 +64,13 @@ class Queue {
   }
 }
 
-/** A line that the service wrote. Numbers of many digits, which JSON.parse would round, become BigInts. */
-function parsed (line) {
+/** What lines of the service say. JSON has no line feed within a text, so they are one list once they have commas. */
+function parsed (lines) {
+  return /\d{16}/.test(lines) ? lines.split('\n').map(parsedAlone) : JSON.parse(`[${lines.replaceAll('\n', ',')}]`)
+}
+
+/** A line of these. Numbers of many digits, which JSON.parse would round, become BigInts. */
+function parsedAlone (line) {
   if (!/\d{16}/.test(line) || line.startsWith('{"fault"')) return JSON.parse(line)
   // no other line has a text with digits: no call of this client has an id
   const quoted = line.replace(/\d{16,}/g, '"$&"')
@@ -204,10 +209,10 @@ export class Service {
       this.#begun.push(text)
       return
     }
-    const lines = (this.#begun.join('') + text.slice(0, end)).split('\n')
+    const lines = this.#begun.join('') + text.slice(0, end)
     this.#begun = [text.slice(end + 1)]
     try {
-      for (const line of lines) this.#answer(parsed(line))
+      for (const answer of parsed(lines)) this.#answer(answer)
     } catch (error) {
       this.kill()
       this.#finish(`what it wrote is no answer: ${error.message}`)

@@ -42,6 +42,8 @@ LARGEST = 2 ** 64 - 1
 # How much is read at a time, how often calls for which nobody waits are looked after, and how long a service may take
 # to end once it has closed its output.
 PIECE, TICK, PATIENCE = 1 << 16, 0.002, 60
+# How many lines are written though nobody waits for an answer.
+BATCH = 256
 
 
 class Error(Exception):
@@ -98,25 +100,20 @@ Outcome = Union[Reply, Last, Error]
 
 def outcome_of(answer: Dict[str, Any]) -> Outcome:
     """What a line of the service says."""
-    if 'committed' in answer:
-        reply = Reply(answer['committed'])
-        reply.call = answer['call']
-        return reply
-    if 'aborted' in answer:
-        kind = Moved if answer['aborted'] == 'moved' else Aborted
-        return kind(answer['call'], answer['aborted'])
     if 'calls' in answer:
         return Last(answer['calls'], answer['records'])
-    return Fault(answer['fault'])
+    if 'fault' in answer:
+        return Fault(answer['fault'])
+    return made(answer['call'], answer['committed'] if 'committed' in answer else answer['aborted'])
 
 
-def is_whole(number: Any) -> bool:
-    """Whether this converts without loss to a whole number in range."""
-    try:
-        struct.pack('=Q', number)
-    except (struct.error, OverflowError):
-        return False
-    return True
+def made(call: int, result: Any) -> Outcome:
+    """What a call gave: the list of its outputs, or why it was aborted."""
+    if result.__class__ is list:
+        reply = Reply(result)
+        reply.call = call
+        return reply
+    return (Moved if result == 'moved' else Aborted)(call, result)
 
 
 def form_of(name: str, count: int) -> bytes:
@@ -126,41 +123,52 @@ def form_of(name: str, count: int) -> bytes:
 
 
 class Answers:
-    """Cuts what a service writes into its lines."""
+    """Reads what a service writes."""
 
     def __init__(self) -> None:
         self._begun: List[bytes] = []
 
     def read(self, piece: bytes) -> List[Outcome]:
         """The outcomes of the lines that this piece completes."""
-        lines, feed, rest = piece.rpartition(b'\n')
+        whole, feed, rest = piece.rpartition(b'\n')
         if not feed:
             self._begun.append(piece)
             return []
-        text = b''.join([*self._begun, lines])
+        lines = b''.join([*self._begun, whole]).decode()
         self._begun = [rest]
+        # most calls are made: without the names of its members such a line is read in half the time
+        members = lines.replace('{"call":', '').replace('"committed":', '').replace('"aborted":', '')
+        if '{' not in members:
+            values = json.loads('[%s]' % members.replace('}\n', ',')[:-1])
+            if len(values) == 2 * (lines.count('\n') + 1):
+                return [made(call, result) for call, result in zip(values[::2], values[1::2])]
         # JSON has no line feed within a text, so all lines are one list once they have commas between them
-        return list(map(outcome_of, json.loads(b'[%b]' % text.replace(b'\n', b','))))
+        return list(map(outcome_of, json.loads('[%s]' % lines.replace('\n', ','))))
 
 
 class Procedures:
-    """The procedures of a scenario: their calls as lines, and a method `call` under each one's name."""
+    """The procedures of a scenario: their calls as lines, and a method under each one's name that makes a call."""
 
     def __init__(self, file: Union[str, 'os.PathLike[str]']):
         with open(file, encoding='utf-8') as text:
             scenario = json.load(text)
         try:
-            self._clients = len(scenario['clients'])
-            # of each procedure how many arguments it has, what refuses numbers that are not whole, and a line
-            self._forms = {proc['name']: (proc['args'], struct.Struct(f'={1 + proc["args"]}Q').pack,
-                                          form_of(proc['name'], proc['args'])) for proc in scenario['procs']}
+            counts = {proc['name']: proc['args'] for proc in scenario['procs']}
+            # to define `__getattr__` would make each use of an attribute slower
+            for name in counts:
+                if not hasattr(type(self), name):
+                    setattr(self, name, functools.partial(self.call, name))
+            self._counts, self._clients = counts, len(scenario['clients'])
+            # of each procedure what refuses numbers that are not whole, and a line
+            self._forms = {name: (struct.Struct(f'={1 + count}Q').pack, form_of(name, count))
+                           for name, count in counts.items()}
         except (KeyError, TypeError, struct.error) as why:
             raise ValueError(f'{file} is no scenario: vll explain says more') from why
 
     def _line(self, proc: str, args: Any, client: int) -> bytes:
-        numbers = (client, *args)
         try:
-            _, pack, form = self._forms[proc]
+            pack, form = self._forms[proc]
+            numbers = (client, *args)
             pack(*numbers)
             if client < self._clients:
                 return form % numbers
@@ -170,24 +178,19 @@ class Procedures:
 
     def _fault(self, proc: str, args: Any, client: int) -> str:
         """Why there is no such call."""
-        if proc not in self._forms:
+        if proc not in self._counts:
             return f'there is no procedure {proc}'
-        if len(args) != self._forms[proc][0]:
-            return f'{proc} takes {self._forms[proc][0]} arguments, and not {len(args)}'
+        if len(args) != self._counts[proc]:
+            return f'{proc} takes {self._counts[proc]} arguments, and not {len(args)}'
         for number in args:
-            if not is_whole(number):
+            try:
+                struct.pack('=Q', number)
+            except (struct.error, OverflowError):
                 return f'{number!r} is no whole number from 0 to {LARGEST}'
         return f'there is no client {client!r}'
 
     def call(self, proc: str, *args: int, client: int = 0) -> Any:
         raise NotImplementedError
-
-    def __getattr__(self, name: str) -> Callable[..., Any]:
-        if name.startswith('__') or name not in self.__dict__.get('_forms', ()):
-            raise AttributeError(f'there is no procedure {name}')
-        method = functools.partial(self.call, name)
-        setattr(self, name, method)
-        return method
 
 
 class Child:
@@ -256,14 +259,10 @@ def early(status: int, said: Any) -> Optional[str]:
 class Future:
     """The answer to a call, which may not be there yet."""
 
-    __slots__ = ('_service', '_outcome', '_gates', '_callbacks')
-
-    def __init__(self, service: 'Service'):
-        self._service = service
-        self._outcome: Optional[Outcome] = None
-        # the locks on which threads sleep that wait for it
-        self._gates: Optional[List[threading.Lock]] = None
-        self._callbacks: Optional[List[Callable[['Future'], Any]]] = None
+    # each service has a class of its own futures, so that `__init__` has nothing to do
+    __slots__ = ('_outcome',)
+    _service: 'Service'
+    _outcome: Optional[Outcome]
 
     def done(self) -> bool:
         """Whether the answer is there."""
@@ -277,22 +276,22 @@ class Future:
         if self._outcome is None:
             self._service._wait(self, timeout)
         outcome = self._outcome
-        if isinstance(outcome, Error):
-            raise outcome
-        return outcome
+        if outcome.__class__ is Reply:
+            return outcome
+        raise outcome
 
     def exception(self, timeout: Optional[float] = None) -> Optional[Error]:
         """Waits for the answer, and returns why the call is not committed, or None if it is."""
         if self._outcome is None:
             self._service._wait(self, timeout)
         outcome = self._outcome
-        return outcome if isinstance(outcome, Error) else None
+        return None if outcome.__class__ is Reply else outcome
 
     def add_done_callback(self, callback: Callable[['Future'], Any]) -> None:
         """Calls this function with the future once the answer is there, in any thread. It must not wait for calls."""
         with self._service._lock:
             if self._outcome is None:
-                self._callbacks = [*(self._callbacks or ()), callback]
+                self._service._callbacks.setdefault(self, []).append(callback)
                 return
         callback(self)
 
@@ -304,8 +303,10 @@ class Service(Procedures):
     `in_flight` calls lack an answer at a time: `submit` waits while there are so many.
 
     Whoever waits for an answer reads: the first who waits reads for all, and hands on once its own answer is there, so
-    that an answer needs no switch to another thread. A thread in the background looks every few milliseconds after
-    calls for which nobody waits: so all that was submitted is written, and all that is answered read.
+    that an answer needs no switch to another thread. Those whose answer is there too are woken one by the other, since
+    all at once would only wait for each other; what they submit meanwhile the last of them writes at once. A thread in
+    the background looks every few milliseconds after calls for which nobody waits: so all that was submitted is
+    written, and all that is answered read.
     """
 
     def __init__(self, file: Union[str, 'os.PathLike[str]'], program: Union[str, 'os.PathLike[str]'] = 'vll',
@@ -320,18 +321,23 @@ class Service(Procedures):
         self._answered, self._answered_or_free = self._polls()
         # The lock guards all below; whoever has set `_reading` or `_writing` is the only one who reads or writes.
         self._lock = threading.Lock()
-        self._reading = self._writing = self._closing = self._input_ended = False
+        self._reading = self._writing = self._input_ended = False
+        self._is_open = True
         # whether the service did not take all that was written last
         self._is_full = False
         self._lines: List[bytes] = []
         self._pending: Deque[Future] = deque()
+        self._callbacks: Dict[Future, List[Callable[[Future], Any]]] = {}
+        # the locks on which threads sleep, each with what it waits for, and those whose answer is there meanwhile
         self._sleeping: Dict[threading.Lock, Future] = {}
-        # the locks of those whose answer is there, and who still sleep
         self._waking: Deque[threading.Lock] = deque()
         self._answers = Answers()
         self._last: Optional[Last] = None
-        self._end = Future(self)
-        self._is_due, self._due = False, threading.Event()
+        self._future = type('Future', (Future,), {'__slots__': (), '_service': self})
+        self._end = self._future()
+        self._end._outcome = None
+        # whether calls may be looked after, and whether somebody has just waited, who did so
+        self._is_due, self._due, self._is_waited = False, threading.Event(), False
         threading.Thread(target=self._look_after, daemon=True, name='vll').start()
 
     def _polls(self) -> Tuple[select.poll, select.poll]:
@@ -351,20 +357,26 @@ class Service(Procedures):
 
     def submit(self, proc: str, *args: int, client: int = 0) -> Future:
         """Makes a call without waiting for its answer."""
-        line, future = self._line(proc, args, client), Future(self)
+        line, future = self._line(proc, args, client), self._future()
+        future._outcome = None
         while True:
             with self._lock:
-                if self._end._outcome is not None or self._closing:
-                    raise self._as_ended()
+                if not self._is_open:
+                    end = self._end._outcome
+                    raise Ended(*end.args) if isinstance(end, Ended) else Ended('the service was closed')
                 if len(self._pending) < self._in_flight:
                     self._pending.append(future)
                     self._lines.append(line)
                     if not self._is_due:
                         self._is_due = True
                         self._due.set()
-                    return future
+                    if len(self._lines) != BATCH:
+                        return future
+                    break
                 oldest = self._pending[0]
             self._wait(oldest, None)
+        self._write()
+        return future
 
     def call(self, proc: str, *args: int, client: int = 0) -> Reply:
         """Makes a call, waits for its answer, and returns the outputs or raises why there are none."""
@@ -376,7 +388,7 @@ class Service(Procedures):
         Raises `Ended` if the service ended otherwise, and `TimeoutError` after so many seconds; it can be called again.
         """
         with self._lock:
-            self._closing = True
+            self._is_open = False
         self._wait(self._end, timeout)
         if isinstance(self._end._outcome, Error):
             raise self._end._outcome
@@ -396,79 +408,84 @@ class Service(Procedures):
             if kind is None:
                 raise
 
-    def _as_ended(self) -> Ended:
-        end = self._end._outcome
-        return Ended(*end.args) if isinstance(end, Ended) else Ended('the service was closed')
-
     def _wait(self, future: Future, timeout: Optional[float]) -> None:
         """Reads until this answer is there, or sleeps while another thread reads."""
         until = None if timeout is None else time.monotonic() + timeout
-        self._write()
+        self._is_waited = True
+        # those who are being woken may have more to write
+        if not self._waking:
+            self._write()
         with self._lock:
             if future._outcome is not None:
                 return
-            gate = self._gate_for(future) if self._reading else None
-            self._reading = True
-        if gate is None or self._sleep(gate, future, until):
+            reads = not (self._reading or self._waking)
+            if reads:
+                self._reading = True
+            else:
+                gate = threading.Lock()
+                gate.acquire()
+                self._sleeping[gate] = future
+        if reads or self._sleep(gate, future, until):
             try:
-                while future._outcome is None:
-                    self._turn(until)
+                while future._outcome is None and self._turn(until):
+                    pass
             finally:
                 self._hand_on()
-
-    def _gate_for(self, future: Future) -> threading.Lock:
-        gate = threading.Lock()
-        gate.acquire()
-        self._sleeping[gate] = future
-        if future._gates is None:
-            future._gates = []
-        future._gates.append(gate)
-        return gate
+        if future._outcome is None:
+            raise TimeoutError('the answer is not there yet')
 
     def _sleep(self, gate: threading.Lock, future: Future, until: Optional[float]) -> bool:
         """Sleeps until the answer is there, or it is this thread's turn to read: it says whether that is so."""
         try:
             woken = gate.acquire(timeout=-1 if until is None else max(0, until - time.monotonic()))
         except BaseException:
-            if not self._gives_up(gate, future) and future._outcome is None:
-                self._hand_on()
+            if self._is_woken(gate):
+                self._hand_on() if future._outcome is None else self._go_on()
             raise
-        if not woken and self._gives_up(gate, future):
-            raise TimeoutError('the answer is not there yet')
-        self._wake_next()
+        if not (woken or self._is_woken(gate)):
+            return False
+        if future._outcome is not None:
+            self._go_on()
         return future._outcome is None
 
-    def _gives_up(self, gate: threading.Lock, future: Future) -> bool:
-        """Sleeps no more, and says whether it would sleep on."""
+    def _is_woken(self, gate: threading.Lock) -> bool:
+        """Whether it need not sleep any more; it does not do so in any case."""
         with self._lock:
-            if self._sleeping.pop(gate, None) is not None:
-                future._gates.remove(gate)
-                return True
-            if gate in self._waking:
-                self._waking.remove(gate)
-        self._wake_next()
-        return False
-
-    def _wake_next(self) -> None:
-        """Wakes one whose answer is there; it wakes the next one. All at once would only wait for each other."""
-        with self._lock:
-            if self._waking:
-                self._waking.popleft().release()
+            return self._sleeping.pop(gate, None) is None
 
     def _hand_on(self) -> None:
-        """Whoever has waited longest reads now."""
+        """Reads no more."""
         with self._lock:
-            if not self._sleeping:
-                self._reading = False
-                return
-            gate = next(iter(self._sleeping))
-            self._sleeping.pop(gate)._gates.remove(gate)
-            gate.release()
+            self._reading = False
+        self._go_on()
+
+    def _wake_next(self) -> bool:
+        """Wakes one whose answer is there, who has to go on; says whether there is one."""
+        with self._lock:
+            if not self._waking:
+                return False
+            self._waking.popleft().release()
+            return True
+
+    def _go_on(self) -> None:
+        """Wakes the next one whose answer is there. The last one writes; then whoever has waited longest reads."""
+        if self._wake_next():
+            return
+        self._write()
+        with self._lock:
+            if self._sleeping and not (self._reading or self._waking):
+                self._reading = True
+                gate = next(iter(self._sleeping))
+                del self._sleeping[gate]
+                gate.release()
 
     def _look_after(self) -> None:
         while self._end._outcome is None:
             self._due.wait()
             time.sleep(TICK)
+            if self._is_waited:
+                self._is_waited = False
+                continue
             with self._lock:
                 if not (self._pending or self._lines or self._waking):
                     self._is_due = False
@@ -476,33 +493,31 @@ class Service(Procedures):
                     continue
                 reads = not self._reading
                 self._reading = True
-            self._write()
-            # an interrupt can keep whoever was woken from waking the next one
-            self._wake_next()
-            if reads:
-                try:
-                    self._turn(0)
-                except TimeoutError:
-                    pass
-                finally:
-                    self._hand_on()
+            if not reads:
+                # an interrupt can keep whoever was woken from going on
+                self._go_on()
+                continue
+            try:
+                self._turn(0)
+            finally:
+                self._hand_on()
 
-    def _turn(self, until: Optional[float]) -> None:
-        """Writes what is left, waits for answers, and gives them to those who wait for them."""
-        self._write()
+    def _turn(self, until: Optional[float]) -> bool:
+        """Writes what is left, waits for answers, and gives them to those who wait; says whether some came in time."""
+        if not self._wake_next():
+            self._write()
         if self._end._outcome is not None:
-            return
+            return False
         ready = self._answered_or_free if self._is_full else self._answered
         found = ready.poll(None if until is None else max(0, until - time.monotonic()) * 1000)
-        if not found:
-            raise TimeoutError('the answer is not there yet')
         if any(event != select.POLLOUT for _, event in found):
             self._read()
+        return bool(found)
 
     def _write(self) -> None:
         """Writes all lines that there are, as far as the service takes them; not if another thread is about it."""
         with self._lock:
-            if self._writing or self._input_ended or not (self._lines or self._closing):
+            if self._writing or self._input_ended or not self._lines and self._is_open:
                 return
             self._writing = True
         try:
@@ -521,7 +536,7 @@ class Service(Procedures):
         with self._lock:
             if not self._lines:
                 self._writing = False
-                if self._closing:
+                if not self._is_open:
                     self._input_ended = True
                     self._service.end_input()
                 return False
@@ -561,33 +576,24 @@ class Service(Procedures):
             raise
 
     def _give(self, outcomes: List[Outcome]) -> None:
-        """Gives the answers to the first calls that lack one."""
+        """Gives the answers to the first calls that lack one; whoever reads goes on to wake those who sleep."""
         with self._lock:
             if outcomes and isinstance(outcomes[-1], Last):
                 self._last = outcomes.pop()
-            called = self._settle(outcomes)
+            if len(outcomes) > len(self._pending):
+                raise ValueError('there are more answers than calls')
+            for future, outcome in zip(self._pending, outcomes):
+                future._outcome = outcome
+            settled = [self._pending.popleft() for _ in outcomes]
+            woken = [gate for gate, future in self._sleeping.items() if future._outcome is not None]
+            for gate in woken:
+                del self._sleeping[gate]
+            self._waking.extend(woken)
+            if not self._callbacks:
+                return
+            called = [(future, callback) for future in settled for callback in self._callbacks.pop(future, ())]
         self._wake_next()
-        for future in called:
-            self._call_back(future)
-
-    def _settle(self, outcomes: Iterable[Outcome]) -> List[Future]:
-        """The same under the lock; the futures that have callbacks. `_wake_next` has to follow."""
-        called = []
-        for outcome in outcomes:
-            future = self._pending.popleft()
-            future._outcome = outcome
-            if future._gates:
-                for gate in future._gates:
-                    del self._sleeping[gate]
-                self._waking.extend(future._gates)
-                future._gates = None
-            if future._callbacks:
-                called.append(future)
-        return called
-
-    @staticmethod
-    def _call_back(future: Future) -> None:
-        for callback in future._callbacks or ():
+        for future, callback in called:
             try:
                 callback(future)
             except Exception:  # as concurrent.futures does: it is not the reader's fault
@@ -602,22 +608,19 @@ class Service(Procedures):
             # nobody writes any more to a file that is closed now
             self._input_ended = True
         said = self._service.end()
-        is_well = why is None and self._closing and not self._pending
+        is_well = why is None and not self._is_open and not self._pending
         if isinstance(self._service, Child):
             is_well = is_well and said is None and self._last is not None
         if not is_well:
             self._last = None
         with self._lock:
-            end = Ended(f'the service has ended: {why or said or "its last line is missing"}')
+            self._is_open = False
             self._lines.clear()
-            ends: List[Outcome] = [Ended(*end.args) for _ in self._pending]
+            ends: List[Outcome] = [Ended(f'the service has ended: {why or said or "its last line is missing"}')
+                                   for _ in range(len(self._pending) + 1)]
             self._pending.append(self._end)
-            called = self._settle([*ends, Reply() if is_well else end])
-            self._due.set()
-        while self._waking:
-            self._wake_next()
-        for future in called:
-            self._call_back(future)
+        self._give([*ends[1:], Reply()] if is_well else ends)
+        self._due.set()
 
 
 class AsyncService(Procedures):
@@ -651,12 +654,12 @@ class AsyncService(Procedures):
         self._loop = asyncio.get_running_loop()
         self._end = self._loop.create_future()
         if self._socket:
-            transport, _ = await self._loop.create_unix_connection(lambda: OverSocket(self), os.fspath(self._socket))
+            transport, _ = await self._loop.create_unix_connection(lambda: Heard(self), os.fspath(self._socket))
             self._transport = self._input = transport
             return self
         self._said = tempfile.TemporaryFile()
         self._transport, _ = await self._loop.subprocess_exec(
-            lambda: OverPipes(self), *self._command, stdin=subprocess.PIPE, stdout=subprocess.PIPE, stderr=self._said,
+            lambda: Heard(self), *self._command, stdin=subprocess.PIPE, stdout=subprocess.PIPE, stderr=self._said,
             start_new_session=True)
         self._input = self._transport.get_pipe_transport(0)
         return self
@@ -760,8 +763,8 @@ def settle(future: 'asyncio.Future[Reply]', outcome: Outcome) -> None:
         future.set_result(outcome)
 
 
-class OverPipes(asyncio.SubprocessProtocol):
-    """What asyncio tells of a service of our own."""
+class Heard(asyncio.Protocol, asyncio.SubprocessProtocol):
+    """What asyncio tells of a service of our own, or of a connection to a broker."""
 
     def __init__(self, service: AsyncService):
         self._service = service
@@ -769,23 +772,16 @@ class OverPipes(asyncio.SubprocessProtocol):
     def connection_made(self, transport: Any) -> None:
         self._transport = transport
 
+    def data_received(self, data: bytes) -> None:
+        self._service._read(data)
+
     def pipe_data_received(self, fd: int, data: bytes) -> None:
         self._service._read(data)
 
     def connection_lost(self, why: Optional[Exception]) -> None:
+        if self._service._socket:
+            self._service._finish('the broker has closed the connection')
+            return
         with self._service._said as said:
             self._service._finish(early(self._transport.get_returncode(), said))
         self._transport.close()
-
-
-class OverSocket(asyncio.Protocol):
-    """What asyncio tells of a connection to a broker."""
-
-    def __init__(self, service: AsyncService):
-        self._service = service
-
-    def data_received(self, data: bytes) -> None:
-        self._service._read(data)
-
-    def connection_lost(self, why: Optional[Exception]) -> None:
-        self._service._finish('the broker has closed the connection')

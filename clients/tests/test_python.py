@@ -1,5 +1,7 @@
 """The client for Python: by threads and by asyncio."""
 import asyncio
+import contextlib
+import functools
 import json
 import os
 import random
@@ -42,6 +44,24 @@ import json
 for number, text in enumerate(map(json.loads, sys.stdin.buffer)):
     print(json.dumps({'call': number, 'committed': [text['client'], *text['args']]}), flush=True)
 print('{"calls":%d,"records":[]}' % (number + 1))
+'''
+TWICE_ANSWERING = '''
+input()
+print('{"call":0,"committed":[]}\\n{"call":1,"committed":[]}', flush=True)
+'''
+ANSWERING_TWO = '''
+for _ in range(2): sys.stdin.buffer.readline()
+print('{"call":0,"committed":[]}\\n{"call":1,"committed":[]}\\n{"calls":2,"records":[]}', flush=True)
+'''
+# Answers 15 of 16 lines once it is clear that all wait, and the last one after one more.
+ANSWERING_MOST = '''
+def answer(first, end, last=''):
+    print(*['{"call":%d,"committed":[]}' % number for number in range(first, end)], last, sep='\\n', end='', flush=True)
+for _ in range(16): sys.stdin.buffer.readline()
+time.sleep(1)
+answer(0, 15)
+sys.stdin.buffer.readline()
+answer(15, 17, '{"calls":17,"records":[]}\\n')
 '''
 NEVER_ANSWERING = 'while os.read(0, 65536): pass\n'
 REFUSING = 'print("vll: scenario: json", file=sys.stderr); sys.exit(2)\n'
@@ -156,6 +176,52 @@ class Threads(Both):
             self.assertEqual(sorted(given['call'] for _, given in each), [given['call'] for _, given in each])
         self.judge([pair for each in found for pair in each], bank.last)
 
+    def run_all(self, *works):
+        """Runs these in threads, which all have to end. Nobody looks after their calls, as `service` was started so."""
+        threads = [threading.Thread(target=work, daemon=True) for work in works]
+        for thread in threads:
+            thread.start()
+        until = time.monotonic() + SECONDS
+        for thread in threads:
+            thread.join(max(0, until - time.monotonic()))
+        self.assertFalse(any(thread.is_alive() for thread in threads))
+
+    def test_no_wake_up_is_lost(self):
+        """Whoever waits is woken by the others, and some give up waiting."""
+        def work(number):
+            for ahead in (1, 3) * 30:
+                futures = [bank.submit('transfer', number % ACCOUNTS, 0, 0) for _ in range(ahead)]
+                with contextlib.suppress(TimeoutError):
+                    futures[-1].result(0.0001 if number % 8 == 7 else None)
+                for future in futures:
+                    future.result()
+        for in_flight in 1000, 40:
+            with mock.patch.object(vll, 'TICK', 2 * SECONDS), self.service(in_flight=in_flight) as bank:
+                self.run_all(*[functools.partial(work, number) for number in range(THREADS)])
+
+    def test_whoever_sleeps_has_written(self):
+        """The first call is answered after the second line."""
+        with mock.patch.object(vll, 'TICK', 2 * SECONDS), self.service(program=self.stand_in(ANSWERING_TWO)) as bank:
+            reader = threading.Thread(target=bank.submit('balance', 0).result, daemon=True)
+            reader.start()
+            time.sleep(0.1)
+            self.run_all(lambda: bank.balance(0), lambda: reader.join(SECONDS))
+
+    def test_the_last_one_who_is_woken_writes(self):
+        """The first one waits again meanwhile, and whoever reads waits for the call behind that one's first."""
+        def work(future):
+            future.result()
+            if is_first.acquire(blocking=False):
+                bank.balance(0)
+        is_first = threading.Lock()
+        with mock.patch.object(vll, 'TICK', 2 * SECONDS), self.service(program=self.stand_in(ANSWERING_MOST)) as bank:
+            futures = [bank.submit('balance', 0) for _ in range(16)]
+            reader = threading.Thread(target=futures[15].result, daemon=True)
+            reader.start()
+            time.sleep(0.1)
+            self.run_all(*[functools.partial(work, future) for future in futures[:15]])
+            reader.join(SECONDS)
+
     def test_many_calls_are_written_ahead(self):
         """Far more than both pipes hold: whoever writes also reads."""
         asked = list(moves(1, 50000))
@@ -241,6 +307,9 @@ class Threads(Both):
         with self.assertRaisesRegex(vll.Ended, 'no answer'):
             with self.service(program=self.stand_in('print("what?", flush=True)\n' + NEVER_ANSWERING)) as bank:
                 bank.balance(0)
+        with self.assertRaisesRegex(vll.Ended, 'more answers than calls'):
+            with self.service(program=self.stand_in(TWICE_ANSWERING)) as bank:
+                bank.submit('balance', 0).result(SECONDS)
         self.assertRaises(FileNotFoundError, self.service, program='/nowhere/vll')
 
     def test_an_error_of_the_caller_is_not_hidden(self):

@@ -109,7 +109,7 @@ class Body:
     # Names in the body.
 
     def key_of(self, place):
-        """The key that a name stands for, if it is no number's."""
+        """The key that a name stands for, if it is not the name of a number."""
         if place.name in self.key_names:
             self.without_index(place)
             self.used.add(place.name)

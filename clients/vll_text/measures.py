@@ -6,7 +6,7 @@ from .parts import Mistake
 
 
 class Measures(NamedTuple):
-    """What limits a body, of one of its parts."""
+    """The measures of a part of a body, which the limits of a body are about."""
     replies: int
     depth: int
     nodes: int
@@ -21,7 +21,7 @@ def in_a_row(parts):
 
 
 def measures_of(tree):
-    """Those of a statement or an expression, as docs/SCENARIO.md has them."""
+    """The measures of a statement or an expression, as docs/SCENARIO.md has them."""
     word, *parts = [tree] if isinstance(tree, int) else tree
     replies = turns = 1
     if word == 'repeat':

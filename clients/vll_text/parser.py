@@ -245,7 +245,7 @@ class Parser:
         return Place(at, name, index)
 
     def expression(self, least=OR):
-        """An expression of operators that bind at least so tightly, unless in parentheses."""
+        """An expression whose operators bind at least as tightly as `least`, unless they are in parentheses."""
         self.deeper()
         left = self.operand(least)
         while LEVELS.get(self.token.text, -1) >= least:

@@ -87,7 +87,7 @@ class ProcedureText:
         return self.setting(self.key_names[key], ['key', key], value)
 
     def setting(self, name, itself, value):
-        """Sets what is called `name`, and read as `itself`."""
+        """The text that sets what is called `name` and is read as `itself`."""
         if isinstance(value, list) and value[1] == itself and f'{SIGNS.get(value[0])}=' in SETTING:
             return f'{name} {SIGNS[value[0]]}= {self.value(value[2])}'
         return f'{name} = {self.value(value)}'
@@ -107,7 +107,7 @@ class ProcedureText:
     # Expressions.
 
     def value(self, tree, least=OR):
-        """The text of an expression, in parentheses if it binds less tightly than so."""
+        """The text of an expression, in parentheses if it binds less tightly than `least`."""
         text, level = self.bare(tree)
         return f'({text})' if level < least else text
 
@@ -147,14 +147,14 @@ def leading_keys(keys):
 
 
 def uses(tree, beginning):
-    """Whether a list in a tree begins so."""
+    """Whether some list in a tree begins with these items."""
     if not isinstance(tree, list):
         return False
     return tree[:len(beginning)] == beginning or any(uses(part, beginning) for part in tree)
 
 
 def is_truth(tree):
-    """Whether an expression is 0 or 1 for its operator alone."""
+    """Whether the operator of an expression alone makes it 0 or 1."""
     return isinstance(tree, list) and (tree[0] in ('equal', 'less', 'not')
                                        or tree[0] in ('min', 'max') and is_truth(tree[1]) and is_truth(tree[2]))
 
@@ -165,7 +165,7 @@ def called(name):
 
 
 def filled(head, parts, separator, end):
-    """These parts in one line, or in several, each as long as it may be, between what stands before and behind all."""
+    """The parts between a head and an end, in one line, or in several lines that are filled up to WIDTH."""
     line = f'{head} {separator.join(parts)} {end}'
     if len(line) <= WIDTH:
         return f'{line}\n'
