@@ -1,7 +1,7 @@
 #!/usr/bin/env python3
 """Tests `./vll --install`, tools/release, and what both make of the help, with stand-ins for rt and for the program.
 
-tools/trial_install.py tries the program itself.
+`tools/trials installed` tries the program itself.
 """
 import hashlib
 import os
@@ -94,7 +94,6 @@ class Repository(unittest.TestCase):
     def release(self, folder):
         """The archive that is made, or why none is."""
         status, printed, said = self.run_it('tools/release', self.room / folder)
-        self.assertEqual(status, bool(said), said)
         return said if status else Path(printed.strip())
 
     # ./vll --install
@@ -192,26 +191,33 @@ class Repository(unittest.TestCase):
     @unittest.skipUnless(shutil.which('git'), 'there is no git')
     def test_release_refuses_what_is_no_state_to_hand_on(self):
         self.commit()
-        self.assertIn('there is no program', self.release('one'))
+        self.write(self.program, PROGRAM, 0o755)
+        self.assertIn('did not build this program', self.release('two'))
+        self.program.unlink()
         self.install()
-        self.assertTrue(self.release('one').is_file())
         for path in 'CHANGELOG.md', 'not_added':
             self.write(self.top / path, 'changed')
             self.assertIn('the tree has changes', self.release('two'))
             self.git('add', '-A')
             self.git('commit', '-q', '-m', path)
-        for path in 'crates/vll_part/src/lib.rt', 'HANDLES':
-            os.utime(self.top / path)
-            self.assertIn('older than its sources', self.release('two'))
-            self.install()
-        (self.top / 'build/made_from').write_text('vll:\n')
-        self.assertIn('older than its sources', self.release('two'))
-        (self.top / 'build/made_from').write_text('vll_part: kit\nvll: vll_part \n')
         self.write(self.program, f'{PROGRAM}# another\n', 0o755)
         self.assertIn('did not build this program', self.release('two'))
-        (self.top / 'build/made_with').unlink()
-        self.assertIn('did not build the program', self.release('two'))
         self.assertFalse((self.room / 'two').exists())
+
+    @unittest.skipUnless(shutil.which('git'), 'there is no git')
+    def test_release_is_of_a_program_that_is_no_older_than_its_sources(self):
+        """It is built first if it is missing, older than a source, or made from other crates."""
+        self.commit()
+        self.assertTrue(self.release('one').is_file())
+        for path in 'crates/vll_part/src/lib.rt', 'HANDLES':
+            os.utime(self.top / path)
+            built = self.program.stat().st_mtime_ns
+            self.assertTrue(self.release('one').is_file())
+            self.assertGreater(self.program.stat().st_mtime_ns, built)
+        (self.top / 'build/made_from').write_text('vll:\n')
+        os.utime(self.top / 'crates.txt')
+        self.assertTrue(self.release('one').is_file())
+        self.assertEqual((self.top / 'build/made_from').read_text(), 'vll_part: kit\nvll: vll_part \n')
 
 
 if __name__ == '__main__':

@@ -1,23 +1,19 @@
-#!/usr/bin/env python3
-"""Installs the program as it is built into a new folder, and tries there what was installed.
-
-    python3 tools/trial_install.py [PROGRAM]
+"""What `tools/trials installed` tries: the program as it is built is installed into a new folder.
 
 The installed program runs a scenario, also in a root that has it and libc alone, if that may be made here; the manual
 page has each command and option of the help, and groff warns of nothing, if it is there; bash completes each of them;
-and what the installed compiler makes of a text is run by the installed program. The status is 1 if something is not so.
+and what the installed compiler makes of a text is run by the installed program.
 """
 import os
 import re
 import shutil
-import subprocess
 import sys
-import tempfile
 from pathlib import Path
 
 from cases import TOP
 from install import install
 from manual import commands_of, help_of
+from running import Skipped, called, unlike
 
 TRANSFER = TOP / 'scenarios/transfer.json'
 EXAMPLE = TOP / 'examples/04_transfer_with_a_fee.vll'
@@ -33,26 +29,21 @@ printf '%s\\n' "${COMPREPLY[@]}"
 '''
 
 
-def output(words, given=b'', **more):
-    ran = subprocess.run(words, input=given, capture_output=True, check=False, **more)
-    return ran.stdout, ran.returncode, ran.stderr
-
-
 def completed(path, *words):
     """What bash completes a command line by."""
-    found, _, said = output(['bash', '-c', COMPLETE, 'bash', path, *words])
-    return set(found.decode().split()) | {said.decode()} - {''}
+    ran = called(['bash', '-c', COMPLETE, 'bash', path, *words])
+    return set(ran.stdout.decode().split()) | {ran.stderr.decode()} - {''}
 
 
 def faults_of_program(*command):
     """What is wrong with the program, which these words start."""
-    if output([*command, 'run'], TRANSFER.read_bytes()) != (TRANSFER.with_suffix('.out').read_bytes(), 0, b''):
-        yield f'{" ".join(map(str, command))} does not run a scenario'
+    ran = called([*command, 'run'], TRANSFER.read_bytes())
+    yield from unlike(' '.join(map(str, command)), ran, 0, TRANSFER.with_suffix('.out').read_bytes())
 
 
 def make_root(root, program):
     """A root that has the program and the libraries that it is linked with, which have to be libc."""
-    libraries = re.findall(r'(/\S+) \(0x', output(['ldd', program])[0].decode())
+    libraries = re.findall(r'(/\S+) \(0x', called(['ldd', program]).stdout.decode())
     others = [path for path in libraries if not LIBC.match(Path(path).name)]
     for path in libraries:
         (root / path[1:]).parent.mkdir(parents=True, exist_ok=True)
@@ -62,15 +53,16 @@ def make_root(root, program):
 
 
 def faults_alone(program, room):
-    """What is wrong in a root of its own, if the system lets one be made."""
+    """What is wrong in a root of its own."""
     root = Path(room, 'root')
     root.mkdir()
     others = make_root(root, program)
     if others:
         yield f'the program needs {" and ".join(others)}'
     into = ['chroot', root] if os.geteuid() == 0 else ['unshare', '--map-root-user', 'chroot', root]
-    if shutil.which(into[0]) and output([*into, '/vll', '--version'])[1] not in NO_ROOT:
-        yield from faults_of_program(*into, '/vll')
+    if not shutil.which(into[0]) or called([*into, '/vll', '--version']).returncode in NO_ROOT:
+        raise Skipped('no root may be made here')
+    yield from faults_of_program(*into, '/vll')
 
 
 def faults_of_page(path, program):
@@ -80,9 +72,7 @@ def faults_of_page(path, program):
         wanted |= {command.usage, command.about, *(word for word, _ in command.options() if word != '--help')}
     yield from (f'the manual page lacks {words}' for words in sorted(wanted) if words not in text)
     if shutil.which('groff'):
-        _, status, said = output(['groff', '-man', '-Tutf8', '-ww', '-z', path])
-        if status or said:
-            yield f'groff says of the manual page: {said.decode()}'
+        yield from unlike('groff', called(['groff', '-man', '-Tutf8', '-ww', '-z', path]), 0, b'')
 
 
 def faults_of_completion(path, program):
@@ -101,33 +91,19 @@ def faults_of_completion(path, program):
 
 
 def faults_of_clients(folder, program):
-    compiled, status, said = output([sys.executable, '-B', folder / 'vllc.py', EXAMPLE])
-    ran = output([program, 'run'], compiled)[0]
-    if status or said or ran != EXAMPLE.with_suffix('.out').read_bytes():
-        yield f'the compiler does not make a scenario: {said.decode()}'
+    compiled = called([sys.executable, '-B', folder / 'vllc.py', EXAMPLE])
+    yield from unlike('the compiler', compiled, 0, compiled.stdout)
+    ran = called([program, 'run'], compiled.stdout)
+    yield from unlike('what it makes', ran, 0, EXAMPLE.with_suffix('.out').read_bytes())
 
 
-def faults(program, room):
+def installed(words, room):
     prefix = Path(room, 'prefix')
-    list(install(program, prefix))
     made, page, completion = (prefix / path for path in (
         'bin/vll', 'share/man/man1/vll.1', 'share/bash-completion/completions/vll'))
-    yield from faults_of_program(made)
-    yield from faults_alone(made, room)
-    yield from faults_of_page(page, made)
-    yield from faults_of_completion(completion, made)
-    yield from faults_of_clients(prefix / 'share/vll/clients', made)
-
-
-def main():
-    program = sys.argv[1] if len(sys.argv) > 1 else TOP / 'crates/vll/out/vll'
-    with tempfile.TemporaryDirectory() as room:
-        found = list(faults(program, room))
-    for line in found:
-        print(line)
-    print(f'installed: {len(found)} faults')
-    return 1 if found else 0
-
-
-if __name__ == '__main__':
-    sys.exit(main())
+    yield 'install', (f'there is no {path}' for path in install(words.program, prefix) if not path.exists())
+    yield 'installed program', faults_of_program(made)
+    yield 'program alone', faults_alone(made, room)
+    yield 'manual page', faults_of_page(page, made)
+    yield 'completion', faults_of_completion(completion, made)
+    yield 'clients', faults_of_clients(prefix / 'share/vll/clients', made)
