@@ -36,7 +36,7 @@ class Case(NamedTuple):
     is_judged: bool = False
 
     def wanted(self):
-        """The bytes that have to be printed, or of a judged case one lawful outcome, if there is one."""
+        """The bytes that have to be printed; for a judged case one lawful outcome, if there is one."""
         return None if self.printed is None else bytes_of(self.printed)
 
     def line(self):

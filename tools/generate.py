@@ -1,16 +1,11 @@
-#!/usr/bin/env python3
 """Makes random scenarios, the same ones for the same kind, seed and size.
 
-    python3 tools/generate.py replay SEED [--size N]
-    python3 tools/generate.py run SEED [--size N] [--options]
-
-The first prints a scenario with a schedule of up to N events, mostly ones that can be taken, the second one with
-up to N calls; with --options it prints the options of 'vll run' that go with the seed instead.
+One of a replay has a schedule of up to so many events as its size says, mostly ones that can be taken; one of a run has
+up to so many calls, and options of `vll run`. tools/random_tests runs them, and keeps the text of one that fails.
 
 Of three seeds that follow each other one has procedures with indirect keys, and finds in its schedule. Of four
 one is of version 2.
 """
-import argparse
 import json
 import random
 
@@ -194,18 +189,3 @@ def text_of(scenario, seed):
                for name, value in scenario.items()]
     rng.shuffle(members)
     return '{' + ',\n '.join(members) + '}'
-
-
-def main():
-    parser = argparse.ArgumentParser(description='Makes random scenarios.')
-    parser.add_argument('kind', choices=SIZES)
-    parser.add_argument('seed', type=int)
-    parser.add_argument('--size', type=int)
-    parser.add_argument('--options', action='store_true')
-    words = parser.parse_args()
-    scenario, options = scenario_of(words.kind, words.seed, words.size or SIZES[words.kind])
-    print(' '.join(options) if words.options else text_of(scenario, words.seed))
-
-
-if __name__ == '__main__':
-    main()

@@ -108,15 +108,15 @@ def public_functions(sources, crate):
 
 
 def that_allocate(sources, crates):
-    """By its crate and name each public function of the program's libraries that can return that memory lacks, by its
-    signature. A trait's function stands for those of the types that have it."""
+    """Each public function of the program's libraries that by its signature can report lack of memory, as its crate and
+    its name. A trait's function stands for those of the types that have it."""
     faults, keepers = sources.types_with('NoMemory') | {'NoMemory'}, sources.types_with(r'\w+: Global')
     return {(crate, function.name) for crate in libraries(sources, crates)
             for _, function in public_functions(sources, crate) if function.can_lack_memory(faults, keepers)}
 
 
 def that_wait(sources, crates):
-    """By its crate and name each public function of the program's libraries that is given what may wait."""
+    """Each public function of the program's libraries that is given what may wait, as its crate and its name."""
     return {(crate, function.name) for crate in libraries(sources, crates)
             for _, function in public_functions(sources, crate)
             if any(re.search(r'\bWait\b', line) for line in function.signature)}

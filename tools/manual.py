@@ -1,10 +1,4 @@
-#!/usr/bin/env python3
-"""Makes the manual page of vll, and the completion of its command line in bash, from its help.
-
-    python3 tools/manual.py page PROGRAM > vll.1
-    python3 tools/manual.py completion PROGRAM > vll
-"""
-import argparse
+"""Makes the manual page of vll, and the completion of its command line in bash, from its help."""
 import re
 import subprocess
 from typing import Dict, List, NamedTuple, Tuple
@@ -164,15 +158,3 @@ def completion(program):
     cases.append(f"      help) words='{' '.join(commands)}' ;;")
     words = [*commands, 'help', *(word for word, _ in whole.options())]
     return COMPLETION % {'commands': ' '.join(words), 'valued': ' | '.join(sorted(valued)), 'cases': '\n'.join(cases)}
-
-
-def main():
-    parser = argparse.ArgumentParser(description='Makes the manual page of vll, or its completion in bash.')
-    parser.add_argument('what', choices=['page', 'completion'])
-    parser.add_argument('program', metavar='PROGRAM')
-    words = parser.parse_args()
-    print({'page': page, 'completion': completion}[words.what](words.program), end='')
-
-
-if __name__ == '__main__':
-    main()

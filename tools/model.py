@@ -113,7 +113,7 @@ def does_nothing(statements):
 
 
 class Found(NamedTuple):
-    """The value that was found for the indirect key of a call, by the number of records."""
+    """The value that was found for the indirect key of a call, and the number of records."""
     value: int
     records: int
 
@@ -137,7 +137,7 @@ def records_of(procedure, args, found=None):
 
 
 def source_of(procedure, args):
-    """The record by whose value that of a call's indirect key is found, if the call has such a key."""
+    """The source of a call's indirect key, by whose value that key's record is found, if the call has such a key."""
     keys = procedure['keys']
     return next((record_of(keys[place], args, None) for _, at, place in keys if at == 'through'), None)
 
@@ -209,7 +209,7 @@ class Body:
 
 
 def make(procedure, args, values, found=None):
-    """The reply of a call on these values of its records, as it is printed, and the values as they are behind it."""
+    """The reply of a call on these values of its records, as it is printed, and the values after it."""
     body = Body(procedure, args, values, found)
     try:
         body.make(procedure['body'])

@@ -1,4 +1,4 @@
-"""Tells what occurs in a scenario, and in what comes of it, by names that can be counted.
+"""Names what occurs in a scenario, and in its run or its replay, so that it can be counted.
 
 IN_REPLAYS and IN_RUNS are the names that have to occur among the scenarios of some hundred seeds.
 """
@@ -264,7 +264,7 @@ def in_run(scenario, options):
 
 
 def counts_of(kind, scenarios):
-    """How often each thing occurs in scenarios with the options of their runs; 0 if it has to, and does not."""
+    """How often each thing occurs in scenarios with the options of their runs; 0 for what has to occur and does not."""
     counts = Counter({name: 0 for name in (IN_REPLAYS if kind == 'replay' else IN_RUNS)})
     for scenario, options in scenarios:
         counts.update(in_replay(scenario) if kind == 'replay' else in_run(scenario, options))

@@ -88,7 +88,7 @@ class BodyWriter:
         return ['reply', self.expression(depth - 1, nodes - 1)]
 
     def choice(self, depth, nodes):
-        """An if. Behind it what both of its lists set is surely set, and it makes the more of their replies."""
+        """An if. After it what both of its lists set is surely set, and its replies are those of the list that has more."""
         condition = self.expression(depth - 1, self.rng.randint(1, nodes - 1))
         nodes = (nodes - 1 - nodes_in(condition)) // 2
         known, replies_left = set(self.known), self.replies_left

@@ -66,7 +66,7 @@ class Call:
 
 
 class Machine:
-    """Takes events one by one: refusal tells why one cannot be taken where it stands, and take takes it."""
+    """Takes events one by one: `refusal` says why an event is refused now, and `take` performs one that is not."""
 
     def __init__(self, scenario):
         self.scenario = scenario

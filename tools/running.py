@@ -1,4 +1,4 @@
-"""How trials run a program, and tell how that was not as it has to be."""
+"""Runs a program for the trials, and says what of a run is not as it has to be."""
 import subprocess
 
 SECONDS = 300
@@ -9,7 +9,7 @@ class Skipped(Exception):
 
 
 def called(words, text=b'', **how):
-    """How a command ended that reads this, and what it printed."""
+    """How a command that reads this input ended, and what it printed."""
     streams = {'stdout': subprocess.PIPE, 'stderr': subprocess.PIPE, **how}
     return subprocess.run(words, input=text, timeout=SECONDS, check=False, **streams)
 

@@ -83,7 +83,7 @@ class Sources:
 
     @lru_cache(maxsize=None)
     def types_with(self, member):
-        """The types of which one line, a field or a variant, is this."""
+        """The types that have this line as a field or a variant."""
         found, name = set(), ''
         for file, lines in self.files.items():
             for line in lines if file.endswith('.rt') else ():
@@ -98,7 +98,7 @@ class Sources:
         return any(function.startswith(f'{name}::') for function in self.functions(None))
 
     def has_lines(self, wanted):
-        """A file has these lines, one behind the other, but for comments, empty lines and the space before each."""
+        """Whether a file has these lines one after the other, apart from comments, empty lines and indents."""
         return bool(wanted) and any(lines[at:at + len(wanted)] == wanted for lines in self.bare()
                                     for at, line in enumerate(lines) if line == wanted[0])
 

@@ -1,7 +1,7 @@
 #!/usr/bin/env python3
 """Tests clients/vllc.py: what a text compiles to, each mistake with its line and column, and the command line.
 
-That a scenario's text compiles to that scenario again is shown by tools/trial_texts.py.
+That a scenario's text compiles to that scenario again is shown by `tools/trials texts`.
 """
 import json
 import random

@@ -11,11 +11,15 @@ from html.parser import HTMLParser
 from cases import TOP, bytes_of, read_cases, status_of
 from generate import SIZES, scenario_of, text_of
 from model import Unlawful
+from replay_model import Machine
 from running import called, unlike
 
 PICTURE = TOP / 'docs/replay.svg'
 PICTURED = TOP / 'examples/09_contention_analysis.json'
 SEEDS = 300
+# The most events that a schedule has, and what a page says of a scenario without one.
+MOST_EVENTS = 1048576
+WITHOUT_SCHEDULE = 'The scenario has no schedule.'
 # How many events are drawn if nothing is said, and a window that is asked for.
 DRAWN = 360
 FIRST, COUNT = 50, 30
@@ -89,9 +93,43 @@ def judge(page, text, first=0, count=DRAWN):
     demand(drawn == wanted, f'{sorted(drawn ^ wanted)[:9]} are drawn but not asked for, or missing')
 
 
+def one_by_one(scenario):
+    """The schedule that makes the calls of a scenario one after the other, client by client: each step along a machine,
+    as long as that takes it."""
+    machine, schedule = Machine(scenario), []
+
+    def take(*event, most=len(scenario['records'])):
+        taken = 0
+        while taken < most and machine.refusal(event) is None:
+            machine.take(event)
+            schedule.append(list(event))
+            taken += 1
+        return taken
+
+    for client, script in enumerate(scenario['clients']):
+        for _ in script:
+            ticket = len(machine.calls)
+            if machine.limit == ticket:
+                return schedule
+            take('find', client, most=1)
+            demand(take('enter', client) == 1, f'call {ticket} cannot enter alone')
+            for word in ('claim', 'admit'):
+                take(word)
+            for word in ('load', 'store', 'release', 'finish'):
+                take(word, ticket)
+            demand(not machine.unfinished(), f'call {ticket} does not end alone')
+    return schedule
+
+
 def unlike_replay(program, name, text, *window):
-    """What is wrong with the page of a scenario. A scenario that is refused is refused with the same line."""
+    """What is wrong with the page of a scenario: without a schedule it is the page of its calls one after the other. A
+    scenario that is refused is refused with the same line."""
     replayed = called([program, 'replay'], text)
+    is_without = replayed.returncode == 0 and not json.loads(text).get('schedule')
+    if is_without:
+        scenario = json.loads(text)
+        given = json.dumps({**scenario, 'schedule': one_by_one(scenario)}).encode()
+        replayed = called([program, 'replay'], given)
     options = [f'{option}={value}' for option, value in zip(('--from', '--count'), window)]
     drawn = called([program, 'draw', *options], text)
     if replayed.returncode:
@@ -101,6 +139,7 @@ def unlike_replay(program, name, text, *window):
     else:
         try:
             judge(drawn.stdout.decode(), replayed.stdout.decode(), *window)
+            demand((WITHOUT_SCHEDULE in drawn.stdout.decode()) == is_without, 'it says the wrong thing of its schedule')
         except (Unlawful, ValueError, LookupError) as why:
             yield f'{name}: {why}'
 
@@ -123,6 +162,32 @@ def of_seeds(program):
         yield from unlike_replay(program, f'seed {seed}', text)
         for first in (FIRST, max(events - 5, 0), events, 1048576) if seed < 10 else ():
             yield from unlike_replay(program, f'seed {seed} from {first}', text, first, COUNT)
+
+
+def of_no_schedule(program):
+    """Random scenarios without a schedule; of some of them a window. No event of their pages is refused."""
+    for seed in range(SEEDS // 3):
+        scenario = scenario_of('run', seed, SIZES['run'])[0]
+        scenario.pop('schedule', None)
+        text = text_of(scenario, seed).encode()
+        yield from unlike_replay(program, f'no schedule, seed {seed}', text)
+        if seed < 10:
+            yield from unlike_replay(program, f'no schedule, seed {seed} from {FIRST}', text, FIRST, COUNT)
+        if b' refused ' in re.sub(b'<p>.*?</p>', b'', called([program, 'draw'], text).stdout):
+            yield f'no schedule, seed {seed}: an event is refused'
+
+
+def of_many_calls(program):
+    """Calls that have more events than a schedule may have: as many as it may have are drawn."""
+    calls, keys = 65536, [['write', 'fixed', record] for record in range(4)]
+    scenario = {'version': 1, 'records': [0] * 4, 'clients': [[{'proc': 'p', 'args': []}] * 64] * 1024,
+                'procs': [{'name': 'p', 'args': 0, 'keys': keys, 'body': [['set', 0, ['add', ['key', 0], 1]]]}]}
+    # an entry, four of each of claims, loads, stores and releases, an admission and an end
+    events = calls * (1 + 4 * 4 + 2)
+    ran = called([program, 'draw'], json.dumps(scenario).encode())
+    lines = re.findall(rb'<li id="l\d+">(\d+) ', ran.stdout)
+    if events <= MOST_EVENTS or ran.returncode or len(lines) != MOST_EVENTS or lines[-1] != b'%d' % (MOST_EVENTS - 1):
+        yield f'the status is {ran.returncode}, and the page of {events} events lists {len(lines)}'
 
 
 def of_names(program):
@@ -193,7 +258,7 @@ def of_picture(program):
 
 
 def drawings(words, _):
-    for trial in of_cases, of_seeds, of_names, of_large, of_picture:
+    for trial in of_cases, of_seeds, of_no_schedule, of_many_calls, of_names, of_large, of_picture:
         yield f'pages {trial.__name__.replace("_", " ")}', trial(words.program)
 
 

@@ -22,11 +22,11 @@ ACCOUNTS, CLIENTS, MOST_CLIENTS = 8, 10, 1024
 
 # Lines that ask for no call, and what is said of each.
 FAULTY = [
-    ('', 'the line is empty'), ('{', 'no JSON text: column 1'), ('7', 'OBJECT'), ('{"client":0}', 'PROC'),
+    ('', 'the line is empty'), ('{', 'no JSON text: column 1'), ('7', 'OBJECT'), ('{}', 'PROC'), ('{"client":0}', 'PROC'),
     ('{"client":0,"proc":"balance"}', 'ARGS'), ('{"client":0,"proc":"balance","args":0}', 'ARGS'),
     ('{"client":0,"proc":"balance","args":[0.5]}', 'argument 0 has to be a whole number of 64 bits without a sign'),
     ('{"client":0,"proc":"transfer","args":[0,1,-30]}', 'argument 2 has to be a whole number of 64 bits without a sign'),
-    ('{"client":-1,"proc":"balance","args":[0]}', 'CLIENT'),
+    ('{"client":-1,"proc":"balance","args":[0]}', 'CLIENT'), ('{"client":null,"proc":"balance","args":[0]}', 'CLIENT'),
     ('{"client":10,"proc":"balance","args":[0]}', 'there is no client 10'),
     ('{"client":0,"proc":"sum","args":[]}', 'no procedure has the name sum'),
     (f'{{"client":0,"proc":"{"é" * 40}","args":[]}}', f'no procedure has the name {"é" * 40}'),
@@ -40,7 +40,7 @@ FAULTY = [
     ('"' + 'x' * 65534 + '"', 'OBJECT'),
 ]
 WORDS = {
-    'OBJECT': 'the line has to be an object with client, proc, args and perhaps id',
+    'OBJECT': 'the line has to be an object with proc, args and perhaps client and id',
     'PROC': 'proc has to be the name of a procedure', 'ARGS': 'args has to be a list of whole numbers',
     'CLIENT': 'client has to be the number of a client',
     'ID': 'id has to be a whole number or a text of at most 64 bytes',
@@ -105,7 +105,8 @@ def line_and_answer(rng, bank):
     if proc == 'transfer':
         args += [rng.randrange(ACCOUNTS), rng.choice([0, 1, 30, 101, 2 ** 64 - 1])]
     named = rng.choice([{}, {'id': rng.choice([0, 7, 2 ** 64 - 1])}, {'id': rng.choice(['', 'a"b\\', 'é', '\n', 'x' * 64])}])
-    members = list({**named, 'client': rng.randrange(CLIENTS), 'proc': proc, 'args': args}.items())
+    client = rng.choice([{}, {'client': rng.randrange(CLIENTS)}])
+    members = list({**named, **client, 'proc': proc, 'args': args}.items())
     rng.shuffle(members)
     spaces = rng.choice([(',', ':'), (', ', ': ')])
     return json.dumps(dict(members), separators=spaces, ensure_ascii=rng.random() < 0.5), {**named, **bank.call(proc, args)}
@@ -180,8 +181,8 @@ def epochs(program):
     lines, wanted = stream(1, 150000)
     yield from unlike('150,000 lines', served(program, b''.join(lines)), 0, wanted)
     rng, bank = random.Random(2), Bank()
-    lines = [f'{{"client":{rng.randrange(CLIENTS)},"proc":"balance","args":[{rng.randrange(ACCOUNTS)}]}}'.encode()
-             + rng.choice([b'\n', b' \n']) for _ in range(150000)]
+    lines = [f'{{"proc":"balance","args":[{rng.randrange(ACCOUNTS)}]}}'.encode() + rng.choice([b'\n', b' \n'])
+             for _ in range(150000)]
     wanted = text_of([*map(bank.answer, lines), bank.last()])
     yield from unlike('150,000 short lines', served(program, b''.join(lines)), 0, wanted)
 

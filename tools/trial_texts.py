@@ -1,32 +1,26 @@
-#!/usr/bin/env python3
-"""Writes scenarios as texts, compiles these, and looks whether the scenarios are the same.
+"""What `tools/trials texts` tries: scenarios are written as texts, and these are compiled again.
 
-    python3 tools/trial_texts.py FROM COUNT [--program PROGRAM] [--large]
-
-The scenarios are those of scenarios/ and examples/ that run, with --large also those of over a MiB, and COUNT random
-ones of tools/generate.py, from the seed FROM on: half have a schedule, half are for 'vll run'. What a text compiles to
-has to be the scenario itself, as a tree of JSON: only the locals of a procedure may have other numbers, each another
-one. The random ones are run too: the program has to print the same of both schedules, and of a compiled one an outcome
-that tools/judge_outcome.py finds lawful for the scenario itself. Each text in examples/ has to compile to the scenario
-beside it. The status is 1 if something is not so.
+The scenarios are those of scenarios/ and examples/ that run, but for very large ones, and random ones: half have a
+schedule, half are for `vll run`. What a text compiles to has to be the scenario itself, as a tree of JSON: only the
+locals of a procedure may have other numbers, each another one. The random ones are run too: the program has to print
+the same of both schedules, and of a compiled one an outcome that tools/judge_outcome.py finds lawful for the scenario
+itself. Each text in examples/ has to compile to the scenario beside it.
 """
-import argparse
 import json
-import subprocess
 import sys
-from pathlib import Path
 
 import judge_outcome
 from cases import TOP, bytes_of, read_cases
 from generate import SIZES, scenario_of
 from model import Unlawful
+from running import called
 
 sys.path.insert(0, str(TOP / 'clients'))
 # pylint: disable=wrong-import-position
 import vllc  # noqa: E402
 
 MOST_BYTES = 1 << 20
-SECONDS = 120
+SEEDS = 300
 
 
 def is_same(left, right, numbers):
@@ -57,38 +51,28 @@ def difference(scenario, compiled):
 
 
 def printed(program, kind, scenario):
-    ran = subprocess.run([program, kind], input=json.dumps(scenario).encode(), capture_output=True, timeout=SECONDS,
-                         check=False)
+    ran = called([program, kind], json.dumps(scenario).encode())
     if ran.returncode or ran.stderr:
         raise Unlawful(f'status {ran.returncode}; it printed {ran.stdout[:200]!r}')
     return ran.stdout
 
 
-def fault(scenario, kind=None, program=None):
+def faults(name, scenario, kind=None, program=None):
     """Why a scenario and what its text compiles to are not the same, if they are not."""
     try:
         compiled = json.loads(vllc.compiled_json(vllc.text_of(scenario)))
         differs = difference(scenario, compiled)
         if differs:
-            return f'{differs} differs'
-        if kind == 'replay' and printed(program, kind, scenario) != printed(program, kind, compiled):
-            return 'the replays differ'
-        if kind == 'run':
+            yield f'{name}: {differs} differs'
+        elif kind == 'replay' and printed(program, kind, scenario) != printed(program, kind, compiled):
+            yield f'{name}: the replays differ'
+        elif kind == 'run':
             judge_outcome.judge(scenario, printed(program, kind, compiled).decode())
     except (ValueError, vllc.Mistake, Unlawful) as why:
-        return str(why)
-    return None
+        yield f'{name}: {why}'
 
 
-def scenarios_of_the_repository(most):
-    """Those that run, with their names."""
-    for case in read_cases()[0]:
-        text = bytes_of(case.text, most + 1)
-        if not case.line().startswith(b'vll: ') and len(text) <= most:
-            yield case.place, json.loads(text)
-
-
-def faults_of_examples():
+def of_examples(_):
     for path in sorted((TOP / 'examples').rglob('*.json')):
         text = path.with_suffix('.vll')
         if not text.is_file():
@@ -97,30 +81,20 @@ def faults_of_examples():
             yield f'{text.name} is not {path.name}'
 
 
-def main():
-    parser = argparse.ArgumentParser(description='Writes scenarios as texts, and compiles these.')
-    parser.add_argument('first', type=int, metavar='FROM', help='the first seed')
-    parser.add_argument('count', type=int, metavar='COUNT', help='how many random scenarios')
-    parser.add_argument('--program', default=TOP / 'crates/vll/out/vll', help='the program that runs them')
-    parser.add_argument('--large', action='store_true', help='also those of the repository of over a MiB')
-    words = parser.parse_args()
-    if not Path(words.program).is_file():
-        print(f'there is no program {words.program}; ./vll --help builds it')
-        return 1
-    faults, total = list(faults_of_examples()), 0
-    for place, scenario in scenarios_of_the_repository(1 << 30 if words.large else MOST_BYTES):
-        total += 1
-        why = fault(scenario)
-        faults += [f'{place}: {why}'] if why else []
-    for number in range(words.count):
-        kind, seed = ('replay', 'run')[number % 2], words.first + number // 2
-        why = fault(scenario_of(kind, seed, SIZES[kind])[0], kind, words.program)
-        faults += [f'{kind} {seed}: {why}'] if why else []
-    for line in faults:
-        print(line)
-    print(f'texts of {total} scenarios of the repository and {words.count} random ones, {len(faults)} faults')
-    return 1 if faults else 0
+def of_cases(_):
+    """Those that run."""
+    for case in read_cases()[0]:
+        text = bytes_of(case.text, MOST_BYTES + 1)
+        if not case.line().startswith(b'vll: ') and len(text) <= MOST_BYTES:
+            yield from faults(case.place, json.loads(text))
 
 
-if __name__ == '__main__':
-    sys.exit(main())
+def of_seeds(program):
+    for number in range(SEEDS):
+        kind, seed = ('replay', 'run')[number % 2], number // 2
+        yield from faults(f'{kind} {seed}', scenario_of(kind, seed, SIZES[kind])[0], kind, program)
+
+
+def texts(words, _):
+    for trial in of_examples, of_cases, of_seeds:
+        yield f'texts {trial.__name__.replace("_", " ")}', trial(words.program)
