@@ -55,7 +55,7 @@ impl Before {
         self.indirect = self.indirect || !is_direct(Some(key));
     }
 
-    /// Once a `Let` of this local has come too.
+    /// What comes before the piece behind a `Let` of this local.
     pub fn with_local(self, index: u8) -> Before
         ensures { result ≡ with_local self index }
     {
@@ -65,7 +65,8 @@ impl Before {
         }
     }
 
-    /// Once an `If` has come, behind whose lists `self` and `other` hold: the locals that both have set.
+    /// What comes before the piece behind an `If` whose two lists end with `self` and `other`: a local is set if both
+    /// have set it.
     pub fn join(self, other: &Before) -> Before
         ensures { result ≡ join self other.now }
     {

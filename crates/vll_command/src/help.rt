@@ -14,10 +14,9 @@ pub(crate) const RUN_EXAMPLES: &str = "Examples:
   vll run < scenario.json
   vll run --workers 8 --cap 64 < scenario.json
 
-A smaller --cap can be worth it where many calls want the same few records, so that most of them wait: the
-scan for a call that may run then goes through fewer waiting ones, and fewer of them have open claims, each of
-which holds later calls back. The price is that a call that finds the cap reached is refused, and
-is tried again later. No option changes which outcomes are lawful.
+A smaller --cap can be faster if many calls need the same few records: fewer calls wait, so scans are shorter,
+and fewer open claims hold later calls back. In return, a call that finds the cap reached is refused and tried
+again later. No option changes which outcomes are lawful.
 
 docs/SCENARIO.md describes the format of a scenario, and what is printed.";
 

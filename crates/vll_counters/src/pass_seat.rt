@@ -79,10 +79,9 @@ impl Words {
             .store::<Stores>(&mut pass.seat, value_word(id), value);
     }
 
-    /// Releases the pass's next claim, by one fetch_sub on the record's pair word, once all its stores are made.
-    /// Returns the word before that, which is the record's counter at the very moment of this step, whose words are what
-    /// the writes before it have left: the last write of the seat's new past is this step's own, and its old past is a
-    /// beginning of the writes before it.
+    /// Releases the pass's next claim by one fetch_sub on the record's pair word, once all its stores are made. Returns
+    /// the word from before this step, which is the record's counter at that very moment. `step` says which writes came
+    /// before it: the seat's old past is a beginning of them, and the last write of its new past is this step's own.
     pub fn release(&self, pass: &mut PassSeat, claim: Claim) -> u64
         requires same { pass.old.table ≡ self.now.table }
         requires next { slice_get pass.old.pass.call.claims pass.old.pass.releases ≡ Some claim }

@@ -40,9 +40,9 @@ impl Model for QueueSeat {
 }
 
 impl Words {
-    /// Requests the open turn's next claim, by one fetch_add on the record's pair word. Returns the word before that,
-    /// which is the record's counter at the very moment of this step, whose words are what the writes before it have left:
-    /// the last write of the seat's new past is this step's own, and its old past is a beginning of the writes before it.
+    /// Requests the open turn's next claim by one fetch_add on the record's pair word. Returns the word from before this
+    /// step, which is the record's counter at that very moment. `step` says which writes came before it: the seat's old
+    /// past is a beginning of them, and the last write of its new past is this step's own.
     pub fn request(&self, queue: &mut QueueSeat, claim: Claim) -> u64
         requires same { queue.old.table ≡ self.now.table }
         requires next { next_claim queue.old.turn ≡ Some claim }

@@ -56,12 +56,12 @@ impl Words {
         }
     }
 
-    /// Loads a record for a session, by one load of its value word, which needs no lock. The value is the record's at the
-    /// very moment of the load, whose words are what the writes up to it have left; these are the seat's new past, and the
-    /// old one is a beginning of it. The session has then seen all calls that have entered at some moment with these
-    /// words, no more of its own client than before: calls without claims write no word, so these do not pin the list. If
-    /// these run one at a time, the record has the value before some ticket, which comes after each ticket whose reply
-    /// the session was given and whose call claims the record.
+    /// Loads a record for a session by one load of its value word, which needs no lock. Returns the record's value at the
+    /// moment of that load. `step` says which writes came before it: they are the seat's new past, and the old past is a
+    /// beginning of them. The session has then seen all calls that had entered at some moment with these words, and of its
+    /// own client no more than before. Calls without claims write no word, so the words do not determine that list. In the
+    /// serial run of these calls the record has the returned value before some ticket, and that ticket comes after each
+    /// ticket whose reply the session was given and whose call claims the record.
     pub fn find(&self, session: &mut SessionSeat, id: RecordId) -> u64
         requires same { session.old.table ≡ self.now.table }
         requires there { id < length self.now.base.records }

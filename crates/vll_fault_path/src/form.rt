@@ -280,8 +280,8 @@ const EVENTS: &[Form] = &[
     },
 ];
 
-/// The forms of a piece of this kind, none if it begins with no word. Of a key they are those of the list behind its
-/// mode.
+/// The forms of a piece of this kind; none if such a piece begins with no word. For a key they are the forms of what
+/// follows its mode.
 pub fn forms_of(kind: Kind) -> &'static [Form]
     ensures { (edition : Edition) → table_in edition result.now ≡ forms_in edition kind }
 {

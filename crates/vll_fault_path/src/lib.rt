@@ -1,6 +1,6 @@
 //! The way to the piece of a refused scenario that is at fault: step by step through its JSON tree, always into the first
-//! piece that does not pass the test of the fault. The crate proves that the way leads so, to a piece in which no other
-//! one is at fault. Start at `way_to_fault`.
+//! piece that does not pass the test of the fault. The crate proves that each step of the way is such a step, and that
+//! no piece inside the last one is at fault. Start at `way_to_fault`.
 //!
 //! ```rattle
 //! let Reading { tree, scenario } = reading_of(alloc, text.as_bytes())?;

@@ -39,9 +39,9 @@ pub struct Way<'v> {
     pub number: u64,
 }
 
-/// Finds the way from a scenario's JSON tree to the piece at fault, for the fault that reading it has returned. It has
-/// no step for a fault that lies in no tree, and ends at a procedure that is not there. `AllocError` means that memory
-/// ran out.
+/// Finds the way from a scenario's JSON tree to the piece at fault, for the fault that reading it has returned. If the
+/// fault lies in no tree, the way has no step. If the tree has no such procedure as the fault names, the way ends where
+/// that would be. `AllocError` means that memory ran out.
 pub fn way_to_fault<'v>(
     alloc: Global,
     tree: &'v Value,

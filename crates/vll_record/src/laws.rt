@@ -16,8 +16,8 @@ pub fn claims_are_of_what_was_asked()
     ensures { (asked : List Claim) → AreClaimsOf asked (claims_of asked) }
 {}
 
-/// No other list does: a list that claims each record once, in the strongest mode in which it was
-/// asked for, in ascending order, is `claims_of` of what was asked for.
+/// `claims_of` is the only such list: a list that claims each record once, in the strongest mode in
+/// which it was asked for, in ascending order, equals `claims_of` of what was asked for.
 pub fn claims_are_the_only_ones()
     ensures { (asked cs : List Claim) → AreClaimsOf asked cs → cs ≡ claims_of asked }
 {}

@@ -1,5 +1,5 @@
-//! Replays: a scenario in, and out the text of what its schedule does on the machine of atomic steps, step by step. The
-//! program's `vll replay` and `vll draw` are built on it; an `Observer` may watch the machine before and after each
+//! Replays: the crate reads a scenario, and writes what its schedule does on the machine of atomic steps, step by step.
+//! The program's `vll replay` and `vll draw` are built on it; an `Observer` may watch the machine before and after each
 //! event. The crate proves that the text is the one that the machine's specification gives for the schedule, whatever
 //! the observer does, and that an observer is shown each step. Start at `replay`, or at `text_of_replay` and
 //! `Observer`.

@@ -29,11 +29,11 @@ use std::alloc::Global;
 
 /// Reads a scenario: one JSON text, whose form docs/SCENARIO.md describes.
 ///
-/// Reads to the end of `reader`; once more than `MOST_BYTES` bytes have come, at most a piece of 8,192 bytes more, it
-/// reads no further. If the reader's bytes are known to contracts, the result is that of exactly these bytes. Of
-/// several faults the first is returned, in the order given at `ScenarioFault`. `Read` is returned exactly if the
-/// reader has failed. `NoMemory` means that memory ran out, and can replace any result but `Read`. Every other result,
-/// `Ok` included, is that of the bytes that came.
+/// Reads to the end of `reader`, but stops once more than `MOST_BYTES` bytes have come, by at most 8,192 bytes more. If
+/// the reader's bytes are known to contracts, the result is that of exactly these bytes. Of several faults the first is
+/// returned, in the order given at `ScenarioFault`. `Read` is returned exactly if the reader has failed. `NoMemory`
+/// means that memory ran out, and can replace any result but `Read`. Every other result, `Ok` included, is that of the
+/// bytes that came.
 pub fn read_scenario<S: Source>(alloc: Global, reader: &mut S) -> Result<Scenario, ScenarioFault>
     requires { S.failed reader.old ≡ false }
     ensures answer { Reads scenario_at (S.remaining reader.old) (S.remaining reader.new) result }

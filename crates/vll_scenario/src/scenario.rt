@@ -58,8 +58,8 @@ pub struct ScenarioParts {
 }
 
 impl Scenario {
-    /// Returns the scenario with these parts. Allocates no memory. The library is for as many records as there are, and
-    /// the rest is as `into_parts` states it.
+    /// Returns the scenario with these parts. Allocates no memory. The library has to be for as many records as there
+    /// are, and the rest has to be as `into_parts` promises it.
     pub fn from_parts(parts: ScenarioParts) -> Scenario
         requires records { parts.library.records ≡ length parts.records.items }
         requires kept { IsSetup (setup_with parts) }

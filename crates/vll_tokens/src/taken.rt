@@ -14,7 +14,7 @@ pub struct Taken {
 }
 
 impl Taken {
-    /// No token is taken yet.
+    /// The lists of a worker that has taken no token yet. Fails only if an allocation fails.
     pub fn new(alloc: Global) -> Result<Taken, AllocError>
         ensures untried { IfOk result (λ t. t.untried ≡ []) }
         ensures tried { IfOk result (λ t. t.tried ≡ []) }

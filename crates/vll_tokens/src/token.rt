@@ -134,7 +134,7 @@ impl Token {
         may_wait
     }
 
-    /// Notes that `ready` of the next calls are ready to begin.
+    /// Stores how many of the next calls are ready to begin. It is a hint, and changes nothing else.
     pub fn looked(&mut self, ready: u32)
         ensures { self.new ≡ self.old }
     {

@@ -18,7 +18,7 @@ pub fn journals_merge_the_scripts()
         → IsMerge (library_of e) (calls_in closed.journal.items) scripts }
 {}
 
-/// If instead one of the tokens is spent, the engine took fewer calls than the scripts have.
+/// If one of the tokens is spent instead, the scripts have more calls than the engine's limit.
 pub fn spent_engines_took_fewer_calls()
     ensures { (e : Named) (scripts : List (List Call)) (handed back : List TokenShown) (closed : Closed)
         → AreForScripts e scripts handed → AreBack handed back → OneIsSpent e.config.limit back → IsClosedWith e back closed
