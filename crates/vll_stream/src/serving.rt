@@ -49,7 +49,7 @@ pub fn serve_stream<S: Source, W: Sink>(
     ensures read { (result ≡ Err fault.Read) ↔ (S.failed reader.new ≡ true) }
     ensures write { (result ≡ Err fault.Write) ↔ (W.failed writer.new ≡ true) }
 {
-    let mut opening = opening_of(alloc, scenario)?;
+    let mut opening = service_opening(alloc, scenario)?;
     let mut room = Vec::with_capacity(alloc, MOST_CALLS as usize)?;
     let mut rounds = RoundReader::new(alloc)?;
     let mut tail = Vec::new(alloc);
@@ -87,7 +87,7 @@ pub fn serve_stream<S: Source, W: Sink>(
 }
 
 // An engine over a scenario's records and procedures, with its cap, bits and hash, and a client for each script.
-fn opening_of(alloc: Global, scenario: Scenario) -> Result<Opening<Placing>, StreamFault>
+fn service_opening(alloc: Global, scenario: Scenario) -> Result<Opening<Placing>, StreamFault>
     ensures opened { IfOk result (λ o. o ≡ opening o.table (catalog_of scenario) scenario.records (config_for scenario) scenario.placing (length scenario.scripts)) }
     ensures few { IfOk result (λ o. o.clients ≤ MOST_CLIENTS) }
     ensures calls { (result ≡ Err fault.Calls) ↔ (has_calls scenario ≡ true) }

@@ -4,8 +4,8 @@ use Rattle.std.specs.List.{list_all}
 use Rattle.vll_proc.specs.declared.call.Call.{Call}
 use Rattle.vll_stream.specs.Served.{has_calls, is_none}
 use Rattle.vll_stream.proofs.Empty.{empty_lists}
-use Rattle.vll_stream.proofs.serving.opening_of.Goals.{After-are_empty}
-use Rattle.vll_stream.proofs.serving.opening_of.Goals as goal
+use Rattle.vll_stream.proofs.serving.service_opening.Goals.{After-are_empty}
+use Rattle.vll_stream.proofs.serving.service_opening.Goals as goal
 
 -- whether the scenario has calls was tested
 tested : (c : After-are_empty) → has_calls c.args.scenario ≡ not c.are_empty.result
