@@ -62,7 +62,7 @@ pub enum CallFault {
     /// No procedure has the name.
     #[error("1")]
     UnknownProc,
-    /// Not the declared number of arguments.
+    /// The number of arguments is not the declared one.
     #[error("2")]
     ArgCount,
     /// An argument that names a key's record is not below the number of records.

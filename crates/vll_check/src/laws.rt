@@ -17,9 +17,9 @@ pub fn checked_procedures_are_well_formed()
         → IsWellFormed p × (has_records records p ≡ true) }
 {}
 
-/// A call that a library makes claims only existing records. If it has no source, it has no indirect key, and finding
-/// leaves it unchanged. What is found changes neither its procedure nor its arguments; so calls that may enter, and
-/// that have the procedures and arguments of given calls, are those calls with what they have found.
+/// A call that a library makes claims only records that exist. A call without an indirect key has no source, and
+/// finding leaves it unchanged. Finding changes neither the procedure nor the arguments of a call. So if calls may
+/// enter and have the procedures and arguments of given calls, they are the given calls with the values found.
 pub fn fitting_calls_are_of_the_records()
     ensures within { (c : Catalog) (call : Call) → IsCatalog c → Fits c call → All (λ (d : Claim). d.id < c.records) call.claims }
     ensures alone { (c : Catalog) (call : Call) (v : ℕ) → IsCatalog c → Fits c call → source c call ≡ None → with_found c call v ≡ call }

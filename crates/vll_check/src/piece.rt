@@ -19,7 +19,7 @@ use vll_proc::{
     Expr, KeyDecl, MOST_ARGS, MOST_DEPTH, MOST_NODES, MOST_OUTPUTS, MOST_WEIGHT, Proc, Stmt,
 };
 
-/// The test of a procedure that has this fault, for the pieces of the procedure.
+/// The test for one fault of a procedure, asked piece by piece: the procedure passes if each of its pieces does.
 #[derive(Drop)]
 pub struct Piecewise {
     pub procedure: Proc,

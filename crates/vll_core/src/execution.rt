@@ -44,7 +44,7 @@ impl Execution {
         execution
     }
 
-    /// Returns the execution of no call, with which room is filled.
+    /// Returns an execution that belongs to no call. Unused places of a list are filled with it.
     pub(crate) fn blank() -> Execution
         ensures loads { result.loads ≡ 0 }
         ensures stores { result.stores ≡ 0 }

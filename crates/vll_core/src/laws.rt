@@ -61,8 +61,8 @@ pub fn other_values_stay()
     ensures { OtherValuesStay }
 {}
 
-/// The records as they are before a ticket, if the entered calls run one at a time, never change once the lower tickets
-/// are given out.
+/// Once all tickets below a ticket have been given out, the records that the serial run has before this ticket no
+/// longer change.
 #[tactic(auto, using(crate::proofs::Reached::serial_stays))]
 pub fn serial_states_stay()
     ensures { SerialStatesStay }

@@ -13,7 +13,7 @@ pub struct Line {
 }
 
 impl Line {
-    /// Returns the line of a call without claims, and without a reply, with which room for lines is filled.
+    /// Returns the line of a call that has neither claims nor a reply. Unused places of a journal are filled with it.
     pub(crate) fn blank() -> Line
         ensures claims { result.call.claims ≡ [] }
         ensures reply { result.reply ≡ None }

@@ -19,8 +19,8 @@ pub fn tickets_have_one_pass()
     ensures one { TicketsHaveOnePass }
 {}
 
-/// A ticket gets one pass, ever: with its pass it runs, and one that runs or is gone never again meets what
-/// `Words::give_pass` requires, whatever calls of the words' functions follow with the queue's seat.
+/// A ticket gets at most one pass, ever. With its pass it runs, and a ticket that runs or has finished never again meets
+/// what `Words::give_pass` requires, whichever functions of the words are called afterwards with the queue's seat.
 pub fn tickets_get_one_pass()
     ensures runs { GivenTicketsRun }
     ensures once { TicketsGetOnePass }

@@ -3,7 +3,8 @@ use crate::views::SeatView;
 use atomic_table::{Join, Play, Split};
 use std::marker::{Brand, PhantomData};
 
-/// What a step knows besides the view of its seat. Each function picks it.
+/// The values that a step is about, besides the view of its seat: the call, the claim, a number. Each function of the
+/// words chooses a type that gives them.
 pub trait Known {
     ghost use Rattle.std.specs.Prelude.{ℕ, Option};
     ghost use Rattle.vll_record.specs.declared.claim.Claim.{Claim};

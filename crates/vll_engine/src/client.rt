@@ -80,8 +80,8 @@ impl<N: Name> Client<N> {
     }
 
     /// Makes a call, from its entry to its reply, and returns its ticket and its reply. A call that may run is executed
-    /// at once. While it waits, or as many calls as the cap wait, this thread brings other calls to their end, of any
-    /// client: the front, or what the scan finds. If there are none it rests and looks again; it does not give up. If
+    /// at once. While it waits, or while as many calls wait as the cap allows, this thread executes other calls of any
+    /// client: the front, or what the scan finds. If there are none, it pauses and looks again; it does not give up. If
     /// the engine is spent, no call has entered. No worker is needed, and no memory is taken.
     pub fn make<H: Place + Drop>(
         &mut self,

@@ -61,8 +61,8 @@ pub struct Reopened<H: Place> {
 /// An engine that was not reopened.
 #[derive(Drop)]
 pub struct NotReopened<N: Name, H: Place + Drop> {
-    /// What `close` returns: an engine that was not closed, if calls run or wait in it, else what the closed engine
-    /// leaves, since an allocation failed.
+    /// What `close` returned. If calls run or wait, it is the engine, which goes on. If the allocation failed, the
+    /// engine is closed, and this is what it leaves.
     pub left: Result<Closed, NotClosed<N, H>>,
     /// The list that was passed for the journal.
     pub journal: Vec<Line>,

@@ -64,11 +64,10 @@ impl Frame {
 
     /// Runs the body of a well-formed procedure for a call of it, on the values in the frame's cells,
     /// one for each of the call's claims, in order. Statements run in order, an `If` chooses one of its
-    /// lists, and operands are evaluated from left to right, each expression once. The first reason
-    /// ends the body: the procedure's own code from `Abort`, `Overflow` from a sum or a product,
-    /// `Underflow` from a difference, `ZeroDivisor` from a quotient or a remainder. If a record was
-    /// found by a value that its source's cell no longer holds, none of the body is run, and the reason
-    /// is `Moved`.
+    /// lists, and operands are evaluated from left to right, each expression once. The body ends
+    /// at the first reason to abort: the procedure's own code at an `Abort`, `Overflow` at a sum or a product,
+    /// `Underflow` at a difference, `ZeroDivisor` at a quotient or a remainder. If the call was found by a value
+    /// that its source's cell no longer holds, none of the body is run, and the reason is `Moved`.
     /// After `Committed` the cells hold the records' new values, after `Aborted` they are unchanged. The reply and
     /// the resulting values are those of the body's meaning on any full list of records whose values the cells hold,
     /// of the length that the call was made for. It allocates no memory.

@@ -17,8 +17,8 @@ pub enum Begun {
     Refused(BeginRefusal),
 }
 
-/// The result of beginning a call at the lock, where a free call has only a seat: whoever has the call makes the pass of
-/// both where it is to stay, since each move would copy the call.
+/// The result of beginning a call under the lock. A call that may run gets only a seat there: the caller makes the pass
+/// of the call and the seat where the pass is to stay, since each move would copy the call.
 pub enum Admission {
     /// Each claim was granted: the call may run.
     Free(PassSeat, Ticket),
@@ -29,7 +29,7 @@ pub enum Admission {
 }
 
 impl Admission {
-    /// The result of beginning this call, of which this is the result at the lock.
+    /// Returns the result of beginning this call, made of the result that the lock gave.
     #[inline(always)]
     pub fn into_begun(self, call: &Call) -> Begun
         requires { IsSeatOf call.now self }

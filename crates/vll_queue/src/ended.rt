@@ -15,13 +15,16 @@ use vll_sca::Place;
 #[derive(Drop)]
 pub struct Ended<H: Place> {
     pub library: Library,
-    /// All words, and then the same divided into the records' values and their pair words.
+    /// All words as they were read.
     pub words: Vec<u64>,
+    /// The records' values, taken from these words.
     pub records: Vec<u64>,
+    /// The records' pair words, taken from these words.
     pub pairs: Vec<u64>,
     pub queue: Queue<H>,
-    /// The list that the sessions were in, empty by now, and how many there were.
+    /// The list that held the sessions. It is empty now.
     pub sessions: Vec<Session>,
+    /// The number of sessions that there were.
     pub clients: usize,
 }
 

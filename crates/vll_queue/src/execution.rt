@@ -78,8 +78,8 @@ pub fn run_in_place<N: Name>(words: &Words, library: &Library, pass: &mut Pass) 
     reply
 }
 
-/// As `run_in_place` for the call whose pass has this seat. The reply is written where the caller has it, since each
-/// return would copy it.
+/// Does what `run_in_place` does, for the call whose pass has this seat. The reply is written to the caller's place,
+/// since returning it would copy it.
 #[inline(always)]
 pub fn run_at<N: Name>(
     words: &Words,

@@ -87,8 +87,8 @@ impl Claims {
         ClaimsIter::new(self)
     }
 
-    /// Inserts a claim in order. A record that already has a claim keeps one, Write if either is.
-    /// A record that has none needs room: fewer than `MOST_CLAIMS` claims so far.
+    /// Inserts a claim in order. If the record has a claim already, one remains: Write if either of the two is.
+    /// If it has none, there has to be room: fewer than `MOST_CLAIMS` claims so far.
     pub fn add(&mut self, claim: Claim)
         requires { (length self.old < MOST_CLAIMS) ⊎ IsSome (mode_on self.old claim.id) }
         ensures { self.new ≡ with_claim claim self.old }

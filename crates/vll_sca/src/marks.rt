@@ -38,7 +38,7 @@ impl Marks {
         self.words[place / 64] & (1 << (place % 64)) != 0
     }
 
-    /// Marks the place, or clears its mark, if it has one.
+    /// Marks the place if `marked` is true, else clears its mark.
     pub(crate) fn put(&mut self, place: usize, marked: bool)
         requires { place < length self.old }
         ensures { self.new ≡ slice_set self.old place marked }

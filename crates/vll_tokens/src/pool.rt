@@ -13,8 +13,8 @@ use std::collections::LinkedList;
 use std::marker::{Model, PhantomData};
 use std::sync::Wait;
 
-/// What a pass knows: the clients of the tokens that it has in hand, and its parts of the right to know the whole. No
-/// value of this type is made.
+/// What is known of a pass: the clients of the tokens that it has in hand, and its share of the right to know them all.
+/// It exists in proofs alone: no value of this type is made.
 pub struct Hand {
     pub parts: u64,
     pub holds: LinkedList<u32>,
@@ -245,7 +245,7 @@ impl<T: Roster> Pool<T> {
         self.queue.absorb::<Hires>(pass, other);
     }
 
-    /// Learns that no pass has more tokens in hand than there are.
+    /// Shows that no pass has more tokens in hand than there are.
     pub fn learn_few(&self, pass: &mut PoolPass<T>)
         requires pass { IsPassIn self.now pass.old }
         ensures pass { IsSamePass pass.old pass.new }

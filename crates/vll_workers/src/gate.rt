@@ -3,9 +3,9 @@ use crate::tally::Tally;
 use vll_core::Ticket;
 
 /// An observer of each call that a run executes, and of each worker that leaves. Its functions are called outside the
-/// engine's lock, by the thread that executes the call, and the call waits for as long as they take. If the gate may
-/// wait, a function of it that waits for another call to enter and to be executed goes on once another worker has done
-/// that, if one is free.
+/// engine's lock, by the thread that executes the call, and the call waits for as long as they take. A gate that may
+/// wait can wait in such a function until another call has entered and was executed, if another worker is free to do
+/// that.
 pub trait Gate {
     /// Called when a call is about to be executed.
     fn before(&self, ticket: Ticket);

@@ -25,9 +25,9 @@ pub fn spent_engines_took_fewer_calls()
         → e.config.limit < sum_by length scripts }
 {}
 
-/// What a token's session has gained since it was passed in, by any run of any engine that was closed with it, is the
-/// calls of the token's script that have entered since, each with a value found if it has an indirect key, and
-/// otherwise just as it is.
+/// By any run of any engine that was closed with it, a token's session gains the calls of the token's script that have
+/// entered since it was passed in. Each of these is as it stands in the script, with the value found if it has an
+/// indirect key.
 pub fn sessions_gain_found_calls()
     ensures { (e : Named) (handed back : List TokenShown) (closed : Closed) → AreFit e handed → IsClosedWith e back closed
         → (i : ℕ) (t : TokenShown) → slice_get back i ≡ Some t → (of : IsOf handed t)

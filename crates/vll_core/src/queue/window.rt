@@ -10,8 +10,8 @@ use crate::queue::window_entries::WindowEntries;
 use std::alloc::{AllocError, Global};
 use vll_sca::{Bits, Place, Status};
 
-/// The tickets of the calls that are left, those that run or wait, in order. The ticket of a call that is gone stays
-/// among them until `shrink` drops it. The calls' statuses are in the list of statuses by ticket.
+/// The tickets of the calls that run or wait, in order. The ticket of a finished call stays in the list until `shrink`
+/// removes it. The calls' statuses are kept elsewhere, in a list by ticket.
 #[derive(Drop)]
 pub(crate) struct Window {
     tickets: Vec<u32>,
@@ -82,7 +82,7 @@ impl Window {
         self.tickets.get(index).copied()
     }
 
-    /// Moves `first` on to the first ticket whose call is left, after a call is gone.
+    /// After a call has finished, moves `first` to the first ticket whose call runs or waits.
     pub(crate) fn skip_gone(&mut self, statuses: &[Status])
         requires below { All (λ t. t < length statuses.now) self.old.tickets.items }
         requires gone { self.old.first ≤ first_left statuses.now self.old.tickets.items }
@@ -91,8 +91,7 @@ impl Window {
         self.first = first_left(&self.tickets, statuses, self.first);
     }
 
-    /// Drops the tickets whose calls are gone, if there are more than `most` tickets. It keeps all whose calls are
-    /// left.
+    /// If there are more than `most` tickets, removes those of finished calls. Those of calls that run or wait stay.
     pub(crate) fn shrink(&mut self, most: usize, statuses: &[Status])
         requires { IsWindow statuses.now self.old }
         ensures kept { IsWindow statuses.now self.new }

@@ -19,7 +19,7 @@ use vll_counters::{QueueSeat, SessionSeat, Words};
 use vll_record::{RecordId, pair_word, value_word};
 use vll_sca::Place;
 
-/// An engine in which calls run or wait: all that was passed to close it, and how many these are.
+/// An engine that could not be closed, since calls run or wait in it: all that was passed, and how many they are.
 #[derive(Drop)]
 pub struct NotEnded<N: Name, H: Place + Drop> {
     pub locked: Locked<N, H>,

@@ -102,7 +102,7 @@ impl<N: Name, H: Place> Locked<N, H> {
     }
 }
 
-// Starts the ticket that the contention analysis finds, and notes what the scan has cost.
+// Starts the call that the contention analysis finds, if it finds one, and notes what the scan has cost.
 fn scan<H: Place>(queue: &mut Queue<H>, patience: &mut Patience) -> Option<Ticket>
     ensures ticket { result ≡ found_by H.place_of queue.old }
     ensures scanned { queue.new ≡ scanned H.place_of queue.old }
