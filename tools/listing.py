@@ -46,7 +46,8 @@ NOTATION = '''\
   code, and any other to the kit.
 - Definitions see what a value shows, not its private fields. `Claims` shows a list of claims, and most types a record
   of their name, as `Session` a `SessionShown`. `Checked` shows an `Entry`, `Library` a `Catalog`, `Queue` a `Queued`,
-  `Machine` and `Core` a `Shown`, `Done` and `Released` a `DoneShown`, and a `Scenario` its `Setup`.
+  `Machine` and `Core` a `Shown`, `Done` and `Released` a `DoneShown`, and a `Scenario` its `Setup`. `Items`, `Boxed` and
+  `Text` show what they hold.
 '''
 SENTENCE = re.compile(r'.*?[.!?](?= |$)')
 
