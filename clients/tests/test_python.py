@@ -177,7 +177,7 @@ class Threads(Both):
         self.judge([pair for each in found for pair in each], bank.last)
 
     def run_all(self, *works):
-        """Runs these in threads, which all have to end. Nobody looks after their calls, as `service` was started so."""
+        """Runs these in threads, which all have to end. Nobody looks after their calls if `TICK` is long."""
         threads = [threading.Thread(target=work, daemon=True) for work in works]
         for thread in threads:
             thread.start()
@@ -247,15 +247,17 @@ class Threads(Both):
             self.assertEqual([future.result() for future in futures], [[0, number] for number in range(count)])
 
     def test_nobody_has_to_wait(self):
+        """Also if somebody has waited before."""
         done = threading.Event()
         with self.service() as bank:
+            bank.balance(0)
             future = bank.submit('transfer', 0, 1, 30)
             future.add_done_callback(lambda _: done.set())
             self.assertTrue(done.wait(SECONDS))
             self.assertTrue(future.done())
             for _ in range(5000):
                 bank.submit('transfer', 0, 1, 0)
-        self.assertEqual(bank.last.calls, 5001)
+        self.assertEqual(bank.last.calls, 5002)
 
     def test_in_flight_is_kept(self):
         """A service that counts what it can read before it answers never finds more."""
@@ -263,6 +265,20 @@ class Threads(Both):
             for _ in range(100):
                 bank.submit('balance', 0)
         self.assertEqual(bank.last, (100, [7]))
+
+    def test_others_call_while_it_is_closed(self):
+        """Each call has an answer, or was refused and not made."""
+        def work():
+            with contextlib.suppress(vll.Ended):
+                while True:
+                    futures.append(bank.submit('balance', 0))
+        for number in range(10):
+            futures, bank = [], self.service(in_flight=10 ** (1 + number % 5))
+            closing = functools.partial(bank.close, SECONDS)
+            self.run_all(*[work] * 5, closing, *[work] * 5)
+            for future in futures:
+                future.result()
+            self.assertEqual(bank.last.calls, len(futures))
 
     def test_time_runs_out(self):
         with self.service(program=self.stand_in('time.sleep(0.5)\nANSWERS = {}' + ANSWERING)) as bank:
