@@ -66,7 +66,15 @@ class Queue {
 
 /** What lines of the service say. JSON has no line feed within a text, so they are one list once they have commas. */
 function parsed (lines) {
-  return /\d{16}/.test(lines) ? lines.split('\n').map(parsedAlone) : JSON.parse(`[${lines.replaceAll('\n', ',')}]`)
+  const answers = JSON.parse(`[${lines.replaceAll('\n', ',')}]`)
+  return answers.every(isExact) ? answers : lines.split('\n').map(parsedAlone)
+}
+
+/** Whether no number of the answer was rounded. */
+function isExact ({ committed, records = committed, aborted = 0 }) {
+  if (records === undefined) return !(aborted > Number.MAX_SAFE_INTEGER)
+  for (const number of records) if (number > Number.MAX_SAFE_INTEGER) return false
+  return true
 }
 
 /** A line of these. Numbers of many digits, which JSON.parse would round, become BigInts. */
@@ -134,7 +142,9 @@ export class Service {
   /** At most `inFlight` lines lack an answer; calls beyond these wait in the client. */
   constructor (file, { program = 'vll', inFlight = 1000, socket } = {}) {
     const scenario = JSON.parse(readFileSync(file, 'utf8'))
-    this.#procs = new Map(scenario.procs.map(({ name, args }) => [name, { args, head: JSON.stringify(name) }]))
+    this.#procs = new Map(scenario.procs.map(({ name, args }) => [name, {
+      args, head: `,"proc":${JSON.stringify(name)},"args":[`
+    }]))
     this.#clients = scenario.clients.length
     this.#inFlight = inFlight
     this.#isChild = socket === undefined
@@ -154,7 +164,7 @@ export class Service {
     if (this.#why !== undefined || this.#isClosing) {
       return Promise.reject(new Ended(this.#why ?? 'the service was closed'))
     }
-    const line = `{"client":${client},"proc":${this.#procs.get(proc).head},"args":[${args.join()}]}\n`
+    const line = `{"client":${client}${this.#procs.get(proc).head}${args.join()}]}\n`
     return new Promise((resolve, reject) => {
       const call = { resolve, reject, line }
       if (this.#pending.length < this.#inFlight) this.#write(call)
