@@ -31,6 +31,10 @@ UNTOLD = set('''
     number_with_a_point number_with_an_exponent record_minus_zero record_with_a_point record_with_a_small_exponent
     record_with_an_exponent repeat_count_with_a_point through_index_with_a_point ticket_with_a_point
     ticket_with_an_exponent version_two_with_a_point version_with_a_point version_with_an_exponent
+    explained_exponent_in_a_record explained_exponent_in_an_option explained_exponent_with_a_sign_in_an_argument
+    explained_minus_zero_in_a_code explained_number_in_the_last_of_two_members explained_point_in_a_count
+    explained_point_in_a_local explained_point_in_a_number_of_arguments explained_point_in_a_test
+    explained_point_in_the_index_of_a_key explained_point_in_the_record_of_a_key
 '''.split())
 
 # Scenarios that the schema refuses, and the program by a line that the schema cannot tell: for a record, an argument or

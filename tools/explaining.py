@@ -25,6 +25,9 @@ PLACES = {1: 'args', 2: 'keys', 3: r'keys, key \d+', 4: r'keys, key \d+', 13: r'
 CALLS = {
     1: r'no procedure has the name', 2: r'number of arguments of ".*" must be \d+, not \d+',
     3: r'there is no record \d+, which key \d+ of ".*" takes from argument \d+'}
+# What is told of a number: the number, and dots if it is cut.
+QUOTED = re.compile(rb'^why: (?:.* begins with .*, not with )?(-?\d[-+.\deE]*?)(\.\.)?(?: is not an? | does not say |;)',
+                    re.MULTILINE)
 NAMED = r'( \("(?:[^"\\]|\\.)*"\))?'
 
 
@@ -68,3 +71,13 @@ def unexplained(line, printed):
         if not re.search(('^' if text is place else '') + pattern, text):
             return f'{text!r} is not of the form {pattern!r}'
     return None
+
+
+def is_as_written(printed, text):
+    """Whether the number that an explanation quotes, if it quotes one, stands so in the text of the scenario."""
+    quoted = QUOTED.search(printed)
+    if not quoted:
+        return True
+    number, dots = quoted.groups()
+    behind = rb'[-+.\deE]' if dots else rb'(?![-+.\w])'
+    return bool(re.search(rb'(?<![-+.\w])' + re.escape(number) + behind, text))

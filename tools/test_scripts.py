@@ -16,7 +16,7 @@ import check_docs
 import check_schema
 import listing
 from cases import TOP, bytes_of, read_cases
-from explaining import unexplained
+from explaining import is_as_written, unexplained
 from generate import chosen_by, scenario_of
 from trial_pages import PICTURE, with_attributes
 from sources import SENTENCES, Sources, Specs, functions_of
@@ -257,6 +257,15 @@ class Scripts(unittest.TestCase):
         self.assertIsNone(unexplained(FAULT, EXPLAINED))
         for part, other in UNEXPLAINED:
             self.assertIsNotNone(unexplained(FAULT, EXPLAINED.replace(part, other)), other)
+
+    def test_number_is_quoted_as_it_is_written(self):
+        for why in (b'1e3 is not a key', b'a key begins with "read" or "write", not with 1e3; use them',
+                    b'1e3 does not say which', b'1e.. is not a key'):
+            for text, is_so in ((b'[0,1e3]', True), (b'1e3', True), (b'[1000.0]', False), (b'[11e2,-1e3]', False),
+                                (b'[1E3]', False)):
+                self.assertEqual(is_as_written(b'at: keys\nwhy: ' + why + b'\n', text), is_so, (why, text))
+        self.assertFalse(is_as_written(b'why: 1e3 is not a key\n', b'[1e30]'))
+        self.assertTrue(is_as_written(b'why: 9 is not in the range 1 to 8\n', b'[]'))
 
     @unittest.skipUnless(check_schema.Draft202012Validator, 'python3 has no jsonschema')
     def test_schema_that_takes_all_or_nothing_disagrees(self):

@@ -87,7 +87,9 @@ fn explained_of(alloc: Global, bytes: &[u8]) -> Result<(Option<ScenarioFault>, S
                 Ok((None, text))
             }
             Err(why) => {
-                let text = text_of_fault(alloc, why, &tree).map_err(|_| WriteFault::NoMemory)?;
+                let text = text_of_fault(alloc, why, bytes, &tree).map_err(
+                    |_| WriteFault::NoMemory,
+                )?;
                 Ok((Some(why), text))
             }
         },
@@ -107,8 +109,13 @@ fn text_of_unread(alloc: Global, why: ScenarioFault, bytes: &[u8]) -> Result<Str
     begun_with(alloc, why, explanation.as_str())
 }
 
-// The line of a fault that lies in a JSON tree, and an explanation.
-fn text_of_fault(alloc: Global, why: ScenarioFault, tree: &Value) -> Result<String, AllocError>
+// The line of a fault that lies in the JSON tree of some bytes, and an explanation.
+fn text_of_fault(
+    alloc: Global,
+    why: ScenarioFault,
+    bytes: &[u8],
+    tree: &Value,
+) -> Result<String, AllocError>
     ensures { IfOk result (λ text. IsToldOf (view tree.now) why (string_bytes text)) }
 {
     match why {
@@ -119,7 +126,7 @@ fn text_of_fault(alloc: Global, why: ScenarioFault, tree: &Value) -> Result<Stri
         | ScenarioFault::Size
         | ScenarioFault::NameTwice
         | ScenarioFault::Check { .. }
-        | ScenarioFault::Call { .. } => text_of_piece(alloc, why, tree),
+        | ScenarioFault::Call { .. } => text_of_piece(alloc, why, bytes, tree),
     }
 }
 
@@ -130,7 +137,12 @@ fn begun_with(alloc: Global, why: ScenarioFault, explanation: &str) -> Result<St
 }
 
 // The line of a fault, the way to the piece at fault, and what is wrong with it.
-fn text_of_piece(alloc: Global, why: ScenarioFault, tree: &Value) -> Result<String, AllocError>
+fn text_of_piece(
+    alloc: Global,
+    why: ScenarioFault,
+    bytes: &[u8],
+    tree: &Value,
+) -> Result<String, AllocError>
     ensures { IfOk result (λ text. IsLocated (view tree.now) why (string_bytes text)) }
 {
     let way = way_to_fault(alloc, tree, why)?;
@@ -138,7 +150,7 @@ fn text_of_piece(alloc: Global, why: ScenarioFault, tree: &Value) -> Result<Stri
     let shown = shown_name(alloc, tree, steps)?;
     let mut place = String::new(alloc);
     push_way(&mut place, steps, shown.as_str())?;
-    let reason = reason_of(alloc, tree, why, &way)?;
+    let reason = reason_of(alloc, bytes, tree, why, &way)?;
     format!(in alloc; "vll: scenario: {why}\nat: {place}\nwhy: {reason}\n")
 }
 

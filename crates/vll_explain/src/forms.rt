@@ -1,5 +1,5 @@
 //! What is wrong with what must have the form of a key, a statement, an expression or an event.
-use crate::shown::{Quoted, Shown};
+use crate::shown::{Quoted, Refused};
 use serde_json::Value;
 use std::alloc::{AllocError, Global};
 use std::fmt;
@@ -99,26 +99,31 @@ fn sign_of(step: Step) -> &'static str {
     }
 }
 
-// Why a value does not have the form of `kind`.
+// Why the piece at fault, which is this value, does not have the form of `kind`.
 pub(crate) fn form_why(
     alloc: Global,
-    tree: &Value,
+    refused: &Refused<'_>,
     kind: Kind,
     value: &Value,
 ) -> Result<String, AllocError> {
     let valid = Valid(kind);
     match value {
-        Value::Array(list) if kind == Kind::Key => key_why(alloc, list.as_slice(), valid),
-        Value::Array(list) => list_why(alloc, tree, kind, list.as_slice()),
+        Value::Array(list) if kind == Kind::Key => key_why(alloc, refused, list.as_slice(), valid),
+        Value::Array(list) => list_why(alloc, refused, kind, list.as_slice()),
         _ => {
-            let shown = Shown(value);
+            let shown = refused.shown(alloc, value)?;
             let one = naming_of(kind).one;
             format!(in alloc; "{shown} is not {one}; {valid}")
         }
     }
 }
 
-fn list_why(alloc: Global, tree: &Value, kind: Kind, list: &[Value]) -> Result<String, AllocError> {
+fn list_why(
+    alloc: Global,
+    refused: &Refused<'_>,
+    kind: Kind,
+    list: &[Value],
+) -> Result<String, AllocError> {
     let valid = Valid(kind);
     let Naming {
         one,
@@ -129,13 +134,13 @@ fn list_why(alloc: Global, tree: &Value, kind: Kind, list: &[Value]) -> Result<S
         return format!(in alloc; "an empty list is not {one}; {valid}");
     };
     let Some(word) = first.as_str() else {
-        let shown = Shown(first);
+        let shown = refused.shown_item(alloc, first, 0)?;
         return format!(in alloc; "{one} begins with a word, not with {shown}; {valid}");
     };
     let shown = Quoted(word);
     match form_with(forms_of(kind), word) {
         None => format!(in alloc; "{shown} is not a valid {unknown}; {valid}"),
-        Some(form) if form.since == Edition::Two && is_first(tree) => {
+        Some(form) if form.since == Edition::Two && is_first(refused.tree) => {
             format!(in alloc; "version 1 has no {shown}; use \"version\":2")
         }
         Some(form) => {
@@ -153,18 +158,23 @@ fn is_first(tree: &Value) -> bool {
     tree.get("version").and_then(Value::as_u64) == Some(1)
 }
 
-fn key_why(alloc: Global, list: &[Value], valid: Valid) -> Result<String, AllocError> {
+fn key_why(
+    alloc: Global,
+    refused: &Refused<'_>,
+    list: &[Value],
+    valid: Valid,
+) -> Result<String, AllocError> {
     let [mode, place, _] = list else {
         let count = list.len();
         return format!(in alloc; "the number of items of a key must be 3, not {count}; {valid}");
     };
     match mode.as_str() {
         Some("read" | "write") => {
-            let shown = Shown(place);
+            let shown = refused.shown_item(alloc, place, 1)?;
             format!(in alloc; "{shown} does not say which record it is; {valid}")
         }
         _ => {
-            let shown = Shown(mode);
+            let shown = refused.shown_item(alloc, mode, 0)?;
             format!(in alloc; "a key begins with \"read\" or \"write\", not with {shown}; {valid}")
         }
     }

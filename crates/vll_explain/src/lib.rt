@@ -15,6 +15,7 @@ mod asked;
 mod check;
 mod explaining;
 mod forms;
+mod inner;
 mod members;
 mod names;
 mod reason;
@@ -24,5 +25,6 @@ mod size;
 mod summary;
 mod unread;
 mod way;
+mod written;
 
 pub use explaining::explain;

@@ -1,21 +1,23 @@
 //! What is wrong with a value that must be an object with certain members.
-use crate::shown::{Quoted, Shown};
+use crate::shown::{Quoted, Refused};
 use serde_json::Value;
 use std::alloc::{AllocError, Global};
 
 // The number of unknown members that are listed.
 const MOST_TOLD: usize = 4;
 
-// What is wrong with a value that must be an object with all members in `must`, and others only from `may`.
+// What is wrong with the piece at fault, which is this value and must be an object with all members in `must`, and
+// others only from `may`.
 pub(crate) fn member_why(
     alloc: Global,
+    refused: &Refused<'_>,
     value: &Value,
     must: &[&str],
     may: &[&str],
 ) -> Result<String, AllocError> {
     let mut why = String::new(alloc);
     if !value.is_object() {
-        let shown = Shown(value);
+        let shown = refused.shown(alloc, value)?;
         write!(
             why,
             "{shown} is not an object; it has to be one with the members "

@@ -1,35 +1,52 @@
 //! What is wrong with a piece whose shape is at fault.
 use crate::forms::form_why;
 use crate::members::member_why;
-use crate::shown::Shown;
+use crate::shown::Refused;
 use serde_json::Value;
 use std::alloc::{AllocError, Global};
 use vll_fault_path::{Found, Kind};
 use vll_scenario::{MAY_NAMES, MUST_NAMES};
 
-// What is wrong with the piece found in a tree, or with the tree itself.
+// What is wrong with the piece found in a scenario that is refused, or with the scenario itself.
 pub(crate) fn shape_why(
     alloc: Global,
-    tree: &Value,
+    refused: &Refused<'_>,
     found: Option<Found<'_>>,
 ) -> Result<String, AllocError> {
     let Some(Found { kind, value, .. }) = found else {
         // those that it must have come first
-        return member_why(alloc, tree, &MUST_NAMES, &MAY_NAMES[MUST_NAMES.len()..]);
+        return member_why(
+            alloc,
+            refused,
+            refused.tree,
+            &MUST_NAMES,
+            &MAY_NAMES[MUST_NAMES.len()..],
+        );
     };
     match (kind, value) {
-        (Kind::Procedure, _) => member_why(alloc, value, &["name", "args", "keys", "body"], &[]),
-        (Kind::Call, _) => member_why(alloc, value, &["proc", "args"], &[]),
-        (Kind::Expression, Value::Number(_)) => unlike(alloc, value, NUMBER),
+        (Kind::Procedure, _) => member_why(
+            alloc,
+            refused,
+            value,
+            &["name", "args", "keys", "body"],
+            &[],
+        ),
+        (Kind::Call, _) => member_why(alloc, refused, value, &["proc", "args"], &[]),
+        (Kind::Expression, Value::Number(_)) => unlike(alloc, refused, value, NUMBER),
         (Kind::Key | Kind::Statement | Kind::Expression | Kind::Event, _) => {
-            form_why(alloc, tree, kind, value)
+            form_why(alloc, refused, kind, value)
         }
-        _ => unlike(alloc, value, wanted(kind)),
+        _ => unlike(alloc, refused, value, wanted(kind)),
     }
 }
 
-fn unlike(alloc: Global, value: &Value, wanted: &str) -> Result<String, AllocError> {
-    let shown = Shown(value);
+fn unlike(
+    alloc: Global,
+    refused: &Refused<'_>,
+    value: &Value,
+    wanted: &str,
+) -> Result<String, AllocError> {
+    let shown = refused.shown(alloc, value)?;
     format!(in alloc; "{shown} is not {wanted}")
 }
 

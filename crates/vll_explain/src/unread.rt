@@ -44,7 +44,8 @@ fn json_explanation(alloc: Global, bytes: &[u8]) -> Result<String, AllocError> {
                 return too_deep(alloc, bytes, place);
             }
             let line = error.line();
-            let column = error.column();
+            // a text that ends too early may end before the first byte of a line
+            let column = error.column().max(1);
             format!(in alloc; "line {line}, column {column}\nwhy: {why}\n")
         }
     }
