@@ -34,6 +34,8 @@ FAULTY = [
     ('{"client":0,"proc":"balance","args":[]}', 'the number of arguments has to be 1'),
     ('{"client":0,"proc":"balance","args":[8]}', 'argument 0 has to be the number of a record'),
     ('{"client":0,"proc":"balance","args":[0],"at":1}', 'OBJECT'),
+    ('{"counts":true,"proc":"balance","args":[0]}', 'OBJECT'), ('{"counts":false,"client":0}', 'OBJECT'),
+    ('{"counts":false}', 'COUNTS'), ('{"counts":null}', 'COUNTS'), ('{"counts":1}', 'COUNTS'),
     ('{"id":null,"client":0,"proc":"balance","args":[0]}', 'ID'),
     (f'{{"id":"{"x" * 65}","client":0,"proc":"balance","args":[0]}}', 'ID'),
     ('x' * 65537, 'the line has more than 65536 bytes'), ('x' * 90000, 'the line has more than 65536 bytes'),
@@ -42,7 +44,7 @@ FAULTY = [
 WORDS = {
     'OBJECT': 'the line has to be an object with proc, args and perhaps client and id',
     'PROC': 'proc has to be the name of a procedure', 'ARGS': 'args has to be a list of whole numbers',
-    'CLIENT': 'client has to be the number of a client',
+    'COUNTS': 'counts has to be true', 'CLIENT': 'client has to be the number of a client',
     'ID': 'id has to be a whole number or a text of at most 64 bytes',
 }
 
@@ -67,7 +69,7 @@ class Bank:
     """The bank, as docs/SERVICE.md and its procedures have it."""
 
     def __init__(self):
-        self.accounts, self.calls = [100] * ACCOUNTS, 0
+        self.accounts, self.calls, self.aborted = [100] * ACCOUNTS, 0, 0
 
     def call(self, proc, args):
         """The members of the answer to a call."""
@@ -76,6 +78,7 @@ class Bank:
             return {'call': number, 'committed': [self.accounts[args[0]]]}
         source, target, amount = args
         if self.accounts[source] < amount:
+            self.aborted += 1
             return {'call': number, 'aborted': 1}
         self.accounts[source] -= amount
         self.accounts[target] += amount
@@ -90,6 +93,11 @@ class Bank:
         except ValueError:
             return {'fault': NO_JSON}
         return {**{name: asked[name] for name in asked if name == 'id'}, **self.call(asked['proc'], asked['args'])}
+
+    def counts(self, rounds, most_lines):
+        """The members of the answer to a line with counts. Its procedures abort by a code alone."""
+        aborted = {'code': self.aborted, 'overflow': 0, 'underflow': 0, 'zero divisor': 0, 'moved': 0}
+        return {'counts': {'calls': self.calls, 'aborted': aborted, 'rounds': rounds, 'most_lines': most_lines}}
 
     def last(self):
         return {'calls': self.calls, 'records': self.accounts}
@@ -202,6 +210,39 @@ def pauses(program):
                 yield from unlike(f'seed {seed} {what}', ended(running, found + running.stdout.read()), 0, wanted)
 
 
+def counts(program):
+    """Lines with counts tell the calls before them. A few short lines that are written at once are one round."""
+    for seed in range(8):
+        rng, bank, most_lines, pieces, answers = random.Random(seed), Bank(), 0, [], []
+        for rounds in range(1, 100):
+            count, piece = rng.randrange(1, 20), b''
+            most_lines = max(most_lines, count)
+            for _ in range(count):
+                if rng.random() < 0.2:
+                    named = rng.choice([{}, {'id': rng.randrange(9)}])
+                    line, answer = json.dumps({**named, 'counts': True}), {**named, **bank.counts(rounds, most_lines)}
+                else:
+                    line, answer = short_line_and_answer(rng, bank)
+                piece += f'{line}\n'.encode()
+                answers.append(answer)
+            pieces.append(piece)
+        with at_work(program) as running:
+            found = one_by_one(running, pieces)
+            running.stdin.close()
+            wanted = text_of([*answers, bank.last()])
+            yield from unlike(f'seed {seed}', ended(running, found + running.stdout.read()), 0, wanted)
+
+
+def short_line_and_answer(rng, bank):
+    """A random line of at most 200 bytes, and the answer to it."""
+    while True:
+        before = bank.accounts[:], bank.calls, bank.aborted
+        line, answer = line_and_answer(rng, bank)
+        if len(line.encode()) <= 200:
+            return line, answer
+        bank.accounts, bank.calls, bank.aborted = before
+
+
 def closed_input(program):
     """The input ends after each byte of some lines: the last line counts without its end, as far as it goes."""
     text = b'\n'.join(TO_CUT)
@@ -311,6 +352,6 @@ def socket(program):
 
 
 def service(words, _):
-    for trial in (random_streams, epochs, pauses, closed_input, no_utf8, many_clients, many_procedures, closed_output,
+    for trial in (random_streams, epochs, pauses, counts, closed_input, no_utf8, many_clients, many_procedures, closed_output,
                   long_line, refused_files, other_language, socket):
         yield trial.__name__.replace('_', ' '), trial(words.program)

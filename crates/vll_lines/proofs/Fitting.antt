@@ -1,16 +1,19 @@
 -- The calls that lines ask for are ones that the library makes, of clients that there are.
-use Rattle.std.proofs.Common.{◌≡◌, ◌<◌, inl, inr, ℕ, Bool, true, false, List, [], ◌∷◌, refl, sym, subst, Option, Result, Ok, Err, All, if◌then◌else◌, nat_lt}
+use Rattle.std.proofs.Common.{◌≡◌, ◌<◌, inl, inr, ℕ, Bool, true, false, List, [], ◌∷◌, refl, sym, subst, Option, Some, None, codes, Result, Ok, Err, All, if◌then◌else◌, nat_lt}
 use Rattle.std.proofs.lemmas.Bool.{ltb-true}
 use Rattle.std.proofs.lemmas.List.Elements.{All-cons, All-nil, All-weaker}
 use Rattle.serde_json.specs.Data.{Data}
+use Rattle.serde_json.specs.Find.{as_bool, get}
 use Rattle.vll_proc.specs.declared.call.Call.{Call}
 use Rattle.vll_check.specs.Calls.{Fits, call_made}
 use Rattle.vll_check.specs.Headline.Catalog.{Catalog}
 use Rattle.vll_check.specs.declared.fault.CallFault.{CallFault}
 use Rattle.vll_scenario.specs.Shape.{◌>>=◌}
-use Rattle.vll_lines.specs.Request.{AreRequests, IsRequest, IsLine, args_of, request_with, call_asked, client_of, has_no_other, id_of, made_by, name_of}
+use Rattle.vll_lines.specs.Request.{AreRequests, IsRequest, IsLine, args_of, asked_by, asked_of, request_with, call_asked, client_of, counts_if, counts_names, has_no_other, id_of, made_by, may_names, name_of}
 use Rattle.vll_lines.specs.Calls.{calls_of, with_call}
 use Rattle.vll_lines.specs.declared.request.Request.{Request}
+use Rattle.vll_lines.specs.declared.request.Asked.{Asked}
+use Rattle.vll_lines.specs.declared.request.Asked.TheVariants as asked
 use Rattle.vll_lines.specs.declared.request.ClientCall.{ClientCall}
 use Rattle.vll_lines.specs.declared.request.Id.{Id}
 use Rattle.vll_lines.specs.declared.request.LineFault.{LineFault}
@@ -21,15 +24,16 @@ module _ (library : Catalog) (clients : ℕ) where
   IsServed c = Fits library c.call × (c.client < clients)
 
   -- a call that was made is one
-  abbrev FitsIn : Result ClientCall LineFault → Type 0
-  FitsIn (Ok c) = IsServed c
+  abbrev FitsIn : Result Asked LineFault → Type 0
+  FitsIn (Ok (asked.Call c)) = IsServed c
+  FitsIn (Ok asked.Counts) = Unit {0}
   FitsIn (Err why) = Unit {0}
 
-  fits_if : (b : Bool) (r s : Result ClientCall LineFault) → (b ≡ true → FitsIn r) → FitsIn s → FitsIn (if b then r else s)
+  fits_if : (b : Bool) (r s : Result Asked LineFault) → (b ≡ true → FitsIn r) → FitsIn s → FitsIn (if b then r else s)
   fits_if true r s first second = first refl
   fits_if false r s first second = second
 
-  fits_then : {A : Type 0} (r : Result A LineFault) (go : A → Result ClientCall LineFault) → ((a : A) → FitsIn (go a)) → FitsIn (r >>= go)
+  fits_then : {A : Type 0} (r : Result A LineFault) (go : A → Result Asked LineFault) → ((a : A) → FitsIn (go a)) → FitsIn (r >>= go)
   fits_then (Ok a) go each = each a
   fits_then (Err why) go each = tt
 
@@ -40,27 +44,40 @@ module _ (library : Catalog) (clients : ℕ) where
       by_result (Ok c) is = ((name, args, is), low)
       by_result (Err why) is = tt
 
-  fits_asked : (d : Data) → FitsIn (call_asked library clients d)
-  fits_asked d =
-      fits_if (has_no_other d) _ _
+  fits_call : (d : Data) → FitsIn (call_asked library clients d)
+  fits_call d =
+      fits_if (has_no_other may_names d) _ _
       (λ _. fits_then (client_of d) _
       (λ client. fits_then (name_of d) _ (λ name. fits_then (args_of d) _ (λ args. fits_if (nat_lt client clients) _ _ (λ low. fits_made client name args (ltb-true client clients low)) tt))))
       tt
 
-  fits_with : (it : Result (Option Id) LineFault) (request : Result ClientCall LineFault) → FitsIn request → FitsIn (request_with it request).call
+  fits_counts : (o : Option Bool) → FitsIn (counts_if o)
+  fits_counts None = tt
+  fits_counts (Some true) = tt
+  fits_counts (Some false) = tt
+
+  fits_by : (d : Data) (o : Option Data) → FitsIn (asked_by library clients d o)
+  fits_by d None = fits_call d
+  fits_by d (Some member) = fits_if (has_no_other counts_names d) _ _ (λ _. fits_counts (as_bool member)) tt
+
+  fits_asked : (d : Data) → FitsIn (asked_of library clients d)
+  fits_asked d = fits_by d (get (codes "counts") d)
+
+  fits_with : (it : Result (Option Id) LineFault) (request : Result Asked LineFault) → FitsIn request → FitsIn (request_with it request).asked
   fits_with (Ok it) request fits = fits
   fits_with (Err why) request fits = tt
 
-  fits_line : (line : List ℕ) (a : Request) → IsLine library clients line a → FitsIn a.call
-  fits_line line a (inl long) = subst (λ (b : Request). FitsIn b.call) (sym long.1) tt
+  fits_line : (line : List ℕ) (a : Request) → IsLine library clients line a → FitsIn a.asked
+  fits_line line a (inl long) = subst (λ (b : Request). FitsIn b.asked) (sym long.1) tt
   fits_line line a (inr short) = by_tree short.1
     where
-      by_tree : IsRequest library clients line a → FitsIn a.call
-      by_tree (inl is) = subst (λ (b : Request). FitsIn b.call) (sym is.2) (fits_with (id_of is.0) (call_asked library clients is.0) (fits_asked is.0))
-      by_tree (inr is) = subst (λ (b : Request). FitsIn b.call) (sym is.1.1) tt
+      by_tree : IsRequest library clients line a → FitsIn a.asked
+      by_tree (inl is) = subst (λ (b : Request). FitsIn b.asked) (sym is.2) (fits_with (id_of is.0) (asked_of library clients is.0) (fits_asked is.0))
+      by_tree (inr is) = subst (λ (b : Request). FitsIn b.asked) (sym is.1.1) tt
 
-  one_fits : (r : Result ClientCall LineFault) (others : List ClientCall) → FitsIn r → All IsServed others → All IsServed (with_call r others)
-  one_fits (Ok c) others fits more = All-cons IsServed c others fits more
+  one_fits : (r : Result Asked LineFault) (others : List ClientCall) → FitsIn r → All IsServed others → All IsServed (with_call r others)
+  one_fits (Ok (asked.Call c)) others fits more = All-cons IsServed c others fits more
+  one_fits (Ok asked.Counts) others fits more = more
   one_fits (Err why) others fits more = more
 
   -- each call that lines ask for is one
@@ -68,7 +85,7 @@ module _ (library : Catalog) (clients : ℕ) where
   asked_served [] [] are = All-nil IsServed
   asked_served [] (a ∷ more) are = absurd are
   asked_served (l ∷ ls) [] are = absurd are
-  asked_served (l ∷ ls) (a ∷ more) are = one_fits a.call (calls_of more) (fits_line l a are.0) (asked_served ls more are.1)
+  asked_served (l ∷ ls) (a ∷ more) are = one_fits a.asked (calls_of more) (fits_line l a are.0) (asked_served ls more are.1)
 
   pub asked_fit : (lines : List (List ℕ)) (requests : List Request) → AreRequests library clients lines requests → All (λ (c : ClientCall). Fits library c.call) (calls_of requests)
   asked_fit lines requests are = All-weaker IsServed (λ (c : ClientCall). Fits library c.call) (λ c is. is.0) (calls_of requests) (asked_served lines requests are)

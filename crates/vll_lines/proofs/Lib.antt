@@ -5,4 +5,5 @@ pub mod Lines
 pub mod Cuts
 pub mod Fitting
 pub mod Calls
+pub mod Counted
 pub mod Written

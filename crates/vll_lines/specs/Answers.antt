@@ -1,5 +1,5 @@
 -- The answers to lines, and the last line of a service, by their JSON tokens.
-use Rattle.std.specs.Prelude.{ℕ, suc, List, [], ◌∷◌, ◌++◌, Option, Some, None, Result, Ok, Err, map, codes}
+use Rattle.std.specs.Prelude.{ℕ, List, [], ◌∷◌, ◌++◌, Option, Some, None, Result, Ok, Err, map, codes}
 use Rattle.std.specs.Fmt.{decimal}
 use Rattle.json.specs.Print.{print}
 use Rattle.json.specs.Token.{Token, begin_object, end_object, begin_array, end_array, key, string, number}
@@ -9,7 +9,11 @@ use Rattle.vll_proc.specs.declared.call.Reply.{Reply}
 use Rattle.vll_proc.specs.declared.call.Reply.TheVariants.{Committed, Aborted}
 use Rattle.vll_scenario.specs.Shown.{shortened}
 use Rattle.vll_lines.specs.declared.request.Request.{Request}
-use Rattle.vll_lines.specs.declared.request.ClientCall.{ClientCall}
+use Rattle.vll_lines.specs.Counts.{counted}
+use Rattle.vll_lines.specs.declared.counts.Counts.{Counts}
+use Rattle.vll_lines.specs.declared.counts.Rounds.{Rounds}
+use Rattle.vll_lines.specs.declared.request.Asked.{Asked}
+use Rattle.vll_lines.specs.declared.request.Asked.TheVariants as asked
 use Rattle.vll_lines.specs.declared.request.Id.{Id}
 use Rattle.vll_lines.specs.declared.request.Id.TheVariants as id
 use Rattle.vll_lines.specs.declared.request.LineFault.{LineFault}
@@ -22,6 +26,7 @@ fault_words fault.Empty = codes "the line is empty"
 fault_words (fault.Json column) = codes "no JSON text: column " ++ decimal column
 fault_words fault.Id = codes "id has to be a whole number or a text of at most 64 bytes"
 fault_words fault.Object = codes "the line has to be an object with proc, args and perhaps client and id"
+fault_words fault.Counts = codes "counts has to be true"
 fault_words fault.Client = codes "client has to be the number of a client"
 fault_words fault.Proc = codes "proc has to be the name of a procedure"
 fault_words fault.Args = codes "args has to be a list of whole numbers"
@@ -66,21 +71,46 @@ reply_tokens (Aborted why) = key (codes "aborted") ∷ reason_tokens why
 abbrev pub reply_line : Option Id → ℕ → Reply → List ℕ
 reply_line it n reply = line_of (begin_object ∷ (id_tokens it ++ key (codes "call") ∷ number (decimal n) ∷ (reply_tokens reply ++ end_object ∷ [])))
 
--- the answer to a line that asks for no call
+-- the answer to a line that asks for nothing
 abbrev pub fault_line : Option Id → LineFault → List ℕ
 fault_line it why = line_of (begin_object ∷ (id_tokens it ++ key (codes "fault") ∷ string (fault_words why) ∷ end_object ∷ []))
+
+-- a member that is a number
+abbrev pub member_tokens : List ℕ → ℕ → List Token
+member_tokens name n = key name ∷ number (decimal n) ∷ []
+
+-- how many calls were aborted, by the reason
+abbrev pub aborted_tokens : Counts → List Token
+aborted_tokens counts =
+    begin_object
+    ∷ (member_tokens (codes "code") counts.code ++ (member_tokens (codes "overflow") counts.overflow ++ (member_tokens (codes "underflow") counts.underflow
+    ++ (member_tokens (codes "zero divisor") counts.zero_divisor ++ (member_tokens (codes "moved") counts.moved ++ end_object ∷ [])))))
+
+-- what a service has done so far
+abbrev pub counts_tokens : Counts → Rounds → List Token
+counts_tokens counts so_far =
+    begin_object
+    ∷ (member_tokens (codes "calls") counts.calls ++ key (codes "aborted")
+    ∷ (aborted_tokens counts ++ (member_tokens (codes "rounds") so_far.rounds ++ (member_tokens (codes "most_lines") so_far.most_lines ++ end_object ∷ []))))
+
+-- the answer to a line that asks for counts
+abbrev pub counts_line : Option Id → Counts → Rounds → List ℕ
+counts_line it counts so_far = line_of (begin_object ∷ (id_tokens it ++ key (codes "counts") ∷ (counts_tokens counts so_far ++ end_object ∷ [])))
 
 -- the last line of a service: the number of its calls, and the records as they have left them
 abbrev pub end_line : ℕ → List ℕ → List ℕ
 end_line calls records = line_of (begin_object ∷ key (codes "calls") ∷ number (decimal calls) ∷ key (codes "records") ∷ (numbers_tokens records ++ end_object ∷ []))
 
--- the answer to a line, and then the rest, for the next number and the replies that are left
-abbrev pub with_answer : Option Id → Result ClientCall LineFault → (ℕ → List Reply → List ℕ) → ℕ → List Reply → List ℕ
-with_answer it (Err why) rest n replies = fault_line it why ++ rest n replies
-with_answer it (Ok call) rest n [] = []
-with_answer it (Ok call) rest n (reply ∷ replies) = reply_line it n reply ++ rest (suc n) replies
+-- the answer to a line, and then the rest, for the counts then, and for the replies and the rounds that are left
+abbrev pub with_answer : Option Id → Result Asked LineFault → (Counts → List Reply → List Rounds → List ℕ) → Counts → List Reply → List Rounds → List ℕ
+with_answer it (Err why) rest counts replies rounds = fault_line it why ++ rest counts replies rounds
+with_answer it (Ok (asked.Call c)) rest counts [] rounds = []
+with_answer it (Ok (asked.Call c)) rest counts (reply ∷ replies) rounds = reply_line it counts.calls reply ++ rest (counted counts reply) replies rounds
+with_answer it (Ok asked.Counts) rest counts replies [] = []
+with_answer it (Ok asked.Counts) rest counts replies (so_far ∷ rounds) = counts_line it counts so_far ++ rest counts replies rounds
 
--- the answers to lines, in order. The calls that they ask for are numbered from n on, and have these replies
-abbrev pub answers : List Request → ℕ → List Reply → List ℕ
-answers [] n replies = []
-answers (a ∷ more) n replies = with_answer a.id a.call (answers more) n replies
+-- the answers to lines, in order, after calls that are counted so. The calls that the lines ask for have these replies, and
+-- each line that asks for counts tells the calls before it, and the next of these rounds
+abbrev pub answers : List Request → Counts → List Reply → List Rounds → List ℕ
+answers [] counts replies rounds = []
+answers (a ∷ more) counts replies rounds = with_answer a.id a.asked (answers more) counts replies rounds

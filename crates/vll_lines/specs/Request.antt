@@ -1,7 +1,7 @@
--- The call that a line asks for, or why it asks for none.
-use Rattle.std.specs.Prelude.{◌≡◌, ◌⊎◌, ◌<◌, ◌≤◌, ℕ, Bool, false, List, [], ◌∷◌, length, nat_eq, nat_le, nat_lt, Option, Some, None, Result, Ok, Err, if◌then◌else◌, slice_get, codes}
+-- What a line asks for, or why it asks for nothing.
+use Rattle.std.specs.Prelude.{◌≡◌, ◌⊎◌, ◌<◌, ◌≤◌, ℕ, Bool, true, false, List, [], ◌∷◌, length, nat_eq, nat_le, nat_lt, Option, Some, None, Result, Ok, Err, if◌then◌else◌, slice_get, codes}
 use Rattle.serde_json.specs.Data.{Data, Items, null, boolean, number, string, array, object}
-use Rattle.serde_json.specs.Find.{as_array, as_str, get}
+use Rattle.serde_json.specs.Find.{as_array, as_bool, as_str, get}
 use Rattle.vll_proc.specs.declared.call.Call.{Call}
 use Rattle.vll_proc.specs.declared.syntax.KeyAt.{KeyAt}
 use Rattle.vll_proc.specs.declared.syntax.KeyAt.TheVariants as at
@@ -17,7 +17,8 @@ use Rattle.vll_scenario.specs.Shape.{◌>>=◌}
 use Rattle.vll_scenario.specs.Syntax.{has_only, member_at}
 use Rattle.vll_scenario.specs.Tree.{each, number_at, u32_at}
 use Rattle.vll_lines.specs.declared.request.Request.{Request}
-use Rattle.vll_lines.specs.declared.request.ClientCall.{ClientCall}
+use Rattle.vll_lines.specs.declared.request.Asked.{Asked}
+use Rattle.vll_lines.specs.declared.request.Asked.TheVariants as asked
 use Rattle.vll_lines.specs.declared.request.Id.{Id}
 use Rattle.vll_lines.specs.declared.request.Id.TheVariants as id
 use Rattle.vll_lines.specs.declared.request.LineFault.{LineFault}
@@ -53,18 +54,32 @@ id_of d = id_at (get (codes "id") d)
       it ← id_in member
       Ok (Some it)
 
--- the members that a line may have
+-- the members that a line may have that asks for a call
 abbrev pub may_names : List (List ℕ)
 may_names = codes "id" ∷ codes "client" ∷ codes "proc" ∷ codes "args" ∷ []
 
+-- the members that a line may have that asks for counts
+abbrev pub counts_names : List (List ℕ)
+counts_names = codes "id" ∷ codes "counts" ∷ []
+
 -- an object with no other members than these
-abbrev pub has_no_other : Data → Bool
-has_no_other null = false
-has_no_other (boolean b) = false
-has_no_other (number x) = false
-has_no_other (string s) = false
-has_no_other (array ds) = false
-has_no_other (object ms) = has_only may_names ms
+abbrev pub has_no_other : List (List ℕ) → Data → Bool
+has_no_other names null = false
+has_no_other names (boolean b) = false
+has_no_other names (number x) = false
+has_no_other names (string s) = false
+has_no_other names (array ds) = false
+has_no_other names (object ms) = has_only names ms
+
+-- counts are asked for by true
+abbrev pub counts_if : Option Bool → Result Asked LineFault
+counts_if None = Err fault.Counts
+counts_if (Some true) = Ok asked.Counts
+counts_if (Some false) = Err fault.Counts
+
+-- the counts that a member asks for
+abbrev pub counts_in : Data → Result Asked LineFault
+counts_in d = counts_if (as_bool d)
 
 -- the number of a client: 0 if it is left out
 abbrev pub client_of : Data → Result ℕ LineFault
@@ -129,14 +144,14 @@ refusal library name args call.ArgCount = fault.ArgCount (declared_args (proc_na
 refusal library name args call.RecordRange = fault.NoRecord (no_record library.records args (declared_keys (proc_named name library.procs)))
 
 -- a client's call, or why the library does not make it
-abbrev pub made_by : Catalog → ℕ → List ℕ → List ℕ → Result Call CallFault → Result ClientCall LineFault
-made_by library client name args (Ok made) = Ok (record { client = client; call = made })
+abbrev pub made_by : Catalog → ℕ → List ℕ → List ℕ → Result Call CallFault → Result Asked LineFault
+made_by library client name args (Ok made) = Ok (asked.Call (record { client = client; call = made }))
 made_by library client name args (Err why) = Err (refusal library name args why)
 
 -- the call that a JSON tree asks for, of a client below a number, or the first fault
-abbrev pub call_asked : Catalog → ℕ → Data → Result ClientCall LineFault
+abbrev pub call_asked : Catalog → ℕ → Data → Result Asked LineFault
 call_asked library clients d =
-    if has_no_other d then
+    if has_no_other may_names d then
     (do
       client ← client_of d
       name ← name_of d
@@ -144,14 +159,23 @@ call_asked library clients d =
       if nat_lt client clients then made_by library client name args (call_made library name args) else Err (fault.NoClient client))
     else Err fault.Object
 
--- a line with this id, or with a fault in its place, and what it asks for otherwise
-abbrev pub request_with : Result (Option Id) LineFault → Result ClientCall LineFault → Request
-request_with (Ok it) request = record { id = it; call = request }
-request_with (Err why) request = record { id = None; call = Err why }
+-- what a JSON tree with this member `counts`, or without one, asks for, or the first fault
+abbrev pub asked_by : Catalog → ℕ → Data → Option Data → Result Asked LineFault
+asked_by library clients d None = call_asked library clients d
+asked_by library clients d (Some member) = if has_no_other counts_names d then counts_in member else Err fault.Object
 
--- what a JSON tree asks for
+-- what a JSON tree asks for, counts or a call of a client below a number, or the first fault
+abbrev pub asked_of : Catalog → ℕ → Data → Result Asked LineFault
+asked_of library clients d = asked_by library clients d (get (codes "counts") d)
+
+-- a line with this id, or with a fault in its place, and what it asks for otherwise
+abbrev pub request_with : Result (Option Id) LineFault → Result Asked LineFault → Request
+request_with (Ok it) request = record { id = it; asked = request }
+request_with (Err why) request = record { id = None; asked = Err why }
+
+-- a line that is a JSON tree
 abbrev pub request_of : Catalog → ℕ → Data → Request
-request_of library clients d = request_with (id_of d) (call_asked library clients d)
+request_of library clients d = request_with (id_of d) (asked_of library clients d)
 
 -- what is told of a line that is no JSON text, which was read up to a column
 abbrev pub no_text : List ℕ → ℕ → LineFault
@@ -161,12 +185,12 @@ no_text line column = if nat_eq (length line) 0 then fault.Empty else fault.Json
 abbrev pub IsRequest : Catalog → ℕ → List ℕ → Request → Type 0
 IsRequest library clients line request =
     ((tree : Data) × IsTree line (Some tree) × (request ≡ request_of library clients tree))
-    ⊎ (IsTree line None × ((column : ℕ) × (request ≡ record { id = None; call = Err (no_text line column) })))
+    ⊎ (IsTree line None × ((column : ℕ) × (request ≡ record { id = None; asked = Err (no_text line column) })))
 
 -- what a line asks for, whatever its length
 abbrev pub IsLine : Catalog → ℕ → List ℕ → Request → Type 0
 IsLine library clients line request =
-    ((MOST_LINE < length line) × (request ≡ record { id = None; call = Err fault.Long }))
+    ((MOST_LINE < length line) × (request ≡ record { id = None; asked = Err fault.Long }))
     ⊎ ((length line ≤ MOST_LINE) × IsRequest library clients line request)
 
 -- what each of these lines asks for

@@ -56,7 +56,7 @@ pub(crate) fn line_asked(
     if line.len() > MOST_LINE {
         return Ok(Request {
             id: None,
-            call: Err(LineFault::Long),
+            asked: Err(LineFault::Long),
         });
     }
     lines.read(library, clients, line)

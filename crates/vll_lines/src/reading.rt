@@ -1,59 +1,21 @@
-//! Reading a line as a JSON tree: the call that it asks for, or why it asks for none.
+//! Reading a line as a JSON tree: what it asks for, or why it asks for nothing.
 ghost use Rattle.std.specs.Prelude.{◌≡◌, IfOk, option_map};
 ghost use Rattle.std.specs.List.{list_any};
 ghost use Rattle.std.specs.Str.{bytes_eq};
 ghost use Rattle.serde_json.specs.View.{items_view, members_view, view};
 ghost use Rattle.vll_scenario.specs.Syntax.{has_only};
 ghost use Rattle.vll_scenario.specs.Tree.{each, number_at};
-ghost use Rattle.vll_lines.specs.Request.{IsRequest, args_by, args_of, request_of, call_asked, client_of, has_no_other, id_in, id_of, may_names, name_of, no_record, no_text, declared_args, declared_keys, proc_named, refusal};
+ghost use Rattle.vll_lines.specs.Request.{IsRequest, args_by, args_of, request_of, asked_of, call_asked, client_of, has_no_other, id_in, id_of, may_names, name_of, no_record, no_text, declared_args, declared_keys, proc_named, refusal};
 ghost use Rattle.vll_lines.specs.Private.Reading.{Gives, GivesArgs, Names, Settles};
 
+use crate::asked::{counts_in, has_counts_alone};
 use crate::limits::MOST_ID;
-use crate::request::{ClientCall, Id, LineFault, Request};
+use crate::read_fault::ReadFault;
+use crate::request::{Asked, ClientCall, Id, LineFault, Request};
 use serde_json::{Map, Value};
-use std::alloc::{AllocError, AllocFailed, Global};
+use std::alloc::{AllocError, Global};
 use vll_check::{CallFault, Library};
 use vll_proc::{KeyAt, KeyDecl, Proc, Text};
-
-// Why something of a line was not read.
-#[derive(Drop)]
-pub(crate) enum ReadFault {
-    NoMemory,
-    Faulty(LineFault),
-}
-
-impl From<AllocError> for ReadFault {
-    ghost use Rattle.std.specs.Prelude.{◌≡◌};
-    ghost use Rattle.vll_lines.specs.declared.reading.ReadFault.TheVariants.{NoMemory};
-
-    ghost from_gives = { λ _ e. e ≡ NoMemory };
-
-    fn from(_: AllocError) -> ReadFault {
-        ReadFault::NoMemory
-    }
-}
-
-impl<T: Drop> From<AllocFailed<T>> for ReadFault {
-    ghost use Rattle.std.specs.Prelude.{◌≡◌};
-    ghost use Rattle.vll_lines.specs.declared.reading.ReadFault.TheVariants.{NoMemory};
-
-    ghost from_gives = { λ _ e. e ≡ NoMemory };
-
-    fn from(_: AllocFailed<T>) -> ReadFault {
-        ReadFault::NoMemory
-    }
-}
-
-impl From<LineFault> for ReadFault {
-    ghost use Rattle.std.specs.Prelude.{◌≡◌};
-    ghost use Rattle.vll_lines.specs.declared.reading.ReadFault.TheVariants.{Faulty};
-
-    ghost from_gives = { λ why e. e ≡ Faulty why };
-
-    fn from(why: LineFault) -> ReadFault {
-        ReadFault::Faulty(why)
-    }
-}
 
 /// Reads what a line asks for as a JSON tree. Fails only for want of memory.
 pub(crate) fn read_tree(
@@ -69,7 +31,7 @@ pub(crate) fn read_tree(
         Err(error) if error.is_memory() => Err(AllocError),
         Err(error) => Ok(Request {
             id: None,
-            call: Err(no_text(line, error.column() as u64)),
+            asked: Err(no_text(line, error.column() as u64)),
         }),
     }
 }
@@ -85,7 +47,7 @@ fn no_text(line: &[u8], column: u64) -> LineFault
     }
 }
 
-// The id of a JSON tree, and the call that it asks for.
+// The id of a JSON tree, and what it asks for.
 fn request_of(
     alloc: Global,
     library: &Library,
@@ -97,11 +59,11 @@ fn request_of(
     match settled(id_of(alloc, tree))? {
         Ok(id) => Ok(Request {
             id,
-            call: settled(call_asked(alloc, library, clients, tree))?,
+            asked: settled(asked_of(alloc, library, clients, tree))?,
         }),
         Err(why) => Ok(Request {
             id: None,
-            call: Err(why),
+            asked: Err(why),
         }),
     }
 }
@@ -141,13 +103,31 @@ fn id_in(alloc: Global, value: &Value) -> Result<Id, ReadFault>
     }
 }
 
+// What a JSON tree asks for.
+fn asked_of(
+    alloc: Global,
+    library: &Library,
+    clients: u32,
+    tree: &Value,
+) -> Result<Asked, ReadFault>
+    ensures { Gives result (asked_of library.now clients (view tree.now)) }
+{
+    let Some(member) = tree.get("counts") else {
+        return call_asked(alloc, library, clients, tree);
+    };
+    if !has_counts_alone(tree) {
+        return Err(ReadFault::Faulty(LineFault::Object));
+    }
+    Ok(counts_in(member)?)
+}
+
 // The call that a JSON tree asks for.
 fn call_asked(
     alloc: Global,
     library: &Library,
     clients: u32,
     tree: &Value,
-) -> Result<ClientCall, ReadFault>
+) -> Result<Asked, ReadFault>
     ensures { Gives result (call_asked library.now clients (view tree.now)) }
 {
     if !has_no_other(tree) {
@@ -160,7 +140,7 @@ fn call_asked(
         return Err(ReadFault::Faulty(LineFault::NoClient(client)));
     }
     match library.call(name, args.as_slice()) {
-        Ok(call) => Ok(ClientCall { client, call }),
+        Ok(call) => Ok(Asked::Call(ClientCall { client, call })),
         Err(why) => {
             let why = refusal(alloc, library, name, args.as_slice(), why)?;
             Err(ReadFault::Faulty(why))
@@ -230,9 +210,9 @@ fn no_record(records: u32, args: &[u64], keys: &[KeyDecl]) -> u8
     0
 }
 
-// Whether it is an object with no other members than a line may have.
+// Whether it is an object with no other members than a line that asks for a call may have.
 fn has_no_other(tree: &Value) -> bool
-    ensures { result ≡ has_no_other (view tree.now) }
+    ensures { result ≡ has_no_other may_names (view tree.now) }
 {
     match tree {
         Value::Object(members) => are_known(members),

@@ -1,8 +1,9 @@
 //! The answers to lines, and the last line of a service, as lines of JSON.
 ghost use Rattle.std.specs.Prelude.{◌≡◌, ◌++◌, IfOk};
-ghost use Rattle.vll_lines.specs.Answers.{end_line, fault_line, id_tokens, line_of, numbers_tokens, reason_tokens, reply_line, reply_tokens};
+ghost use Rattle.vll_lines.specs.Answers.{aborted_tokens, counts_line, counts_tokens, end_line, fault_line, id_tokens, line_of, member_tokens, numbers_tokens, reason_tokens, reply_line, reply_tokens};
 ghost use Rattle.vll_lines.specs.Private.Writing.{Adds};
 
+use crate::counts::{Counts, Rounds};
 use crate::request::{Id, LineFault};
 use json::Writer;
 use std::alloc::{AllocError, Global};
@@ -29,7 +30,26 @@ pub fn push_reply(
     end_line(writer)
 }
 
-/// Appends the answer to a line that asks for no call: `{"id":8,"fault":"there is no client 7"}`, without the id if
+/// Appends the answer to a line that asks for counts: `{"id":7,"counts":{"calls":12,"aborted":{"code":1,..},"rounds":3,
+/// "most_lines":40}}`, without the id if there is none. Fails only for want of memory, and then drops the text.
+pub fn push_counts(
+    out: Vec<u8>,
+    id: &Option<Id>,
+    counts: Counts,
+    so_far: Rounds,
+) -> Result<Vec<u8>, AllocError>
+    ensures { IfOk result (λ v. v.items ≡ out.items ++ counts_line id.now counts so_far) }
+{
+    let mut writer = Writer::new(out);
+    writer.begin_object()?;
+    write_id(&mut writer, id)?;
+    writer.key("counts")?;
+    write_counts(&mut writer, counts, so_far)?;
+    writer.end_object()?;
+    end_line(writer)
+}
+
+/// Appends the answer to a line that asks for nothing: `{"id":8,"fault":"there is no client 7"}`, without the id if
 /// there is none. Fails only for want of memory, and then drops the text.
 pub fn push_fault(
     alloc: Global,
@@ -102,6 +122,37 @@ fn write_reply(writer: &mut Writer, reply: &Reply) -> Result<(), AllocError>
             write_reason(writer, *why)
         }
     }
+}
+
+fn write_counts(writer: &mut Writer, counts: Counts, so_far: Rounds) -> Result<(), AllocError>
+    ensures { Adds result writer.old writer.new (counts_tokens counts so_far) }
+{
+    writer.begin_object()?;
+    write_member(writer, "calls", counts.calls)?;
+    writer.key("aborted")?;
+    write_aborted(writer, counts)?;
+    write_member(writer, "rounds", so_far.rounds)?;
+    write_member(writer, "most_lines", so_far.most_lines)?;
+    writer.end_object()
+}
+
+fn write_aborted(writer: &mut Writer, counts: Counts) -> Result<(), AllocError>
+    ensures { Adds result writer.old writer.new (aborted_tokens counts) }
+{
+    writer.begin_object()?;
+    write_member(writer, "code", counts.code)?;
+    write_member(writer, "overflow", counts.overflow)?;
+    write_member(writer, "underflow", counts.underflow)?;
+    write_member(writer, "zero divisor", counts.zero_divisor)?;
+    write_member(writer, "moved", counts.moved)?;
+    writer.end_object()
+}
+
+fn write_member(writer: &mut Writer, name: &str, count: u64) -> Result<(), AllocError>
+    ensures { Adds result writer.old writer.new (member_tokens name.now count) }
+{
+    writer.key(name)?;
+    writer.u64(count)
 }
 
 fn write_numbers(writer: &mut Writer, numbers: &[u64]) -> Result<(), AllocError>

@@ -1,4 +1,4 @@
-//! A line as it was read: the call that it asks for, or why it asks for none.
+//! A line as it was read: what it asks for, or why it asks for nothing.
 use std::fmt;
 use vll_proc::{Call, Text};
 use vll_scenario::Shortened;
@@ -18,7 +18,16 @@ pub struct ClientCall {
     pub call: Call,
 }
 
-/// Why a line asks for no call. Of several reasons the first in this order is told.
+/// What a line asks for.
+#[derive(Clone, Copy)]
+pub enum Asked {
+    /// That a client makes a call.
+    Call(ClientCall),
+    /// What the service has done so far.
+    Counts,
+}
+
+/// Why a line asks for nothing. Of several reasons the first in this order is told.
 #[derive(Drop)]
 pub enum LineFault {
     /// The line has more than `MOST_LINE` bytes.
@@ -29,8 +38,11 @@ pub enum LineFault {
     Json(u64),
     /// The member `id` is neither a whole number of 64 bits without a sign nor a text of at most `MOST_ID` bytes.
     Id,
-    /// The JSON text is not an object, or has other members than `id`, `client`, `proc` and `args`.
+    /// The JSON text is not an object, or has other members than `id`, `client`, `proc` and `args`, or than `id` and
+    /// `counts` if it has `counts`.
     Object,
+    /// The member `counts` is not true.
+    Counts,
     /// The member `client` is no whole number of 32 bits without a sign.
     Client,
     /// The member `proc` is missing, or not a text.
@@ -70,6 +82,7 @@ impl fmt::Display for LineFault {
                     "the line has to be an object with proc, args and perhaps client and id",
                 )
             }
+            LineFault::Counts => f.write_str("counts has to be true"),
             LineFault::Client => f.write_str("client has to be the number of a client"),
             LineFault::Proc => f.write_str("proc has to be the name of a procedure"),
             LineFault::Args => f.write_str("args has to be a list of whole numbers"),
@@ -93,9 +106,9 @@ impl fmt::Display for LineFault {
     }
 }
 
-/// A line as it was read: its id, if it has one, and its call or why it asks for none.
+/// A line as it was read: its id, if it has one, and what it asks for or why it asks for nothing.
 #[derive(Drop)]
 pub struct Request {
     pub id: Option<Id>,
-    pub call: Result<ClientCall, LineFault>,
+    pub asked: Result<Asked, LineFault>,
 }

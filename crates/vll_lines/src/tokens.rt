@@ -10,7 +10,7 @@ ghost use Rattle.vll_lines.specs.Private.Tokens.{AreRead, IsRead, Says, numbers_
 
 use crate::limits::MOST_ID;
 use crate::reading::read_tree;
-use crate::request::{ClientCall, Id, Request};
+use crate::request::{Asked, ClientCall, Id, Request};
 use fast_float::Numeral;
 use json::{Reader, Scratch, Token};
 use std::alloc::{AllocError, Global};
@@ -37,8 +37,8 @@ impl LineReader {
         }
     }
 
-    /// Reads the call that a line asks for, without its line feed, of a client below `clients`. A line of more than
-    /// `MOST_LINE` bytes is not to be read: it is `LineFault::Long`. Fails only for want of memory.
+    /// Reads what a line asks for, without its line feed, and a call only of a client below `clients`. A line of more
+    /// than `MOST_LINE` bytes is not to be read: it is `LineFault::Long`. Fails only for want of memory.
     pub fn read(
         &mut self,
         library: &Library,
@@ -96,10 +96,10 @@ impl<'a> Told<'a> {
         let call = library.call(name, args).ok()?;
         Some(Request {
             id: self.id,
-            call: Ok(ClientCall {
+            asked: Ok(Asked::Call(ClientCall {
                 client: self.client,
                 call,
-            }),
+            })),
         })
     }
 }

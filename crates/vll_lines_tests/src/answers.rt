@@ -3,16 +3,32 @@ use crate::asserts::equal;
 use std::alloc::{AllocError, Global};
 use std::test::Fail;
 use vll_check::Library;
-use vll_lines::{LineReader, push_end, push_fault, push_reply};
+use vll_lines::{Asked, Counts, LineReader, Rounds, push_counts, push_end, push_fault, push_reply};
 use vll_proc::{Reason, Reply};
 use vll_test_procedures::library;
 
-// The answer to a line of one of two clients, where a call has the number 12 and is aborted.
+// The answer to a line of one of two clients, where a call has the number 12 and is aborted, and counts are of so many
+// calls before.
 fn answer(alloc: Global, library: &Library, line: &str) -> Result<Vec<u8>, AllocError> {
     let request = LineReader::new(alloc).read(library, 2, line.as_bytes())?;
     let out = Vec::new(alloc);
-    match &request.call {
-        Ok(_) => push_reply(out, &request.id, 12, &Reply::Aborted(Reason::Underflow)),
+    let counts = Counts {
+        calls: 15,
+        code: 5,
+        overflow: 4,
+        underflow: 3,
+        zero_divisor: 2,
+        moved: 1,
+    };
+    let so_far = Rounds {
+        rounds: 7,
+        most_lines: 40,
+    };
+    match &request.asked {
+        Ok(Asked::Call(_)) => {
+            push_reply(out, &request.id, 12, &Reply::Aborted(Reason::Underflow))
+        }
+        Ok(Asked::Counts) => push_counts(out, &request.id, counts, so_far),
         Err(why) => push_fault(alloc, out, &request.id, why),
     }
 }
@@ -62,6 +78,34 @@ fn line_has_its_call(rt: HostRuntime) -> Result<(), Fail> {
 }
 
 #[test]
+fn line_has_its_counts(rt: HostRuntime) -> Result<(), Fail> {
+    let library = library(rt.alloc(), 8)?;
+    for (line, wanted) in [
+        (
+            r#"{"counts":true}"#,
+            r#"{"counts":{"calls":15,"aborted":{"code":5,"overflow":4,"underflow":3,"zero divisor":2,"moved":1},"rounds":7,"most_lines":40}}"#,
+        ),
+        (
+            r#" { "counts" : true , "id" : "a" } "#,
+            r#"{"id":"a","counts":{"calls":15,"aborted":{"code":5,"overflow":4,"underflow":3,"zero divisor":2,"moved":1},"rounds":7,"most_lines":40}}"#,
+        ),
+        // the last member of a name counts, escapes in a name are read
+        (
+            r#"{"counts":1,"id":7,"co\u0075nts":true}"#,
+            r#"{"id":7,"counts":{"calls":15,"aborted":{"code":5,"overflow":4,"underflow":3,"zero divisor":2,"moved":1},"rounds":7,"most_lines":40}}"#,
+        ),
+    ] {
+        let found = answer(rt.alloc(), &library, line)?;
+        equal(
+            &rt,
+            std::str::from_utf8(found.as_slice())?.trim_end(),
+            wanted,
+        );
+    }
+    Ok(())
+}
+
+#[test]
 fn line_has_its_fault(rt: HostRuntime) -> Result<(), Fail> {
     let library = library(rt.alloc(), 8)?;
     for (line, wanted) in [
@@ -79,6 +123,32 @@ fn line_has_its_fault(rt: HostRuntime) -> Result<(), Fail> {
         (
             r#"{"id":5,"client":0,"proc":"seven","args":[],"more":1}"#,
             r#"{"id":5,"fault":"the line has to be an object with proc, args and perhaps client and id"}"#,
+        ),
+        (
+            r#"{"id":5,"counts":true,"proc":"seven","args":[]}"#,
+            r#"{"id":5,"fault":"the line has to be an object with proc, args and perhaps client and id"}"#,
+        ),
+        (
+            r#"{"counts":false,"client":1}"#,
+            r#"{"fault":"the line has to be an object with proc, args and perhaps client and id"}"#,
+        ),
+        (
+            r#"{"id":-1,"counts":true}"#,
+            r#"{"fault":"id has to be a whole number or a text of at most 64 bytes"}"#,
+        ),
+        (
+            r#"{"id":5,"counts":false}"#,
+            r#"{"id":5,"fault":"counts has to be true"}"#,
+        ),
+        (r#"{"counts":null}"#, r#"{"fault":"counts has to be true"}"#),
+        (r#"{"counts":1}"#, r#"{"fault":"counts has to be true"}"#),
+        (
+            r#"{"counts":"true"}"#,
+            r#"{"fault":"counts has to be true"}"#,
+        ),
+        (
+            r#"{"counts":true,"counts":[true]}"#,
+            r#"{"fault":"counts has to be true"}"#,
         ),
         (
             r#"{"id":5,"client":4294967296,"proc":"seven","args":[]}"#,
@@ -148,6 +218,34 @@ fn line_has_its_fault(rt: HostRuntime) -> Result<(), Fail> {
             wanted,
         );
     }
+    Ok(())
+}
+
+#[test]
+fn calls_are_counted_by_their_replies(rt: HostRuntime) -> Result<(), Fail> {
+    let mut counts = Counts::none();
+    for why in [
+        Reason::Code(0),
+        Reason::Code(7),
+        Reason::Overflow,
+        Reason::Underflow,
+        Reason::ZeroDivisor,
+        Reason::Moved,
+        Reason::Code(7),
+        Reason::Moved,
+    ] {
+        assert!(&rt; !counts.is_full());
+        counts = counts.with(&Reply::Aborted(why));
+    }
+    let wanted = Counts {
+        calls: 8,
+        code: 3,
+        overflow: 1,
+        underflow: 1,
+        zero_divisor: 1,
+        moved: 2,
+    };
+    equal(&rt, counts, wanted);
     Ok(())
 }
 

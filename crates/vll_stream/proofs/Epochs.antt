@@ -5,14 +5,18 @@ use Rattle.std.specs.Io.KnownBytes.{Appends}
 use Rattle.vll_scenario.specs.Headline.Setup.{Setup}
 use Rattle.vll_scenario.specs.Streams.{AppendsBeginning}
 use Rattle.vll_lines.specs.Answers.{answers, end_line}
+use Rattle.vll_lines.specs.Counts.{all_counted, none_counted}
+use Rattle.vll_lines.specs.declared.counts.Counts.{Counts}
 use Rattle.vll_lines.specs.Request.{AreRequests}
 use Rattle.vll_lines.specs.Lines.{lines_in}
+use Rattle.vll_lines.proofs.Counted.{calls_counted}
 use Rattle.vll_stream.specs.declared.fault.StreamFault.{StreamFault}
 use Rattle.vll_stream.specs.declared.fault.StreamFault.TheVariants as fault
 use Rattle.vll_stream.specs.Served.{AreAnswered, EndsEarly, ServesLines, Stopped, Wrote, last_line}
 use Rattle.vll_stream.proofs.Stops.{begins_then, part_answers, part_then_stops}
 use Rattle.vll_proc.specs.Headline.Serial.{Made, end}
 use Rattle.vll_proc.specs.Serial.{replies}
+use Rattle.vll_proc.specs.declared.call.Reply.{Reply}
 use Rattle.vll_proc.proofs.Joined.{end_joined}
 use Rattle.vll_check.specs.Headline.Catalog.{Catalog}
 use Rattle.vll_core.specs.Headline.State.{Base, catalog_of}
@@ -24,6 +28,7 @@ use Rattle.vll_sca.specs.declared.place.Placing.{Placing}
 use Rattle.vll_stream.specs.Private.Parts.{IsPart, Place}
 use Rattle.vll_stream.specs.Private.Stopped.{StopsAfter}
 use Rattle.vll_stream.specs.Private.Told.{AreAll, IsSoFar, first_engine}
+use Rattle.vll_stream.proofs.Answered.{length-replies}
 use Rattle.vll_stream.proofs.Found.{base_after, catalog_after, found_in_both, none_found}
 use Rattle.vll_stream.proofs.Parts.{no_part, part_then}
 
@@ -83,7 +88,7 @@ module _ (e : Named) (old mid new : Place) (next : OpeningShown Placing) (so_far
 pub epoch_stops : (e : Named) (old mid : Place) (next : OpeningShown Placing) (why : StreamFault) (left written : Option (List ℕ)) → IsSoFar e old mid next
     → StopsAfter (name_of placing next).base next.clients [] why mid left written → StopsAfter e.base e.clients [] why old left written
 epoch_stops e old mid next why left written so_far stops =
-    let new : Place = record { input = left; tail = stops.tail; output = stops.whole; number = stops.number } in
+    let new : Place = record { input = left; tail = stops.tail; output = stops.whole; counts = stops.counts } in
     let part = stops.part in
     let base_is = next_base e old mid new next so_far in
     part_then_stops e.base e.clients so_far.calls why old mid left written so_far.part
@@ -92,7 +97,7 @@ epoch_stops e old mid next why left written so_far stops =
       is_last = stops.is_last;
       tail = stops.tail;
       whole = stops.whole;
-      number = stops.number;
+      counts = stops.counts;
       part = record {
         bytes = part.bytes;
         read = part.read;
@@ -105,9 +110,11 @@ epoch_stops e old mid next why left written so_far stops =
             (subst (λ (c : Catalog). AreRequests c next.clients part.lines part.requests) (next_library e old mid new next so_far) part.are);
         ordered = part.ordered;
         text = part.text;
-        answered = part.answered ∙ ap (λ (b : Base). answers part.requests mid.number (replies b.procs stops.more b.records)) base_is;
+        rounds = part.rounds;
+        told = part.told;
+        answered = part.answered ∙ ap (λ (b : Base). answers part.requests mid.counts (replies b.procs stops.more b.records) part.rounds) base_is;
         written = part.written;
-        number = part.number;
+        counts = part.counts ∙ ap (λ (b : Base). all_counted mid.counts (replies b.procs stops.more b.records)) base_is;
       };
       found = found_in_both e.base so_far.calls stops.more so_far.found (subst (λ (b : Base). AreFoundThere b stops.more) base_is stops.found);
       uncalled = stops.uncalled;
@@ -115,22 +122,25 @@ epoch_stops e old mid next why left written so_far stops =
       wrote = stops.wrote;
     })
 
-module _ (s : Setup) (old new before written : Option (List ℕ)) (tail left : List ℕ) (n : ℕ)
-    (all : AreAll (first_engine s) (record { input = old; tail = []; output = before; number = 0 }) (record { input = new; tail = tail; output = written; number = n }) left) where
+module _ (s : Setup) (old new before written : Option (List ℕ)) (tail left : List ℕ) (n : Counts)
+    (all : AreAll (first_engine s) (record { input = old; tail = []; output = before; counts = none_counted }) (record { input = new; tail = tail; output = written; counts = n }) left) where
   -- the last line is that of all calls
-  last_of_all : end_line n left ≡ last_line s all.calls
+  last_of_all : end_line n.calls left ≡ last_line s all.calls
   last_of_all =
-      let part = all.part in
-      let count : n ≡ length all.calls = omega (arith, part.number) in
+      let said : List Reply = replies s.procs all.calls s.records in
+      let many = calls_counted none_counted said in
+      let long = length-replies s.procs all.calls s.records in
+      let same : n.calls ≡ (all_counted none_counted said).calls = ap (λ (c : Counts). c.calls) all.part.counts in
+      let count : n.calls ≡ length all.calls = omega (arith, same, many, long) in
       ap (λ (k : ℕ). end_line k left) count ∙ ap (end_line (length all.calls)) all.records
 
   all_answered : AreAnswered s (lines_in all.part.bytes) all.calls all.part.text
   all_answered =
       subst (λ (ls : List (List ℕ)). AreAnswered s ls all.calls all.part.text) (sym all.part.cut.1)
-      (part_answers s old before (record { input = new; tail = tail; output = written; number = n }) true all.calls all.part all.found)
+      (part_answers s old before (record { input = new; tail = tail; output = written; counts = n }) true all.calls all.part all.found)
 
   -- all epochs, and then the last line
-  pub serves_all : (final : Option (List ℕ)) → Appends written final (end_line n left) → ServesLines s old new (Appends before final)
+  pub serves_all : (final : Option (List ℕ)) → Appends written final (end_line n.calls left) → ServesLines s old new (Appends before final)
   serves_all final wrote =
       let part = all.part in
       let last : List ℕ = last_line s all.calls in
@@ -162,7 +172,7 @@ module _ (s : Setup) (old new before written : Option (List ℕ)) (tail left : L
       }
 
   -- the last line was not written in full
-  pub breaks_off : (final : Option (List ℕ)) → AppendsBeginning written final (end_line n left) → EndsEarly s fault.Write old new before final
+  pub breaks_off : (final : Option (List ℕ)) → AppendsBeginning written final (end_line n.calls left) → EndsEarly s fault.Write old new before final
   breaks_off final wrote =
       stops_behind fault.Write final refl
       (begins_then before written final all.part.text (last_line s all.calls) all.part.written (subst (AppendsBeginning written final) last_of_all wrote))

@@ -230,8 +230,8 @@ set_same (z ∷ xs) (suc i) x y at is = ap (λ (l : List SessionShown). z ∷ l)
 
 -- no call was made yet
 pub informed_first : (e : Named) (old new : Callers) (client : ℕ) → AreCallers e old → client < e.clients → old.informed ≡ None → new.sessions.items ≡ old.sessions.items → new.calls ≡ old.calls → new.informed ≡ Some client
-    → new.number ≡ old.number → IsInformed e old new client
-informed_first e old new client are low nobody sessions calls informed number =
+    → new.counts ≡ old.counts → IsInformed e old new client
+informed_first e old new client are low nobody sessions calls informed counts =
     let here = entry_at old.sessions.items client (omega (arith, low, are.all)) in
     let s : SessionShown = here.0 in
     let none : made_so_far old ≡ [] = ap (λ (o : Option ℕ). take old.calls (seen_of old.sessions.items o)) nobody ∙ take-nil old.calls in
@@ -239,7 +239,7 @@ informed_first e old new client are low nobody sessions calls informed number =
     informed_callers e old new client s s are here.1 (sessions ∙ sym (set_same old.sessions.items client s s here.1 refl)) refl informed calls
     (record { client = refl; others = []; not_own = refl; seen = sym (append-nil s.session.seen) })
     (s.session.seen, ap (λ (l : List Made). l ++ s.session.seen) (sym none)) in
-    record { callers = now.0; made = now.1; informed = informed; calls = calls; number = number }
+    record { callers = now.0; made = now.1; informed = informed; calls = calls; counts = counts }
 
 -- what the informed client has seen begins with the calls made
 pub told_first : (old : Callers) (teller : ℕ) (s : SessionShown) → old.informed ≡ Some teller → slice_get old.sessions.items teller ≡ Some s → made_so_far old ≡ take old.calls s.session.seen
@@ -248,8 +248,8 @@ told_first old teller s informed at = ap (take old.calls) (ap (seen_of old.sessi
 -- the informed client has told
 pub informed_by : (e : Named) (old new : Callers) (teller client : ℕ) (s told heard t : SessionShown) (calls : List Made) → AreCallers e old → old.informed ≡ Some teller → slice_get old.sessions.items teller ≡ Some s → told ≡ s
     → slice_get old.sessions.items client ≡ Some heard → new.sessions.items ≡ slice_set (slice_set old.sessions.items teller told) client t → calls ≡ s.session.seen → Hears heard.session t.session calls
-    → t.table ≡ heard.table → new.calls ≡ old.calls → new.informed ≡ Some client → new.number ≡ old.number → IsInformed e old new client
-informed_by e old new teller client s told heard t calls are informed at same there sessions seen hears table calls_still informed_now number =
+    → t.table ≡ heard.table → new.calls ≡ old.calls → new.informed ≡ Some client → new.counts ≡ old.counts → IsInformed e old new client
+informed_by e old new teller client s told heard t calls are informed at same there sessions seen hears table calls_still informed_now counts =
     let n : ℕ = old.calls in
     let still : slice_set old.sessions.items teller told ≡ old.sessions.items = set_same old.sessions.items teller s told at same in
     let rest : List Made = hears.heard.0 in
@@ -259,7 +259,7 @@ informed_by e old new teller client s told heard t calls are informed at same th
     let now =
     informed_callers e old new client heard t are there (sessions ∙ ap (λ (ss : List SessionShown). slice_set ss client t) still) table informed_now calls_still hears.others
     (drop n s.session.seen ++ rest, whole ∙ ap (λ (l : List Made). l ++ (drop n s.session.seen ++ rest)) (sym (told_first old teller s informed at))) in
-    record { callers = now.0; made = now.1; informed = informed_now; calls = calls_still; number = number }
+    record { callers = now.0; made = now.1; informed = informed_now; calls = calls_still; counts = counts }
 
 -- a session of theirs
 pub session_at : (e : Named) (old : Callers) (client : ℕ) (s : SessionShown) → AreCallers e old → client < e.clients → s ≡ get_or old.sessions.items client s → slice_get old.sessions.items client ≡ Some s

@@ -1,5 +1,5 @@
 -- Two parts of a service, one after the other.
-use Rattle.std.proofs.Common.{◌≡◌, ℕ, Bool, true, false, List, Option, [], ◌++◌, refl, sym, ap, ◌∙◌, arith, rules, append_assoc, append-nil, length-append}
+use Rattle.std.proofs.Common.{◌≡◌, ℕ, Bool, true, false, List, Option, [], ◌++◌, refl, sym, ap, ◌∙◌, rules, append_assoc, append-nil}
 use Rattle.std.proofs.KnownBytes.{Appends-nil, Appends-trans, Consumes-nil, Consumes-trans}
 use Rattle.std.specs.Io.KnownBytes.{Consumes}
 use Rattle.vll_proc.specs.Headline.Serial.{Made, end}
@@ -9,7 +9,7 @@ use Rattle.vll_lines.specs.Answers.{answers}
 use Rattle.vll_lines.specs.Lines.{CutsInto, lines_in}
 use Rattle.vll_lines.proofs.Cuts.{are_requests_then}
 use Rattle.vll_stream.specs.Private.Parts.{IsPart, Place}
-use Rattle.vll_stream.proofs.Answered.{answered_then, ordered_then}
+use Rattle.vll_stream.proofs.Answered.{answered_then, counted_then, ordered_then, told_then}
 
 cut_further : (is_last : Bool) (tail first mid second after : List ℕ) (one two : List (List ℕ)) → CutsInto false (tail ++ first) one mid → CutsInto is_last (mid ++ second) two after
     → CutsInto is_last (tail ++ (first ++ second)) (one ++ two) after
@@ -26,7 +26,7 @@ cut_further false tail first mid second after one two front back = λ rest.
 module _ (library : Catalog) (clients : ℕ) (records : List ℕ) where
   -- bytes were read, and no line is answered yet
   pub part_unanswered : (at : Place) (left : Option (List ℕ)) (tail bytes : List ℕ) → Consumes at.input left bytes → at.tail ++ bytes ≡ tail
-      → IsPart library clients records [] false at (record { input = left; tail = tail; output = at.output; number = at.number })
+      → IsPart library clients records [] false at (record { input = left; tail = tail; output = at.output; counts = at.counts })
   part_unanswered at left tail bytes read is = record {
     bytes = bytes;
     read = read;
@@ -37,9 +37,11 @@ module _ (library : Catalog) (clients : ℕ) (records : List ℕ) where
     are = tt;
     ordered = refl;
     text = [];
+    rounds = [];
+    told = refl;
     answered = refl;
     written = Appends-nil at.output;
-    number = omega arith;
+    counts = refl;
   }
 
   pub part_unanswered_text : (at : Place) (left : Option (List ℕ)) (tail bytes : List ℕ) (read : Consumes at.input left bytes) (is : at.tail ++ bytes ≡ tail) → [] ≡ (part_unanswered at left tail bytes read is).text
@@ -64,13 +66,15 @@ module _ (library : Catalog) (clients : ℕ) (records : List ℕ) where
         are = are_requests_then library clients one.lines two.lines one.requests two.requests one.are two.are;
         ordered = ordered_then one.requests two.requests calls more one.ordered two.ordered;
         text = one.text ++ two.text;
+        rounds = one.rounds ++ two.rounds;
+        told = told_then one.requests two.requests one.rounds two.rounds one.told two.told;
         answered =
-            let first : List ℕ = answers one.requests old.number (replies library.procs calls records) in
+            let first : List ℕ = answers one.requests old.counts (replies library.procs calls records) one.rounds in
             ap (λ (l : List ℕ). l ++ two.text) one.answered
             ∙ (ap (λ (l : List ℕ). first ++ l) two.answered
-            ∙ sym (answered_then one.requests two.requests calls more library.procs records old.number mid.number one.ordered one.number));
+            ∙ sym (answered_then one.requests two.requests calls more library.procs records one.rounds two.rounds old.counts mid.counts one.ordered one.told one.counts));
         written = Appends-trans old.output mid.output new.output one.text two.text one.written two.written;
-        number = omega (arith, two.number, one.number, length-append calls more);
+        counts = counted_then library.procs calls more records old.counts mid.counts new.counts one.counts two.counts;
       }
 
   pub part_then_text : (is_last : Bool) (old mid new : Place) (calls more : List Made) (one : IsPart library clients records calls false old mid)

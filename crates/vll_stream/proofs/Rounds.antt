@@ -1,5 +1,5 @@
 -- The lines of a round are answered by the calls that were made for them, round after round.
-use Rattle.std.proofs.Common.{◌≡◌, ℕ, zero, suc, ◌+◌, Bool, false, List, [], ◌∷◌, ◌++◌, map, refl, sym, ap, ◌∙◌, subst, arith, rules, Result, Ok, Err, Some, None, All, slice_get, Option, append_assoc, append-nil, length-append}
+use Rattle.std.proofs.Common.{◌≡◌, ℕ, zero, suc, Bool, false, List, [], ◌∷◌, ◌++◌, map, refl, sym, ap, ◌∙◌, subst, rules, Result, Ok, Err, Some, None, All, slice_get, Option, append_assoc, append-nil}
 use Rattle.std.proofs.lemmas.List.Elements.{All-cons, All-head, All-nil, All-tail}
 use Rattle.std.proofs.lemmas.Option.{same_Some}
 use Rattle.std.specs.Io.KnownBytes.{Appends, append_known}
@@ -11,9 +11,14 @@ use Rattle.vll_proc.specs.declared.call.Reply.{Reply}
 use Rattle.vll_proc.specs.declared.syntax.Proc.{Proc}
 use Rattle.vll_queue.specs.Headline.Found.{AreFoundThere}
 use Rattle.vll_queue.specs.Shown.{Named, library_of}
-use Rattle.vll_lines.specs.Answers.{answers, fault_line, reply_line, with_answer}
+use Rattle.vll_lines.specs.Answers.{answers, counts_line, fault_line, reply_line, with_answer}
 use Rattle.vll_lines.specs.Lines.{IsBroken, IsRound, has_feed}
-use Rattle.vll_lines.specs.Calls.{call_shown, calls_of, with_call}
+use Rattle.vll_lines.specs.Calls.{call_shown, calls_of, with_call, with_counts}
+use Rattle.vll_lines.specs.Counts.{all_counted, counted}
+use Rattle.vll_lines.specs.declared.counts.Counts.{Counts}
+use Rattle.vll_lines.specs.declared.counts.Rounds.{Rounds}
+use Rattle.vll_lines.specs.declared.request.Asked.{Asked}
+use Rattle.vll_lines.specs.declared.request.Asked.TheVariants as asked
 use Rattle.vll_lines.specs.declared.request.ClientCall.{ClientCall}
 use Rattle.vll_lines.specs.declared.request.LineFault.{LineFault}
 use Rattle.vll_lines.specs.declared.request.Request.{Request}
@@ -30,79 +35,103 @@ use Rattle.vll_stream.specs.Private.Parts.{IsPart, Place}
 use Rattle.vll_stream.specs.Private.Stopped.{IsOwn, StopsAfter}
 use Rattle.vll_stream.specs.Private.Told.{AnswersLines, IsRoundAfter}
 use Rattle.vll_stream.specs.Served.{Stopped}
-use Rattle.vll_stream.proofs.Answered.{answered_then, ordered_then}
+use Rattle.vll_stream.proofs.Answered.{answered_then, counted_then, ordered_then, told_then}
 use Rattle.vll_stream.proofs.Parts.{part_then}
 use Rattle.vll_stream.proofs.Stops.{own_stopped, own_uncalled, stops_unanswered}
 
 -- ---- the lines of a round
 
 -- no line
-pub answers_none : (e : Named) (calls : List Made) (from : ℕ) → AnswersLines e calls calls [] from [] from
-answers_none e calls from = record { more = []; made = sym (append-nil calls); ordered = refl; answered = refl; number = omega arith }
+pub answers_none : (e : Named) (calls : List Made) (from : Counts) → AnswersLines e calls calls [] from [] from
+answers_none e calls from = record { more = []; made = sym (append-nil calls); ordered = refl; rounds = []; told = refl; answered = refl; counts = refl }
 
 -- lines, and others after them
-pub answers_then : (e : Named) (calls mid now : List Made) (requests others : List Request) (from between next : ℕ) (text more : List ℕ) → AnswersLines e calls mid requests from text between
+pub answers_then : (e : Named) (calls mid now : List Made) (requests others : List Request) (from between next : Counts) (text more : List ℕ) → AnswersLines e calls mid requests from text between
     → AnswersLines e mid now others between more next → AnswersLines e calls now (requests ++ others) from (text ++ more) next
 answers_then e calls mid now requests others from between next text more one two =
     let procs : List Proc = e.base.procs in
     let records : List ℕ = end procs calls e.base.records in
     let after : end procs mid e.base.records ≡ end procs one.more records = ap (λ (l : List Made). end procs l e.base.records) one.made ∙ end_joined procs calls one.more e.base.records in
+    let front : List ℕ = answers requests from (replies procs one.more records) one.rounds in
     record {
       more = one.more ++ two.more;
       made = two.made ∙ (ap (λ (l : List Made). l ++ two.more) one.made ∙ append_assoc calls one.more two.more);
       ordered = ordered_then requests others one.more two.more one.ordered two.ordered;
+      rounds = one.rounds ++ two.rounds;
+      told = told_then requests others one.rounds two.rounds one.told two.told;
       answered =
           ap (λ (l : List ℕ). l ++ more) one.answered
-          ∙ (ap (λ (l : List ℕ). answers requests from (replies procs one.more records) ++ l) (two.answered ∙ ap (λ (rs : List ℕ). answers others between (replies procs two.more rs)) after)
-          ∙ sym (answered_then requests others one.more two.more procs records from between one.ordered one.number));
-      number = omega (arith, one.number, two.number, length-append one.more two.more);
+          ∙ (ap (λ (l : List ℕ). front ++ l) (two.answered ∙ ap (λ (rs : List ℕ). answers others between (replies procs two.more rs) two.rounds) after)
+          ∙ sym (answered_then requests others one.more two.more procs records one.rounds two.rounds from between one.ordered one.told one.counts));
+      counts =
+          counted_then procs one.more two.more records from between next one.counts
+          (two.counts ∙ ap (λ (rs : List ℕ). all_counted between (replies procs two.more rs)) after);
     }
 
--- a line that asks for no call
-pub answers_fault : (e : Named) (calls : List Made) (a : Request) (from : ℕ) (why : LineFault) → a.call ≡ Err why → AnswersLines e calls calls (a ∷ []) from (fault_line a.id why) from
+-- a line that asks for nothing
+pub answers_fault : (e : Named) (calls : List Made) (a : Request) (from : Counts) (why : LineFault) → a.asked ≡ Err why → AnswersLines e calls calls (a ∷ []) from (fault_line a.id why) from
 answers_fault e calls a from why is = record {
   more = [];
   made = sym (append-nil calls);
-  ordered = ap (λ (r : Result ClientCall LineFault). map call_shown (with_call r [])) is;
-  answered = sym (append-nil (fault_line a.id why)) ∙ ap (λ (r : Result ClientCall LineFault). with_answer a.id r (answers []) from []) (sym is);
-  number = omega arith;
+  ordered = ap (λ (r : Result Asked LineFault). map call_shown (with_call r [])) is;
+  rounds = [];
+  told = sym (ap (λ (r : Result Asked LineFault). with_counts r 0) is);
+  answered = sym (append-nil (fault_line a.id why)) ∙ ap (λ (r : Result Asked LineFault). with_answer a.id r (answers []) from [] []) (sym is);
+  counts = refl;
+}
+
+-- a line that asks for counts
+pub answers_counts : (e : Named) (calls : List Made) (a : Request) (from : Counts) (so_far : Rounds) → a.asked ≡ Ok asked.Counts → AnswersLines e calls calls (a ∷ []) from (counts_line a.id from so_far) from
+answers_counts e calls a from so_far is = record {
+  more = [];
+  made = sym (append-nil calls);
+  ordered = ap (λ (r : Result Asked LineFault). map call_shown (with_call r [])) is;
+  rounds = so_far ∷ [];
+  told = sym (ap (λ (r : Result Asked LineFault). with_counts r 0) is);
+  answered =
+      sym (append-nil (counts_line a.id from so_far)) ∙ ap (λ (r : Result Asked LineFault). with_answer a.id r (answers []) from [] (so_far ∷ [])) (sym is);
+  counts = refl;
 }
 
 -- a line that asks for a call
-pub answers_call : (e : Named) (calls now : List Made) (a : Request) (from next : ℕ) (c : ClientCall) (reply : Reply) → a.call ≡ Ok c → MakesCall e calls now c reply → next ≡ from + 1
-    → AnswersLines e calls now (a ∷ []) from (reply_line a.id from reply) next
-answers_call e calls now a from next c reply is makes number =
+pub answers_call : (e : Named) (calls now : List Made) (a : Request) (from next : Counts) (c : ClientCall) (reply : Reply) → a.asked ≡ Ok (asked.Call c) → MakesCall e calls now c reply → next ≡ counted from reply
+    → AnswersLines e calls now (a ∷ []) from (reply_line a.id from.calls reply) next
+answers_call e calls now a from next c reply is makes counts =
     let made : Made = (c.client, makes.call) in
     let records : List ℕ = end e.base.procs calls e.base.records in
     record {
       more = made ∷ [];
       made = makes.made;
       ordered =
-          ap (λ (r : Result ClientCall LineFault). map call_shown (with_call r [])) is ∙ ap (λ (call : Call). (c.client, call) ∷ []) (sym makes.same);
+          ap (λ (r : Result Asked LineFault). map call_shown (with_call r [])) is ∙ ap (λ (call : Call). (c.client, call) ∷ []) (sym makes.same);
+      rounds = [];
+      told = sym (ap (λ (r : Result Asked LineFault). with_counts r 0) is);
       answered =
-          ap (reply_line a.id from) makes.replied
-          ∙ (sym (append-nil (reply_line a.id from (apply e.base.procs makes.call records).reply))
-          ∙ ap (λ (r : Result ClientCall LineFault). with_answer a.id r (answers []) from (replies e.base.procs (made ∷ []) records)) (sym is));
-      number = number;
+          ap (reply_line a.id from.calls) makes.replied
+          ∙ (sym (append-nil (reply_line a.id from.calls (apply e.base.procs makes.call records).reply))
+          ∙ ap (λ (r : Result Asked LineFault). with_answer a.id r (answers []) from (replies e.base.procs (made ∷ []) records) []) (sym is));
+      counts = counts ∙ ap (counted from) makes.replied;
     }
 
 -- what holds of all calls that lines ask for holds of the call of one line
 pub calls_at : (P : ClientCall → Type 0) (requests : List Request) (i : ℕ) (a : Request) → slice_get requests i ≡ Some a → All P (calls_of requests) → All P (calls_of (a ∷ []))
 calls_at P [] i a at all = absurd (let e : None ≡ Some a = at in search rules)
-calls_at P (x ∷ more) zero a at all = subst (λ (y : Request). All P (calls_of (y ∷ []))) (same_Some x a at) (first_of x.call (calls_of more) all)
+calls_at P (x ∷ more) zero a at all = subst (λ (y : Request). All P (calls_of (y ∷ []))) (same_Some x a at) (first_of x.asked (calls_of more) all)
   where
-    first_of : (r : Result ClientCall LineFault) (cs : List ClientCall) → All P (with_call r cs) → All P (with_call r [])
-    first_of (Ok c) cs all = All-cons P c [] (All-head P c cs all) (All-nil P)
+    first_of : (r : Result Asked LineFault) (cs : List ClientCall) → All P (with_call r cs) → All P (with_call r [])
+    first_of (Ok (asked.Call c)) cs all = All-cons P c [] (All-head P c cs all) (All-nil P)
+    first_of (Ok asked.Counts) cs all = All-nil P
     first_of (Err why) cs all = All-nil P
-calls_at P (x ∷ more) (suc i) a at all = calls_at P more i a at (rest_of x.call (calls_of more) all)
+calls_at P (x ∷ more) (suc i) a at all = calls_at P more i a at (rest_of x.asked (calls_of more) all)
   where
-    rest_of : (r : Result ClientCall LineFault) (cs : List ClientCall) → All P (with_call r cs) → All P cs
-    rest_of (Ok c) cs all = All-tail P c cs all
+    rest_of : (r : Result Asked LineFault) (cs : List ClientCall) → All P (with_call r cs) → All P cs
+    rest_of (Ok (asked.Call c)) cs all = All-tail P c cs all
+    rest_of (Ok asked.Counts) cs all = all
     rest_of (Err why) cs all = all
 
 -- and of the call that the line asks for
-pub call_of_one : (P : ClientCall → Type 0) (a : Request) (c : ClientCall) → a.call ≡ Ok c → All P (calls_of (a ∷ [])) → P c
-call_of_one P a c is all = All-head P c [] (subst (λ (r : Result ClientCall LineFault). All P (with_call r [])) is all)
+pub call_of_one : (P : ClientCall → Type 0) (a : Request) (c : ClientCall) → a.asked ≡ Ok (asked.Call c) → All P (calls_of (a ∷ [])) → P c
+call_of_one P a c is all = All-head P c [] (subst (λ (r : Result Asked LineFault). All P (with_call r [])) is all)
 
 -- ---- a round
 
@@ -110,10 +139,10 @@ Appends-known : (known : Option (List ℕ)) (text : List ℕ) → Appends known 
 Appends-known None text = tt
 Appends-known (Some xs) text = refl
 
-module _ (e : Named) (calls now : List Made) (round : Round) (old : Place) (input : Option (List ℕ)) (tail : List ℕ) (read : IsRound (library_of e) e.clients old.input input old.tail tail round) (next : ℕ) (text : List ℕ)
-    (answered : AnswersLines e calls now round.requests.items old.number text next) where
+module _ (e : Named) (calls now : List Made) (round : Round) (old : Place) (input : Option (List ℕ)) (tail : List ℕ) (read : IsRound (library_of e) e.clients old.input input old.tail tail round) (next : Counts) (text : List ℕ)
+    (answered : AnswersLines e calls now round.requests.items old.counts text next) where
   part_of : (output : Option (List ℕ)) → Appends old.output output text
-      → IsPart (library_of e) e.clients (end e.base.procs calls e.base.records) answered.more round.is_last old (record { input = input; tail = tail; output = output; number = next })
+      → IsPart (library_of e) e.clients (end e.base.procs calls e.base.records) answered.more round.is_last old (record { input = input; tail = tail; output = output; counts = next })
   part_of output wrote = record {
     bytes = read.bytes;
     read = read.read;
@@ -124,13 +153,15 @@ module _ (e : Named) (calls now : List Made) (round : Round) (old : Place) (inpu
     are = read.requests;
     ordered = answered.ordered;
     text = text;
+    rounds = answered.rounds;
+    told = answered.told;
     answered = answered.answered;
     written = wrote;
-    number = answered.number;
+    counts = answered.counts;
   }
 
   -- a round that was read and answered
-  pub round_after : (output : Option (List ℕ)) → Appends old.output output text → IsRoundAfter e calls now round.is_last old (record { input = input; tail = tail; output = output; number = next })
+  pub round_after : (output : Option (List ℕ)) → Appends old.output output text → IsRoundAfter e calls now round.is_last old (record { input = input; tail = tail; output = output; counts = next })
   round_after output wrote = record { more = answered.more; made = answered.made; part = part_of output wrote }
 
   -- a round that was read, and not answered in full
@@ -141,7 +172,7 @@ module _ (e : Named) (calls now : List Made) (round : Round) (old : Place) (inpu
     is_last = round.is_last;
     tail = tail;
     whole = append_known old.output text;
-    number = next;
+    counts = next;
     part = part_of (append_known old.output text) (Appends-known old.output text);
     found = subst (AreFoundThere e.base) answered.made found;
     uncalled = λ is. absurd (let e : fault.Write ≡ fault.Calls = is in search rules);

@@ -7,6 +7,7 @@ use Rattle.vll_core.specs.Headline.State.{Base, catalog_of}
 use Rattle.vll_scenario.specs.Headline.Setup.{Setup}
 use Rattle.vll_scenario.specs.Streams.{AppendsBeginning}
 use Rattle.vll_queue.specs.Headline.Found.{AreFoundThere}
+use Rattle.vll_lines.specs.Counts.{none_counted}
 use Rattle.vll_stream.specs.declared.fault.StreamFault.{StreamFault}
 use Rattle.vll_stream.specs.declared.fault.StreamFault.TheVariants as fault
 use Rattle.vll_stream.specs.Served.{AreAnswered, EndsEarly, Stopped, Wrote, base_of, last_line}
@@ -81,7 +82,7 @@ module _ (base : Base) (clients : ℕ) (calls : List Made) (why : StreamFault) (
     is_last = false;
     tail = old.tail ++ bytes;
     whole = old.output;
-    number = old.number;
+    counts = old.counts;
     part = part_unanswered (catalog_of base) clients (end base.procs calls base.records) old left (old.tail ++ bytes) bytes read refl;
     found = subst (AreFoundThere base) (sym (append-nil calls)) found;
     uncalled = uncalled;
@@ -104,7 +105,7 @@ stops_behind_part base clients calls why is_last old new own part found = record
   is_last = is_last;
   tail = new.tail;
   whole = new.output;
-  number = new.number;
+  counts = new.counts;
   part = part;
   found = found;
   uncalled = own_uncalled why own;
@@ -116,13 +117,13 @@ stops_behind_part base clients calls why is_last old new own part found = record
 pub part_then_stops : (base : Base) (clients : ℕ) (calls : List Made) (why : StreamFault) (old mid : Place) (left written : Option (List ℕ)) → IsPart (catalog_of base) clients base.records calls false old mid
     → StopsAfter base clients calls why mid left written → StopsAfter base clients [] why old left written
 part_then_stops base clients calls why old mid left written part stops =
-    let new : Place = record { input = left; tail = stops.tail; output = stops.whole; number = stops.number } in
+    let new : Place = record { input = left; tail = stops.tail; output = stops.whole; counts = stops.counts } in
     record {
       more = calls ++ stops.more;
       is_last = stops.is_last;
       tail = stops.tail;
       whole = stops.whole;
-      number = stops.number;
+      counts = stops.counts;
       part = part_then (catalog_of base) clients base.records stops.is_last old mid new calls stops.more part stops.part;
       found = stops.found;
       uncalled = stops.uncalled;
@@ -134,19 +135,21 @@ part_then_stops base clients calls why old mid left written part stops =
 
 -- a part from the opening records on answers its lines
 pub part_answers : (s : Setup) (old before : Option (List ℕ)) (new : Place) (is_last : Bool) (calls : List Made)
-    (part : IsPart (catalog_of (base_of s)) (length s.scripts) s.records calls is_last (record { input = old; tail = []; output = before; number = 0 }) new) → AreFoundThere (base_of s) calls
+    (part : IsPart (catalog_of (base_of s)) (length s.scripts) s.records calls is_last (record { input = old; tail = []; output = before; counts = none_counted }) new) → AreFoundThere (base_of s) calls
     → AreAnswered s part.lines calls part.text
 part_answers s old before new is_last calls part found = record {
   requests = part.requests;
   read = part.are;
   ordered = part.ordered;
   found = found;
+  rounds = part.rounds;
+  told = part.told;
   written = part.answered;
 }
 
 -- from the opening records on
 pub ends_early : (s : Setup) (why : StreamFault) (old left before written : Option (List ℕ))
-    → StopsAfter (base_of s) (length s.scripts) [] why (record { input = old; tail = []; output = before; number = 0 }) left written → EndsEarly s why old left before written
+    → StopsAfter (base_of s) (length s.scripts) [] why (record { input = old; tail = []; output = before; counts = none_counted }) left written → EndsEarly s why old left before written
 ends_early s why old left before written stops =
     let part = stops.part in
     record {
@@ -158,7 +161,7 @@ ends_early s why old left before written stops =
       cut = part.cut;
       calls = stops.more;
       text = part.text;
-      answered = part_answers s old before (record { input = left; tail = stops.tail; output = stops.whole; number = stops.number }) stops.is_last stops.more part stops.found;
+      answered = part_answers s old before (record { input = left; tail = stops.tail; output = stops.whole; counts = stops.counts }) stops.is_last stops.more part stops.found;
       stopped = stops.stopped;
       wrote = wrote_longer why stops.is_last before written part.text (last_line s stops.more) stops.wrote;
     }
@@ -179,6 +182,8 @@ ends_at_once s why input output = record {
     read = tt;
     ordered = refl;
     found = none_found (base_of s);
+    rounds = [];
+    told = refl;
     written = refl;
   };
   stopped = stopped_at why;

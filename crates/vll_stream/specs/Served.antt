@@ -13,7 +13,9 @@ use Rattle.vll_scenario.specs.Streams.{AppendsBeginning}
 use Rattle.vll_lines.specs.Answers.{answers, end_line}
 use Rattle.vll_lines.specs.Request.{AreRequests}
 use Rattle.vll_lines.specs.Lines.{CutsInto, has_feed, lines_in}
-use Rattle.vll_lines.specs.Calls.{call_shown, calls_of}
+use Rattle.vll_lines.specs.Calls.{call_shown, calls_of, counts_asked}
+use Rattle.vll_lines.specs.Counts.{none_counted}
+use Rattle.vll_lines.specs.declared.counts.Rounds.{Rounds}
 use Rattle.vll_lines.specs.declared.request.Request.{Request}
 use Rattle.vll_stream.specs.declared.fault.StreamFault.{StreamFault}
 use Rattle.vll_stream.specs.declared.fault.StreamFault.TheVariants as fault
@@ -40,13 +42,16 @@ AreOrdered requests calls = map call_shown (calls_of requests) ≡ map made_show
 
 -- a text answers lines by these calls: they are the calls that the lines ask for, in order, each with what it has found, and
 -- the text has for each line its answer, which is the number and the reply of its call if the calls run one at a time in this
--- order from the scenario's records, or its fault. Each value found was in its source
+-- order from the scenario's records, or how many calls were made for the lines before it and how many of them were aborted,
+-- by the reason, or its fault. Each value found was in its source. What is told of rounds is left open
 pub record AreAnswered (s : Setup) (lines : List (List ℕ)) (calls : List Made) (text : List ℕ) : Type 0 where
   pub requests : List Request
   pub read : AreRequests (catalog_of s) (length s.scripts) lines requests
   pub ordered : AreOrdered requests calls
   pub found : AreFoundThere (base_of s) calls
-  pub written : text ≡ answers requests 0 (replies s.procs calls s.records)
+  pub rounds : List Rounds
+  pub told : length rounds ≡ counts_asked requests
+  pub written : text ≡ answers requests none_counted (replies s.procs calls s.records) rounds
 
 -- the last line of a service that has made these calls: their number, and the records as they leave them
 abbrev pub last_line : Setup → List Made → List ℕ

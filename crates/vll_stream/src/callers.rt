@@ -1,7 +1,8 @@
 //! The sessions of a service's clients, and the calls that they have made in an engine.
-ghost use Rattle.std.specs.Prelude.{◌≡◌, ◌<◌, ◌≤◌, ◌+◌, [], IfErr, IfOk, OnOk};
+ghost use Rattle.std.specs.Prelude.{◌≡◌, ◌<◌, ◌≤◌, [], IfErr, IfOk, OnOk};
 ghost use Rattle.vll_check.specs.Calls.{Fits};
 ghost use Rattle.vll_counters.specs.Shown.{AreNewSessions};
+ghost use Rattle.vll_lines.specs.Counts.{counted};
 ghost use Rattle.vll_queue.specs.Shown.{library_of};
 ghost use Rattle.vll_stream.specs.Private.Callers.{AreCallers, IsInformed, MakesCall, made_so_far};
 ghost use Rattle.vll_stream.specs.declared.fault.StreamFault.TheVariants as fault;
@@ -9,12 +10,12 @@ ghost use Rattle.vll_stream.specs.declared.fault.StreamFault.TheVariants as faul
 use crate::fault::StreamFault;
 use std::sync::Wait;
 use vll_engine::{Engine, Name, Session};
-use vll_lines::ClientCall;
+use vll_lines::{ClientCall, Counts};
 use vll_proc::Reply;
 use vll_sca::Placing;
 use vll_scenario::MOST_CLIENTS;
 
-/// The sessions of an engine's clients, in order, and the numbers of the calls that they have made.
+/// The sessions of an engine's clients, in order, and how many calls they have made.
 #[derive(Drop)]
 pub(crate) struct Callers {
     sessions: Vec<Session>,
@@ -22,23 +23,23 @@ pub(crate) struct Callers {
     informed: Option<u32>,
     // How many these are.
     calls: u64,
-    // The number of calls made in this engine and in those before.
-    number: u64,
+    // The calls made in this engine and in those before.
+    counts: Counts,
 }
 
 impl Callers {
-    /// The clients of a new engine, after `number` calls in those before.
-    pub(crate) fn new<N: Name>(sessions: Vec<Session>, number: u64) -> Callers
+    /// The clients of a new engine, after these calls in those before.
+    pub(crate) fn new<N: Name>(sessions: Vec<Session>, counts: Counts) -> Callers
         requires sessions { AreNewSessions N.engine.table N.engine.clients sessions.items }
         ensures callers { AreCallers N.engine result }
         ensures none { made_so_far result ≡ [] }
-        ensures number { result.number ≡ number }
+        ensures counts { result.counts ≡ counts }
     {
         Callers {
             sessions,
             informed: None,
             calls: 0,
-            number,
+            counts,
         }
     }
 
@@ -58,11 +59,11 @@ impl Callers {
         self.calls
     }
 
-    /// How many calls were made in this engine and in those before.
-    pub(crate) fn number(&self) -> u64
-        ensures { result ≡ self.now.number }
+    /// The calls made in this engine and in those before.
+    pub(crate) fn counts(&self) -> Counts
+        ensures { result ≡ self.now.counts }
     {
-        self.number
+        self.counts
     }
 
     /// Returns the sessions, as an engine takes them when it ends.
@@ -84,7 +85,7 @@ impl Callers {
         requires fits { Fits (library_of N.engine) call.now.call }
         ensures callers { OnOk result (AreCallers N.engine self.new) }
         ensures made { IfOk result (MakesCall N.engine (made_so_far self.old) (made_so_far self.new) call.now) }
-        ensures number { OnOk result (self.new.number ≡ self.old.number + 1) }
+        ensures counts { IfOk result (λ reply. self.new.counts ≡ counted self.old.counts reply) }
         ensures unfinished { IfErr result (λ why. why ≡ fault.Unfinished) }
     {
         self.inform(engine, call.client);
@@ -94,11 +95,12 @@ impl Callers {
         let Ok((ticket, reply)) = engine.call(wait, session, &call.call) else {
             return Err(StreamFault::Unfinished);
         };
-        if u64::from(ticket.0) != self.calls || self.number == u64::MAX {
+        let is_full = self.counts.is_full();
+        if u64::from(ticket.0) != self.calls || is_full {
             return Err(StreamFault::Unfinished);
         }
         self.calls += 1;
-        self.number += 1;
+        self.counts = self.counts.with(&reply);
         Ok(reply)
     }
 

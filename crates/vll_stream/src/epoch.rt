@@ -18,7 +18,7 @@ use std::alloc::Global;
 use std::sync::Wait;
 use vll_core::{Line, MOST_CALLS};
 use vll_engine::{Engine, Name, Opening, Reopened, Session};
-use vll_lines::{MOST_ROUND, RoundReader};
+use vll_lines::{Counts, MOST_ROUND, RoundReader};
 use vll_sca::Placing;
 use vll_scenario::{MOST_CLIENTS, Sink, Source, write_text};
 
@@ -31,8 +31,8 @@ const LAST_ROUND: u64 = (MOST_CALLS - ROUND_CALLS) as u64;
 /// An epoch that has ended.
 #[derive(Drop)]
 pub(crate) struct Ended {
-    /// How many calls have been made in this epoch and before.
-    pub(crate) number: u64,
+    /// The calls that have been made in this epoch and before.
+    pub(crate) counts: Counts,
     pub(crate) then: Then,
 }
 
@@ -45,8 +45,8 @@ pub(crate) enum Then {
     Over(Vec<u64>),
 }
 
-/// Serves the input round by round, until it ends or the engine has no room left for the calls of a round. `number`
-/// calls have been made before.
+/// Serves the input round by round, until it ends or the engine has no room left for the calls of a round. `counts` are
+/// the calls that have been made before.
 pub(crate) fn run_epoch<N: Name, S: Source, W: Sink>(
     wait: &impl Wait,
     alloc: Global,
@@ -55,7 +55,7 @@ pub(crate) fn run_epoch<N: Name, S: Source, W: Sink>(
     reader: &mut S,
     writer: &mut W,
     tail: &mut Vec<u8>,
-    number: u64,
+    counts: Counts,
     room: Vec<Line>,
 ) -> Result<Ended, StreamFault>
     requires named { N.engine ≡ name_of placing opening }
@@ -65,19 +65,19 @@ pub(crate) fn run_epoch<N: Name, S: Source, W: Sink>(
     requires writer { W.failed writer.old ≡ false }
     requires tail { has_feed tail.old.items ≡ false }
     ensures epoch { IfOk result (λ ended. IsEpoch N.engine
-        (place_of S.remaining W.contents reader.old tail.old.items writer.old number)
-        (place_of S.remaining W.contents reader.new tail.new.items writer.new ended.number)
+        (place_of S.remaining W.contents reader.old tail.old.items writer.old counts)
+        (place_of S.remaining W.contents reader.new tail.new.items writer.new ended.counts)
         ended.then) }
     ensures reader { OnOk result (S.failed reader.new ≡ false) }
     ensures writer { OnOk result (W.failed writer.new ≡ false) }
     ensures tail { OnOk result (has_feed tail.new.items ≡ false) }
     ensures err { IfErr result (λ why. StopsAfter N.engine.base N.engine.clients [] why
-        (place_of S.remaining W.contents reader.old tail.old.items writer.old number) (S.remaining reader.new) (W.contents writer.new)) }
+        (place_of S.remaining W.contents reader.old tail.old.items writer.old counts) (S.remaining reader.new) (W.contents writer.new)) }
     ensures read { (result ≡ Err fault.Read) ↔ (S.failed reader.new ≡ true) }
     ensures write { (result ≡ Err fault.Write) ↔ (W.failed writer.new ≡ true) }
 {
     let (engine, sessions) = opening.start::<N>();
-    let mut callers = Callers::new::<N>(sessions, number);
+    let mut callers = Callers::new::<N>(sessions, counts);
     let is_last = serve_rounds(
         wait,
         alloc,
@@ -89,7 +89,7 @@ pub(crate) fn run_epoch<N: Name, S: Source, W: Sink>(
         tail,
     )?;
     Ok(Ended {
-        number: callers.number(),
+        counts: callers.counts(),
         then: end_epoch(alloc, engine, callers, is_last, room)?,
     })
 }
@@ -113,14 +113,14 @@ fn serve_rounds<N: Name, S: Source, W: Sink>(
     requires writer { W.failed writer.old ≡ false }
     requires tail { has_feed tail.old.items ≡ false }
     ensures rounds { IfOk result (λ is_last. IsPart (library_of N.engine) N.engine.clients N.engine.base.records (made_so_far callers.new) is_last
-        (place_of S.remaining W.contents reader.old tail.old.items writer.old callers.old.number)
-        (place_of S.remaining W.contents reader.new tail.new.items writer.new callers.new.number)) }
+        (place_of S.remaining W.contents reader.old tail.old.items writer.old callers.old.counts)
+        (place_of S.remaining W.contents reader.new tail.new.items writer.new callers.new.counts)) }
     ensures callers { OnOk result (AreCallers N.engine callers.new) }
     ensures reader { OnOk result (S.failed reader.new ≡ false) }
     ensures writer { OnOk result (W.failed writer.new ≡ false) }
     ensures tail { OnOk result (has_feed tail.new.items ≡ false) }
     ensures err { IfErr result (λ why. StopsAfter N.engine.base N.engine.clients [] why
-        (place_of S.remaining W.contents reader.old tail.old.items writer.old callers.old.number) (S.remaining reader.new) (W.contents writer.new)) }
+        (place_of S.remaining W.contents reader.old tail.old.items writer.old callers.old.counts) (S.remaining reader.new) (W.contents writer.new)) }
     ensures read { (result ≡ Err fault.Read) ↔ (S.failed reader.new ≡ true) }
     ensures write { (result ≡ Err fault.Write) ↔ (W.failed writer.new ≡ true) }
 {
@@ -150,21 +150,28 @@ fn serve_round<N: Name, S: Source, W: Sink>(
     requires writer { W.failed writer.old ≡ false }
     requires tail { has_feed tail.old.items ≡ false }
     ensures round { IfOk result (λ is_last. IsRoundAfter N.engine (made_so_far callers.old) (made_so_far callers.new) is_last
-        (place_of S.remaining W.contents reader.old tail.old.items writer.old callers.old.number)
-        (place_of S.remaining W.contents reader.new tail.new.items writer.new callers.new.number)) }
+        (place_of S.remaining W.contents reader.old tail.old.items writer.old callers.old.counts)
+        (place_of S.remaining W.contents reader.new tail.new.items writer.new callers.new.counts)) }
     ensures callers { OnOk result (AreCallers N.engine callers.new) }
     ensures reader { OnOk result (S.failed reader.new ≡ false) }
     ensures writer { OnOk result (W.failed writer.new ≡ false) }
     ensures tail { OnOk result (has_feed tail.new.items ≡ false) }
     ensures err { IfErr result (λ why. StopsAfter N.engine.base N.engine.clients (made_so_far callers.old) why
-        (place_of S.remaining W.contents reader.old tail.old.items writer.old callers.old.number)
+        (place_of S.remaining W.contents reader.old tail.old.items writer.old callers.old.counts)
         (S.remaining reader.new) (W.contents writer.new)) }
     ensures read { (result ≡ Err fault.Read) ↔ (S.failed reader.new ≡ true) }
     ensures write { (result ≡ Err fault.Write) ↔ (W.failed writer.new ≡ true) }
 {
     let clients = callers.clients::<N>();
     let round = rounds.read(wait, engine.library(), clients, reader, tail)?;
-    let text = answer_lines(wait, alloc, engine, callers, round.requests.as_slice())?;
+    let text = answer_lines(
+        wait,
+        alloc,
+        engine,
+        callers,
+        round.requests.as_slice(),
+        rounds.so_far,
+    )?;
     write_text(writer, text.as_slice())?;
     Ok(round.is_last)
 }

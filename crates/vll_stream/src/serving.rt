@@ -16,7 +16,7 @@ use std::marker::Brand;
 use std::sync::Wait;
 use vll_core::{Config, MOST_CALLS, OpenFault};
 use vll_engine::Opening;
-use vll_lines::{RoundReader, push_end};
+use vll_lines::{Counts, RoundReader, push_end};
 use vll_proc::Call;
 use vll_sca::Placing;
 use vll_scenario::{MOST_CLIENTS, Scenario, ScenarioParts, Sink, Source, write_text};
@@ -53,7 +53,7 @@ pub fn serve_stream<S: Source, W: Sink>(
     let mut room = Vec::with_capacity(alloc, MOST_CALLS as usize)?;
     let mut rounds = RoundReader::new(alloc)?;
     let mut tail = Vec::new(alloc);
-    let mut number = 0;
+    let mut counts = Counts::none();
     for _ in wait.forever() {
         let ended = run_epoch::<Brand, S, W>(
             wait,
@@ -63,23 +63,23 @@ pub fn serve_stream<S: Source, W: Sink>(
             reader,
             writer,
             &mut tail,
-            number,
+            counts,
             room,
         )?;
         let Ended {
-            number: reached,
+            counts: reached,
             then,
         } = ended;
         match then {
             Then::Over(records) => {
-                let text = push_end(Vec::new(alloc), reached, records.as_slice())?;
+                let text = push_end(Vec::new(alloc), reached.calls, records.as_slice())?;
                 write_text(writer, text.as_slice())?;
                 return Ok(());
             }
             Then::On(next, journal) => {
                 opening = next;
                 room = journal;
-                number = reached;
+                counts = reached;
             }
         }
     }

@@ -53,6 +53,56 @@ fn empty_input_has_the_first_records(rt: HostRuntime) -> Result<(), Fail> {
     Ok(())
 }
 
+// Procedures that are aborted for each reason that one thread can see.
+const ABORTING: &str = r#"{"version":1,"records":[5],"procs":[
+ {"name":"code","args":1,"keys":[],"body":[["if",["arg",0],[["abort",7]],[["abort",0]]]]},
+ {"name":"over","args":0,"keys":[],"body":[["reply",["add",18446744073709551615,1]]]},
+ {"name":"under","args":0,"keys":[],"body":[["reply",["sub",0,1]]]},
+ {"name":"divide","args":0,"keys":[],"body":[["reply",["div",1,0]]]},
+ {"name":"fine","args":0,"keys":[],"body":[]}],
+ "clients":[[]]}"#;
+
+#[test]
+fn counts_are_of_the_calls_before(rt: HostRuntime) -> Result<(), Fail> {
+    let input = r#"{"counts":true}
+{"proc":"code","args":[0]}
+{"id":7,"counts":true}
+{"proc":"over","args":[]}
+{"proc":"under","args":[]}
+{"proc":"divide","args":[]}
+{"proc":"code","args":[1]}
+{"proc":"fine","args":[]}
+{"proc":"none","args":[]}
+{"counts":true,"id":"b"}
+{"counts":true}
+{"counts":false}
+{"counts":true,"proc":"fine","args":[]}
+"#;
+    let wanted =
+        r#"{"counts":{"calls":0,"aborted":{"code":0,"overflow":0,"underflow":0,"zero divisor":0,"moved":0},"rounds":1,"most_lines":13}}
+{"call":0,"aborted":0}
+{"id":7,"counts":{"calls":1,"aborted":{"code":1,"overflow":0,"underflow":0,"zero divisor":0,"moved":0},"rounds":1,"most_lines":13}}
+{"call":1,"aborted":"overflow"}
+{"call":2,"aborted":"underflow"}
+{"call":3,"aborted":"zero divisor"}
+{"call":4,"aborted":7}
+{"call":5,"committed":[]}
+{"fault":"no procedure has the name none"}
+{"id":"b","counts":{"calls":6,"aborted":{"code":2,"overflow":1,"underflow":1,"zero divisor":1,"moved":0},"rounds":1,"most_lines":13}}
+{"counts":{"calls":6,"aborted":{"code":2,"overflow":1,"underflow":1,"zero divisor":1,"moved":0},"rounds":1,"most_lines":13}}
+{"fault":"counts has to be true"}
+{"fault":"the line has to be an object with proc, args and perhaps client and id"}
+{"calls":6,"records":[5]}
+"#;
+    let scenario = read_scenario(rt.alloc(), &mut Plain::new(ABORTING.as_bytes()))?;
+    let mut output = Vec::new(rt.alloc());
+    let mut writer = Plain::new(&mut output);
+    let mut reader = Plain::new(input.as_bytes());
+    serve_stream(&rt, rt.alloc(), scenario, &mut reader, &mut writer)?;
+    equal(&rt, std::str::from_utf8(output.as_slice())?, wanted);
+    Ok(())
+}
+
 // Lines that ask for `count` transfers of 1 from the first account to the second, or from the second to the first. They
 // differ in length, so that a round ends anywhere.
 fn transfers(alloc: Global, count: u32) -> Result<String, Fail> {
@@ -67,6 +117,22 @@ fn transfers(alloc: Global, count: u32) -> Result<String, Fail> {
         )?;
     }
     Ok(input)
+}
+
+// An aborted call is in the first engine, and the counts are asked for in the second.
+#[test]
+fn counts_go_on_over_the_epochs(rt: HostRuntime) -> Result<(), Fail> {
+    let mut input = String::from_str(rt.alloc(), "{\"proc\":\"transfer\",\"args\":[0,1,101]}\n")?;
+    input.push_str(transfers(rt.alloc(), 70_002)?.as_str())?;
+    input.push_str("{\"counts\":true}\n")?;
+    let found = served(&rt, rt.alloc(), input.as_str())?;
+    let wanted =
+        r#"{"counts":{"calls":70003,"aborted":{"code":0,"overflow":0,"underflow":1,"zero divisor":0,"moved":0},"rounds":99,"most_lines":708}}
+{"calls":70003,"records":[98,52]}
+"#;
+    let text = std::str::from_utf8(found.as_slice())?;
+    equal(&rt, text.ends_with(wanted), true);
+    Ok(())
 }
 
 // The last of its lines.
@@ -139,6 +205,25 @@ fn input_may_come_byte_by_byte(rt: HostRuntime) -> Result<(), Fail> {
     let mut reader = Plain::new(Slow(input.as_bytes()));
     serve_stream(&rt, rt.alloc(), scenario, &mut reader, &mut writer)?;
     equal(&rt, output.as_slice(), wanted.as_slice());
+    Ok(())
+}
+
+// Then each line is a round of its own.
+#[test]
+fn counts_tell_the_rounds(rt: HostRuntime) -> Result<(), Fail> {
+    let wanted =
+        r#"{"counts":{"calls":0,"aborted":{"code":0,"overflow":0,"underflow":0,"zero divisor":0,"moved":0},"rounds":1,"most_lines":1}}
+{"call":0,"committed":[]}
+{"counts":{"calls":1,"aborted":{"code":0,"overflow":0,"underflow":0,"zero divisor":0,"moved":0},"rounds":3,"most_lines":1}}
+{"calls":1,"records":[100,50]}
+"#;
+    let input = "{\"counts\":true}\n{\"proc\":\"p\",\"args\":[]}\n{\"counts\":true}";
+    let scenario = read_scenario(rt.alloc(), &mut Plain::new(BANK.as_bytes()))?;
+    let mut output = Vec::new(rt.alloc());
+    let mut writer = Plain::new(&mut output);
+    let mut reader = Plain::new(Slow(input.as_bytes()));
+    serve_stream(&rt, rt.alloc(), scenario, &mut reader, &mut writer)?;
+    equal(&rt, std::str::from_utf8(output.as_slice())?, wanted);
     Ok(())
 }
 

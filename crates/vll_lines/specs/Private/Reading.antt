@@ -4,8 +4,8 @@ use Rattle.std.specs.Borrow.{Bor}
 use Rattle.std.specs.Global.{Vec}
 use Rattle.std.specs.declared.alloc.AllocError.{AllocError}
 use Rattle.vll_lines.specs.declared.request.LineFault.{LineFault}
-use Rattle.vll_lines.specs.declared.reading.ReadFault.{ReadFault}
-use Rattle.vll_lines.specs.declared.reading.ReadFault.TheVariants.{NoMemory, Faulty}
+use Rattle.vll_lines.specs.declared.read_fault.ReadFault.{ReadFault}
+use Rattle.vll_lines.specs.declared.read_fault.ReadFault.TheVariants.{NoMemory, Faulty}
 
 -- the result is the reading, unless memory ran out
 abbrev pub Gives : {A : Type 0} → Result A ReadFault → Result A LineFault → Type 0

@@ -1,8 +1,9 @@
 -- What has been read of a line, token by token.
-use Rattle.std.specs.Prelude.{◌≡◌, ℕ, true, List, [], ◌∷◌, length, IfSome, Some, Ok}
+use Rattle.std.specs.Prelude.{◌≡◌, ℕ, true, List, [], ◌∷◌, length, IfSome, None, Some, Ok, codes}
 use Rattle.json.specs.Json.{members, value}
 use Rattle.json.specs.Token.{Token}
 use Rattle.serde_json.specs.Data.{Data, Items, no_items, item, Members, no_members, number, object, unsigned}
+use Rattle.serde_json.specs.Find.{get}
 use Rattle.serde_json.specs.Read.{converted, of_json, of_members}
 use Rattle.vll_scenario.specs.Syntax.{has_only}
 use Rattle.vll_lines.specs.Request.{args_of, client_of, id_of, may_names, name_of}
@@ -24,6 +25,7 @@ AreRead tokens found rest = converted (λ ms. of_members ms no_members) (members
 -- members of a line tell this, with these arguments
 pub record Says (told : Told) (args : List ℕ) (found : Members) : Type 0 where
   pub only : has_only may_names found ≡ true
+  pub no_counts : get (codes "counts") (object found) ≡ None
   pub id : id_of (object found) ≡ Ok told.id
   pub client : client_of (object found) ≡ Ok told.client
   pub name : IfSome told.name (λ s. name_of (object found) ≡ Ok s.now)

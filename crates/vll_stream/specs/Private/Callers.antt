@@ -46,7 +46,7 @@ pub record IsInformed (e : Named) (old new : Callers) (client : ℕ) : Type 0 wh
   pub made : made_so_far new ≡ made_so_far old
   pub informed : new.informed ≡ Some client
   pub calls : new.calls ≡ old.calls
-  pub number : new.number ≡ old.number
+  pub counts : new.counts ≡ old.counts
 
 -- a client has made a call after these, whatever it has found: it has the reply of a serial run, and these are the calls now
 pub record MakesCall (e : Named) (calls now : List Made) (request : ClientCall) (reply : Reply) : Type 0 where

@@ -3,6 +3,7 @@ use Rattle.std.specs.Prelude.{◌≡◌, ℕ, Bool, false, List, [], ◌++◌, O
 use Rattle.vll_proc.specs.Headline.Serial.{Made, end}
 use Rattle.vll_core.specs.Headline.State.{Base, catalog_of}
 use Rattle.vll_queue.specs.Headline.Found.{AreFoundThere}
+use Rattle.vll_lines.specs.declared.counts.Counts.{Counts}
 use Rattle.vll_stream.specs.declared.fault.StreamFault.{StreamFault}
 use Rattle.vll_stream.specs.declared.fault.StreamFault.TheVariants as fault
 use Rattle.vll_stream.specs.Private.Parts.{IsPart, Place}
@@ -23,8 +24,8 @@ pub record StopsAfter (base : Base) (clients : ℕ) (calls : List Made) (why : S
   pub is_last : Bool
   pub tail : List ℕ
   pub whole : Option (List ℕ)
-  pub number : ℕ
-  pub part : IsPart (catalog_of base) clients (end base.procs calls base.records) more is_last old (record { input = left; tail = tail; output = whole; number = number })
+  pub counts : Counts
+  pub part : IsPart (catalog_of base) clients (end base.procs calls base.records) more is_last old (record { input = left; tail = tail; output = whole; counts = counts })
   pub found : AreFoundThere base (calls ++ more)
   pub uncalled : ¬ (why ≡ fault.Calls)
   pub stopped : Stopped why is_last tail

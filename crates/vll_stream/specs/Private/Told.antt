@@ -1,5 +1,5 @@
 -- What a service has done by the end of its lines, rounds and epochs.
-use Rattle.std.specs.Prelude.{◌≡◌, ◌≤◌, ℕ, ◌+◌, Bool, true, false, List, ◌++◌, length, vec_capacity}
+use Rattle.std.specs.Prelude.{◌≡◌, ◌≤◌, ℕ, Bool, true, false, List, ◌++◌, length, vec_capacity}
 use Rattle.vll_proc.specs.Headline.Serial.{Made, end}
 use Rattle.vll_proc.specs.Serial.{replies}
 use Rattle.vll_core.specs.declared.config.TheConstants.{MOST_CALLS}
@@ -11,20 +11,26 @@ use Rattle.vll_scenario.specs.Headline.Setup.{Setup}
 use Rattle.vll_sca.specs.Placing.{placing}
 use Rattle.vll_sca.specs.declared.place.Placing.{Placing}
 use Rattle.vll_lines.specs.Answers.{answers}
+use Rattle.vll_lines.specs.Calls.{counts_asked}
+use Rattle.vll_lines.specs.Counts.{all_counted}
+use Rattle.vll_lines.specs.declared.counts.Counts.{Counts}
+use Rattle.vll_lines.specs.declared.counts.Rounds.{Rounds}
 use Rattle.vll_lines.specs.declared.request.Request.{Request}
 use Rattle.vll_stream.specs.Served.{AreOrdered, base_of}
 use Rattle.vll_stream.specs.declared.epoch.Then.{Then}
 use Rattle.vll_stream.specs.declared.epoch.Then.TheVariants as then
 use Rattle.vll_stream.specs.Private.Parts.{IsPart, Place}
 
--- lines are answered after calls of an engine: more calls were made for them, with numbers from `from` on up to `next`, and
+-- lines are answered after calls of an engine: more calls were made for them, which are counted from `from` on to `next`, and
 -- these are the calls now
-pub record AnswersLines (e : Named) (calls now : List Made) (requests : List Request) (from : ℕ) (text : List ℕ) (next : ℕ) : Type 0 where
+pub record AnswersLines (e : Named) (calls now : List Made) (requests : List Request) (from : Counts) (text : List ℕ) (next : Counts) : Type 0 where
   pub more : List Made
   pub made : now ≡ calls ++ more
   pub ordered : AreOrdered requests more
-  pub answered : text ≡ answers requests from (replies e.base.procs more (end e.base.procs calls e.base.records))
-  pub number : next ≡ from + length more
+  pub rounds : List Rounds
+  pub told : length rounds ≡ counts_asked requests
+  pub answered : text ≡ answers requests from (replies e.base.procs more (end e.base.procs calls e.base.records)) rounds
+  pub counts : next ≡ all_counted from (replies e.base.procs more (end e.base.procs calls e.base.records))
 
 -- a round follows calls of an engine: it has made more of them, and these are the calls now
 pub record IsRoundAfter (e : Named) (calls now : List Made) (is_last : Bool) (old new : Place) : Type 0 where

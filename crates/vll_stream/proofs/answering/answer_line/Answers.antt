@@ -1,12 +1,42 @@
-use Rattle.std.proofs.Common.{◌<◌}
+use Rattle.std.proofs.Common.{◌<◌, [], ◌∷◌, Ok, ap, ◌∙◌, subst, sym}
 use Rattle.vll_check.specs.Calls.{Fits}
 use Rattle.vll_queue.specs.Shown.{library_of}
+use Rattle.vll_lines.specs.Answers.{counts_line, fault_line}
+use Rattle.vll_lines.specs.declared.counts.Counts.{Counts}
 use Rattle.vll_lines.specs.declared.request.ClientCall.{ClientCall}
-use Rattle.vll_stream.proofs.Rounds.{call_of_one}
+use Rattle.vll_lines.specs.declared.request.Request.{Request}
+use Rattle.vll_stream.specs.Private.Callers.{made_so_far}
+use Rattle.vll_stream.specs.Private.Told.{AnswersLines}
+use Rattle.vll_stream.proofs.Rounds.{answers_counts, answers_fault, call_of_one}
 use Rattle.vll_stream.proofs.answering.answer_line.Goals as goal
 
 pub make-requires-clause-client : goal.make-requires-clause-client
-make-requires-clause-client g c = call_of_one (λ (x : ClientCall). x.client < g.N.Name.engine.clients) c.args.request.now c.in-Ok.call c.in-Ok.is c.requires.clients
+make-requires-clause-client g c =
+    let inside = rw c.in-Ok-Call.is at c.in-Ok-Call.field-0-is in
+    call_of_one (λ (x : ClientCall). x.client < g.N.Name.engine.clients) c.args.request.now c.in-Ok-Call.call (c.in-Ok-Call.is ∙ ap Ok inside) c.requires.clients
 
 pub make-requires-clause-fits : goal.make-requires-clause-fits
-make-requires-clause-fits g c = call_of_one (λ (x : ClientCall). Fits (library_of g.N.Name.engine) x.call) c.args.request.now c.in-Ok.call c.in-Ok.is c.requires.fits
+make-requires-clause-fits g c =
+    let inside = rw c.in-Ok-Call.is at c.in-Ok-Call.field-0-is in
+    call_of_one (λ (x : ClientCall). Fits (library_of g.N.Name.engine) x.call) c.args.request.now c.in-Ok-Call.call (c.in-Ok-Call.is ∙ ap Ok inside) c.requires.fits
+
+pub returns-in_ok-push_fault-in-Err-clause-answer : goal.returns-in_ok-push_fault-in-Err-clause-answer
+returns-in_ok-push_fault-in-Err-clause-answer g c =
+    let a : Request = c.args.request.now in (
+      fault_line a.id c.in-Err.why,
+      c.in_ok-push_fault-in-Err.ensures,
+      answers_fault g.N.Name.engine (made_so_far c.args.callers.now) a c.args.callers.now.counts c.in-Err.why c.in-Err.is,
+    )
+
+pub returns-in_ok-push_counts-in-Ok-Counts-clause-answer : goal.returns-in_ok-push_counts-in-Ok-Counts-clause-answer
+returns-in_ok-push_counts-in-Ok-Counts-clause-answer g c =
+    let e = g.N.Name.engine in
+    let a : Request = c.args.request.now in
+    let calls = made_so_far c.args.callers.now in
+    let from : Counts = c.args.callers.now.counts in
+    let inside = rw c.in-Ok-Counts.is at c.in-Ok-Counts.field-0-is in (
+      counts_line a.id c.counts-counts.result c.args.so_far,
+      c.in_ok-push_counts-in-Ok-Counts.ensures,
+      subst (λ (k : Counts). AnswersLines e calls calls (a ∷ []) from (counts_line a.id k c.args.so_far) from) (sym c.counts-counts.ensures)
+          (answers_counts e calls a from c.args.so_far (c.in-Ok-Counts.is ∙ ap Ok inside)),
+    )

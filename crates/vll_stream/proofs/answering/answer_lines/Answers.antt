@@ -14,7 +14,7 @@ pub loop-request-init : goal.loop-request-init
 loop-request-init g c =
     let e = g.N.Name.engine in
     let calls = made_so_far c.args.callers.now in
-    let n = c.args.callers.now.number in
+    let n = c.args.callers.now.counts in
     (c.requires.callers, subst (λ (text : List _). AnswersLines e calls calls [] n text n) (sym c.new-text.ensures.items) (answers_none e calls n))
 
 pub answer_line-requires-clause-callers : goal.answer_line-requires-clause-callers
@@ -42,11 +42,11 @@ loop-request-preserved g c =
     let request : Request = c.request-item.result in
     let first = made_so_far c.args.callers.now in
     let now = made_so_far c.answer_line.new.callers in
-    let n = c.args.callers.now.number in
-    let next = c.answer_line.new.callers.number in
+    let n = c.args.callers.now.counts in
+    let next = c.answer_line.new.callers.counts in
     let at : slice_get requests i ≡ Some request = slice_get_read requests (length requests) i request refl c.loop-request-test.true c.request-item.is in
     let more = c.in_ok-text.ensures.answer in
-    let both = answers_then e first (made_so_far l.callers) now (take i requests) (request ∷ []) n l.callers.number next l.text.items more.0 l.invariant.1 more.2 in (
+    let both = answers_then e first (made_so_far l.callers) now (take i requests) (request ∷ []) n l.callers.counts next l.text.items more.0 l.invariant.1 more.2 in (
       c.in_ok-text.ensures.callers,
       subst (λ (text : List _). AnswersLines e first now (take (i + 1) requests) n text next) (sym more.1)
           (subst (λ (xs : List Request). AnswersLines e first now xs n (l.text.items ++ more.0) next) (sym (take_next requests i request at)) both),

@@ -7,4 +7,4 @@ use Rattle.vll_stream.proofs.answering.answer_lines.Given as goal
 abbrev pub invariant-loop-request : goal.invariant-loop-request
 invariant-loop-request g l =
     let e = g.N.Name.engine in
-    AreCallers e l.callers × AnswersLines e (made_so_far l.initial.callers) (made_so_far l.callers) (take l.request-index l.requests) l.initial.callers.number l.text.items l.callers.number
+    AreCallers e l.callers × AnswersLines e (made_so_far l.initial.callers) (made_so_far l.callers) (take l.request-index l.requests) l.initial.callers.counts l.text.items l.callers.counts

@@ -1,4 +1,5 @@
-use Rattle.std.proofs.Common.{◌≡◌, ℕ, [], Result, Err, IfErr, sym, subst, rules}
+use Rattle.std.proofs.Common.{◌≡◌, [], Result, Err, IfErr, sym, subst, rules}
+use Rattle.vll_lines.specs.declared.counts.Counts.{Counts}
 use Rattle.vll_queue.specs.Shown.{library_of}
 use Rattle.vll_stream.specs.Private.Callers.{made_so_far}
 use Rattle.vll_stream.specs.Private.Parts.{IsPart, Place, place_of}
@@ -15,9 +16,9 @@ returns-in_err-end_epoch-clause-err g c =
     let contents = g.W.Sink.contents in
     let made = made_so_far c.serve_rounds.new.callers in
     let is_last = c.in_ok-is_last.is_last in
-    let old : Place = place_of known contents c.args.reader.now c.args.tail.now.items c.args.writer.now c.args.number in
-    let new : Place = place_of known contents c.serve_rounds.new.reader c.serve_rounds.new.tail.items c.serve_rounds.new.writer c.serve_rounds.new.callers.number in
-    let part = subst (λ (n : ℕ). IsPart (library_of e) e.clients e.base.records made is_last (record old { number = n }) new) c.new-callers.ensures.number c.in_ok-is_last.ensures.rounds in
+    let old : Place = place_of known contents c.args.reader.now c.args.tail.now.items c.args.writer.now c.args.counts in
+    let new : Place = place_of known contents c.serve_rounds.new.reader c.serve_rounds.new.tail.items c.serve_rounds.new.writer c.serve_rounds.new.callers.counts in
+    let part = subst (λ (n : Counts). IsPart (library_of e) e.clients e.base.records made is_last (record old { counts = n }) new) c.new-callers.ensures.counts c.in_ok-is_last.ensures.rounds in
     let why = c.in_err-end_epoch.field-0.0 in
     let is : c.from_residual-in_err-end_epoch.result ≡ Err why = search rules in
     subst (λ (r : Result Ended StreamFault). IfErr r (λ w. StopsAfter e.base e.clients [] w old new.input new.output)) (sym is)

@@ -44,11 +44,11 @@ read_of g c =
     (subst (λ (l : Catalog). IsRound l c.clients-clients.result old left c.args.tail.now.items tail c.in_ok-round.round) c.library.ensures c.in_ok-round.ensures.round)
 
 -- its answers
-answered_of : (g : Over) (c : In_ok-text g) → AnswersLines g.N.Name.engine (made_so_far c.args.callers.now) (made_so_far c.answer_lines.new.callers) c.in_ok-round.round.requests.items c.args.callers.now.number
-    c.in_ok-text.text.items c.answer_lines.new.callers.number
+answered_of : (g : Over) (c : In_ok-text g) → AnswersLines g.N.Name.engine (made_so_far c.args.callers.now) (made_so_far c.answer_lines.new.callers) c.in_ok-round.round.requests.items c.args.callers.now.counts
+    c.in_ok-text.text.items c.answer_lines.new.callers.counts
 answered_of g c =
     let e = g.N.Name.engine in
-    subst (λ (xs : List Request). AnswersLines e (made_so_far c.args.callers.now) (made_so_far c.answer_lines.new.callers) xs c.args.callers.now.number c.in_ok-text.text.items c.answer_lines.new.callers.number)
+    subst (λ (xs : List Request). AnswersLines e (made_so_far c.args.callers.now) (made_so_far c.answer_lines.new.callers) xs c.args.callers.now.counts c.in_ok-text.text.items c.answer_lines.new.callers.counts)
     c.as_slice.ensures.value c.in_ok-text.ensures.answers
 
 pub returns-clause-round : goal.returns-clause-round
@@ -56,17 +56,17 @@ returns-clause-round g c =
     let at = goal.at.returns-clause-round g c in
     let known = g.S.Source.remaining in
     let contents = g.W.Sink.contents in
-    let old : Place = place_of known contents c.args.reader.now c.args.tail.now.items c.args.writer.now c.args.callers.now.number in
+    let old : Place = place_of known contents c.args.reader.now c.args.tail.now.items c.args.writer.now c.args.callers.now.counts in
     let wrote = subst (Appends old.output (contents c.write_text.new.writer)) c.as_slice-2.ensures.value c.in_ok-write_text.ensures.ok in
     round_after g.N.Name.engine (made_so_far c.args.callers.now) (made_so_far c.answer_lines.new.callers) c.in_ok-round.round old (known c.read.new.source) c.read.new.tail.items (read_of g at.In_ok-round)
-    c.answer_lines.new.callers.number c.in_ok-text.text.items (answered_of g at.In_ok-text) (contents c.write_text.new.writer) wrote
+    c.answer_lines.new.callers.counts c.in_ok-text.text.items (answered_of g at.In_ok-text) (contents c.write_text.new.writer) wrote
 
 pub returns-in_err-round-clause-err : goal.returns-in_err-round-clause-err
 returns-in_err-round-clause-err g c =
     let e = g.N.Name.engine in
     let calls = made_so_far c.args.callers.now in
     let known = g.S.Source.remaining in
-    let old : Place = place_of known g.W.Sink.contents c.args.reader.now c.args.tail.now.items c.args.writer.now c.args.callers.now.number in
+    let old : Place = place_of known g.W.Sink.contents c.args.reader.now c.args.tail.now.items c.args.writer.now c.args.callers.now.counts in
     let why = c.in_err-round.field-0.0 in
     let is : c.from_residual.result ≡ Err (fault_of_round why) = search rules in
     subst (λ (r : Result Bool StreamFault). IfErr r (λ w. StopsAfter e.base e.clients calls w old (known c.read.new.source) old.output)) (sym is)
@@ -77,7 +77,7 @@ returns-in_err-text-clause-err g c =
     let e = g.N.Name.engine in
     let calls = made_so_far c.args.callers.now in
     let known = g.S.Source.remaining in
-    let old : Place = place_of known g.W.Sink.contents c.args.reader.now c.args.tail.now.items c.args.writer.now c.args.callers.now.number in
+    let old : Place = place_of known g.W.Sink.contents c.args.reader.now c.args.tail.now.items c.args.writer.now c.args.callers.now.counts in
     let read = read_of g (goal.at.returns-in_err-text-clause-err g c).In_ok-round in
     let why = c.in_err-text.field-0.0 in
     let is : c.from_residual-in_err-text.result ≡ Err why = search rules in
@@ -91,9 +91,9 @@ returns-in_err-write_text-clause-err g c =
     let calls = made_so_far c.args.callers.now in
     let known = g.S.Source.remaining in
     let contents = g.W.Sink.contents in
-    let old : Place = place_of known contents c.args.reader.now c.args.tail.now.items c.args.writer.now c.args.callers.now.number in
+    let old : Place = place_of known contents c.args.reader.now c.args.tail.now.items c.args.writer.now c.args.callers.now.counts in
     let wrote = subst (AppendsBeginning old.output (contents c.write_text.new.writer)) c.as_slice-2.ensures.value c.in_err-write_text.ensures.err in
     let is : c.from_residual-in_err-write_text.result ≡ Err fault.Write = search rules in
     subst (λ (r : Result Bool StreamFault). IfErr r (λ w. StopsAfter e.base e.clients calls w old (known c.read.new.source) (contents c.write_text.new.writer))) (sym is)
-    (round_breaks_off e calls (made_so_far c.answer_lines.new.callers) c.in_ok-round.round old (known c.read.new.source) c.read.new.tail.items (read_of g at.In_ok-round) c.answer_lines.new.callers.number
+    (round_breaks_off e calls (made_so_far c.answer_lines.new.callers) c.in_ok-round.round old (known c.read.new.source) c.read.new.tail.items (read_of g at.In_ok-round) c.answer_lines.new.callers.counts
     c.in_ok-text.text.items (answered_of g at.In_ok-text) c.in_ok-text.ensures.callers.found (contents c.write_text.new.writer) c.in_ok-round.ensures.tail wrote)

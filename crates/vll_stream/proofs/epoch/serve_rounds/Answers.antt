@@ -15,7 +15,7 @@ use Rattle.vll_stream.proofs.epoch.serve_rounds.Goals as goal
 pub loop-init : goal.loop-init
 loop-init g c =
     let e = g.N.Name.engine in
-    let at : Place = place_of g.S.Source.remaining g.W.Sink.contents c.args.reader.now c.args.tail.now.items c.args.writer.now c.args.callers.now.number in (
+    let at : Place = place_of g.S.Source.remaining g.W.Sink.contents c.args.reader.now c.args.tail.now.items c.args.writer.now c.args.callers.now.counts in (
       tt,
       tt,
       c.requires.callers,
@@ -27,14 +27,14 @@ loop-init g c =
 
 -- the rounds so far, and one more
 more : (g : Over) (c : In_ok-is_last g) → IsPart (library_of g.N.Name.engine) g.N.Name.engine.clients g.N.Name.engine.base.records (made_so_far c.serve_round.new.callers) c.in_ok-is_last.is_last
-    (place_of g.S.Source.remaining g.W.Sink.contents c.args.reader.now c.args.tail.now.items c.args.writer.now c.args.callers.now.number)
-    (place_of g.S.Source.remaining g.W.Sink.contents c.serve_round.new.reader c.serve_round.new.tail.items c.serve_round.new.writer c.serve_round.new.callers.number)
+    (place_of g.S.Source.remaining g.W.Sink.contents c.args.reader.now c.args.tail.now.items c.args.writer.now c.args.callers.now.counts)
+    (place_of g.S.Source.remaining g.W.Sink.contents c.serve_round.new.reader c.serve_round.new.tail.items c.serve_round.new.writer c.serve_round.new.callers.counts)
 more g c =
     let known = g.S.Source.remaining in
     let contents = g.W.Sink.contents in
-    let old : Place = place_of known contents c.args.reader.now c.args.tail.now.items c.args.writer.now c.args.callers.now.number in
-    let mid : Place = place_of known contents c.loop.reader c.loop.tail.items c.loop.writer c.loop.callers.number in
-    let new : Place = place_of known contents c.serve_round.new.reader c.serve_round.new.tail.items c.serve_round.new.writer c.serve_round.new.callers.number in
+    let old : Place = place_of known contents c.args.reader.now c.args.tail.now.items c.args.writer.now c.args.callers.now.counts in
+    let mid : Place = place_of known contents c.loop.reader c.loop.tail.items c.loop.writer c.loop.callers.counts in
+    let new : Place = place_of known contents c.serve_round.new.reader c.serve_round.new.tail.items c.serve_round.new.writer c.serve_round.new.callers.counts in
     part_more g.N.Name.engine (made_so_far c.loop.callers) (made_so_far c.serve_round.new.callers) c.in_ok-is_last.is_last old mid new c.loop.invariant.6 c.in_ok-is_last.ensures.round
 
 pub returns-then-is_last-clause-rounds : goal.returns-then-is_last-clause-rounds
@@ -45,8 +45,8 @@ loop-preserved g c =
     let e = g.N.Name.engine in
     let known = g.S.Source.remaining in
     let contents = g.W.Sink.contents in
-    let old : Place = place_of known contents c.args.reader.now c.args.tail.now.items c.args.writer.now c.args.callers.now.number in
-    let new : Place = place_of known contents c.serve_round.new.reader c.serve_round.new.tail.items c.serve_round.new.writer c.serve_round.new.callers.number in (
+    let old : Place = place_of known contents c.args.reader.now c.args.tail.now.items c.args.writer.now c.args.callers.now.counts in
+    let new : Place = place_of known contents c.serve_round.new.reader c.serve_round.new.tail.items c.serve_round.new.writer c.serve_round.new.callers.counts in (
       tt,
       tt,
       c.in_ok-is_last.ensures.callers,
@@ -61,8 +61,8 @@ returns-in_err-is_last-clause-err g c =
     let e = g.N.Name.engine in
     let known = g.S.Source.remaining in
     let contents = g.W.Sink.contents in
-    let old : Place = place_of known contents c.args.reader.now c.args.tail.now.items c.args.writer.now c.args.callers.now.number in
-    let mid : Place = place_of known contents c.loop.reader c.loop.tail.items c.loop.writer c.loop.callers.number in
+    let old : Place = place_of known contents c.args.reader.now c.args.tail.now.items c.args.writer.now c.args.callers.now.counts in
+    let mid : Place = place_of known contents c.loop.reader c.loop.tail.items c.loop.writer c.loop.callers.counts in
     let left = known c.serve_round.new.reader in
     let written = contents c.serve_round.new.writer in
     let why = c.in_err-is_last.field-0.0 in

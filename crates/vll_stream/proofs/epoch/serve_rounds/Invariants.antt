@@ -12,5 +12,5 @@ invariant-loop g l =
     (goal.iterator-loop g).can_next l.iterator' × (goal.iterator-loop g).is_finite l.iterator'
     × AreCallers e l.callers × (g.S.Source.failed l.reader ≡ false) × (g.W.Sink.failed l.writer ≡ false) × (has_feed l.tail.items ≡ false)
     × IsPart (library_of e) e.clients e.base.records (made_so_far l.callers) false
-    (place_of g.S.Source.remaining g.W.Sink.contents l.initial.reader l.initial.tail.items l.initial.writer l.initial.callers.number)
-    (place_of g.S.Source.remaining g.W.Sink.contents l.reader l.tail.items l.writer l.callers.number)
+    (place_of g.S.Source.remaining g.W.Sink.contents l.initial.reader l.initial.tail.items l.initial.writer l.initial.callers.counts)
+    (place_of g.S.Source.remaining g.W.Sink.contents l.reader l.tail.items l.writer l.callers.counts)

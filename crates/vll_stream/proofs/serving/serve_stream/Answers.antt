@@ -7,7 +7,9 @@ use Rattle.vll_sca.specs.declared.place.Placing.{Placing}
 use Rattle.vll_scenario.specs.declared.limits.TheConstants.{MOST_CLIENTS}
 use Rattle.vll_sca.specs.Placing.{placing}
 use Rattle.vll_lines.specs.Answers.{end_line}
+use Rattle.vll_lines.specs.Counts.{none_counted}
 use Rattle.vll_lines.specs.Lines.{has_feed}
+use Rattle.vll_lines.specs.declared.counts.Counts.{Counts}
 use Rattle.vll_stream.specs.Private.Parts.{Place, place_of}
 use Rattle.vll_stream.specs.Private.Told.{AreAll, IsEpoch, IsSoFar, first_engine}
 use Rattle.vll_stream.specs.Served.{EndsEarly}
@@ -23,7 +25,7 @@ use Rattle.vll_stream.proofs.serving.serve_stream.Goals as goal
 pub loop-init : goal.loop-init
 loop-init g c =
     let first = first_engine c.args.scenario in
-    let at : Place = place_of g.S.Source.remaining g.W.Sink.contents c.args.reader.now [] c.args.writer.now 0 in
+    let at : Place = place_of g.S.Source.remaining g.W.Sink.contents c.args.reader.now [] c.args.writer.now none_counted in
     let o = c.in_ok-opening.ensures.opened in
     let on : GoesOn placing first [] c.in_ok-opening.opening = record {
       records = ap (λ (x : OpeningShown Placing). x.records) o;
@@ -39,7 +41,8 @@ loop-init g c =
       c.requires.reader,
       c.requires.writer,
       ap has_feed c.new-tail.ensures.items,
-      subst (λ (t : List ℕ). IsSoFar first at (record at { tail = t }) c.in_ok-opening.opening) (sym c.new-tail.ensures.items) (none_so_far first at c.in_ok-opening.opening on),
+      subst (λ (t : List ℕ). IsSoFar first at (record at { tail = t; counts = c.none-counts.result }) c.in_ok-opening.opening) (sym c.new-tail.ensures.items)
+          (subst (λ (k : Counts). IsSoFar first at (record at { counts = k }) c.in_ok-opening.opening) (sym c.none-counts.ensures) (none_so_far first at c.in_ok-opening.opening on)),
       subst (λ (k : ℕ). k ≤ MOST_CLIENTS) on.clients few,
     )
 
@@ -51,9 +54,9 @@ loop-preserved g c =
     let l = c.loop in
     let e = name_of placing l.opening in
     let so_far = l.invariant.6 in
-    let old : Place = place_of known contents c.args.reader.now [] c.args.writer.now 0 in
-    let mid : Place = place_of known contents l.reader l.tail.items l.writer l.number in
-    let new : Place = place_of known contents c.run_epoch.new.reader c.run_epoch.new.tail.items c.run_epoch.new.writer c.in_ok-ended.ended.number in
+    let old : Place = place_of known contents c.args.reader.now [] c.args.writer.now none_counted in
+    let mid : Place = place_of known contents l.reader l.tail.items l.writer l.counts in
+    let new : Place = place_of known contents c.run_epoch.new.reader c.run_epoch.new.tail.items c.run_epoch.new.writer c.in_ok-ended.ended.counts in
     let epoch = subst (IsEpoch e mid new) c.in-On.is c.in_ok-ended.ensures.epoch in
     let few = epoch.follows.1 in (
       tt,
@@ -67,23 +70,23 @@ loop-preserved g c =
     )
 
 -- all epochs, once the last one has ended
-all_of : (g : Over) (c : In-Over g) → AreAll (first_engine c.args.scenario) (place_of g.S.Source.remaining g.W.Sink.contents c.args.reader.now [] c.args.writer.now 0)
-    (place_of g.S.Source.remaining g.W.Sink.contents c.run_epoch.new.reader c.run_epoch.new.tail.items c.run_epoch.new.writer c.in_ok-ended.ended.number) c.in-Over.records.items
+all_of : (g : Over) (c : In-Over g) → AreAll (first_engine c.args.scenario) (place_of g.S.Source.remaining g.W.Sink.contents c.args.reader.now [] c.args.writer.now none_counted)
+    (place_of g.S.Source.remaining g.W.Sink.contents c.run_epoch.new.reader c.run_epoch.new.tail.items c.run_epoch.new.writer c.in_ok-ended.ended.counts) c.in-Over.records.items
 all_of g c =
     let known = g.S.Source.remaining in
     let contents = g.W.Sink.contents in
     let l = c.loop in
     let e = name_of placing l.opening in
-    let old : Place = place_of known contents c.args.reader.now [] c.args.writer.now 0 in
-    let mid : Place = place_of known contents l.reader l.tail.items l.writer l.number in
-    let new : Place = place_of known contents c.run_epoch.new.reader c.run_epoch.new.tail.items c.run_epoch.new.writer c.in_ok-ended.ended.number in
+    let old : Place = place_of known contents c.args.reader.now [] c.args.writer.now none_counted in
+    let mid : Place = place_of known contents l.reader l.tail.items l.writer l.counts in
+    let new : Place = place_of known contents c.run_epoch.new.reader c.run_epoch.new.tail.items c.run_epoch.new.writer c.in_ok-ended.ended.counts in
     let epoch = subst (IsEpoch e mid new) c.in-Over.is c.in_ok-ended.ensures.epoch in
     the_last (first_engine c.args.scenario) old mid new l.opening l.invariant.6 epoch.calls _ epoch.part epoch.found c.in-Over.records.items epoch.follows refl
 
 -- the last line is written then
-text_of : (g : Over) (c : After-as_slice-in-Over g) → c.as_slice-in-Over.result.now ≡ end_line c.in_ok-ended.ended.number c.in-Over.records.items
+text_of : (g : Over) (c : After-as_slice-in-Over g) → c.as_slice-in-Over.result.now ≡ end_line c.in_ok-ended.ended.counts.calls c.in-Over.records.items
 text_of g c =
-    let n : ℕ = c.in_ok-ended.ended.number in
+    let n : ℕ = c.in_ok-ended.ended.counts.calls in
     c.as_slice-in-Over.ensures.value
     ∙ (c.in_ok-text-in-Over.ensures ∙ (ap (λ (l : List ℕ). l ++ end_line n c.as_slice.result.now) c.new-in-Over.ensures.items ∙ ap (end_line n) c.as_slice.ensures.value))
 
@@ -94,7 +97,7 @@ returns-in-Over-clause-ok g c =
     let contents = g.W.Sink.contents in
     let final = contents c.write_text.new.writer in
     serves_all c.args.scenario (known c.args.reader.now) (known c.run_epoch.new.reader) (contents c.args.writer.now) (contents c.run_epoch.new.writer) c.run_epoch.new.tail.items c.in-Over.records.items
-    c.in_ok-ended.ended.number (all_of g at.In-Over) final (subst (Appends (contents c.run_epoch.new.writer) final) (text_of g at.After-as_slice-in-Over) c.in_ok-write_text-in-Over.ensures.ok)
+    c.in_ok-ended.ended.counts (all_of g at.In-Over) final (subst (Appends (contents c.run_epoch.new.writer) final) (text_of g at.After-as_slice-in-Over) c.in_ok-write_text-in-Over.ensures.ok)
 
 pub returns-in_err-opening-clause-err : goal.returns-in_err-opening-clause-err
 returns-in_err-opening-clause-err g c =
@@ -124,8 +127,8 @@ returns-in_err-ended-clause-err g c =
     let known = g.S.Source.remaining in
     let contents = g.W.Sink.contents in
     let l = c.loop in
-    let old : Place = place_of known contents c.args.reader.now [] c.args.writer.now 0 in
-    let mid : Place = place_of known contents l.reader l.tail.items l.writer l.number in
+    let old : Place = place_of known contents c.args.reader.now [] c.args.writer.now none_counted in
+    let mid : Place = place_of known contents l.reader l.tail.items l.writer l.counts in
     let left = known c.run_epoch.new.reader in
     let written = contents c.run_epoch.new.writer in
     let why = c.in_err-ended.field-0.0 in
@@ -159,7 +162,7 @@ returns-in_err-text-in-Over-clause-err g c =
     let written = g.W.Sink.contents c.run_epoch.new.writer in
     let is : c.from_residual-in_err-text-in-Over.result ≡ Err fault.NoMemory = search rules in
     subst (λ (r : Result (Unit {0}) StreamFault). IfErr r (λ w. EndsEarly c.args.scenario w old left before written)) (sym is)
-    (lacks_memory c.args.scenario old left before written c.run_epoch.new.tail.items c.in-Over.records.items c.in_ok-ended.ended.number
+    (lacks_memory c.args.scenario old left before written c.run_epoch.new.tail.items c.in-Over.records.items c.in_ok-ended.ended.counts
     (all_of g (goal.at.returns-in_err-text-in-Over-clause-err g c).In-Over))
 
 pub returns-in_err-write_text-in-Over-clause-err : goal.returns-in_err-write_text-in-Over-clause-err
@@ -172,7 +175,7 @@ returns-in_err-write_text-in-Over-clause-err g c =
     let final = g.W.Sink.contents c.write_text.new.writer in
     let is : c.from_residual-in_err-write_text-in-Over.result ≡ Err fault.Write = search rules in
     subst (λ (r : Result (Unit {0}) StreamFault). IfErr r (λ w. EndsEarly c.args.scenario w old left before final)) (sym is)
-    (breaks_off c.args.scenario old left before written c.run_epoch.new.tail.items c.in-Over.records.items c.in_ok-ended.ended.number (all_of g at.In-Over) final
+    (breaks_off c.args.scenario old left before written c.run_epoch.new.tail.items c.in-Over.records.items c.in_ok-ended.ended.counts (all_of g at.In-Over) final
     (subst (AppendsBeginning written final) (text_of g at.After-as_slice-in-Over) c.in_err-write_text-in-Over.ensures.err))
 
 pub run_epoch-requires : goal.run_epoch-requires

@@ -4,6 +4,7 @@ use Rattle.vll_core.specs.declared.config.TheConstants.{MOST_CALLS}
 use Rattle.vll_queue.specs.Shown.{name_of}
 use Rattle.vll_sca.specs.Placing.{placing}
 use Rattle.vll_scenario.specs.declared.limits.TheConstants.{MOST_CLIENTS}
+use Rattle.vll_lines.specs.Counts.{none_counted}
 use Rattle.vll_lines.specs.Lines.{has_feed}
 use Rattle.vll_stream.specs.Private.Parts.{place_of}
 use Rattle.vll_stream.specs.Private.Told.{IsSoFar, first_engine}
@@ -17,6 +18,6 @@ invariant-loop g l =
     (goal.iterator-loop g).can_next l.iterator' × (goal.iterator-loop g).is_finite l.iterator'
     × (MOST_CALLS ≤ vec_capacity l.room) × (g.S.Source.failed l.reader ≡ false) × (g.W.Sink.failed l.writer ≡ false) × (has_feed l.tail.items ≡ false)
     × IsSoFar (first_engine l.fn.scenario)
-    (place_of g.S.Source.remaining g.W.Sink.contents l.fn.reader [] l.fn.writer 0)
-    (place_of g.S.Source.remaining g.W.Sink.contents l.reader l.tail.items l.writer l.number) l.opening
+    (place_of g.S.Source.remaining g.W.Sink.contents l.fn.reader [] l.fn.writer none_counted)
+    (place_of g.S.Source.remaining g.W.Sink.contents l.reader l.tail.items l.writer l.counts) l.opening
     × (length l.fn.scenario.scripts ≤ MOST_CLIENTS)

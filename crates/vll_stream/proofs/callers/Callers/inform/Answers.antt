@@ -36,8 +36,8 @@ returns g c =
           let there = heard_at e old teller c.args.client s w.tell-news.new.session heard c.requires.callers c.requires.client at w.tell-news.ensures.session w.index_mut-in-Some.ensures.value in
           informed_by e old new teller c.args.client s w.tell-news.new.session heard w.hear.new.session w.tell-news.result.calls c.requires.callers w.in-Some.is at w.tell-news.ensures.session there
           (ap (λ (x : Callers). x.sessions.items) w.self-is) w.tell-news.ensures.news w.hear.ensures.heard w.hear.ensures.session (ap (λ (x : Callers). x.calls) w.self-is) refl
-          (ap (λ (x : Callers). x.number) w.self-is)
+          (ap (λ (x : Callers). x.counts) w.self-is)
       | in_default w ↦
           informed_first e old new c.args.client c.requires.callers c.requires.client w.in_default.is (ap (λ (x : Callers). x.sessions.items) w.self-is) (ap (λ (x : Callers). x.calls) w.self-is) refl
-          (ap (λ (x : Callers). x.number) w.self-is)
+          (ap (λ (x : Callers). x.counts) w.self-is)
     ]

@@ -26,7 +26,7 @@ returns-clause-made g c =
     let client = c.args.call.now.client in
     let s : SessionShown = c.index_mut-session.result.now in
     let at : slice_get old.sessions.items client ≡ Some s = session_at e old client s c.inform.ensures.callers c.requires.client c.index_mut-session.ensures.value in
-    let new : Callers = record old { sessions = with_item old.sessions client c.call.new.session; calls = old.calls + 1; number = old.number + 1 } in
+    let new : Callers = record old { sessions = with_item old.sessions client c.call.new.session; calls = old.calls + 1; counts = c.with-self.result } in
     let makes =
     makes_call e old new client s c.call.new.session c.inform.ensures.callers at refl c.in-Ok.ensures.session c.inform.ensures.informed c.args.call.now.call _ _ c.in-Ok.ensures.called
     (told_first old client s c.inform.ensures.informed at) (sym c.ticket.view_is ∙ search rules) c.requires.fits refl in

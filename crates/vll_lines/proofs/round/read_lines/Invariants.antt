@@ -1,7 +1,7 @@
 -- No line has ended yet, and the tail stands for the bytes of the line that has begun.
 use Rattle.std.proofs.Common.{◌≡◌, [], false}
 use Rattle.vll_lines.proofs.Cuts.{IsBegun}
-use Rattle.vll_lines.proofs.round.RoundReader.read.Given as goal
+use Rattle.vll_lines.proofs.round.read_lines.Given as goal
 
 abbrev pub invariant-loop : goal.invariant-loop
 invariant-loop g l =

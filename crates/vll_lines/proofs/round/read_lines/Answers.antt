@@ -7,7 +7,7 @@ use Rattle.vll_lines.specs.declared.round.RoundFault.{RoundFault}
 use Rattle.vll_lines.specs.declared.round.RoundFault.TheVariants as fault
 use Rattle.vll_lines.proofs.Cuts.{begun_more, begun_none, broken_memory, round_more}
 use Rattle.vll_lines.proofs.Fitting.{asked_fit, asked_low}
-use Rattle.vll_lines.proofs.round.RoundReader.read.Goals as goal
+use Rattle.vll_lines.proofs.round.read_lines.Goals as goal
 
 pub loop-init : goal.loop-init
 loop-init g c = (tt, tt, c.new-requests.ensures.items, c.requires.source, begun_none (g.S.Source.remaining c.args.source.now) c.args.tail.now.items c.requires.tail)
