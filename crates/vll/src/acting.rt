@@ -18,16 +18,17 @@ ghost use Rattle.vll_explain.specs.Explained.{Explains};
 ghost use Rattle.vll_scenario.specs.declared.writing.WriteFault.TheVariants as write_fault;
 ghost use Rattle.vll_stream.specs.declared.fault.StreamFault.{StreamFault};
 ghost use Rattle.vll_stream.specs.declared.fault.StreamFault.TheVariants as stream_fault;
-ghost use Rattle.vll.specs.Private.Acting.{Does, IsWith, Runs, ServesFile, StopsFile};
+ghost use Rattle.vll.specs.Private.Acting.{IsWith, Runs, ServesFile, StopsFile};
 ghost use Rattle.vll.specs.declared.fault.Fault.TheVariants as fault;
 
 use crate::fault::Fault;
+use clap::Error;
 use std::alloc::Global;
 use std::fs;
 use std::rt::Files;
 use std::sync::Wait;
 use std::thread::Threads;
-use vll_command::{Action, CommandFault, RunOptions, ServeOptions};
+use vll_command::{CommandFault, RunOptions, ServeOptions};
 use vll_draw::draw;
 use vll_explain::explain;
 use vll_scenario::{EngineOptions, EventRange};
@@ -35,33 +36,13 @@ use vll_server::{Plain, Scenario, ScenarioFault, Sink, Source, read_scenario, re
 use vll_stream::serve_stream;
 use vll_workers::{MOST_WORKERS, OpenGate};
 
-// Performs `action`. The text of a `Tell` is printed, and neither `reader` nor `writer` is used.
-pub(crate) fn act<
-    R: Print + Eprint + AllocGlobal + Threads + Wait + Files + Sync,
-    S: Source,
-    W: Sink,
->(rt: &R, action: Action, reader: &mut S, writer: &mut W) -> Result<(), Fault>
-    requires reader { S.failed reader.old ≡ false }
-    requires writer { W.failed writer.old ≡ false }
-    ensures ok { OnOk result (Does action (S.remaining reader.old) (S.remaining reader.new)
-        (Appends (W.contents writer.old) (W.contents writer.new))) }
-    ensures explained { (why : ScenarioFault) → result ≡ Err (fault.Explained why)
-        → Explains (S.remaining reader.old) (S.remaining reader.new) (Some why)
-        (Appends (W.contents writer.old) (W.contents writer.new)) }
-{
-    match action {
-        // A text that cannot be printed has no line of its own.
-        Action::Tell(text) => text.print(rt).map_err(|_| Fault::CommandLine(CommandFault)),
-        Action::Run(options) => run(rt, rt.alloc(), options, reader, writer),
-        Action::Serve(options) => serve(rt, rt.alloc(), options, reader, writer),
-        Action::Replay => replay_schedule(rt.alloc(), reader, writer),
-        Action::Explain => explain_fault(rt.alloc(), reader, writer),
-        Action::Draw(window) => draw_schedule(rt.alloc(), reader, writer, window),
-    }
+// Prints a help text or the version. One that cannot be printed has no line of its own.
+pub(crate) fn print_text(rt: &(impl Print + Eprint), text: &Error) -> Result<(), Fault> {
+    text.print(rt).map_err(|_| Fault::CommandLine(CommandFault))
 }
 
 // Reads a scenario, runs it with these options, and writes the text of the outcome.
-fn run<R: Threads + Wait + Sync, S: Source, W: Sink>(
+pub(crate) fn run<R: Threads + Wait + Sync, S: Source, W: Sink>(
     rt: &R,
     alloc: Global,
     options: RunOptions,
@@ -105,7 +86,7 @@ fn chosen(scenario: Scenario, options: RunOptions) -> (Scenario, u32)
 }
 
 // Reads a scenario from a file, and serves the calls that the reader's lines ask for.
-fn serve<R: Threads + Wait + Files + Sync, S: Source, W: Sink>(
+pub(crate) fn serve<R: Threads + Wait + Files + Sync, S: Source, W: Sink>(
     rt: &R,
     alloc: Global,
     options: ServeOptions,
@@ -153,7 +134,7 @@ fn scenario_in<R: Files>(
 }
 
 // Reads a scenario, and writes the text of the replay of its schedule.
-fn replay_schedule<S: Source, W: Sink>(
+pub(crate) fn replay_schedule<S: Source, W: Sink>(
     alloc: Global,
     reader: &mut S,
     writer: &mut W,
@@ -176,7 +157,7 @@ fn replay_schedule<S: Source, W: Sink>(
 }
 
 // Reads a scenario, and writes its fault with an explanation, or what the scenario has.
-fn explain_fault<S: Source, W: Sink>(
+pub(crate) fn explain_fault<S: Source, W: Sink>(
     alloc: Global,
     reader: &mut S,
     writer: &mut W,
@@ -199,7 +180,7 @@ fn explain_fault<S: Source, W: Sink>(
 }
 
 // Reads a scenario, and writes the page that draws the replay of its schedule.
-fn draw_schedule<S: Source, W: Sink>(
+pub(crate) fn draw_schedule<S: Source, W: Sink>(
     alloc: Global,
     reader: &mut S,
     writer: &mut W,

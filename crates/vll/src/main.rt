@@ -10,7 +10,7 @@ ghost use Rattle.vll.specs.Private.Acting.{Performs};
 mod acting;
 mod fault;
 
-use crate::acting::act;
+use crate::acting::{draw_schedule, explain_fault, print_text, replay_schedule, run, serve};
 use crate::fault::Fault;
 use std::process::ExitCode;
 use std::rt::{Env, Files};
@@ -40,7 +40,7 @@ fn words_of(rt: &(impl Env + AllocGlobal)) -> io::Result<Vec<String>> {
 }
 
 // Performs the action that was asked for, and prints the line of a fault. The exit status is 0 only if the action was
-// performed.
+// performed. For a `Tell`, neither `reader` nor `writer` is used.
 fn work<R: Print + Eprint + AllocGlobal + Threads + Wait + Files + Sync, S: Source, W: Sink>(
     rt: &R,
     asked: Result<Action, CommandFault>,
@@ -53,7 +53,14 @@ fn work<R: Print + Eprint + AllocGlobal + Threads + Wait + Files + Sync, S: Sour
         (Appends (W.contents writer.old) (W.contents writer.new)) }
 {
     match asked {
-        Ok(action) => ended(rt, &act(rt, action, reader, writer)),
+        Ok(Action::Tell(text)) => ended(rt, &print_text(rt, &text)),
+        Ok(Action::Run(options)) => ended(rt, &run(rt, rt.alloc(), options, reader, writer)),
+        Ok(Action::Serve(options)) => ended(rt, &serve(rt, rt.alloc(), options, reader, writer)),
+        Ok(Action::Replay) => ended(rt, &replay_schedule(rt.alloc(), reader, writer)),
+        Ok(Action::Explain) => ended(rt, &explain_fault(rt.alloc(), reader, writer)),
+        Ok(Action::Draw(window)) => {
+            ended(rt, &draw_schedule(rt.alloc(), reader, writer, window))
+        }
         Err(why) => ended(rt, &Err(Fault::CommandLine(why))),
     }
 }
