@@ -1,5 +1,4 @@
 pub mod Windows
 pub mod Taped
 pub mod Steps
-pub mod PutBack
 pub mod OneByOne

@@ -2,4 +2,3 @@ pub mod Columns
 pub mod OneByOne
 pub mod Page
 pub mod Taped
-pub mod Private

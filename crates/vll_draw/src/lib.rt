@@ -17,7 +17,6 @@ mod fault;
 mod one_by_one;
 mod page;
 mod picture;
-mod serial;
 mod tape;
 
 pub use drawing::draw;

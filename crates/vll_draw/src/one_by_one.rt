@@ -9,7 +9,6 @@ ghost use Rattle.vll_scenario.specs.Headline.Setup.{catalog_of};
 ghost use Rattle.vll_scenario.specs.Setup.{IsSetup, lists_of, setup_with};
 ghost use Rattle.vll_draw.specs.OneByOne.{alone, by_clients, entering, entry_of, finds, run_of, schedule_for, stores, with_schedule};
 
-use crate::serial::make;
 use sqlite_items::Items;
 use std::alloc::{AllocError, Global};
 use vll_check::Library;
@@ -17,6 +16,7 @@ use vll_core::{Event, Ticket};
 use vll_proc::{Call, Reply};
 use vll_record::{Claim, Claims, Mode};
 use vll_scenario::{MOST_CLIENTS, MOST_EVENTS, Scenario, ScenarioParts};
+use vll_serial::make;
 
 /// Where the schedule that is drawn comes from.
 #[derive(Clone, Copy, PartialEq, Eq, Debug)]

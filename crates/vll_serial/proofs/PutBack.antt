@@ -6,7 +6,7 @@ use Rattle.std.proofs.lemmas.Option.{same_Some, slice_get_within}
 use Rattle.vll_record.specs.declared.claim.Claim.{Claim}
 use Rattle.vll_record.specs.Claim.{mode_on, stronger_of}
 use Rattle.vll_proc.specs.Cells.{Holds}
-use Rattle.vll_draw.specs.Private.Serial.{StaysElsewhere}
+use Rattle.vll_serial.specs.Private.Alone.{StaysElsewhere}
 
 -- a claim from an index on is on a record
 pub record IsClaimed (claims : List Claim) (from r : ℕ) : Type 0 where

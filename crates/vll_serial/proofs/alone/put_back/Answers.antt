@@ -2,9 +2,9 @@ use Rattle.std.proofs.Common.{◌≡◌, ◌<◌, Some, length, slice_get, slice
 use Rattle.std.proofs.lemmas.List.{length-set}
 use Rattle.vll_record.specs.declared.claim.Claim.{Claim}
 use Rattle.vll_core.proofs.Places.{all_at, entry_at}
-use Rattle.vll_draw.proofs.PutBack.{put_first, put_last, put_next}
-use Rattle.vll_draw.proofs.serial.put_back.Goals as goal
-use Rattle.vll_draw.proofs.serial.put_back.Goals.{in-Some, in-None}
+use Rattle.vll_serial.proofs.PutBack.{put_first, put_last, put_next}
+use Rattle.vll_serial.proofs.alone.put_back.Goals as goal
+use Rattle.vll_serial.proofs.alone.put_back.Goals.{in-Some, in-None}
 
 pub loop-i-init : goal.loop-i-init
 loop-i-init c = (refl, put_first c.args.frame.now c.args.claims.now c.args.records.now)

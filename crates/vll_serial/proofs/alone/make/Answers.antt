@@ -6,7 +6,7 @@ use Rattle.vll_proc.specs.Made.{IsCallOf}
 use Rattle.vll_proc.proofs.Kept.{length-applied, slice_index-applied}
 use Rattle.vll_check.proofs.Fitting.{ready_well}
 use Rattle.vll_core.proofs.AtWork.{procedure_ready}
-use Rattle.vll_draw.proofs.serial.make.Goals as goal
+use Rattle.vll_serial.proofs.alone.make.Goals as goal
 
 pub frame_of-frame-requires : goal.frame_of-frame-requires
 frame_of-frame-requires c =

@@ -5,14 +5,14 @@ ghost use Rattle.vll_record.specs.declared.claim.Claim.{Claim};
 ghost use Rattle.vll_proc.specs.Cells.{Holds};
 ghost use Rattle.vll_proc.specs.Headline.Serial.{apply};
 ghost use Rattle.vll_check.specs.Calls.{IsReady};
-ghost use Rattle.vll_draw.specs.Private.Serial.{StaysElsewhere};
+ghost use Rattle.vll_serial.specs.Private.Alone.{StaysElsewhere};
 
 use vll_check::Library;
 use vll_proc::{Call, Frame, Reply};
 use vll_record::Claims;
 
-/// Makes a call that may enter on the records, and returns its reply.
-pub(crate) fn make(library: &Library, records: &mut [u64], call: &Call) -> Reply
+/// Makes a call that may enter on the records, as many as its library is for, and returns its reply. It allocates no memory.
+pub fn make(library: &Library, records: &mut [u64], call: &Call) -> Reply
     requires ready { IsReady library.now call.now }
     requires records { library.now.records ≡ length records.old }
     ensures reply { result ≡ (apply library.now.procs call.now records.old).reply }

@@ -1,6 +1,6 @@
 use Rattle.std.proofs.Common.{◌≡◌, length}
-use Rattle.vll_draw.proofs.PutBack.{IsPutBack}
-use Rattle.vll_draw.proofs.serial.put_back.Given as goal
+use Rattle.vll_serial.proofs.PutBack.{IsPutBack}
+use Rattle.vll_serial.proofs.alone.put_back.Given as goal
 
 -- the records of the claims so far have been given their values
 abbrev pub invariant-loop-i : goal.invariant-loop-i
