@@ -36,6 +36,10 @@ FAULTY = [
     ('{"client":0,"proc":"balance","args":[0],"at":1}', 'OBJECT'),
     ('{"counts":true,"proc":"balance","args":[0]}', 'OBJECT'), ('{"counts":false,"client":0}', 'OBJECT'),
     ('{"counts":false}', 'COUNTS'), ('{"counts":null}', 'COUNTS'), ('{"counts":1}', 'COUNTS'),
+    ('{"records":[0,1],"client":0}', 'OBJECT'), ('{"records":[0,1],"counts":true}', 'OBJECT'),
+    ('{"records":0}', 'RECORDS'), ('{"records":[0]}', 'RECORDS'), ('{"records":[0,1,2]}', 'RECORDS'),
+    ('{"records":[0,1.5]}', 'RECORDS'), ('{"records":[-1,1]}', 'RECORDS'), ('{"records":[7,2]}', 'RANGE'),
+    ('{"records":[9,0]}', 'RANGE'), ('{"records":[0,1025]}', 'RANGE'),
     ('{"id":null,"client":0,"proc":"balance","args":[0]}', 'ID'),
     (f'{{"id":"{"x" * 65}","client":0,"proc":"balance","args":[0]}}', 'ID'),
     ('x' * 65537, 'the line has more than 65536 bytes'), ('x' * 90000, 'the line has more than 65536 bytes'),
@@ -44,6 +48,8 @@ FAULTY = [
 WORDS = {
     'OBJECT': 'the line has to be an object with proc, args and perhaps client and id',
     'PROC': 'proc has to be the name of a procedure', 'ARGS': 'args has to be a list of whole numbers',
+    'RECORDS': 'records has to be a list of two whole numbers, the first record and how many',
+    'RANGE': 'records has to ask for at most 1024 records, all of which there are',
     'COUNTS': 'counts has to be true', 'CLIENT': 'client has to be the number of a client',
     'ID': 'id has to be a whole number or a text of at most 64 bytes',
 }
@@ -98,6 +104,10 @@ class Bank:
         """The members of the answer to a line with counts. Its procedures abort by a code alone."""
         aborted = {'code': self.aborted, 'overflow': 0, 'underflow': 0, 'zero divisor': 0, 'moved': 0}
         return {'counts': {'calls': self.calls, 'aborted': aborted, 'rounds': rounds, 'most_lines': most_lines}}
+
+    def records(self, first, count):
+        """The members of the answer to a line with records."""
+        return {'records': self.accounts[first:first + count]}
 
     def last(self):
         return {'calls': self.calls, 'records': self.accounts}
@@ -233,6 +243,23 @@ def counts(program):
             yield from unlike(f'seed {seed}', ended(running, found + running.stdout.read()), 0, wanted)
 
 
+def records(program):
+    """Lines with records tell them as they are at their place, whatever follows in the same round and in other epochs."""
+    for seed, count in ((0, 2000), (1, 2000), (2, 100000)):
+        rng, bank, lines, answers = random.Random(seed), Bank(), [], []
+        for _ in range(count):
+            if rng.random() < 0.2:
+                first = rng.randrange(ACCOUNTS + 1)
+                asked = [first, rng.randrange(ACCOUNTS - first + 1)]
+                line, answer = json.dumps({'records': asked}), bank.records(*asked)
+            else:
+                line, answer = short_line_and_answer(rng, bank)
+            lines.append(line)
+            answers.append(answer)
+        text = ''.join(f'{line}\n' for line in lines).encode()
+        yield from unlike(f'seed {seed}', served(program, text), 0, text_of([*answers, bank.last()]))
+
+
 def short_line_and_answer(rng, bank):
     """A random line of at most 200 bytes, and the answer to it."""
     while True:
@@ -352,6 +379,6 @@ def socket(program):
 
 
 def service(words, _):
-    for trial in (random_streams, epochs, pauses, counts, closed_input, no_utf8, many_clients, many_procedures, closed_output,
-                  long_line, refused_files, other_language, socket):
+    for trial in (random_streams, epochs, pauses, counts, records, closed_input, no_utf8, many_clients, many_procedures,
+                  closed_output, long_line, refused_files, other_language, socket):
         yield trial.__name__.replace('_', ' '), trial(words.program)

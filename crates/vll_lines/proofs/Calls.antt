@@ -10,6 +10,7 @@ use Rattle.vll_lines.specs.declared.request.Request.{Request}
 one_call : (r : Result Asked LineFault) (all cs ds : List ClientCall) → all ≡ cs ++ ds → with_call r all ≡ with_call r cs ++ ds
 one_call (Ok (asked.Call c)) all cs ds same = ap (λ (l : List ClientCall). c ∷ l) same
 one_call (Ok asked.Counts) all cs ds same = same
+one_call (Ok (asked.Records range)) all cs ds same = same
 one_call (Err why) all cs ds same = same
 
 -- the calls of both lists
@@ -20,6 +21,7 @@ calls_of_both (a ∷ xs) ys = one_call a.asked (calls_of (xs ++ ys)) (calls_of x
 one_counts : (r : Result Asked LineFault) (all n m : ℕ) → all ≡ n + m → with_counts r all ≡ with_counts r n + m
 one_counts (Ok (asked.Call c)) all n m same = same
 one_counts (Ok asked.Counts) all n m same = let e : suc all ≡ suc n + m = omega (arith, same) in e
+one_counts (Ok (asked.Records range)) all n m same = same
 one_counts (Err why) all n m same = same
 
 -- the lines of both lists that ask for counts

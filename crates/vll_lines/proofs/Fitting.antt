@@ -1,15 +1,15 @@
 -- The calls that lines ask for are ones that the library makes, of clients that there are.
-use Rattle.std.proofs.Common.{◌≡◌, ◌<◌, inl, inr, ℕ, Bool, true, false, List, [], ◌∷◌, refl, sym, subst, Option, Some, None, codes, Result, Ok, Err, All, if◌then◌else◌, nat_lt}
+use Rattle.std.proofs.Common.{◌≡◌, ◌+◌, ◌<◌, inl, inr, ℕ, Bool, true, false, List, [], ◌∷◌, refl, sym, subst, Option, Some, None, codes, Result, Ok, Err, All, if◌then◌else◌, nat_le, nat_lt}
 use Rattle.std.proofs.lemmas.Bool.{ltb-true}
 use Rattle.std.proofs.lemmas.List.Elements.{All-cons, All-nil, All-weaker}
-use Rattle.serde_json.specs.Data.{Data}
-use Rattle.serde_json.specs.Find.{as_bool, get}
+use Rattle.serde_json.specs.Data.{Data, Items}
+use Rattle.serde_json.specs.Find.{as_array, as_bool, get}
 use Rattle.vll_proc.specs.declared.call.Call.{Call}
 use Rattle.vll_check.specs.Calls.{Fits, call_made}
 use Rattle.vll_check.specs.Headline.Catalog.{Catalog}
 use Rattle.vll_check.specs.declared.fault.CallFault.{CallFault}
 use Rattle.vll_scenario.specs.Shape.{◌>>=◌}
-use Rattle.vll_lines.specs.Request.{AreRequests, IsRequest, IsLine, args_of, asked_by, asked_of, request_with, call_asked, client_of, counts_if, counts_names, has_no_other, id_of, made_by, may_names, name_of}
+use Rattle.vll_lines.specs.Request.{AreRequests, IsRequest, IsLine, args_of, asked_by, asked_of, request_with, call_asked, client_of, counts_if, counts_names, has_no_other, id_of, made_by, may_names, name_of, range_in, records_by, records_names, records_or_call, records_within}
 use Rattle.vll_lines.specs.Calls.{calls_of, with_call}
 use Rattle.vll_lines.specs.declared.request.Request.{Request}
 use Rattle.vll_lines.specs.declared.request.Asked.{Asked}
@@ -17,6 +17,7 @@ use Rattle.vll_lines.specs.declared.request.Asked.TheVariants as asked
 use Rattle.vll_lines.specs.declared.request.ClientCall.{ClientCall}
 use Rattle.vll_lines.specs.declared.request.Id.{Id}
 use Rattle.vll_lines.specs.declared.request.LineFault.{LineFault}
+use Rattle.vll_lines.specs.declared.limits.TheConstants.{MOST_READ}
 
 module _ (library : Catalog) (clients : ℕ) where
   -- a call that fits, of a client below the number
@@ -27,6 +28,7 @@ module _ (library : Catalog) (clients : ℕ) where
   abbrev FitsIn : Result Asked LineFault → Type 0
   FitsIn (Ok (asked.Call c)) = IsServed c
   FitsIn (Ok asked.Counts) = Unit {0}
+  FitsIn (Ok (asked.Records range)) = Unit {0}
   FitsIn (Err why) = Unit {0}
 
   fits_if : (b : Bool) (r s : Result Asked LineFault) → (b ≡ true → FitsIn r) → FitsIn s → FitsIn (if b then r else s)
@@ -56,8 +58,20 @@ module _ (library : Catalog) (clients : ℕ) where
   fits_counts (Some true) = tt
   fits_counts (Some false) = tt
 
+  fits_within : (records : ℕ) (range : Option (ℕ × ℕ)) → FitsIn (records_within records range)
+  fits_within records None = tt
+  fits_within records (Some range) = fits_if (nat_le range.1 MOST_READ) _ _ (λ _. fits_if (nat_le (range.0 + range.1) records) _ _ (λ _. tt) tt) tt
+
+  fits_list : (records : ℕ) (list : Option Items) → FitsIn (records_by records list)
+  fits_list records None = tt
+  fits_list records (Some ds) = fits_within records (range_in ds)
+
+  fits_records : (d : Data) (o : Option Data) → FitsIn (records_or_call library clients d o)
+  fits_records d None = fits_call d
+  fits_records d (Some member) = fits_if (has_no_other records_names d) _ _ (λ _. fits_list library.records (as_array member)) tt
+
   fits_by : (d : Data) (o : Option Data) → FitsIn (asked_by library clients d o)
-  fits_by d None = fits_call d
+  fits_by d None = fits_records d (get (codes "records") d)
   fits_by d (Some member) = fits_if (has_no_other counts_names d) _ _ (λ _. fits_counts (as_bool member)) tt
 
   fits_asked : (d : Data) → FitsIn (asked_of library clients d)
@@ -78,6 +92,7 @@ module _ (library : Catalog) (clients : ℕ) where
   one_fits : (r : Result Asked LineFault) (others : List ClientCall) → FitsIn r → All IsServed others → All IsServed (with_call r others)
   one_fits (Ok (asked.Call c)) others fits more = All-cons IsServed c others fits more
   one_fits (Ok asked.Counts) others fits more = more
+  one_fits (Ok (asked.Records range)) others fits more = more
   one_fits (Err why) others fits more = more
 
   -- each call that lines ask for is one

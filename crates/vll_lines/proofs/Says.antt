@@ -40,6 +40,9 @@ only_put k d (member l e ms) known only =
 counts_stay : (k : List ℕ) (d : Data) (ms : Members) → (codes "counts" ≡ k → ⊥) → get (codes "counts") (object (put k d ms)) ≡ get (codes "counts") (object ms)
 counts_stay k d ms other = get_member-put_other (codes "counts") k d ms other
 
+records_stay : (k : List ℕ) (d : Data) (ms : Members) → (codes "records" ≡ k → ⊥) → get (codes "records") (object (put k d ms)) ≡ get (codes "records") (object ms)
+records_stay k d ms other = get_member-put_other (codes "records") k d ms other
+
 id_stays : (k : List ℕ) (d : Data) (ms : Members) → (codes "id" ≡ k → ⊥) → id_of (object (put k d ms)) ≡ id_of (object ms)
 id_stays k d ms other = rw (get_member-put_other (codes "id") k d ms other) refl
 
@@ -60,13 +63,14 @@ kept (Some a) r s f is h = is ∙ h
 -- ---- what they tell at first, and after each
 
 pub nothing_told : (args : List ℕ) → Says (record { id = None; client = 0; name = None; has_args = false }) args no_members
-nothing_told args = record { only = refl; no_counts = refl; id = refl; client = refl; name = tt; list = λ no. absurd (false≢true no) }
+nothing_told args = record { only = refl; no_counts = refl; no_records = refl; id = refl; client = refl; name = tt; list = λ no. absurd (false≢true no) }
 
 pub told_id : (t : Told) (args : List ℕ) (found : Members) (k : List ℕ) (d : Data) (it : Id) → k ≡ codes "id" → id_in d ≡ Ok it → Says t args found
     → Says (record { id = Some it; client = t.client; name = t.name; has_args = t.has_args }) args (put k d found)
 told_id t args found k d it is read says = record {
   only = only_put k d found (ap (λ q. list_any (bytes_eq q) may_names) is) says.only;
   no_counts = counts_stay k d found (λ same. omega (arith, ap length (same ∙ is))) ∙ says.no_counts;
+  no_records = records_stay k d found (λ same. omega (arith, ap length (same ∙ is))) ∙ says.no_records;
   id = ap (λ q. id_of (object (put q d found))) is ∙ rw (get_member-put (codes "id") d found) (rw read refl);
   client = client_stays k d found (λ same. omega (arith, ap length (same ∙ is))) ∙ says.client;
   name = kept t.name _ _ (λ s. Ok s.now) (name_stays k d found (λ same. omega (arith, ap length (same ∙ is)))) says.name;
@@ -78,6 +82,7 @@ pub told_client : (t : Told) (args : List ℕ) (found : Members) (k : List ℕ) 
 told_client t args found k n is small says = record {
   only = only_put k (number (unsigned n)) found (ap (λ q. list_any (bytes_eq q) may_names) is) says.only;
   no_counts = counts_stay k (number (unsigned n)) found (λ same. omega (arith, ap (λ q. get_or q 1 0) (same ∙ is))) ∙ says.no_counts;
+  no_records = records_stay k (number (unsigned n)) found (λ same. omega (arith, ap length (same ∙ is))) ∙ says.no_records;
   id = id_stays k (number (unsigned n)) found (λ same. omega (arith, ap length (same ∙ is))) ∙ says.id;
   client = ap (λ q. client_of (object (put q (number (unsigned n)) found))) is ∙ rw (get_member-put (codes "client") (number (unsigned n)) found) (rw (lt-ltb _ _ small) refl);
   name = kept t.name _ _ (λ s. Ok s.now) (name_stays k (number (unsigned n)) found (λ same. omega (arith, ap length (same ∙ is)))) says.name;
@@ -89,6 +94,7 @@ pub told_name : (t : Told) (args : List ℕ) (found : Members) (k : List ℕ) (s
 told_name t args found k s is says = record {
   only = only_put k (string s.now) found (ap (λ q. list_any (bytes_eq q) may_names) is) says.only;
   no_counts = counts_stay k (string s.now) found (λ same. omega (arith, ap length (same ∙ is))) ∙ says.no_counts;
+  no_records = records_stay k (string s.now) found (λ same. omega (arith, ap length (same ∙ is))) ∙ says.no_records;
   id = id_stays k (string s.now) found (λ same. omega (arith, ap length (same ∙ is))) ∙ says.id;
   client = client_stays k (string s.now) found (λ same. omega (arith, ap length (same ∙ is))) ∙ says.client;
   name = ap (λ q. name_of (object (put q (string s.now) found))) is ∙ rw (get_member-put (codes "proc") (string s.now) found) refl;
@@ -104,6 +110,7 @@ pub told_args : (t : Told) (before args : List ℕ) (found : Members) (k : List 
 told_args t before args found k is says = record {
   only = only_put k (array (numbers_in args)) found (ap (λ q. list_any (bytes_eq q) may_names) is) says.only;
   no_counts = counts_stay k (array (numbers_in args)) found (λ same. omega (arith, ap length (same ∙ is))) ∙ says.no_counts;
+  no_records = records_stay k (array (numbers_in args)) found (λ same. omega (arith, ap length (same ∙ is))) ∙ says.no_records;
   id = id_stays k (array (numbers_in args)) found (λ same. omega (arith, ap length (same ∙ is))) ∙ says.id;
   client = client_stays k (array (numbers_in args)) found (λ same. omega (arith, ap length (same ∙ is))) ∙ says.client;
   name = kept t.name _ _ (λ s. Ok s.now) (name_stays k (array (numbers_in args)) found (λ same. omega (arith, ap (λ q. get_or q 0 0) (same ∙ is)))) says.name;

@@ -1,14 +1,17 @@
 -- The answers to lines, and the last line of a service, by their JSON tokens.
-use Rattle.std.specs.Prelude.{ℕ, List, [], ◌∷◌, ◌++◌, Option, Some, None, Result, Ok, Err, map, codes}
+use Rattle.std.specs.Prelude.{ℕ, List, [], ◌∷◌, ◌++◌, Option, Some, None, Result, Ok, Err, map, take, drop, codes}
 use Rattle.std.specs.Fmt.{decimal}
 use Rattle.json.specs.Print.{print}
 use Rattle.json.specs.Token.{Token, begin_object, end_object, begin_array, end_array, key, string, number}
+use Rattle.vll_proc.specs.Headline.Serial.{After, Made, apply}
 use Rattle.vll_proc.specs.declared.call.Reason.{Reason}
 use Rattle.vll_proc.specs.declared.call.Reason.TheVariants.{Code, Overflow, Underflow, ZeroDivisor, Moved}
 use Rattle.vll_proc.specs.declared.call.Reply.{Reply}
 use Rattle.vll_proc.specs.declared.call.Reply.TheVariants.{Committed, Aborted}
+use Rattle.vll_proc.specs.declared.syntax.Proc.{Proc}
 use Rattle.vll_scenario.specs.Shown.{shortened}
 use Rattle.vll_lines.specs.declared.request.Request.{Request}
+use Rattle.vll_lines.specs.declared.request.RecordRange.{RecordRange}
 use Rattle.vll_lines.specs.Counts.{counted}
 use Rattle.vll_lines.specs.declared.counts.Counts.{Counts}
 use Rattle.vll_lines.specs.declared.counts.Rounds.{Rounds}
@@ -27,6 +30,8 @@ fault_words (fault.Json column) = codes "no JSON text: column " ++ decimal colum
 fault_words fault.Id = codes "id has to be a whole number or a text of at most 64 bytes"
 fault_words fault.Object = codes "the line has to be an object with proc, args and perhaps client and id"
 fault_words fault.Counts = codes "counts has to be true"
+fault_words fault.Records = codes "records has to be a list of two whole numbers, the first record and how many"
+fault_words fault.Range = codes "records has to ask for at most 1024 records, all of which there are"
 fault_words fault.Client = codes "client has to be the number of a client"
 fault_words fault.Proc = codes "proc has to be the name of a procedure"
 fault_words fault.Args = codes "args has to be a list of whole numbers"
@@ -97,20 +102,32 @@ counts_tokens counts so_far =
 abbrev pub counts_line : Option Id → Counts → Rounds → List ℕ
 counts_line it counts so_far = line_of (begin_object ∷ (id_tokens it ++ key (codes "counts") ∷ (counts_tokens counts so_far ++ end_object ∷ [])))
 
+-- these of the records
+abbrev pub records_at : RecordRange → List ℕ → List ℕ
+records_at range records = take range.count (drop range.first records)
+
+-- the answer to a line that asks for records, with their values
+abbrev pub records_line : Option Id → List ℕ → List ℕ
+records_line it values = line_of (begin_object ∷ (id_tokens it ++ key (codes "records") ∷ (numbers_tokens values ++ end_object ∷ [])))
+
 -- the last line of a service: the number of its calls, and the records as they have left them
 abbrev pub end_line : ℕ → List ℕ → List ℕ
 end_line calls records = line_of (begin_object ∷ key (codes "calls") ∷ number (decimal calls) ∷ key (codes "records") ∷ (numbers_tokens records ++ end_object ∷ []))
 
--- the answer to a line, and then the rest, for the counts then, and for the replies and the rounds that are left
-abbrev pub with_answer : Option Id → Result Asked LineFault → (Counts → List Reply → List Rounds → List ℕ) → Counts → List Reply → List Rounds → List ℕ
-with_answer it (Err why) rest counts replies rounds = fault_line it why ++ rest counts replies rounds
-with_answer it (Ok (asked.Call c)) rest counts [] rounds = []
-with_answer it (Ok (asked.Call c)) rest counts (reply ∷ replies) rounds = reply_line it counts.calls reply ++ rest (counted counts reply) replies rounds
-with_answer it (Ok asked.Counts) rest counts replies [] = []
-with_answer it (Ok asked.Counts) rest counts replies (so_far ∷ rounds) = counts_line it counts so_far ++ rest counts replies rounds
+-- the answer to a line, and then the rest, for the counts and the records then, and for the calls and the rounds that are
+-- left. A call is made on the records then, and those that a line asks for are told as they are then
+abbrev pub with_answer : List Proc → Option Id → Result Asked LineFault → (Counts → List ℕ → List Made → List Rounds → List ℕ) → Counts → List ℕ → List Made → List Rounds → List ℕ
+with_answer procs it (Err why) rest counts records calls rounds = fault_line it why ++ rest counts records calls rounds
+with_answer procs it (Ok (asked.Call c)) rest counts records [] rounds = []
+with_answer procs it (Ok (asked.Call c)) rest counts records (made ∷ calls) rounds =
+    let after : After = apply procs made.1 records in reply_line it counts.calls after.reply ++ rest (counted counts after.reply) after.records calls rounds
+with_answer procs it (Ok asked.Counts) rest counts records calls [] = []
+with_answer procs it (Ok asked.Counts) rest counts records calls (so_far ∷ rounds) = counts_line it counts so_far ++ rest counts records calls rounds
+with_answer procs it (Ok (asked.Records range)) rest counts records calls rounds = records_line it (records_at range records) ++ rest counts records calls rounds
 
--- the answers to lines, in order, after calls that are counted so. The calls that the lines ask for have these replies, and
--- each line that asks for counts tells the calls before it, and the next of these rounds
-abbrev pub answers : List Request → Counts → List Reply → List Rounds → List ℕ
-answers [] counts replies rounds = []
-answers (a ∷ more) counts replies rounds = with_answer a.id a.asked (answers more) counts replies rounds
+-- the answers to lines, in order, after calls that are counted so and have left these records. The calls that the lines ask
+-- for are made one at a time, each line that asks for counts tells the calls before it, and the next of these rounds, and
+-- each that asks for records tells these as the calls before it have left them
+abbrev pub answers : List Proc → List Request → Counts → List ℕ → List Made → List Rounds → List ℕ
+answers procs [] counts records calls rounds = []
+answers procs (a ∷ more) counts records calls rounds = with_answer procs a.id a.asked (answers procs more) counts records calls rounds

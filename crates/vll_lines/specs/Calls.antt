@@ -12,6 +12,7 @@ use Rattle.vll_lines.specs.declared.request.LineFault.{LineFault}
 abbrev pub with_call : Result Asked LineFault → List ClientCall → List ClientCall
 with_call (Ok (asked.Call c)) others = c ∷ others
 with_call (Ok asked.Counts) others = others
+with_call (Ok (asked.Records range)) others = others
 with_call (Err why) others = others
 
 -- the calls that lines ask for, in order
@@ -23,6 +24,7 @@ calls_of (a ∷ more) = with_call a.asked (calls_of more)
 abbrev pub with_counts : Result Asked LineFault → ℕ → ℕ
 with_counts (Ok (asked.Call c)) others = others
 with_counts (Ok asked.Counts) others = suc others
+with_counts (Ok (asked.Records range)) others = others
 with_counts (Err why) others = others
 
 -- how many lines ask for counts

@@ -1,6 +1,6 @@
 -- What a line asks for, or why it asks for nothing.
-use Rattle.std.specs.Prelude.{◌≡◌, ◌⊎◌, ◌<◌, ◌≤◌, ℕ, Bool, true, false, List, [], ◌∷◌, length, nat_eq, nat_le, nat_lt, Option, Some, None, Result, Ok, Err, if◌then◌else◌, slice_get, codes}
-use Rattle.serde_json.specs.Data.{Data, Items, null, boolean, number, string, array, object}
+use Rattle.std.specs.Prelude.{◌≡◌, ◌⊎◌, ◌+◌, ◌<◌, ◌≤◌, ℕ, Bool, true, false, List, [], ◌∷◌, length, nat_eq, nat_le, nat_lt, Option, Some, None, Result, Ok, Err, if◌then◌else◌, slice_get, codes}
+use Rattle.serde_json.specs.Data.{Data, Items, no_items, item, null, boolean, number, string, array, object}
 use Rattle.serde_json.specs.Find.{as_array, as_bool, as_str, get}
 use Rattle.vll_proc.specs.declared.call.Call.{Call}
 use Rattle.vll_proc.specs.declared.syntax.KeyAt.{KeyAt}
@@ -23,7 +23,7 @@ use Rattle.vll_lines.specs.declared.request.Id.{Id}
 use Rattle.vll_lines.specs.declared.request.Id.TheVariants as id
 use Rattle.vll_lines.specs.declared.request.LineFault.{LineFault}
 use Rattle.vll_lines.specs.declared.request.LineFault.TheVariants as fault
-use Rattle.vll_lines.specs.declared.limits.TheConstants.{MOST_ID, MOST_LINE}
+use Rattle.vll_lines.specs.declared.limits.TheConstants.{MOST_ID, MOST_LINE, MOST_READ}
 
 -- the value, or a fault if there is none
 abbrev pub or_fault : {A : Type 0} → LineFault → Option A → Result A LineFault
@@ -62,6 +62,10 @@ may_names = codes "id" ∷ codes "client" ∷ codes "proc" ∷ codes "args" ∷ 
 abbrev pub counts_names : List (List ℕ)
 counts_names = codes "id" ∷ codes "counts" ∷ []
 
+-- the members that a line may have that asks for records
+abbrev pub records_names : List (List ℕ)
+records_names = codes "id" ∷ codes "records" ∷ []
+
 -- an object with no other members than these
 abbrev pub has_no_other : List (List ℕ) → Data → Bool
 has_no_other names null = false
@@ -80,6 +84,35 @@ counts_if (Some false) = Err fault.Counts
 -- the counts that a member asks for
 abbrev pub counts_in : Data → Result Asked LineFault
 counts_in d = counts_if (as_bool d)
+
+-- the numbers of a list of two
+abbrev pub two_numbers : Option ℕ → Option ℕ → Option (ℕ × ℕ)
+two_numbers None b = None
+two_numbers (Some a) None = None
+two_numbers (Some a) (Some b) = Some (a, b)
+
+-- the first record and how many, in a list of these two numbers
+abbrev pub range_in : Items → Option (ℕ × ℕ)
+range_in no_items = None
+range_in (item a no_items) = None
+range_in (item a (item b no_items)) = two_numbers (number_at a) (number_at b)
+range_in (item a (item b (item c others))) = None
+
+-- these records, out of so many, if they are not too many for a line
+abbrev pub records_within : ℕ → Option (ℕ × ℕ) → Result Asked LineFault
+records_within records None = Err fault.Records
+records_within records (Some (first, count)) =
+    if nat_le count MOST_READ then (if nat_le (first + count) records then Ok (asked.Records (record { first = first; count = count })) else Err fault.Range)
+    else Err fault.Range
+
+-- the records that a list asks for, if there is one
+abbrev pub records_by : ℕ → Option Items → Result Asked LineFault
+records_by records None = Err fault.Records
+records_by records (Some ds) = records_within records (range_in ds)
+
+-- the records, out of so many, that a member asks for
+abbrev pub records_in : ℕ → Data → Result Asked LineFault
+records_in records d = records_by records (as_array d)
 
 -- the number of a client: 0 if it is left out
 abbrev pub client_of : Data → Result ℕ LineFault
@@ -159,12 +192,17 @@ call_asked library clients d =
       if nat_lt client clients then made_by library client name args (call_made library name args) else Err (fault.NoClient client))
     else Err fault.Object
 
+-- what a JSON tree with this member `records`, or without one, asks for, or the first fault
+abbrev pub records_or_call : Catalog → ℕ → Data → Option Data → Result Asked LineFault
+records_or_call library clients d None = call_asked library clients d
+records_or_call library clients d (Some member) = if has_no_other records_names d then records_in library.records member else Err fault.Object
+
 -- what a JSON tree with this member `counts`, or without one, asks for, or the first fault
 abbrev pub asked_by : Catalog → ℕ → Data → Option Data → Result Asked LineFault
-asked_by library clients d None = call_asked library clients d
+asked_by library clients d None = records_or_call library clients d (get (codes "records") d)
 asked_by library clients d (Some member) = if has_no_other counts_names d then counts_in member else Err fault.Object
 
--- what a JSON tree asks for, counts or a call of a client below a number, or the first fault
+-- what a JSON tree asks for, counts, records or a call of a client below a number, or the first fault
 abbrev pub asked_of : Catalog → ℕ → Data → Result Asked LineFault
 asked_of library clients d = asked_by library clients d (get (codes "counts") d)
 

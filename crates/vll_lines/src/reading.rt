@@ -1,14 +1,15 @@
 //! Reading a line as a JSON tree: what it asks for, or why it asks for nothing.
-ghost use Rattle.std.specs.Prelude.{◌≡◌, IfOk, option_map};
+ghost use Rattle.std.specs.Prelude.{◌≡◌, IfOk, codes, option_map};
 ghost use Rattle.std.specs.List.{list_any};
 ghost use Rattle.std.specs.Str.{bytes_eq};
+ghost use Rattle.serde_json.specs.Find.{get};
 ghost use Rattle.serde_json.specs.View.{items_view, members_view, view};
 ghost use Rattle.vll_scenario.specs.Syntax.{has_only};
 ghost use Rattle.vll_scenario.specs.Tree.{each, number_at};
-ghost use Rattle.vll_lines.specs.Request.{IsRequest, args_by, args_of, request_of, asked_of, call_asked, client_of, has_no_other, id_in, id_of, may_names, name_of, no_record, no_text, declared_args, declared_keys, proc_named, refusal};
+ghost use Rattle.vll_lines.specs.Request.{IsRequest, args_by, args_of, request_of, asked_of, call_asked, client_of, has_no_other, id_in, id_of, may_names, name_of, no_record, no_text, records_or_call, declared_args, declared_keys, proc_named, refusal};
 ghost use Rattle.vll_lines.specs.Private.Reading.{Gives, GivesArgs, Names, Settles};
 
-use crate::asked::{counts_in, has_counts_alone};
+use crate::asked::{counts_in, has_counts_alone, has_records_alone, records_in};
 use crate::limits::MOST_ID;
 use crate::read_fault::ReadFault;
 use crate::request::{Asked, ClientCall, Id, LineFault, Request};
@@ -113,12 +114,30 @@ fn asked_of(
     ensures { Gives result (asked_of library.now clients (view tree.now)) }
 {
     let Some(member) = tree.get("counts") else {
-        return call_asked(alloc, library, clients, tree);
+        return records_or_call(alloc, library, clients, tree);
     };
     if !has_counts_alone(tree) {
         return Err(ReadFault::Faulty(LineFault::Object));
     }
     Ok(counts_in(member)?)
+}
+
+// The records that a JSON tree asks for, or the call.
+fn records_or_call(
+    alloc: Global,
+    library: &Library,
+    clients: u32,
+    tree: &Value,
+) -> Result<Asked, ReadFault>
+    ensures { Gives result (records_or_call library.now clients (view tree.now) (get (codes "records") (view tree.now))) }
+{
+    let Some(member) = tree.get("records") else {
+        return call_asked(alloc, library, clients, tree);
+    };
+    if !has_records_alone(tree) {
+        return Err(ReadFault::Faulty(LineFault::Object));
+    }
+    Ok(records_in(member, library.records())?)
 }
 
 // The call that a JSON tree asks for.

@@ -1,10 +1,10 @@
 //! The answers to lines, and the last line of a service, as lines of JSON.
 ghost use Rattle.std.specs.Prelude.{◌≡◌, ◌++◌, IfOk};
-ghost use Rattle.vll_lines.specs.Answers.{aborted_tokens, counts_line, counts_tokens, end_line, fault_line, id_tokens, line_of, member_tokens, numbers_tokens, reason_tokens, reply_line, reply_tokens};
+ghost use Rattle.vll_lines.specs.Answers.{aborted_tokens, counts_line, counts_tokens, end_line, fault_line, id_tokens, line_of, member_tokens, numbers_tokens, reason_tokens, records_at, records_line, reply_line, reply_tokens};
 ghost use Rattle.vll_lines.specs.Private.Writing.{Adds};
 
 use crate::counts::{Counts, Rounds};
-use crate::request::{Id, LineFault};
+use crate::request::{Id, LineFault, RecordRange};
 use json::Writer;
 use std::alloc::{AllocError, Global};
 use vll_proc::{Reason, Reply};
@@ -69,6 +69,25 @@ pub fn push_fault(
     end_line(writer)
 }
 
+/// Appends the answer to a line that asks for some of these records, with their values: `{"id":7,"records":[70,30]}`,
+/// without the id if there is none. Fails only for want of memory, and then drops the text.
+pub fn push_records(
+    out: Vec<u8>,
+    id: &Option<Id>,
+    range: RecordRange,
+    records: &[u64],
+) -> Result<Vec<u8>, AllocError>
+    ensures { IfOk result (λ v. v.items ≡ out.items ++ records_line id.now (records_at range records.now)) }
+{
+    let mut writer = Writer::new(out);
+    writer.begin_object()?;
+    write_id(&mut writer, id)?;
+    writer.key("records")?;
+    write_numbers(&mut writer, at(range, records))?;
+    writer.end_object()?;
+    end_line(writer)
+}
+
 /// Appends the last line of a service: `{"calls":12,"records":[70,30]}`. Fails only for want of memory, and then drops
 /// the text.
 pub fn push_end(out: Vec<u8>, calls: u64, records: &[u64]) -> Result<Vec<u8>, AllocError>
@@ -82,6 +101,15 @@ pub fn push_end(out: Vec<u8>, calls: u64, records: &[u64]) -> Result<Vec<u8>, Al
     write_numbers(&mut writer, records)?;
     writer.end_object()?;
     end_line(writer)
+}
+
+// These of the records, as far as they are there.
+fn at(range: RecordRange, records: &[u64]) -> &[u64]
+    ensures { result.now ≡ records_at range records.now }
+{
+    let first = records.len().min(range.first as usize);
+    let rest = &records[first..];
+    &rest[..rest.len().min(range.count as usize)]
 }
 
 // Ends the line.

@@ -18,6 +18,13 @@ pub struct ClientCall {
     pub call: Call,
 }
 
+/// Some of the records, one after the other: the first one's number, and how many.
+#[derive(Clone, Copy, PartialEq, Eq, Debug)]
+pub struct RecordRange {
+    pub first: u32,
+    pub count: u32,
+}
+
 /// What a line asks for.
 #[derive(Clone, Copy)]
 pub enum Asked {
@@ -25,6 +32,8 @@ pub enum Asked {
     Call(ClientCall),
     /// What the service has done so far.
     Counts,
+    /// The values of at most `MOST_READ` records, all of which there are.
+    Records(RecordRange),
 }
 
 /// Why a line asks for nothing. Of several reasons the first in this order is told.
@@ -39,10 +48,14 @@ pub enum LineFault {
     /// The member `id` is neither a whole number of 64 bits without a sign nor a text of at most `MOST_ID` bytes.
     Id,
     /// The JSON text is not an object, or has other members than `id`, `client`, `proc` and `args`, or than `id` and
-    /// `counts` if it has `counts`.
+    /// `counts` if it has `counts`, or else than `id` and `records` if it has `records`.
     Object,
     /// The member `counts` is not true.
     Counts,
+    /// The member `records` is not a list of two whole numbers of 64 bits without a sign.
+    Records,
+    /// The member `records` asks for more than `MOST_READ` records, or for some that there are not.
+    Range,
     /// The member `client` is no whole number of 32 bits without a sign.
     Client,
     /// The member `proc` is missing, or not a text.
@@ -83,6 +96,12 @@ impl fmt::Display for LineFault {
                 )
             }
             LineFault::Counts => f.write_str("counts has to be true"),
+            LineFault::Records => f.write_str(
+                "records has to be a list of two whole numbers, the first record and how many",
+            ),
+            LineFault::Range => {
+                f.write_str("records has to ask for at most 1024 records, all of which there are")
+            }
             LineFault::Client => f.write_str("client has to be the number of a client"),
             LineFault::Proc => f.write_str("proc has to be the name of a procedure"),
             LineFault::Args => f.write_str("args has to be a list of whole numbers"),

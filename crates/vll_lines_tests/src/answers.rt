@@ -3,12 +3,14 @@ use crate::asserts::equal;
 use std::alloc::{AllocError, Global};
 use std::test::Fail;
 use vll_check::Library;
-use vll_lines::{Asked, Counts, LineReader, Rounds, push_counts, push_end, push_fault, push_reply};
+use vll_lines::{
+    Asked, Counts, LineReader, Rounds, push_counts, push_end, push_fault, push_records, push_reply,
+};
 use vll_proc::{Reason, Reply};
 use vll_test_procedures::library;
 
-// The answer to a line of one of two clients, where a call has the number 12 and is aborted, and counts are of so many
-// calls before.
+// The answer to a line of one of two clients, where a call has the number 12 and is aborted, counts are of so many calls
+// before, and these are the records.
 fn answer(alloc: Global, library: &Library, line: &str) -> Result<Vec<u8>, AllocError> {
     let request = LineReader::new(alloc).read(library, 2, line.as_bytes())?;
     let out = Vec::new(alloc);
@@ -29,6 +31,10 @@ fn answer(alloc: Global, library: &Library, line: &str) -> Result<Vec<u8>, Alloc
             push_reply(out, &request.id, 12, &Reply::Aborted(Reason::Underflow))
         }
         Ok(Asked::Counts) => push_counts(out, &request.id, counts, so_far),
+        Ok(Asked::Records(range)) => {
+            let records = [100, 101, 102, 103, 104, 105, 106, u64::MAX];
+            push_records(out, &request.id, *range, records.as_slice())
+        }
         Err(why) => push_fault(alloc, out, &request.id, why),
     }
 }
@@ -93,6 +99,82 @@ fn line_has_its_counts(rt: HostRuntime) -> Result<(), Fail> {
         (
             r#"{"counts":1,"id":7,"co\u0075nts":true}"#,
             r#"{"id":7,"counts":{"calls":15,"aborted":{"code":5,"overflow":4,"underflow":3,"zero divisor":2,"moved":1},"rounds":7,"most_lines":40}}"#,
+        ),
+    ] {
+        let found = answer(rt.alloc(), &library, line)?;
+        equal(
+            &rt,
+            std::str::from_utf8(found.as_slice())?.trim_end(),
+            wanted,
+        );
+    }
+    Ok(())
+}
+
+#[test]
+fn line_has_its_records(rt: HostRuntime) -> Result<(), Fail> {
+    let library = library(rt.alloc(), 8)?;
+    for (line, wanted) in [
+        (
+            r#"{"records":[0,8]}"#,
+            r#"{"records":[100,101,102,103,104,105,106,18446744073709551615]}"#,
+        ),
+        (r#"{"records":[3,1]}"#, r#"{"records":[103]}"#),
+        (
+            r#" { "records" : [ 5 , 2 ] , "id" : "a" } "#,
+            r#"{"id":"a","records":[105,106]}"#,
+        ),
+        // there may be none, also behind the last record
+        (r#"{"records":[0,0]}"#, r#"{"records":[]}"#),
+        (r#"{"id":7,"records":[8,0]}"#, r#"{"id":7,"records":[]}"#),
+        // the last member of a name counts, escapes in a name are read
+        (
+            r#"{"records":7,"id":7,"rec\u006frds":[7,1]}"#,
+            r#"{"id":7,"records":[18446744073709551615]}"#,
+        ),
+    ] {
+        let found = answer(rt.alloc(), &library, line)?;
+        equal(
+            &rt,
+            std::str::from_utf8(found.as_slice())?.trim_end(),
+            wanted,
+        );
+    }
+    Ok(())
+}
+
+#[test]
+fn line_asks_for_records_that_there_are(rt: HostRuntime) -> Result<(), Fail> {
+    let library = library(rt.alloc(), 2_000)?;
+    let form =
+        r#"{"fault":"records has to be a list of two whole numbers, the first record and how many"}"#;
+    let range = r#"{"fault":"records has to ask for at most 1024 records, all of which there are"}"#;
+    for (line, wanted) in [
+        (r#"{"records":7}"#, form),
+        (r#"{"records":true}"#, form),
+        (r#"{"records":[]}"#, form),
+        (r#"{"records":[0]}"#, form),
+        (r#"{"records":[0,1,2]}"#, form),
+        (r#"{"records":[0,1.5]}"#, form),
+        (r#"{"records":[-1,1]}"#, form),
+        (r#"{"records":["0",1]}"#, form),
+        (r#"{"records":[18446744073709551616,0]}"#, form),
+        (r#"{"records":[0,1025]}"#, range),
+        (r#"{"records":[1999,2]}"#, range),
+        (r#"{"records":[2001,0]}"#, range),
+        (r#"{"records":[18446744073709551615,1]}"#, range),
+        (r#"{"records":[1,18446744073709551615]}"#, range),
+        (
+            r#"{"records":[0,1],"client":0}"#,
+            r#"{"fault":"the line has to be an object with proc, args and perhaps client and id"}"#,
+        ),
+        (
+            r#"{"records":[0,1],"counts":true}"#,
+            r#"{"fault":"the line has to be an object with proc, args and perhaps client and id"}"#,
+        ),
+        (
+            r#"{"id":-1,"records":[0,1]}"#,
+            r#"{"fault":"id has to be a whole number or a text of at most 64 bytes"}"#,
         ),
     ] {
         let found = answer(rt.alloc(), &library, line)?;

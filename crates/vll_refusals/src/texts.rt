@@ -45,10 +45,12 @@ const BANK: &str = r#"{"version":1,"records":[100,50],
 
 const ASKED: &str = r#"{"id":"a","client":0,"proc":"transfer","args":[0,1,30]}
 {"counts":true}
+{"records":[1,1]}
 {"client":0,"proc":"sum","args":[]}"#;
 
 const STREAMED: &str = r#"{"id":"a","call":0,"committed":[70]}
-{"counts":{"calls":1,"aborted":{"code":0,"overflow":0,"underflow":0,"zero divisor":0,"moved":0},"rounds":1,"most_lines":2}}
+{"counts":{"calls":1,"aborted":{"code":0,"overflow":0,"underflow":0,"zero divisor":0,"moved":0},"rounds":1,"most_lines":3}}
+{"records":[80]}
 {"fault":"no procedure has the name sum"}
 {"calls":1,"records":[70,80]}
 "#;

@@ -112,7 +112,7 @@ epoch_stops e old mid next why left written so_far stops =
         text = part.text;
         rounds = part.rounds;
         told = part.told;
-        answered = part.answered ∙ ap (λ (b : Base). answers part.requests mid.counts (replies b.procs stops.more b.records) part.rounds) base_is;
+        answered = part.answered ∙ ap (λ (b : Base). answers b.procs part.requests mid.counts b.records stops.more part.rounds) base_is;
         written = part.written;
         counts = part.counts ∙ ap (λ (b : Base). all_counted mid.counts (replies b.procs stops.more b.records)) base_is;
       };

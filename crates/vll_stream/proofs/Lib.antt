@@ -1,6 +1,7 @@
 pub mod Answered
 pub mod Parts
 pub mod Found
+pub mod Snapshots
 pub mod MadeSoFar
 pub mod Rounds
 pub mod Stops

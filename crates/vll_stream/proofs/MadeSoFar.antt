@@ -1,5 +1,5 @@
 -- The calls that clients have made: one more, and all of them once their engine has ended.
-use Rattle.std.proofs.Common.{◌≡◌, ◌≢◌, ℕ, zero, suc, ◌+◌, ◌<◌, ◌≤◌, ◌==◌, Bool, true, false, List, [], ◌∷◌, ◌++◌, length, take, drop, refl, sym, ap, ◌∙◌, subst, arith, rules, All, IfSome, Option, Some, None, get_or, slice_get, append_assoc, append-nil, length-append, length-take, take_all, take-append-drop, slice_set, slice_index, ⊎_elim}
+use Rattle.std.proofs.Common.{◌≡◌, ◌≢◌, ℕ, zero, suc, ◌+◌, ◌-◌, ◌<◌, ◌≤◌, ◌==◌, Bool, true, false, List, [], ◌∷◌, ◌++◌, length, take, drop, refl, sym, ap, ◌∙◌, subst, arith, rules, All, IfSome, Option, Some, None, get_or, slice_get, append_assoc, append-nil, length-append, length-take, take_all, take-append-drop, slice_set, slice_index, ⊎_elim}
 use Rattle.std.proofs.Math.Seq.{take-nil}
 use Rattle.std.proofs.lemmas.Bool.{cases_eq, eq-eqb}
 use Rattle.std.proofs.lemmas.List.{append_cancel_left, length-set, take-append-le}
@@ -9,7 +9,7 @@ use Rattle.vll_proc.specs.declared.call.Call.{Call}
 use Rattle.vll_proc.specs.declared.call.Reply.{Reply}
 use Rattle.vll_proc.specs.Headline.Serial.{Made, answer, apply, end}
 use Rattle.vll_proc.proofs.Joined.{answer_of_second}
-use Rattle.vll_check.specs.Calls.{Fits}
+use Rattle.vll_check.specs.Calls.{Fits, IsReady}
 use Rattle.vll_check.specs.Headline.Calls.{source, with_found}
 use Rattle.vll_check.proofs.Fitting.{found_source, found_value}
 use Rattle.vll_core.specs.declared.line.Line.{Line}
@@ -18,6 +18,7 @@ use Rattle.vll_counters.specs.Headline.Views.{Begins, calls_by, calls_in}
 use Rattle.vll_counters.specs.Shown.{AreNewSessions, SessionShown}
 use Rattle.vll_counters.specs.Steps.{new_session}
 use Rattle.vll_queue.specs.Calling.{IsCalled}
+use Rattle.vll_queue.specs.Finished.{AppendsFinished}
 use Rattle.vll_queue.specs.Headline.Found.{AreFoundThere, FoundThere}
 use Rattle.vll_queue.specs.News.{Hears}
 use Rattle.vll_queue.specs.Sessions.{HasItsCalls, SawOthers}
@@ -26,8 +27,10 @@ use Rattle.vll_queue.proofs.Learning.{calls_by-append}
 use Rattle.vll_queue.proofs.There.{found_more}
 use Rattle.vll_lines.specs.declared.request.ClientCall.{ClientCall}
 use Rattle.vll_stream.specs.declared.callers.Callers.{Callers}
-use Rattle.vll_stream.specs.Private.Callers.{AreCallers, AreTheCalls, IsCaller, IsInformed, MakesCall, made_so_far, seen_by, seen_of}
+use Rattle.vll_stream.specs.Private.Callers.{AreCallers, AreTheCalls, IsCaller, IsInformed, IsSnapshot, MakesCall, made_so_far, seen_by, seen_of}
+use Rattle.vll_stream.specs.declared.snapshot.Snapshot.{Snapshot}
 use Rattle.vll_stream.proofs.Found.{none_found}
+use Rattle.vll_stream.proofs.Snapshots.{calls_since, snapshot_later}
 
 -- ---- the calls of one client
 
@@ -56,8 +59,9 @@ none_left clients (m ∷ calls) low none = absurd (its_first (none m.0 (All-head
 
 -- ---- no call yet
 
-pub new_callers : (e : Named) (callers : Callers) → AreNewSessions e.table e.clients callers.sessions.items → callers.informed ≡ None → callers.calls ≡ 0 → AreCallers e callers × (made_so_far callers ≡ [])
-new_callers e callers new none zero_calls =
+pub new_callers : (e : Named) (callers : Callers) → AreNewSessions e.table e.clients callers.sessions.items → callers.informed ≡ None → callers.calls ≡ 0 → IsSnapshot e [] callers.snapshot
+    → AreCallers e callers × (made_so_far callers ≡ [])
+new_callers e callers new none zero_calls snapshot =
     let made : made_so_far callers ≡ [] = ap (λ (n : ℕ). take n (seen_of callers.sessions.items callers.informed)) zero_calls in (
       record {
         all = new.0;
@@ -69,6 +73,7 @@ new_callers e callers new none zero_calls =
         many = ap length made ∙ sym zero_calls;
         informed = subst (λ (o : Option ℕ). IfSome o (λ client. client < e.clients)) (sym none) tt;
         found = subst (AreFoundThere e.base) (sym made) (none_found e.base);
+        snapshot = subst (λ (cs : List Made). IsSnapshot e cs callers.snapshot) (sym made) snapshot;
       },
       made,
     )
@@ -102,8 +107,9 @@ module _ (e : Named) (old new : Callers) (client : ℕ) (s t : SessionShown) (ar
       subst (λ (o : Option ℕ). IfSome o (λ c. c < e.clients)) (sym informed) (let l : client < e.clients = omega (arith, low, are.all) in l)
 
   -- a session that sees all calls
-  pub informed_callers : new.calls ≡ old.calls → SawOthers s.session t.session → Begins (made_so_far old) t.session.seen → AreCallers e new × (made_so_far new ≡ made_so_far old)
-  informed_callers calls saw begins =
+  pub informed_callers : new.calls ≡ old.calls → SawOthers s.session t.session → Begins (made_so_far old) t.session.seen → IsSnapshot e (made_so_far old) new.snapshot
+      → AreCallers e new × (made_so_far new ≡ made_so_far old)
+  informed_callers calls saw begins snapshot =
       let made : List Made = made_so_far old in
       let was = are.each client s at in
       let first : take old.calls t.session.seen ≡ made =
@@ -125,6 +131,7 @@ module _ (e : Named) (old new : Callers) (client : ℕ) (s t : SessionShown) (ar
           many = ap length same ∙ (are.many ∙ sym calls);
           informed = informed_now;
           found = subst (AreFoundThere e.base) (sym same) are.found;
+          snapshot = subst (λ (cs : List Made). IsSnapshot e cs new.snapshot) (sym same) snapshot;
         },
         same,
       )
@@ -194,8 +201,8 @@ module _ (e : Named) (old new : Callers) (client : ℕ) (s t : SessionShown) (ar
         ∙ (ap (answer procs (made ++ (client, entering) ∷ rest) records) at_end ∙ answer_of_second procs made ((client, entering) ∷ rest) records 0) in
         same_Some reply _ (sym called.replied ∙ is)
 
-    pub makes_call : new.calls ≡ old.calls + 1 → AreCallers e new × MakesCall e (made_so_far old) (made_so_far new) (record { client = client; call = call }) reply
-    makes_call calls =
+    pub makes_call : new.calls ≡ old.calls + 1 → new.snapshot ≡ old.snapshot → AreCallers e new × MakesCall e (made_so_far old) (made_so_far new) (record { client = client; call = call }) reply
+    makes_call calls snapshot =
         let made : List Made = made_so_far old in
         let same : made_so_far new ≡ more = made_more calls in
         let was = are.each client s at in
@@ -216,6 +223,9 @@ module _ (e : Named) (old new : Callers) (client : ℕ) (s t : SessionShown) (ar
             many = ap length same ∙ (let l = length-append made ((client, entering) ∷ []) in let e' : length more ≡ new.calls = omega (arith, l, are.many, calls) in e');
             informed = informed_now;
             found = subst (AreFoundThere e.base) (sym same) (found_more e.base made (client, entering) are.found found_before);
+            snapshot =
+                subst (λ (cs : List Made). IsSnapshot e cs new.snapshot) (sym same)
+                (subst (IsSnapshot e more) (sym snapshot) (snapshot_later e made ((client, entering) ∷ []) old.snapshot are.snapshot));
           },
           record { call = entering; same = called.enters.same; made = same; replied = replied },
         )
@@ -230,15 +240,15 @@ set_same (z ∷ xs) (suc i) x y at is = ap (λ (l : List SessionShown). z ∷ l)
 
 -- no call was made yet
 pub informed_first : (e : Named) (old new : Callers) (client : ℕ) → AreCallers e old → client < e.clients → old.informed ≡ None → new.sessions.items ≡ old.sessions.items → new.calls ≡ old.calls → new.informed ≡ Some client
-    → new.counts ≡ old.counts → IsInformed e old new client
-informed_first e old new client are low nobody sessions calls informed counts =
+    → new.counts ≡ old.counts → IsSnapshot e (made_so_far old) new.snapshot → IsInformed e old new client
+informed_first e old new client are low nobody sessions calls informed counts snapshot =
     let here = entry_at old.sessions.items client (omega (arith, low, are.all)) in
     let s : SessionShown = here.0 in
     let none : made_so_far old ≡ [] = ap (λ (o : Option ℕ). take old.calls (seen_of old.sessions.items o)) nobody ∙ take-nil old.calls in
     let now =
     informed_callers e old new client s s are here.1 (sessions ∙ sym (set_same old.sessions.items client s s here.1 refl)) refl informed calls
     (record { client = refl; others = []; not_own = refl; seen = sym (append-nil s.session.seen) })
-    (s.session.seen, ap (λ (l : List Made). l ++ s.session.seen) (sym none)) in
+    (s.session.seen, ap (λ (l : List Made). l ++ s.session.seen) (sym none)) snapshot in
     record { callers = now.0; made = now.1; informed = informed; calls = calls; counts = counts }
 
 -- what the informed client has seen begins with the calls made
@@ -248,8 +258,8 @@ told_first old teller s informed at = ap (take old.calls) (ap (seen_of old.sessi
 -- the informed client has told
 pub informed_by : (e : Named) (old new : Callers) (teller client : ℕ) (s told heard t : SessionShown) (calls : List Made) → AreCallers e old → old.informed ≡ Some teller → slice_get old.sessions.items teller ≡ Some s → told ≡ s
     → slice_get old.sessions.items client ≡ Some heard → new.sessions.items ≡ slice_set (slice_set old.sessions.items teller told) client t → calls ≡ s.session.seen → Hears heard.session t.session calls
-    → t.table ≡ heard.table → new.calls ≡ old.calls → new.informed ≡ Some client → new.counts ≡ old.counts → IsInformed e old new client
-informed_by e old new teller client s told heard t calls are informed at same there sessions seen hears table calls_still informed_now counts =
+    → t.table ≡ heard.table → new.calls ≡ old.calls → new.informed ≡ Some client → new.counts ≡ old.counts → IsSnapshot e (made_so_far old) new.snapshot → IsInformed e old new client
+informed_by e old new teller client s told heard t calls are informed at same there sessions seen hears table calls_still informed_now counts snapshot =
     let n : ℕ = old.calls in
     let still : slice_set old.sessions.items teller told ≡ old.sessions.items = set_same old.sessions.items teller s told at same in
     let rest : List Made = hears.heard.0 in
@@ -258,8 +268,54 @@ informed_by e old new teller client s told heard t calls are informed at same th
     ∙ (ap (λ (l : List Made). l ++ rest) (seen ∙ sym (take-append-drop n s.session.seen)) ∙ append_assoc (take n s.session.seen) (drop n s.session.seen) rest) in
     let now =
     informed_callers e old new client heard t are there (sessions ∙ ap (λ (ss : List SessionShown). slice_set ss client t) still) table informed_now calls_still hears.others
-    (drop n s.session.seen ++ rest, whole ∙ ap (λ (l : List Made). l ++ (drop n s.session.seen ++ rest)) (sym (told_first old teller s informed at))) in
+    (drop n s.session.seen ++ rest, whole ∙ ap (λ (l : List Made). l ++ (drop n s.session.seen ++ rest)) (sym (told_first old teller s informed at))) snapshot in
     record { callers = now.0; made = now.1; informed = informed_now; calls = calls_still; counts = counts }
+
+-- the informed client has looked again
+pub informed_again : (e : Named) (old new : Callers) (client : ℕ) (s t : SessionShown) → AreCallers e old → old.informed ≡ Some client → slice_get old.sessions.items client ≡ Some s
+    → new.sessions.items ≡ slice_set old.sessions.items client t → t.table ≡ s.table → SawOthers s.session t.session → new.calls ≡ old.calls → new.informed ≡ Some client → new.counts ≡ old.counts
+    → IsSnapshot e (made_so_far old) new.snapshot → IsInformed e old new client
+informed_again e old new client s t are informed at sessions table saw calls informed_now counts snapshot =
+    let n : ℕ = old.calls in
+    let seen : List Made = s.session.seen in
+    let whole : t.session.seen ≡ take n seen ++ (drop n seen ++ saw.others) =
+    saw.seen ∙ (ap (λ (l : List Made). l ++ saw.others) (sym (take-append-drop n seen)) ∙ append_assoc (take n seen) (drop n seen) saw.others) in
+    let now =
+    informed_callers e old new client s t are at sessions table informed_now calls saw
+    (drop n seen ++ saw.others, whole ∙ ap (λ (l : List Made). l ++ (drop n seen ++ saw.others)) (sym (told_first old client s informed at))) snapshot in
+    record { callers = now.0; made = now.1; informed = informed_now; calls = calls; counts = counts }
+
+-- the lines of the calls that the snapshot lacks
+pub lines_since : (e : Named) (callers : Callers) (client : ℕ) (s t : SessionShown) (from : ℕ) (old new : List Line) → AreCallers e callers → callers.informed ≡ Some client → slice_get callers.sessions.items client ≡ Some s
+    → SawOthers s.session t.session → old ≡ [] → from ≡ callers.snapshot.calls → AppendsFinished e t.session.seen from old new → length new ≡ callers.calls - callers.snapshot.calls
+    → (calls_in new ≡ drop callers.snapshot.calls (made_so_far callers)) × All (λ (l : Line). IsReady (library_of e) l.call) new
+lines_since e callers client s t from old new are informed at saw none is appends many =
+    let k : ℕ = callers.snapshot.calls in
+    let n : ℕ = callers.calls in
+    let first = told_first callers client s informed at in
+    let lines : List Line = appends.lines in
+    let same : new ≡ lines = appends.items ∙ ap (λ (l : List Line). l ++ lines) none in
+    let long = ap length first ∙ length-take n s.session.seen in
+    let few : n ≤ length s.session.seen = omega (arith, long, are.many) in
+    let low : k ≤ n = let f = are.snapshot.few in omega (arith, f, are.many) in
+    let count : length lines ≡ n - k = sym (ap length same) ∙ many in
+    let calls : calls_in lines ≡ drop k (made_so_far callers) =
+    appends.finished.calls
+    ∙ (ap (λ (m : ℕ). take m (drop from t.session.seen)) count
+    ∙ (ap (λ (m : ℕ). take (n - k) (drop m t.session.seen)) is
+    ∙ (ap (λ (l : List Made). take (n - k) (drop k l)) saw.seen ∙ (calls_since s.session.seen saw.others k n low few ∙ ap (drop k) (sym first))))) in
+    (ap calls_in same ∙ calls, subst (All (λ (l : Line). IsReady (library_of e) l.call)) (sym same) appends.finished.ready)
+
+-- another snapshot
+pub with_snapshot : (e : Named) (callers : Callers) (snapshot : Snapshot) → AreCallers e callers → IsSnapshot e (made_so_far callers) snapshot → AreCallers e (record callers { snapshot = snapshot })
+with_snapshot e callers snapshot are is = record {
+  all = are.all;
+  each = are.each;
+  many = are.many;
+  informed = are.informed;
+  found = are.found;
+  snapshot = is;
+}
 
 -- a session of theirs
 pub session_at : (e : Named) (old : Callers) (client : ℕ) (s : SessionShown) → AreCallers e old → client < e.clients → s ≡ get_or old.sessions.items client s → slice_get old.sessions.items client ≡ Some s

@@ -3,7 +3,6 @@ use Rattle.std.proofs.Common.{◌≡◌, ℕ, Bool, true, false, List, Option, [
 use Rattle.std.proofs.KnownBytes.{Appends-nil, Appends-trans, Consumes-nil, Consumes-trans}
 use Rattle.std.specs.Io.KnownBytes.{Consumes}
 use Rattle.vll_proc.specs.Headline.Serial.{Made, end}
-use Rattle.vll_proc.specs.Serial.{replies}
 use Rattle.vll_check.specs.Headline.Catalog.{Catalog}
 use Rattle.vll_lines.specs.Answers.{answers}
 use Rattle.vll_lines.specs.Lines.{CutsInto, lines_in}
@@ -69,7 +68,7 @@ module _ (library : Catalog) (clients : ℕ) (records : List ℕ) where
         rounds = one.rounds ++ two.rounds;
         told = told_then one.requests two.requests one.rounds two.rounds one.told two.told;
         answered =
-            let first : List ℕ = answers one.requests old.counts (replies library.procs calls records) one.rounds in
+            let first : List ℕ = answers library.procs one.requests old.counts records calls one.rounds in
             ap (λ (l : List ℕ). l ++ two.text) one.answered
             ∙ (ap (λ (l : List ℕ). first ++ l) two.answered
             ∙ sym (answered_then one.requests two.requests calls more library.procs records one.rounds two.rounds old.counts mid.counts one.ordered one.told one.counts));

@@ -11,7 +11,7 @@ use Rattle.vll_proc.specs.declared.call.Reply.{Reply}
 use Rattle.vll_proc.specs.declared.syntax.Proc.{Proc}
 use Rattle.vll_queue.specs.Headline.Found.{AreFoundThere}
 use Rattle.vll_queue.specs.Shown.{Named, library_of}
-use Rattle.vll_lines.specs.Answers.{answers, counts_line, fault_line, reply_line, with_answer}
+use Rattle.vll_lines.specs.Answers.{answers, counts_line, fault_line, records_at, records_line, reply_line, with_answer}
 use Rattle.vll_lines.specs.Lines.{IsBroken, IsRound, has_feed}
 use Rattle.vll_lines.specs.Calls.{call_shown, calls_of, with_call, with_counts}
 use Rattle.vll_lines.specs.Counts.{all_counted, counted}
@@ -21,6 +21,7 @@ use Rattle.vll_lines.specs.declared.request.Asked.{Asked}
 use Rattle.vll_lines.specs.declared.request.Asked.TheVariants as asked
 use Rattle.vll_lines.specs.declared.request.ClientCall.{ClientCall}
 use Rattle.vll_lines.specs.declared.request.LineFault.{LineFault}
+use Rattle.vll_lines.specs.declared.request.RecordRange.{RecordRange}
 use Rattle.vll_lines.specs.declared.request.Request.{Request}
 use Rattle.vll_lines.specs.declared.round.Round.{Round}
 use Rattle.vll_lines.specs.declared.round.RoundFault.{RoundFault}
@@ -52,7 +53,7 @@ answers_then e calls mid now requests others from between next text more one two
     let procs : List Proc = e.base.procs in
     let records : List ℕ = end procs calls e.base.records in
     let after : end procs mid e.base.records ≡ end procs one.more records = ap (λ (l : List Made). end procs l e.base.records) one.made ∙ end_joined procs calls one.more e.base.records in
-    let front : List ℕ = answers requests from (replies procs one.more records) one.rounds in
+    let front : List ℕ = answers procs requests from records one.more one.rounds in
     record {
       more = one.more ++ two.more;
       made = two.made ∙ (ap (λ (l : List Made). l ++ two.more) one.made ∙ append_assoc calls one.more two.more);
@@ -61,7 +62,7 @@ answers_then e calls mid now requests others from between next text more one two
       told = told_then requests others one.rounds two.rounds one.told two.told;
       answered =
           ap (λ (l : List ℕ). l ++ more) one.answered
-          ∙ (ap (λ (l : List ℕ). front ++ l) (two.answered ∙ ap (λ (rs : List ℕ). answers others between (replies procs two.more rs) two.rounds) after)
+          ∙ (ap (λ (l : List ℕ). front ++ l) (two.answered ∙ ap (λ (rs : List ℕ). answers procs others between rs two.more two.rounds) after)
           ∙ sym (answered_then requests others one.more two.more procs records one.rounds two.rounds from between one.ordered one.told one.counts));
       counts =
           counted_then procs one.more two.more records from between next one.counts
@@ -76,7 +77,7 @@ answers_fault e calls a from why is = record {
   ordered = ap (λ (r : Result Asked LineFault). map call_shown (with_call r [])) is;
   rounds = [];
   told = sym (ap (λ (r : Result Asked LineFault). with_counts r 0) is);
-  answered = sym (append-nil (fault_line a.id why)) ∙ ap (λ (r : Result Asked LineFault). with_answer a.id r (answers []) from [] []) (sym is);
+  answered = sym (append-nil (fault_line a.id why)) ∙ ap (λ (r : Result Asked LineFault). with_answer e.base.procs a.id r (answers e.base.procs []) from (end e.base.procs calls e.base.records) [] []) (sym is);
   counts = refl;
 }
 
@@ -89,9 +90,25 @@ answers_counts e calls a from so_far is = record {
   rounds = so_far ∷ [];
   told = sym (ap (λ (r : Result Asked LineFault). with_counts r 0) is);
   answered =
-      sym (append-nil (counts_line a.id from so_far)) ∙ ap (λ (r : Result Asked LineFault). with_answer a.id r (answers []) from [] (so_far ∷ [])) (sym is);
+      sym (append-nil (counts_line a.id from so_far)) ∙ ap (λ (r : Result Asked LineFault). with_answer e.base.procs a.id r (answers e.base.procs []) from (end e.base.procs calls e.base.records) [] (so_far ∷ [])) (sym is);
   counts = refl;
 }
+
+-- a line that asks for records
+pub answers_records : (e : Named) (calls now : List Made) (a : Request) (from : Counts) (range : RecordRange) → a.asked ≡ Ok (asked.Records range) → now ≡ calls
+    → AnswersLines e calls now (a ∷ []) from (records_line a.id (records_at range (end e.base.procs calls e.base.records))) from
+answers_records e calls now a from range is same =
+    let records : List ℕ = end e.base.procs calls e.base.records in
+    let line : List ℕ = records_line a.id (records_at range records) in
+    record {
+      more = [];
+      made = same ∙ sym (append-nil calls);
+      ordered = ap (λ (r : Result Asked LineFault). map call_shown (with_call r [])) is;
+      rounds = [];
+      told = sym (ap (λ (r : Result Asked LineFault). with_counts r 0) is);
+      answered = sym (append-nil line) ∙ ap (λ (r : Result Asked LineFault). with_answer e.base.procs a.id r (answers e.base.procs []) from records [] []) (sym is);
+      counts = refl;
+    }
 
 -- a line that asks for a call
 pub answers_call : (e : Named) (calls now : List Made) (a : Request) (from next : Counts) (c : ClientCall) (reply : Reply) → a.asked ≡ Ok (asked.Call c) → MakesCall e calls now c reply → next ≡ counted from reply
@@ -109,7 +126,7 @@ answers_call e calls now a from next c reply is makes counts =
       answered =
           ap (reply_line a.id from.calls) makes.replied
           ∙ (sym (append-nil (reply_line a.id from.calls (apply e.base.procs makes.call records).reply))
-          ∙ ap (λ (r : Result Asked LineFault). with_answer a.id r (answers []) from (replies e.base.procs (made ∷ []) records) []) (sym is));
+          ∙ ap (λ (r : Result Asked LineFault). with_answer e.base.procs a.id r (answers e.base.procs []) from records (made ∷ []) []) (sym is));
       counts = counts ∙ ap (counted from) makes.replied;
     }
 
@@ -121,12 +138,14 @@ calls_at P (x ∷ more) zero a at all = subst (λ (y : Request). All P (calls_of
     first_of : (r : Result Asked LineFault) (cs : List ClientCall) → All P (with_call r cs) → All P (with_call r [])
     first_of (Ok (asked.Call c)) cs all = All-cons P c [] (All-head P c cs all) (All-nil P)
     first_of (Ok asked.Counts) cs all = All-nil P
+    first_of (Ok (asked.Records range)) cs all = All-nil P
     first_of (Err why) cs all = All-nil P
 calls_at P (x ∷ more) (suc i) a at all = calls_at P more i a at (rest_of x.asked (calls_of more) all)
   where
     rest_of : (r : Result Asked LineFault) (cs : List ClientCall) → All P (with_call r cs) → All P cs
     rest_of (Ok (asked.Call c)) cs all = All-tail P c cs all
     rest_of (Ok asked.Counts) cs all = all
+    rest_of (Ok (asked.Records range)) cs all = all
     rest_of (Err why) cs all = all
 
 -- and of the call that the line asks for

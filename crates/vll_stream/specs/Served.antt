@@ -4,7 +4,6 @@ use Rattle.std.specs.Io.KnownBytes.{Appends, Consumes, IsAtEnd}
 use Rattle.std.specs.List.{list_all}
 use Rattle.vll_proc.specs.declared.call.Call.{Call}
 use Rattle.vll_proc.specs.Headline.Serial.{Made, end}
-use Rattle.vll_proc.specs.Serial.{replies}
 use Rattle.vll_check.specs.Calls.{bare}
 use Rattle.vll_core.specs.Headline.State.{Base}
 use Rattle.vll_queue.specs.Headline.Found.{AreFoundThere}
@@ -43,7 +42,8 @@ AreOrdered requests calls = map call_shown (calls_of requests) ≡ map made_show
 -- a text answers lines by these calls: they are the calls that the lines ask for, in order, each with what it has found, and
 -- the text has for each line its answer, which is the number and the reply of its call if the calls run one at a time in this
 -- order from the scenario's records, or how many calls were made for the lines before it and how many of them were aborted,
--- by the reason, or its fault. Each value found was in its source. What is told of rounds is left open
+-- by the reason, or the records that it asks for, as these calls have left them, or its fault. Each value found was in its
+-- source. What is told of rounds is left open
 pub record AreAnswered (s : Setup) (lines : List (List ℕ)) (calls : List Made) (text : List ℕ) : Type 0 where
   pub requests : List Request
   pub read : AreRequests (catalog_of s) (length s.scripts) lines requests
@@ -51,7 +51,7 @@ pub record AreAnswered (s : Setup) (lines : List (List ℕ)) (calls : List Made)
   pub found : AreFoundThere (base_of s) calls
   pub rounds : List Rounds
   pub told : length rounds ≡ counts_asked requests
-  pub written : text ≡ answers requests none_counted (replies s.procs calls s.records) rounds
+  pub written : text ≡ answers s.procs requests none_counted s.records calls rounds
 
 -- the last line of a service that has made these calls: their number, and the records as they leave them
 abbrev pub last_line : Setup → List Made → List ℕ

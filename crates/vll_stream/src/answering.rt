@@ -12,7 +12,7 @@ use crate::fault::StreamFault;
 use std::alloc::Global;
 use std::sync::Wait;
 use vll_engine::{Engine, Name};
-use vll_lines::{Asked, Request, Rounds, push_counts, push_fault, push_reply};
+use vll_lines::{Asked, Request, Rounds, push_counts, push_fault, push_records, push_reply};
 use vll_sca::Placing;
 
 /// Makes the calls that lines ask for, one after the other, and returns the answers to the lines. `so_far` are the rounds
@@ -62,6 +62,11 @@ fn answer_line<N: Name>(
         Ok(Asked::Counts) => {
             let counts = callers.counts();
             Ok(push_counts(text, &request.id, counts, so_far)?)
+        }
+        Ok(Asked::Records(range)) => {
+            callers.catch_up(wait, engine)?;
+            let records = callers.records();
+            Ok(push_records(text, &request.id, *range, records)?)
         }
         Ok(Asked::Call(call)) => {
             let number = callers.counts().calls;

@@ -1,21 +1,25 @@
 //! The sessions of a service's clients, and the calls that they have made in an engine.
-ghost use Rattle.std.specs.Prelude.{◌≡◌, ◌<◌, ◌≤◌, [], IfErr, IfOk, OnOk};
-ghost use Rattle.vll_check.specs.Calls.{Fits};
+ghost use Rattle.std.specs.Prelude.{◌≡◌, ◌<◌, ◌≤◌, [], All, IfErr, IfOk, OnOk, Some, drop};
+ghost use Rattle.vll_check.specs.Calls.{Fits, IsReady};
+ghost use Rattle.vll_counters.specs.Headline.Views.{calls_in};
 ghost use Rattle.vll_counters.specs.Shown.{AreNewSessions};
 ghost use Rattle.vll_lines.specs.Counts.{counted};
+ghost use Rattle.vll_proc.specs.Headline.Serial.{end};
 ghost use Rattle.vll_queue.specs.Shown.{library_of};
-ghost use Rattle.vll_stream.specs.Private.Callers.{AreCallers, IsInformed, MakesCall, made_so_far};
+ghost use Rattle.vll_stream.specs.Private.Callers.{AreCallers, IsInformed, IsSnapshot, MakesCall, made_so_far};
 ghost use Rattle.vll_stream.specs.declared.fault.StreamFault.TheVariants as fault;
 
 use crate::fault::StreamFault;
+use crate::snapshot::{Snapshot, make_all};
 use std::sync::Wait;
+use vll_core::Ticket;
 use vll_engine::{Engine, Name, Session};
 use vll_lines::{ClientCall, Counts};
 use vll_proc::Reply;
 use vll_sca::Placing;
 use vll_scenario::MOST_CLIENTS;
 
-/// The sessions of an engine's clients, in order, and how many calls they have made.
+/// The sessions of an engine's clients, in order, how many calls they have made, and a snapshot of the records.
 #[derive(Drop)]
 pub(crate) struct Callers {
     sessions: Vec<Session>,
@@ -25,12 +29,19 @@ pub(crate) struct Callers {
     calls: u64,
     // The calls made in this engine and in those before.
     counts: Counts,
+    // The records as the first of the calls made in this engine have left them.
+    snapshot: Snapshot,
 }
 
 impl Callers {
-    /// The clients of a new engine, after these calls in those before.
-    pub(crate) fn new<N: Name>(sessions: Vec<Session>, counts: Counts) -> Callers
+    /// The clients of a new engine, after these calls in those before, and its records.
+    pub(crate) fn new<N: Name>(
+        sessions: Vec<Session>,
+        counts: Counts,
+        snapshot: Snapshot,
+    ) -> Callers
         requires sessions { AreNewSessions N.engine.table N.engine.clients sessions.items }
+        requires snapshot { IsSnapshot N.engine [] snapshot }
         ensures callers { AreCallers N.engine result }
         ensures none { made_so_far result ≡ [] }
         ensures counts { result.counts ≡ counts }
@@ -40,6 +51,7 @@ impl Callers {
             informed: None,
             calls: 0,
             counts,
+            snapshot,
         }
     }
 
@@ -66,11 +78,19 @@ impl Callers {
         self.counts
     }
 
-    /// Returns the sessions, as an engine takes them when it ends.
-    pub(crate) fn into_sessions(self) -> Vec<Session>
-        ensures { result ≡ self.sessions }
+    /// Returns the sessions, as an engine takes them when it ends, and the snapshot.
+    pub(crate) fn into_parts(self) -> (Vec<Session>, Snapshot)
+        ensures sessions { result.0 ≡ self.sessions }
+        ensures snapshot { result.1 ≡ self.snapshot }
     {
-        self.sessions
+        (self.sessions, self.snapshot)
+    }
+
+    /// The records as the calls made in this engine leave them, once `catch_up` was called after the last of them.
+    pub(crate) fn records(&self) -> &[u64]
+        ensures { result.now ≡ self.now.snapshot.values.items }
+    {
+        self.snapshot.values.as_slice()
     }
 
     /// Makes a client's call, and returns its reply. Its ticket is the number of the calls before it.
@@ -115,5 +135,62 @@ impl Callers {
             engine.hear(&mut self.sessions[client as usize], news);
         }
         self.informed = Some(client);
+    }
+    /// Makes the calls since the last time on the snapshot too, so that it has the records as all calls made in this
+    /// engine leave them.
+    pub(crate) fn catch_up<N: Name>(
+        &mut self,
+        wait: &impl Wait,
+        engine: &Engine<N, Placing>,
+    ) -> Result<(), StreamFault>
+        requires callers { AreCallers N.engine self.old }
+        ensures callers { OnOk result (AreCallers N.engine self.new) }
+        ensures made { OnOk result (made_so_far self.new ≡ made_so_far self.old) }
+        ensures counts { self.new.counts ≡ self.old.counts }
+        ensures records { OnOk result (self.new.snapshot.values.items ≡ end N.engine.base.procs (made_so_far self.old) N.engine.base.records) }
+        ensures unfinished { IfErr result (λ why. why ≡ fault.Unfinished) }
+    {
+        let Some(informed) = self.informed else {
+            return Ok(());
+        };
+        self.take_lines(wait, engine, informed)?;
+        make_all(
+            engine.library(),
+            &mut self.snapshot.values,
+            self.snapshot.room.as_slice(),
+        );
+        self.snapshot.calls = self.calls;
+        Ok(())
+    }
+
+    // Takes the lines of the calls that the snapshot lacks into its room.
+    fn take_lines<N: Name>(
+        &mut self,
+        wait: &impl Wait,
+        engine: &Engine<N, Placing>,
+        informed: u32,
+    ) -> Result<(), StreamFault>
+        requires callers { AreCallers N.engine self.old }
+        requires informed { self.old.informed ≡ Some informed }
+        ensures callers { IsInformed N.engine self.old self.new informed }
+        ensures values { self.new.snapshot.values ≡ self.old.snapshot.values }
+        ensures calls { self.new.snapshot.calls ≡ self.old.snapshot.calls }
+        ensures lines { OnOk result (calls_in self.new.snapshot.room.items ≡ drop self.old.snapshot.calls (made_so_far self.old)) }
+        ensures ready { OnOk result (All (λ l. IsReady (library_of N.engine) l.call) self.new.snapshot.room.items) }
+        ensures unfinished { IfErr result (λ why. why ≡ fault.Unfinished) }
+    {
+        let room = &mut self.snapshot.room;
+        room.clear();
+        // An engine has no ticket of more bits.
+        let Ok(from) = u32::try_from(self.snapshot.calls) else {
+            return Err(StreamFault::Unfinished);
+        };
+        let session = &mut self.sessions[informed as usize];
+        engine.lines_from(wait, session, Ticket(from), room);
+        // As `make` says, another thread might have entered calls, which have not finished.
+        if room.len() as u64 != self.calls - self.snapshot.calls {
+            return Err(StreamFault::Unfinished);
+        }
+        Ok(())
     }
 }

@@ -6,7 +6,7 @@ ghost use Rattle.vll_queue.specs.Closed.{GoesOn};
 ghost use Rattle.vll_queue.specs.Shown.{library_of, name_of};
 ghost use Rattle.vll_sca.specs.Placing.{placing};
 ghost use Rattle.vll_stream.specs.declared.fault.StreamFault.TheVariants as fault;
-ghost use Rattle.vll_stream.specs.Private.Callers.{AreCallers, AreTheCalls, made_so_far};
+ghost use Rattle.vll_stream.specs.Private.Callers.{AreCallers, AreTheCalls, IsSnapshot, made_so_far};
 ghost use Rattle.vll_stream.specs.Private.Parts.{IsPart, place_of};
 ghost use Rattle.vll_stream.specs.Private.Stopped.{IsOwn, StopsAfter};
 ghost use Rattle.vll_stream.specs.Private.Told.{Follows, IsEpoch, IsRoundAfter, is_over};
@@ -14,6 +14,7 @@ ghost use Rattle.vll_stream.specs.Private.Told.{Follows, IsEpoch, IsRoundAfter, 
 use crate::answering::answer_lines;
 use crate::callers::Callers;
 use crate::fault::StreamFault;
+use crate::snapshot::Snapshot;
 use std::alloc::Global;
 use std::sync::Wait;
 use vll_core::{Line, MOST_CALLS};
@@ -39,8 +40,8 @@ pub(crate) struct Ended {
 /// What follows an epoch.
 #[derive(Drop)]
 pub(crate) enum Then {
-    /// Another one, of the engine of this opening, with this room for a journal.
-    On(Opening<Placing>, Vec<Line>),
+    /// Another one, of the engine of this opening, with this snapshot.
+    On(Opening<Placing>, Snapshot),
     /// Nothing: the input has ended. The records are left.
     Over(Vec<u64>),
 }
@@ -56,11 +57,11 @@ pub(crate) fn run_epoch<N: Name, S: Source, W: Sink>(
     writer: &mut W,
     tail: &mut Vec<u8>,
     counts: Counts,
-    room: Vec<Line>,
+    snapshot: Snapshot,
 ) -> Result<Ended, StreamFault>
     requires named { N.engine ≡ name_of placing opening }
     requires few { N.engine.clients ≤ MOST_CLIENTS }
-    requires room { N.engine.config.limit ≤ vec_capacity room }
+    requires snapshot { IsSnapshot N.engine [] snapshot }
     requires reader { S.failed reader.old ≡ false }
     requires writer { W.failed writer.old ≡ false }
     requires tail { has_feed tail.old.items ≡ false }
@@ -77,7 +78,7 @@ pub(crate) fn run_epoch<N: Name, S: Source, W: Sink>(
     ensures write { (result ≡ Err fault.Write) ↔ (W.failed writer.new ≡ true) }
 {
     let (engine, sessions) = opening.start::<N>();
-    let mut callers = Callers::new::<N>(sessions, counts);
+    let mut callers = Callers::new::<N>(sessions, counts, snapshot);
     let is_last = serve_rounds(
         wait,
         alloc,
@@ -90,7 +91,7 @@ pub(crate) fn run_epoch<N: Name, S: Source, W: Sink>(
     )?;
     Ok(Ended {
         counts: callers.counts(),
-        then: end_epoch(alloc, engine, callers, is_last, room)?,
+        then: end_epoch(wait, alloc, engine, callers, is_last)?,
     })
 }
 
@@ -178,25 +179,42 @@ fn serve_round<N: Name, S: Source, W: Sink>(
 
 // Ends an engine whose clients have made these calls: opens the next one, or returns the records that the last one leaves.
 fn end_epoch<N: Name>(
+    wait: &impl Wait,
     alloc: Global,
     engine: Engine<N, Placing>,
     callers: Callers,
     is_last: bool,
-    room: Vec<Line>,
 ) -> Result<Then, StreamFault>
     requires callers { AreCallers N.engine callers }
-    requires room { N.engine.config.limit ≤ vec_capacity room }
     ensures follows { IfOk result (Follows N.engine (made_so_far callers)) }
     ensures last { IfOk result (λ then. is_over then ≡ is_last) }
     ensures own { IfErr result IsOwn }
 {
-    let sessions = callers.into_sessions();
     if is_last {
+        let (sessions, _) = callers.into_parts();
         Ok(Then::Over(closed(engine, sessions)?))
     } else {
-        let next = reopened(alloc, engine, sessions, room)?;
-        Ok(Then::On(next.opening, next.journal))
+        go_on(wait, alloc, engine, callers)
     }
+}
+
+// Ends an engine whose clients have made these calls, and opens the next one.
+fn go_on<N: Name>(
+    wait: &impl Wait,
+    alloc: Global,
+    engine: Engine<N, Placing>,
+    mut callers: Callers,
+) -> Result<Then, StreamFault>
+    requires callers { AreCallers N.engine callers }
+    ensures follows { IfOk result (Follows N.engine (made_so_far callers)) }
+    ensures last { IfOk result (λ then. is_over then ≡ false) }
+    ensures own { IfErr result IsOwn }
+{
+    callers.catch_up(wait, &engine)?;
+    let (sessions, snapshot) = callers.into_parts();
+    let Snapshot { values, room, .. } = snapshot;
+    let next = reopened(alloc, engine, sessions, room)?;
+    Ok(Then::On(next.opening, Snapshot::new(values, next.journal)))
 }
 
 // Ends the engine, and returns the records that it leaves.

@@ -1,7 +1,8 @@
 //! A service over a stream of bytes, which is what `vll serve` runs: calls come in as lines of JSON, and their answers go
 //! out as lines, until the input ends. It opens an engine over a scenario's records, and goes on with another one whenever
 //! one has taken as many calls as it can. Proved: the answers are those of the input's calls made one at a time in the
-//! order of their lines, and so are the counts of calls that a line asks for, and the records in the last line. Start at
+//! order of their lines, and so are the counts of calls and the records that a line asks for, and the records in the last
+//! line. Start at
 //! `serve_stream`.
 //!
 //! ```rattle
@@ -17,6 +18,7 @@ mod callers;
 mod epoch;
 mod fault;
 mod serving;
+mod snapshot;
 
 pub use fault::StreamFault;
 pub use serving::serve_stream;

@@ -11,6 +11,7 @@ ghost use Rattle.vll_stream.specs.declared.fault.StreamFault.TheVariants as faul
 
 use crate::epoch::{Ended, Then, run_epoch};
 use crate::fault::StreamFault;
+use crate::snapshot::Snapshot;
 use std::alloc::Global;
 use std::marker::Brand;
 use std::sync::Wait;
@@ -49,8 +50,9 @@ pub fn serve_stream<S: Source, W: Sink>(
     ensures read { (result ≡ Err fault.Read) ↔ (S.failed reader.new ≡ true) }
     ensures write { (result ≡ Err fault.Write) ↔ (W.failed writer.new ≡ true) }
 {
-    let mut opening = service_opening(alloc, scenario)?;
-    let mut room = Vec::with_capacity(alloc, MOST_CALLS as usize)?;
+    let (mut opening, values) = service_opening(alloc, scenario)?;
+    let room = Vec::with_capacity(alloc, MOST_CALLS as usize)?;
+    let mut snapshot = Snapshot::new(values, room);
     let mut rounds = RoundReader::new(alloc)?;
     let mut tail = Vec::new(alloc);
     let mut counts = Counts::none();
@@ -64,7 +66,7 @@ pub fn serve_stream<S: Source, W: Sink>(
             writer,
             &mut tail,
             counts,
-            room,
+            snapshot,
         )?;
         let Ended {
             counts: reached,
@@ -76,9 +78,9 @@ pub fn serve_stream<S: Source, W: Sink>(
                 write_text(writer, text.as_slice())?;
                 return Ok(());
             }
-            Then::On(next, journal) => {
+            Then::On(next, taken) => {
                 opening = next;
-                room = journal;
+                snapshot = taken;
                 counts = reached;
             }
         }
@@ -86,10 +88,15 @@ pub fn serve_stream<S: Source, W: Sink>(
     unreachable!()
 }
 
-// An engine over a scenario's records and procedures, with its cap, bits and hash, and a client for each script.
-fn service_opening(alloc: Global, scenario: Scenario) -> Result<Opening<Placing>, StreamFault>
-    ensures opened { IfOk result (λ o. o ≡ opening o.table (catalog_of scenario) scenario.records (config_for scenario) scenario.placing (length scenario.scripts)) }
-    ensures few { IfOk result (λ o. o.clients ≤ MOST_CLIENTS) }
+// An engine over a scenario's records and procedures, with its cap, bits and hash, and a client for each script. Returns
+// the records too.
+fn service_opening(
+    alloc: Global,
+    scenario: Scenario,
+) -> Result<(Opening<Placing>, Vec<u64>), StreamFault>
+    ensures opened { IfOk result (λ o. o.0 ≡ opening o.0.table (catalog_of scenario) scenario.records (config_for scenario) scenario.placing (length scenario.scripts)) }
+    ensures records { IfOk result (λ o. o.1.items ≡ scenario.records) }
+    ensures few { IfOk result (λ o. o.0.clients ≤ MOST_CLIENTS) }
     ensures calls { (result ≡ Err fault.Calls) ↔ (has_calls scenario ≡ true) }
     ensures fault { IfErr result (λ why. (why ≡ fault.Calls) ⊎ IsOwn why) }
 {
@@ -110,8 +117,9 @@ fn service_opening(alloc: Global, scenario: Scenario) -> Result<Opening<Placing>
         bits: config.bits,
     };
     let clients = scripts.len() as u32;
+    let values = records.clone()?;
     match Opening::new(alloc, records, library, config, placing, clients) {
-        Ok(opening) => Ok(opening),
+        Ok(opening) => Ok((opening, values)),
         Err(OpenFault::NoMemory) => Err(StreamFault::NoMemory),
         // A scenario has the sizes that an engine can be opened with.
         Err(OpenFault::Records | OpenFault::Limit | OpenFault::Cap | OpenFault::Bits) => {

@@ -103,6 +103,74 @@ fn counts_are_of_the_calls_before(rt: HostRuntime) -> Result<(), Fail> {
     Ok(())
 }
 
+// Each line with records lies between calls of the round.
+#[test]
+fn records_are_those_at_their_place(rt: HostRuntime) -> Result<(), Fail> {
+    let input = r#"{"records":[0,2]}
+{"proc":"transfer","args":[0,1,30]}
+{"id":7,"records":[0,2]}
+{"proc":"transfer","args":[1,0,90]}
+{"client":1,"proc":"transfer","args":[1,0,79]}
+{"records":[1,1],"id":"b"}
+{"records":[0,1]}
+{"records":[1,0]}
+{"records":[1,2]}
+{"records":[0]}
+{"proc":"transfer","args":[0,1,100]}
+"#;
+    let wanted = r#"{"records":[100,50]}
+{"call":0,"committed":[70]}
+{"id":7,"records":[70,80]}
+{"call":1,"aborted":"underflow"}
+{"call":2,"committed":[1]}
+{"id":"b","records":[1]}
+{"records":[149]}
+{"records":[]}
+{"fault":"records has to ask for at most 1024 records, all of which there are"}
+{"fault":"records has to be a list of two whole numbers, the first record and how many"}
+{"call":3,"committed":[49]}
+{"calls":4,"records":[49,101]}
+"#;
+    let found = served(&rt, rt.alloc(), input)?;
+    equal(&rt, std::str::from_utf8(found.as_slice())?, wanted);
+    Ok(())
+}
+
+// A bank that finds the second account of a transfer by the value of the first record.
+const FINDING: &str = r#"{"version":2,"records":[1,100,50],"procs":[
+ {"name":"take","args":1,"keys":[["read","fixed",0],["write","through",0]],
+  "body":[["set",1,["sub",["key",1],["arg",0]]]]},
+ {"name":"turn","args":1,"keys":[["write","fixed",0]],"body":[["set",0,["arg",0]]]}],
+ "clients":[[]]}"#;
+
+#[test]
+fn records_follow_what_calls_have_found(rt: HostRuntime) -> Result<(), Fail> {
+    let input = r#"{"proc":"take","args":[7]}
+{"proc":"turn","args":[2]}
+{"records":[0,3]}
+{"proc":"take","args":[9]}
+{"records":[0,3]}
+{"proc":"take","args":[60]}
+{"records":[0,3]}
+"#;
+    let wanted = r#"{"call":0,"committed":[]}
+{"call":1,"committed":[]}
+{"records":[2,93,50]}
+{"call":2,"committed":[]}
+{"records":[2,93,41]}
+{"call":3,"aborted":"underflow"}
+{"records":[2,93,41]}
+{"calls":4,"records":[2,93,41]}
+"#;
+    let scenario = read_scenario(rt.alloc(), &mut Plain::new(FINDING.as_bytes()))?;
+    let mut output = Vec::new(rt.alloc());
+    let mut writer = Plain::new(&mut output);
+    let mut reader = Plain::new(input.as_bytes());
+    serve_stream(&rt, rt.alloc(), scenario, &mut reader, &mut writer)?;
+    equal(&rt, std::str::from_utf8(output.as_slice())?, wanted);
+    Ok(())
+}
+
 // Lines that ask for `count` transfers of 1 from the first account to the second, or from the second to the first. They
 // differ in length, so that a round ends anywhere.
 fn transfers(alloc: Global, count: u32) -> Result<String, Fail> {
@@ -131,6 +199,24 @@ fn counts_go_on_over_the_epochs(rt: HostRuntime) -> Result<(), Fail> {
 {"calls":70003,"records":[98,52]}
 "#;
     let text = std::str::from_utf8(found.as_slice())?;
+    equal(&rt, text.ends_with(wanted), true);
+    Ok(())
+}
+
+// Records are asked for in the first engine, and then in the second.
+#[test]
+fn records_go_on_over_the_epochs(rt: HostRuntime) -> Result<(), Fail> {
+    let mut input = transfers(rt.alloc(), 10)?;
+    input.push_str("{\"records\":[0,2]}\n")?;
+    input.push_str(transfers(rt.alloc(), 70_002)?.as_str())?;
+    input.push_str("{\"records\":[0,2]}\n{\"proc\":\"transfer\",\"args\":[0,1,7]}\n")?;
+    let found = served(&rt, rt.alloc(), input.as_str())?;
+    let wanted = r#"{"records":[96,54]}
+{"call":70012,"committed":[89]}
+{"calls":70013,"records":[89,61]}
+"#;
+    let text = std::str::from_utf8(found.as_slice())?;
+    equal(&rt, text.contains("{\"records\":[98,52]}\n"), true);
     equal(&rt, text.ends_with(wanted), true);
     Ok(())
 }

@@ -26,6 +26,7 @@ AreRead tokens found rest = converted (λ ms. of_members ms no_members) (members
 pub record Says (told : Told) (args : List ℕ) (found : Members) : Type 0 where
   pub only : has_only may_names found ≡ true
   pub no_counts : get (codes "counts") (object found) ≡ None
+  pub no_records : get (codes "records") (object found) ≡ None
   pub id : id_of (object found) ≡ Ok told.id
   pub client : client_of (object found) ≡ Ok told.client
   pub name : IfSome told.name (λ s. name_of (object found) ≡ Ok s.now)

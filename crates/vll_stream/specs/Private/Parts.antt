@@ -40,6 +40,6 @@ pub record IsPart (library : Catalog) (clients : ℕ) (records : List ℕ) (call
   pub text : List ℕ
   pub rounds : List Rounds
   pub told : length rounds ≡ counts_asked requests
-  pub answered : text ≡ answers requests old.counts (replies library.procs calls records) rounds
+  pub answered : text ≡ answers library.procs requests old.counts records calls rounds
   pub written : Appends old.output new.output text
   pub counts : new.counts ≡ all_counted old.counts (replies library.procs calls records)

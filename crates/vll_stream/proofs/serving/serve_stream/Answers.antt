@@ -1,6 +1,7 @@
 use Rattle.std.proofs.Common.{◌≡◌, ◌≤◌, ℕ, List, [], ◌++◌, refl, sym, ap, ◌∙◌, subst, rules, Result, Err, IfErr, vec_capacity}
 use Rattle.std.specs.Io.KnownBytes.{Appends}
 use Rattle.vll_core.specs.declared.config.Config.{Config}
+use Rattle.vll_core.specs.declared.config.TheConstants.{MOST_CALLS}
 use Rattle.vll_queue.specs.Closed.{GoesOn}
 use Rattle.vll_queue.specs.Shown.{OpeningShown, name_of}
 use Rattle.vll_sca.specs.declared.place.Placing.{Placing}
@@ -15,6 +16,8 @@ use Rattle.vll_stream.specs.Private.Told.{AreAll, IsEpoch, IsSoFar, first_engine
 use Rattle.vll_stream.specs.Served.{EndsEarly}
 use Rattle.vll_stream.specs.declared.fault.StreamFault.{StreamFault}
 use Rattle.vll_stream.specs.declared.fault.StreamFault.TheVariants as fault
+use Rattle.vll_stream.specs.declared.snapshot.Snapshot.{Snapshot}
+use Rattle.vll_stream.proofs.Snapshots.{first_snapshot}
 use Rattle.vll_scenario.specs.Streams.{AppendsBeginning}
 use Rattle.vll_stream.proofs.Epochs.{breaks_off, epoch_stops, lacks_memory, none_so_far, one_more, serves_all, the_last}
 use Rattle.vll_stream.proofs.Stops.{ends_at_once, ends_early}
@@ -34,10 +37,15 @@ loop-init g c =
       places = ap (λ (x : OpeningShown Placing). placing x.hash) o;
       clients = ap (λ (x : OpeningShown Placing). x.clients) o;
     } in
+    let s : Snapshot = c.new-snapshot.result in
+    let is = c.new-snapshot.ensures in
     let few = c.in_ok-opening.ensures.few in (
       tt,
       tt,
-      c.in_ok-room.ensures.capacity,
+      first_snapshot (name_of placing c.in_ok-opening.opening) s (ap (λ (x : Snapshot). x.calls) is)
+          (ap (λ (x : Snapshot). x.values.items) is ∙ (c.in_ok-opening.ensures.records ∙ sym on.records))
+          (subst (λ (k : ℕ). k ≤ vec_capacity s.room) (sym (ap (λ (x : Config). x.limit) on.config))
+          (subst (λ (k : ℕ). MOST_CALLS ≤ k) (sym (ap (λ (x : Snapshot). vec_capacity x.room) is)) c.in_ok-room.ensures.capacity)),
       c.requires.reader,
       c.requires.writer,
       ap has_feed c.new-tail.ensures.items,
@@ -57,11 +65,10 @@ loop-preserved g c =
     let old : Place = place_of known contents c.args.reader.now [] c.args.writer.now none_counted in
     let mid : Place = place_of known contents l.reader l.tail.items l.writer l.counts in
     let new : Place = place_of known contents c.run_epoch.new.reader c.run_epoch.new.tail.items c.run_epoch.new.writer c.in_ok-ended.ended.counts in
-    let epoch = subst (IsEpoch e mid new) c.in-On.is c.in_ok-ended.ensures.epoch in
-    let few = epoch.follows.1 in (
+    let epoch = subst (IsEpoch e mid new) c.in-On.is c.in_ok-ended.ensures.epoch in (
       tt,
       tt,
-      subst (λ (k : ℕ). k ≤ vec_capacity c.in-On.journal) (ap (λ (x : Config). x.limit) so_far.on.config) few,
+      epoch.follows.1,
       c.in_ok-ended.ensures.reader,
       c.in_ok-ended.ensures.writer,
       c.in_ok-ended.ensures.tail,
@@ -185,7 +192,7 @@ run_epoch-requires g c =
     record {
       named = refl;
       few = subst (λ (k : ℕ). k ≤ MOST_CLIENTS) (sym on.clients) l.invariant.7;
-      room = subst (λ (k : ℕ). k ≤ vec_capacity l.room) (sym (ap (λ (x : Config). x.limit) on.config)) l.invariant.2;
+      snapshot = l.invariant.2;
       reader = l.invariant.3;
       writer = l.invariant.4;
       tail = l.invariant.5;

@@ -1,4 +1,6 @@
-use Rattle.std.proofs.Common.{◌≡◌, true, false, not, refl, sym, ap, ◌∙◌, rules}
+use Rattle.std.proofs.Common.{◌≡◌, ℕ, List, true, false, not, refl, sym, ap, ◌∙◌, rules}
+use Rattle.std.proofs.lemmas.List.{map-id}
+use Rattle.std.proofs.lemmas.Slice.Zip.{AllZip-map}
 use Rattle.std.specs.Global.{Vec}
 use Rattle.std.specs.List.{list_all}
 use Rattle.vll_proc.specs.declared.call.Call.{Call}
@@ -26,3 +28,13 @@ pub returns-in-Err-NoMemory-clause-calls : goal.returns-in-Err-NoMemory-clause-c
 returns-in-Err-NoMemory-clause-calls c =
     let empty : has_calls c.args.scenario ≡ false = tested (goal.at.returns-in-Err-NoMemory-clause-calls c).After-are_empty ∙ ap not c.if-not-are_empty.false in
     (λ is. absurd (search rules), λ has. absurd (let e : true ≡ false = sym has ∙ empty in search rules))
+
+pub returns-in_err-values-clause-calls : goal.returns-in_err-values-clause-calls
+returns-in_err-values-clause-calls c =
+    let empty : has_calls c.args.scenario ≡ false = tested (goal.at.returns-in_err-values-clause-calls c).After-are_empty ∙ ap not c.if-not-are_empty.false in
+    (λ is. absurd (search rules), λ has. absurd (let e : true ≡ false = sym has ∙ empty in search rules))
+
+pub returns-in-Ok-clause-records : goal.returns-in-Ok-clause-records
+returns-in-Ok-clause-records c =
+    let old : List ℕ = c.into_parts-records.result.records.items in
+    AllZip-map (λ (n : ℕ). n) old c.in_ok-values.values.items c.in_ok-values.ensures.cases.0 ∙ (map-id old ∙ c.into_parts-records.ensures.records)

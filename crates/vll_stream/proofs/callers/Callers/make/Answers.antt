@@ -17,7 +17,7 @@ returns-clause-callers g c =
     let s : SessionShown = c.index_mut-session.result.now in
     let at : slice_get old.sessions.items client ≡ Some s = session_at e old client s c.inform.ensures.callers c.requires.client c.index_mut-session.ensures.value in
     (makes_call e old _ client s c.call.new.session c.inform.ensures.callers at refl c.in-Ok.ensures.session c.inform.ensures.informed c.args.call.now.call _ _ c.in-Ok.ensures.called
-    (told_first old client s c.inform.ensures.informed at) (sym c.ticket.view_is ∙ search rules) c.requires.fits refl).0
+    (told_first old client s c.inform.ensures.informed at) (sym c.ticket.view_is ∙ search rules) c.requires.fits refl refl).0
 
 pub returns-clause-made : goal.returns-clause-made
 returns-clause-made g c =
@@ -29,5 +29,5 @@ returns-clause-made g c =
     let new : Callers = record old { sessions = with_item old.sessions client c.call.new.session; calls = old.calls + 1; counts = c.with-self.result } in
     let makes =
     makes_call e old new client s c.call.new.session c.inform.ensures.callers at refl c.in-Ok.ensures.session c.inform.ensures.informed c.args.call.now.call _ _ c.in-Ok.ensures.called
-    (told_first old client s c.inform.ensures.informed at) (sym c.ticket.view_is ∙ search rules) c.requires.fits refl in
+    (told_first old client s c.inform.ensures.informed at) (sym c.ticket.view_is ∙ search rules) c.requires.fits refl refl in
     made_after e (made_so_far old) (made_so_far c.args.self.now) (made_so_far new) c.args.call.now c.inform.ensures.made makes.1
