@@ -148,7 +148,8 @@ fn line_asks_for_records_that_there_are(rt: HostRuntime) -> Result<(), Fail> {
     let library = library(rt.alloc(), 2_000)?;
     let form =
         r#"{"fault":"records has to be a list of two whole numbers, the first record and how many"}"#;
-    let range = r#"{"fault":"records has to ask for at most 1024 records, all of which there are"}"#;
+    let range =
+        r#"{"fault":"records has to ask for at most 1024 records, all of which there are"}"#;
     for (line, wanted) in [
         (r#"{"records":7}"#, form),
         (r#"{"records":true}"#, form),

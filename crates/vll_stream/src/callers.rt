@@ -136,6 +136,7 @@ impl Callers {
         }
         self.informed = Some(client);
     }
+
     /// Makes the calls since the last time on the snapshot too, so that it has the records as all calls made in this
     /// engine leave them.
     pub(crate) fn catch_up<N: Name>(
