@@ -20,6 +20,9 @@ BAR = re.compile(rb'^----( judged)?\n', re.MULTILINE)
 # A cell that begins with @ names a file beside the table, and this one stands for an outcome that is judged.
 JUDGED = '@judge'
 
+# An option whose value is the next word.
+OPTION = re.compile(rb'--[^=]+')
+
 FAULT = re.compile(rb'^vll: (run|replay|explain|draw|scenario|command line)', re.MULTILINE)
 STATUS = {b'run': 1, b'replay': 1, b'explain': 1, b'draw': 1, b'scenario': 2, b'command line': 2}
 
@@ -42,6 +45,11 @@ class Case(NamedTuple):
     def line(self):
         """The first line that has to be printed, with its end, and no bytes if what is printed is judged."""
         return b'' if self.is_judged else self.wanted().partition(b'\n')[0] + b'\n'
+
+    def files(self):
+        """The files among the arguments: what is no option, and no value of one."""
+        pairs = zip(self.words, self.words[1:])
+        return [word for before, word in pairs if not word.startswith(b'-') and not OPTION.fullmatch(before)]
 
     def is_meant_by(self, word):
         """Whether this is its name, which may stand behind its folder and the name of its file, as run/bodies/NAME."""

@@ -8,6 +8,8 @@ import re
 # The most bytes that are printed, as docs/SCENARIO.md says.
 MOST_BYTES = 20 * 1024
 
+# What is named if the scenario was not read to its end.
+INPUT = 'standard input|the file'
 LISTS = 'records', 'procs', 'clients', 'schedule'
 SIZES = 'records', 'procs', 'clients', 'cap', 'bits', 'limit', 'schedule'
 # By the number of a test, what is said of a procedure and of a call that fail it.
@@ -46,12 +48,12 @@ def pieces_of(words):
         number = int(words[3])
         return rf'clients {words[1]}, call {words[2]}$', CALLS[number]
     return {
-        'size': (rf'(standard input|{"|".join(SIZES)})$',
+        'size': (rf'({INPUT}|{"|".join(SIZES)})$',
                  r'more than 16777216 bytes|\d+ is not in the range \d+ to'),
         'json': (r'line \d+, column \d+$', r'^(invalid JSON|EOF while parsing|number out of range|.* more than 127 deep)$'),
         'name': ('procs$', r'procs \d+ and procs \d+ both have the name "'),
-        'read': ('standard input$', 'cannot be read'),
-        'no': ('standard input$', 'not enough memory'),
+        'read': (f'({INPUT})$', 'cannot be read'),
+        'no': (f'({INPUT})$', 'not enough memory'),
     }[kind]
 
 

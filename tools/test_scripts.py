@@ -227,9 +227,9 @@ class Scripts(unittest.TestCase):
 
     def test_trials_of_a_program_that_does_nothing_fail(self):
         lines = self.said_of('trials', 'exit 0', '--refusals', self.room / 'program', 'command_line', 'faults',
-                             'installed', 'lacks', 'service', 'refused_memory', 'refused_starts')[1]
+                             'files', 'installed', 'lacks', 'service', 'refused_memory', 'refused_starts')[1]
         # it cannot be tried everywhere how threads are lacked and in a root of its own, and a socket needs socat
-        self.assertRegex(lines[-1], '^trials: 0 passed, (90 failed, 3|91 failed, 2|92 failed, 1|93 failed, 0) skipped$')
+        self.assertRegex(lines[-1], '^trials: 0 passed, (108 failed, 3|109 failed, 2|110 failed, 1|111 failed, 0) skipped$')
 
     def test_random_tests_of_wrong_programs_fail(self):
         right = f'"{sys.executable}" "{TOOLS}/replay_model.py" /dev/stdin'

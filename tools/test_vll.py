@@ -104,6 +104,20 @@ class WithStandIn(unittest.TestCase):
             self.assertEqual((self.room / 'input').read_bytes(), given)
         self.assertFalse((self.room / 'no_file').exists())
 
+    def test_files_are_found_from_where_it_is_called(self):
+        """The program without a proof runs in another folder, and the word behind an option is no file. Standard input
+        is not read for a file, but for a service."""
+        folder = Path(tempfile.mkdtemp(dir=self.room))
+        for name in 'bank.json', '3':
+            shutil.copy(TRANSFER, folder / name)
+        for words, is_read in ('run --workers 3 bank.json', False), ('run bank.json --workers 3', False), \
+                ('draw --from=3 bank.json', False), ('replay -- bank.json', False), ('run nothing.json', False), \
+                ('serve --cap 3 bank.json', True), ('run --workers 3', True):
+            self.vll('--unproved', *words.split(), input=b'its input', cwd=folder)
+            wanted = words.replace('bank', str(folder / 'bank')).replace('nothing', str(folder / 'nothing')).split()
+            self.assertEqual(self.called()[1:], ['try', '--', *wanted])
+            self.assertEqual((self.room / 'input').read_bytes(), b'its input' if is_read else b'', words)
+
     def test_outcome_and_status_are_the_programs(self):
         """Each run says that it is unproved, and nothing of what rt says."""
         for printed, status in (OUTCOME, 0), (b'', 0), (b'no end of the line', 0), (b'\0\xff\n\n', 0), \
@@ -154,7 +168,7 @@ class WithStandIn(unittest.TestCase):
                 'run --help --workers 65':
             ran = self.vll(*words.split())
             self.assertEqual((ran.returncode, ran.stderr), (0, b''))
-            for part in b'./vll --unproved', b'run [--workers N] [--cap N] [--bits N]', b'replay', b'explain':
+            for part in b'./vll --unproved', b'run [--workers N] [--cap N] [--bits N] [FILE]', b'replay', b'explain':
                 self.assertIn(part, ran.stdout)
             self.assertNotIn(b'set -euo', ran.stdout)
         self.assertEqual(self.called(), [])
@@ -187,7 +201,7 @@ class WithStandIn(unittest.TestCase):
     def test_words_of_use_have_the_program_built(self):
         """The program tests its options itself."""
         for words in 'run', 'replay', 'explain', 'run --workers 3 --cap=4 --bits 5', 'run --workers 65', \
-                'draw -- --count=0':
+                'draw -- --count=0', 'run scenario.json', 'explain below/scenario.json':
             self.assertTrue(self.is_built_for(*words.split()))
             self.assertEqual(self.called()[1:], ['run', '--', '--help'])
             self.assertFalse(self.is_built_for(*words.split()))

@@ -86,8 +86,8 @@ def faults_of_completion(path, program):
         for word, has_value in command.options():
             if has_value and completed(path, 'vll', name, word, ''):
                 yield f'{name} {word} is completed'
-    if not completed(path, 'vll', 'serve', str(TOP / 'READ')) == {str(TOP / 'README.md')}:
-        yield 'serve is not completed by files'
+        if completed(path, 'vll', name, str(TOP / 'READ')) != {str(TOP / 'README.md')}:
+            yield f'{name} is not completed by files'
 
 
 def faults_of_clients(folder, program):

@@ -22,17 +22,17 @@ ghost use Rattle.vll.specs.Private.Acting.{IsWith, Runs, ServesFile, StopsFile};
 ghost use Rattle.vll.specs.declared.fault.Fault.TheVariants as fault;
 
 use crate::fault::Fault;
+use crate::file::opened;
 use clap::Error;
 use std::alloc::Global;
-use std::fs;
 use std::rt::Files;
 use std::sync::Wait;
 use std::thread::Threads;
 use vll_command::{CommandFault, RunOptions, ServeOptions};
 use vll_draw::draw;
-use vll_explain::explain;
+use vll_explain::{Origin, explain};
 use vll_scenario::{EngineOptions, EventRange};
-use vll_server::{Plain, Scenario, ScenarioFault, Sink, Source, read_scenario, replay};
+use vll_server::{Scenario, ScenarioFault, Sink, Source, read_scenario, replay};
 use vll_stream::serve_stream;
 use vll_workers::{MOST_WORKERS, OpenGate};
 
@@ -115,7 +115,7 @@ pub(crate) fn serve<R: Threads + Wait + Files + Sync, S: Source, W: Sink>(
     }
 }
 
-// The scenario in a file, with these options of its engine. `Read` is also returned if the file cannot be opened.
+// The scenario in a file, with these options of its engine.
 fn scenario_in<R: Files>(
     rt: &R,
     alloc: Global,
@@ -124,12 +124,9 @@ fn scenario_in<R: Files>(
 ) -> Result<Scenario, ScenarioFault>
     ensures { IfOk result (IsWith engine) }
 {
-    match fs::open(rt, path) {
-        Ok(file) => match read_scenario(alloc, &mut Plain::new(file)) {
-            Ok(scenario) => Ok(scenario.with_options(engine)),
-            Err(why) => Err(why),
-        },
-        Err(_) => Err(ScenarioFault::Read),
+    match read_scenario(alloc, &mut opened(rt, path)) {
+        Ok(scenario) => Ok(scenario.with_options(engine)),
+        Err(why) => Err(why),
     }
 }
 
@@ -159,6 +156,7 @@ pub(crate) fn replay_schedule<S: Source, W: Sink>(
 // Reads a scenario, and writes its fault with an explanation, or what the scenario has.
 pub(crate) fn explain_fault<S: Source, W: Sink>(
     alloc: Global,
+    origin: Origin,
     reader: &mut S,
     writer: &mut W,
 ) -> Result<(), Fault>
@@ -172,7 +170,7 @@ pub(crate) fn explain_fault<S: Source, W: Sink>(
     ensures no_memory { result ≡ Err (fault.Explain write_fault.NoMemory) → writer.new ≡ writer.old }
     ensures failed { (result ≡ Err (fault.Explain write_fault.Write)) ↔ (W.failed writer.new ≡ true) }
 {
-    match explain(alloc, reader, writer) {
+    match explain(alloc, origin, reader, writer) {
         Ok(None) => Ok(()),
         Ok(Some(why)) => Err(Fault::Explained(why)),
         Err(why) => Err(Fault::Explain(why)),

@@ -1,5 +1,5 @@
-//! The program `vll`: reads a scenario from standard input, runs it, replays its schedule, draws the replay or explains
-//! its fault, and writes the result; or serves calls over the scenario of a file.
+//! The program `vll`: reads a scenario from standard input or a file, runs it, replays its schedule, draws the replay or
+//! explains its fault, and writes the result; or serves calls over the scenario of a file.
 #![tactic(auto)]
 
 ghost use Rattle.std.specs.Prelude.{◌≡◌, ◌↔◌, false, IsOk, OnOk};
@@ -9,15 +9,18 @@ ghost use Rattle.vll.specs.Private.Acting.{Performs};
 
 mod acting;
 mod fault;
+mod file;
 
 use crate::acting::{draw_schedule, explain_fault, print_text, replay_schedule, run, serve};
 use crate::fault::Fault;
+use crate::file::opened;
 use std::process::ExitCode;
 use std::rt::{Env, Files};
 use std::sync::Wait;
 use std::thread::Threads;
 use std::{env, io};
-use vll_command::{Action, CommandFault, action_of};
+use vll_command::{Action, CommandFault, Input, action_of};
+use vll_explain::Origin;
 use vll_server::{Plain, Sink, Source};
 
 // It passes standard input as the reader, and standard output as the writer.
@@ -40,7 +43,7 @@ fn words_of(rt: &(impl Env + AllocGlobal)) -> io::Result<Vec<String>> {
 }
 
 // Performs the action that was asked for, and prints the line of a fault. The exit status is 0 only if the action was
-// performed. For a `Tell`, neither `reader` nor `writer` is used.
+// performed. For a `Tell` neither `reader` nor `writer` is used, and for a file that is read in its place not `reader`.
 fn work<R: Print + Eprint + AllocGlobal + Threads + Wait + Files + Sync, S: Source, W: Sink>(
     rt: &R,
     asked: Result<Action, CommandFault>,
@@ -49,18 +52,48 @@ fn work<R: Print + Eprint + AllocGlobal + Threads + Wait + Files + Sync, S: Sour
 ) -> ExitCode
     requires reader { S.failed reader.old ≡ false }
     requires writer { W.failed writer.old ≡ false }
-    ensures { exit_status result ≡ 0 → Performs asked (S.remaining reader.old) (S.remaining reader.new)
+    ensures { exit_status result ≡ 0 → Performs asked (reader.new ≡ reader.old) (S.remaining reader.old) (S.remaining reader.new)
         (Appends (W.contents writer.old) (W.contents writer.new)) }
 {
     match asked {
         Ok(Action::Tell(text)) => ended(rt, &print_text(rt, &text)),
-        Ok(Action::Run(options)) => ended(rt, &run(rt, rt.alloc(), options, reader, writer)),
+        Ok(Action::Run(input, options)) => match input {
+            Input::Standard => ended(rt, &run(rt, rt.alloc(), options, reader, writer)),
+            Input::File(path) => {
+                let mut file = opened(rt, path.as_str());
+                ended(rt, &run(rt, rt.alloc(), options, &mut file, writer))
+            }
+        },
         Ok(Action::Serve(options)) => ended(rt, &serve(rt, rt.alloc(), options, reader, writer)),
-        Ok(Action::Replay) => ended(rt, &replay_schedule(rt.alloc(), reader, writer)),
-        Ok(Action::Explain) => ended(rt, &explain_fault(rt.alloc(), reader, writer)),
-        Ok(Action::Draw(window)) => {
-            ended(rt, &draw_schedule(rt.alloc(), reader, writer, window))
-        }
+        Ok(Action::Replay(input)) => match input {
+            Input::Standard => ended(rt, &replay_schedule(rt.alloc(), reader, writer)),
+            Input::File(path) => {
+                let mut file = opened(rt, path.as_str());
+                ended(rt, &replay_schedule(rt.alloc(), &mut file, writer))
+            }
+        },
+        Ok(Action::Explain(input)) => match input {
+            Input::Standard => {
+                ended(
+                    rt,
+                    &explain_fault(rt.alloc(), Origin::Standard, reader, writer),
+                )
+            }
+            Input::File(path) => {
+                let mut file = opened(rt, path.as_str());
+                ended(
+                    rt,
+                    &explain_fault(rt.alloc(), Origin::File, &mut file, writer),
+                )
+            }
+        },
+        Ok(Action::Draw(input, window)) => match input {
+            Input::Standard => ended(rt, &draw_schedule(rt.alloc(), reader, writer, window)),
+            Input::File(path) => {
+                let mut file = opened(rt, path.as_str());
+                ended(rt, &draw_schedule(rt.alloc(), &mut file, writer, window))
+            }
+        },
         Err(why) => ended(rt, &Err(Fault::CommandLine(why))),
     }
 }

@@ -1,18 +1,23 @@
 -- What the rows of a command give, from what its matches give.
 use Rattle.std.proofs.Common.{◌≡◌, ◌∙◌, ℕ, List, Option, None, Some, ap₂, option_map, refl, subst, sym, Box}
 use Rattle.std.specs.Box.{box_value}
-use Rattle.clap.specs.Words.{Row, Text, one_of, one_text, rows_of, subcommand_name_of, subcommand_rows_of}
+use Rattle.clap.specs.Words.{Row, Text, first_of, first_value, one_of, one_text, rows_of, subcommand_name_of, subcommand_rows_of}
 use Rattle.clap.specs.Simple.{subcommand_rows}
 use Rattle.clap.specs.declared.parser.matches.ArgMatches.{ArgMatches}
 use Rattle.clap.specs.declared.parser.matches.ArgMatches.TheViews.{out-ArgMatches, out-SubCommand}
 use Rattle.clap.specs.declared.parser.matches.Found.{Found}
 use Rattle.clap.specs.declared.parser.matches.SubCommand.{SubCommand}
-use Rattle.clap.proofs.WalkLemmas.{one_text-rows}
-use Rattle.vll_command.specs.Options.{Gives}
+use Rattle.clap.proofs.WalkLemmas.{first_value-rows, one_text-rows}
+use Rattle.vll_command.specs.Options.{Gives, GivesInput}
+use Rattle.vll_command.specs.declared.action.Input.{Input}
 
 -- an option's number
 pub gives_of_rows : (f : Found) (id : Text) (n : Option ℕ) → Gives (one_text f id) n → Gives (one_of id (rows_of f)) n
 gives_of_rows f id n gives = subst (λ (t : Option Text). Gives t n) (one_text-rows f id) gives
+
+-- the file
+pub gives_input_of_rows : (f : Found) (id : Text) (i : Input) → GivesInput (first_value f id) i → GivesInput (first_of id (rows_of f)) i
+gives_input_of_rows f id i gives = subst (λ (t : Option Text). GivesInput t i) (first_value-rows f id) gives
 
 -- the command that was named, by its name and its rows
 pair_is : (sub : Option (Text × List Row)) (name : Text) (rows : List Row) → option_map (λ (p : Text × List Row). p.0) sub ≡ Some name → option_map (λ (p : Text × List Row). p.1) sub ≡ Some rows → sub ≡ Some (name, rows)

@@ -11,7 +11,7 @@ use Rattle.vll_core.specs.declared.config.TheConstants.{MOST_WAITING, MOST_WORKE
 use Rattle.vll_scenario.specs.declared.limits.TheConstants.{MOST_EVENTS}
 use Rattle.vll_scenario.specs.declared.event_range.TheConstants.{MOST_COLUMNS}
 use Rattle.vll_scenario.specs.declared.engine_options.EngineOptions.{EngineOptions}
-use Rattle.vll_command.specs.Options.{Gives}
+use Rattle.vll_command.specs.Options.{Gives, GivesInput}
 use Rattle.vll_command.specs.declared.action.Action.{Action}
 use Rattle.vll_command.specs.declared.action.Action.TheVariants as action
 
@@ -32,23 +32,35 @@ cap = option (codes "cap") 1 MOST_WAITING []
 abbrev pub bits : Rule
 bits = option (codes "bits") 1 MOST_BITS []
 
+-- the path of the scenario's file, which may be left out
+abbrev pub file : Rule
+file = new_rule (codes "FILE")
+
 -- `run`, with the number of threads that make the calls
 abbrev pub run : Shape
-run = record (new_shape (codes "run")) { rules = option (codes "workers") 1 MOST_WORKERS (codes "4" ∷ []) ∷ cap ∷ bits ∷ [] }
+run = record (new_shape (codes "run")) { rules = file ∷ option (codes "workers") 1 MOST_WORKERS (codes "4" ∷ []) ∷ cap ∷ bits ∷ [] }
 
--- `serve`, with the path of the scenario's file
+-- `serve`, which needs the file
 abbrev pub serve : Shape
-serve = record (new_shape (codes "serve")) { rules = record (new_rule (codes "FILE")) { required = true } ∷ cap ∷ bits ∷ [] }
+serve = record (new_shape (codes "serve")) { rules = record file { required = true } ∷ cap ∷ bits ∷ [] }
+
+-- `replay`
+abbrev pub replay : Shape
+replay = record (new_shape (codes "replay")) { rules = file ∷ [] }
+
+-- `explain`
+abbrev pub explain : Shape
+explain = record (new_shape (codes "explain")) { rules = file ∷ [] }
 
 -- `draw`, with the number of the first event and how many are drawn at most
 abbrev pub draw : Shape
-draw = record (new_shape (codes "draw")) { rules = option (codes "from") 0 MOST_EVENTS (codes "0" ∷ []) ∷ option (codes "count") 1 MOST_COLUMNS (codes "360" ∷ []) ∷ [] }
+draw = record (new_shape (codes "draw")) { rules = file ∷ option (codes "from") 0 MOST_EVENTS (codes "0" ∷ []) ∷ option (codes "count") 1 MOST_COLUMNS (codes "360" ∷ []) ∷ [] }
 
 -- the program: one of its commands has to be named
 abbrev pub vll : App
 vll = record {
   top = record (new_shape (codes "vll")) { is_leaf = false; has_version = true; subcommand_required = true };
-  subs = run ∷ serve ∷ new_shape (codes "replay") ∷ new_shape (codes "explain") ∷ draw ∷ [];
+  subs = run ∷ serve ∷ replay ∷ explain ∷ draw ∷ [];
 }
 
 -- the words have no fault, name this command, and give its options these values
@@ -60,11 +72,11 @@ pub record GivesEngine (rows : List Row) (o : EngineOptions) : Type 0 where
   pub cap : Gives (one_of (codes "cap") rows) o.cap
   pub bits : Gives (one_of (codes "bits") rows) o.bits
 
--- the words ask for this action: they name its command and give the values of its options, or they ask for a text
+-- the words ask for this action: they name its command, and give its file and the values of its options, or they ask for a text
 abbrev pub AsksFor : List Text → Action → Type 0
-AsksFor words (action.Run o) = (rows : List Row) × Names words (codes "run") rows × Gives (one_of (codes "workers") rows) (Some o.workers) × GivesEngine rows o.engine
+AsksFor words (action.Run i o) = (rows : List Row) × Names words (codes "run") rows × GivesInput (first_of (codes "FILE") rows) i × Gives (one_of (codes "workers") rows) (Some o.workers) × GivesEngine rows o.engine
 AsksFor words (action.Serve o) = (rows : List Row) × Names words (codes "serve") rows × (first_of (codes "FILE") rows ≡ Some (string_bytes o.file)) × GivesEngine rows o.engine
-AsksFor words action.Replay = (rows : List Row) × Names words (codes "replay") rows
-AsksFor words action.Explain = (rows : List Row) × Names words (codes "explain") rows
-AsksFor words (action.Draw w) = (rows : List Row) × Names words (codes "draw") rows × Gives (one_of (codes "from") rows) (Some w.from) × Gives (one_of (codes "count") rows) (Some w.count)
+AsksFor words (action.Replay i) = (rows : List Row) × Names words (codes "replay") rows × GivesInput (first_of (codes "FILE") rows) i
+AsksFor words (action.Explain i) = (rows : List Row) × Names words (codes "explain") rows × GivesInput (first_of (codes "FILE") rows) i
+AsksFor words (action.Draw i w) = (rows : List Row) × Names words (codes "draw") rows × GivesInput (first_of (codes "FILE") rows) i × Gives (one_of (codes "from") rows) (Some w.from) × Gives (one_of (codes "count") rows) (Some w.count)
 AsksFor words (action.Tell text) = IsAmong (kind_of text) (fault_of vll words) × ((kind_of text ≡ kind.DisplayHelp) ⊎ (kind_of text ≡ kind.DisplayVersion))

@@ -5,7 +5,7 @@ ghost use Rattle.vll_command.specs.CommandLine.{AsksFor, Names};
 
 use crate::commands::matches_of;
 use crate::fault::CommandFault;
-use crate::values::{options_of, range_of, serve_options_of};
+use crate::values::{input_of, options_of, range_of, serve_options_of};
 use clap::error::ErrorKind;
 use clap::{ArgMatches, Error};
 use std::alloc::Global;
@@ -17,16 +17,25 @@ use vll_scenario::{EngineOptions, EventRange, UpTo};
 pub enum Action {
     /// To print this text: the help or the version.
     Tell(Error),
-    /// To run the scenario on standard input with these options.
-    Run(RunOptions),
+    /// To run the scenario of this input with these options.
+    Run(Input, RunOptions),
     /// To serve the calls on standard input, over the scenario of a file.
     Serve(ServeOptions),
-    /// To replay the schedule of the scenario on standard input.
-    Replay,
-    /// To explain why the scenario on standard input is refused, or to report what it has.
-    Explain,
-    /// To draw these events of the replay of the scenario on standard input.
-    Draw(EventRange),
+    /// To replay the schedule of the scenario of this input.
+    Replay(Input),
+    /// To explain why the scenario of this input is refused, or to report what it has.
+    Explain(Input),
+    /// To draw these events of the replay of the scenario of this input.
+    Draw(Input, EventRange),
+}
+
+/// Where a scenario is read from.
+#[derive(Drop)]
+pub enum Input {
+    /// Standard input.
+    Standard,
+    /// The file with this path.
+    File(String),
 }
 
 /// How a scenario is run.
@@ -50,10 +59,10 @@ pub struct ServeOptions {
     pub engine: EngineOptions,
 }
 
-/// Reads the command line, whose first word is the program's name. The other words have to be `run` or `serve` with
-/// its options, `replay`, `explain`, or `draw` with its options, or ask for help or the version; any others are
-/// refused, and so is running out of memory. The action has the values that the words give, and those of options that
-/// they do not give are the defaults.
+/// Reads the command line, whose first word is the program's name. The other words have to be `run`, `serve`, `replay`,
+/// `explain` or `draw`, with its options and the path of a file, which only `serve` has to have; or ask for help or the
+/// version. Any others are refused, and so is running out of memory. The action has the file and the values that the
+/// words give, and those of options that they do not give are the defaults.
 pub fn action_of(alloc: Global, words: &[String]) -> Result<Action, CommandFault>
     ensures { IfOk result (AsksFor (map string_bytes words.now)) }
 {
@@ -74,11 +83,11 @@ fn action_named(alloc: Global, name: &str, options: &ArgMatches<'_>) -> Result<A
     ensures { (words : List Text) → Names words name.now (rows_of (found_of options.now)) → IfOk result (AsksFor words) }
 {
     match name {
-        "run" => Ok(Action::Run(options_of(options)?)),
+        "run" => Ok(Action::Run(input_of(alloc, options)?, options_of(options)?)),
         "serve" => Ok(Action::Serve(serve_options_of(alloc, options)?)),
-        "replay" => Ok(Action::Replay),
-        "explain" => Ok(Action::Explain),
-        "draw" => Ok(Action::Draw(range_of(options)?)),
+        "replay" => Ok(Action::Replay(input_of(alloc, options)?)),
+        "explain" => Ok(Action::Explain(input_of(alloc, options)?)),
+        "draw" => Ok(Action::Draw(input_of(alloc, options)?, range_of(options)?)),
         _ => Err(CommandFault),
     }
 }

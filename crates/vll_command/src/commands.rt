@@ -1,14 +1,13 @@
 //! The program's commands with their options, as `clap` reads them.
 ghost use Rattle.std.specs.Prelude.{◌≡◌, ◌++◌, ◌∷◌, [], IfErr, IfOk, codes, map, string_bytes};
 ghost use Rattle.clap.specs.Faults.{fault_of};
-ghost use Rattle.clap.specs.Simple.{new_shape};
 ghost use Rattle.clap.specs.Words.{HasKind, Shape, app_of, subcommand_of, subcommand_rows_of};
-ghost use Rattle.vll_command.specs.CommandLine.{bits, cap, draw, option, run, serve, vll};
+ghost use Rattle.vll_command.specs.CommandLine.{bits, cap, draw, explain, file, option, replay, run, serve, vll};
 ghost use Rattle.vll_command.specs.Private.Made.{IsMade, IsOption};
 
 use crate::help::{
     BITS, CAP, COUNT, DRAW_EXAMPLES, EXAMPLES, EXPLAIN_EXAMPLE, FILE, FROM, REPLAY_EXAMPLE,
-    RUN_EXAMPLES, SERVE_EXAMPLES, WORKERS,
+    RUN_EXAMPLES, SERVE_EXAMPLES, SERVE_FILE, WORKERS,
 };
 use clap::{Arg, ArgMatches, Command, Error, value_parser};
 use std::alloc::{AllocError, Global};
@@ -39,8 +38,8 @@ fn program<'a>(alloc: Global) -> Result<Command<'a>, AllocError>
         .subcommand_required(true);
     let command = command.subcommand(run_command(alloc)?)?;
     let command = command.subcommand(serve_command(alloc)?)?;
-    let command = command.subcommand(replay_command(alloc))?;
-    let command = command.subcommand(explain_command(alloc))?;
+    let command = command.subcommand(replay_command(alloc)?)?;
+    let command = command.subcommand(explain_command(alloc)?)?;
     command.subcommand(draw_command(alloc)?)
 }
 
@@ -49,21 +48,29 @@ fn run_command<'a>(alloc: Global) -> Result<Command<'a>, AllocError>
 {
     let workers = number(alloc, "workers", MOST_WORKERS, WORKERS).default_value("4");
     let command = Command::new(alloc, "run")
-        .about("Runs the scenario on standard input and prints its outcome")
+        .about("Runs a scenario and prints its outcome")
         .after_help(RUN_EXAMPLES)
-        .arg(workers)?;
+        .arg(file_argument(alloc))?;
+    let command = command.arg(workers)?;
     with_engine_options(alloc, command)
 }
 
 fn serve_command<'a>(alloc: Global) -> Result<Command<'a>, AllocError>
     ensures { IfOk result (IsMade serve) }
 {
-    let file = Arg::new(alloc, "FILE").required(true).help(FILE);
+    let file = Arg::new(alloc, "FILE").required(true).help(SERVE_FILE);
     let command = Command::new(alloc, "serve")
         .about("Serves calls: one on each line of standard input, until it ends")
         .after_help(SERVE_EXAMPLES)
         .arg(file)?;
     with_engine_options(alloc, command)
+}
+
+// The argument `FILE`, which may be left out.
+fn file_argument<'a>(alloc: Global) -> Arg<'a>
+    ensures { IsOption file result }
+{
+    Arg::new(alloc, "FILE").required(false).help(FILE)
 }
 
 // The command with the options of an engine.
@@ -75,22 +82,22 @@ fn with_engine_options<'a>(alloc: Global, command: Command<'a>) -> Result<Comman
     command.arg(cap)?.arg(bits)
 }
 
-fn replay_command<'a>(alloc: Global) -> Command<'a>
-    ensures { IsMade (new_shape (codes "replay")) result }
+fn replay_command<'a>(alloc: Global) -> Result<Command<'a>, AllocError>
+    ensures { IfOk result (IsMade replay) }
 {
     Command::new(alloc, "replay")
-        .about(
-            "Takes the steps of the schedule of the scenario on standard input, and prints the result of each",
-        )
+        .about("Takes the steps of a scenario's schedule, and prints the result of each")
         .after_help(REPLAY_EXAMPLE)
+        .arg(file_argument(alloc))
 }
 
-fn explain_command<'a>(alloc: Global) -> Command<'a>
-    ensures { IsMade (new_shape (codes "explain")) result }
+fn explain_command<'a>(alloc: Global) -> Result<Command<'a>, AllocError>
+    ensures { IfOk result (IsMade explain) }
 {
     Command::new(alloc, "explain")
-        .about("Explains why the scenario on standard input is refused, or summarizes it")
+        .about("Explains why a scenario is refused, or summarizes it")
         .after_help(EXPLAIN_EXAMPLE)
+        .arg(file_argument(alloc))
 }
 
 fn draw_command<'a>(alloc: Global) -> Result<Command<'a>, AllocError>
@@ -99,10 +106,9 @@ fn draw_command<'a>(alloc: Global) -> Result<Command<'a>, AllocError>
     let from = whole(alloc, "from", 0, MOST_EVENTS as u32, FROM).default_value("0");
     let count = number(alloc, "count", MOST_COLUMNS, COUNT).default_value("360");
     let command = Command::new(alloc, "draw")
-        .about(
-            "Writes a page that draws the replay of the schedule of the scenario on standard input",
-        )
-        .after_help(DRAW_EXAMPLES);
+        .about("Writes a page that draws the replay of a scenario's schedule")
+        .after_help(DRAW_EXAMPLES)
+        .arg(file_argument(alloc))?;
     command.arg(from)?.arg(count)
 }
 

@@ -1,17 +1,17 @@
 //! The texts of the help.
 
 pub(crate) const EXAMPLES: &str = "Examples:
-  vll run < scenario.json
+  vll run scenario.json
   vll run --workers 8 --cap 64 < scenario.json
   vll serve scenario.json < calls
-  vll replay < scenario.json
-  vll explain < scenario.json
-  vll draw < scenario.json > page.html
+  vll replay scenario.json
+  vll explain scenario.json
+  vll draw scenario.json > page.html
 
 docs/SCENARIO.md describes the format of a scenario, and what is printed.";
 
 pub(crate) const RUN_EXAMPLES: &str = "Examples:
-  vll run < scenario.json
+  vll run scenario.json
   vll run --workers 8 --cap 64 < scenario.json
 
 A smaller --cap can be faster if many calls need the same few records: fewer calls wait, so scans are shorter,
@@ -30,16 +30,18 @@ Each line of standard input asks for a call, and each line of standard output an
 
 docs/SERVICE.md describes the lines, and docs/SCENARIO.md the scenario.";
 
-pub(crate) const FILE: &str =
+pub(crate) const FILE: &str = "The scenario [default: that on standard input]";
+
+pub(crate) const SERVE_FILE: &str =
     "The scenario: its records, its procedures, and as many clients as it has scripts, all of which are empty";
 
 pub(crate) const REPLAY_EXAMPLE: &str = "Example:
-  vll replay < scenario.json
+  vll replay scenario.json
 
 docs/SCENARIO.md describes the format of a scenario with its schedule, and what is printed.";
 
 pub(crate) const EXPLAIN_EXAMPLE: &str = "Example:
-  vll explain < scenario.json
+  vll explain scenario.json
 
 For a scenario that run refuses, it prints the same line, where the mistake is, and what is wrong there. For a valid
 scenario it prints ok and a summary. The exit status is that of run for a refused scenario, otherwise 0.
@@ -47,7 +49,7 @@ scenario it prints ok and a summary. The exit status is that of run for a refuse
 docs/SCENARIO.md describes the format of a scenario, and what is printed.";
 
 pub(crate) const DRAW_EXAMPLES: &str = "Examples:
-  vll draw < scenario.json > page.html
+  vll draw scenario.json > page.html
   vll draw --from 1000 --count 100 < scenario.json > page.html
 
 docs/SCENARIO.md describes the format of a scenario with its schedule, and the page.";

@@ -9,5 +9,5 @@ mod fault;
 mod help;
 mod values;
 
-pub use action::{Action, RunOptions, ServeOptions, Workers, action_of};
+pub use action::{Action, Input, RunOptions, ServeOptions, Workers, action_of};
 pub use fault::CommandFault;

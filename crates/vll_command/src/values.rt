@@ -1,13 +1,24 @@
-//! The values that `clap` has read for the options.
+//! What `clap` has read for the file and the options.
 ghost use Rattle.std.specs.Prelude.{◌≡◌, Some, IfOk, codes, string_bytes};
 ghost use Rattle.clap.specs.Words.{first_value, found_of, one_text};
-ghost use Rattle.vll_command.specs.Options.{Gives};
+ghost use Rattle.vll_command.specs.Options.{Gives, GivesInput};
 
-use crate::action::{RunOptions, ServeOptions};
+use crate::action::{Input, RunOptions, ServeOptions};
 use crate::fault::CommandFault;
 use clap::ArgMatches;
 use std::alloc::Global;
 use vll_scenario::{EngineOptions, EventRange, UpTo};
+
+// The file that is given, or else standard input.
+pub(crate) fn input_of(alloc: Global, matches: &ArgMatches<'_>) -> Result<Input, CommandFault>
+    ensures { IfOk result (GivesInput (first_value (found_of matches.now) (codes "FILE"))) }
+{
+    let Some(path) = matches.get_str("FILE") else {
+        return Ok(Input::Standard);
+    };
+    let path = String::from_str(alloc, path).map_err(|_| CommandFault)?;
+    Ok(Input::File(path))
+}
 
 // The values of the options of `run`.
 pub(crate) fn options_of(matches: &ArgMatches<'_>) -> Result<RunOptions, CommandFault>

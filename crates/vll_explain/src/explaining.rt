@@ -11,6 +11,7 @@ ghost use Rattle.serde_json.specs.View.{view};
 ghost use Rattle.vll_explain.specs.Explained.{Explains, IsBegun, IsLocated, IsTold, fault_in};
 ghost use Rattle.vll_explain.specs.Private.{IsToldOf};
 
+use crate::origin::Origin;
 use crate::reason::reason_of;
 use crate::summary::summary_of;
 use crate::unread::unread_explanation;
@@ -25,13 +26,14 @@ use vll_scenario::{
 
 /// Reads a scenario as `read_scenario` does, and writes a report: if it is refused, the line of its fault, followed by
 /// an explanation that begins with `at: `; if not, `ok`, followed by what the scenario has. docs/SCENARIO.md describes
-/// the text. Returns the fault, if there is one.
+/// the text. Returns the fault, if there is one. `origin` is what the reader reads.
 ///
 /// The whole text is built before its first byte is written. After `NoMemory` nothing has been written, and after
 /// `Write` a prefix of the text. `NoMemory` means that memory ran out outside `read_scenario`, and `Write` is returned
 /// exactly if the writer has failed.
 pub fn explain<S: Source, W: Sink>(
     alloc: Global,
+    origin: Origin,
     reader: &mut S,
     writer: &mut W,
 ) -> Result<Option<ScenarioFault>, WriteFault>
@@ -46,7 +48,7 @@ pub fn explain<S: Source, W: Sink>(
         (AppendsBeginning (W.contents writer.old) (W.contents writer.new)) }
     ensures failed { (result ≡ Err WriteFault.Write) ↔ (W.failed writer.new ≡ true) }
 {
-    let (fault, text) = explained(alloc, reader)?;
+    let (fault, text) = explained(alloc, origin, reader)?;
     write_text(writer, text.as_bytes())?;
     Ok(fault)
 }
@@ -54,6 +56,7 @@ pub fn explain<S: Source, W: Sink>(
 // The fault of the scenario that a reader supplies, if there is one, and the text about it.
 fn explained<S: Source>(
     alloc: Global,
+    origin: Origin,
     reader: &mut S,
 ) -> Result<(Option<ScenarioFault>, String), WriteFault>
     requires { S.failed reader.old ≡ false }
@@ -63,17 +66,21 @@ fn explained<S: Source>(
     ensures fault { IfErr result (λ fault. fault ≡ WriteFault.NoMemory) }
 {
     match read_bytes(alloc, reader) {
-        Ok(bytes) => explained_of(alloc, bytes.as_slice()),
+        Ok(bytes) => explained_of(alloc, origin, bytes.as_slice()),
         Err(why) => {
             let why = ScenarioFault::from(why);
-            let text = text_of_unread(alloc, why, &[]).map_err(|_| WriteFault::NoMemory)?;
+            let text = text_of_unread(alloc, origin, why, &[]).map_err(|_| WriteFault::NoMemory)?;
             Ok((Some(why), text))
         }
     }
 }
 
 // As `explained`, for bytes that were read to their end.
-fn explained_of(alloc: Global, bytes: &[u8]) -> Result<(Option<ScenarioFault>, String), WriteFault>
+fn explained_of(
+    alloc: Global,
+    origin: Origin,
+    bytes: &[u8],
+) -> Result<(Option<ScenarioFault>, String), WriteFault>
     requires { length bytes.now ≤ MOST_BYTES }
     ensures told { IfOk result (λ made. (read : Result Setup ScenarioFault) × Tells scenario_at (Some bytes.now) read
         × (fault_in read ≡ made.0) × IsTold (Some bytes.now) read (string_bytes made.1)) }
@@ -87,14 +94,14 @@ fn explained_of(alloc: Global, bytes: &[u8]) -> Result<(Option<ScenarioFault>, S
                 Ok((None, text))
             }
             Err(why) => {
-                let text = text_of_fault(alloc, why, bytes, &tree).map_err(
+                let text = text_of_fault(alloc, origin, why, bytes, &tree).map_err(
                     |_| WriteFault::NoMemory,
                 )?;
                 Ok((Some(why), text))
             }
         },
         Err(why) => {
-            let text = text_of_unread(alloc, why, bytes).map_err(|_| WriteFault::NoMemory)?;
+            let text = text_of_unread(alloc, origin, why, bytes).map_err(|_| WriteFault::NoMemory)?;
             Ok((Some(why), text))
         }
     }
@@ -102,16 +109,22 @@ fn explained_of(alloc: Global, bytes: &[u8]) -> Result<(Option<ScenarioFault>, S
 
 // The line of a fault, and an explanation, if there is no JSON tree. If the source was not read to its end, `bytes` is
 // empty.
-fn text_of_unread(alloc: Global, why: ScenarioFault, bytes: &[u8]) -> Result<String, AllocError>
+fn text_of_unread(
+    alloc: Global,
+    origin: Origin,
+    why: ScenarioFault,
+    bytes: &[u8],
+) -> Result<String, AllocError>
     ensures { IfOk result (λ text. IsBegun why (string_bytes text)) }
 {
-    let explanation = unread_explanation(alloc, why, bytes)?;
+    let explanation = unread_explanation(alloc, origin, why, bytes)?;
     begun_with(alloc, why, explanation.as_str())
 }
 
 // The line of a fault that lies in the JSON tree of some bytes, and an explanation.
 fn text_of_fault(
     alloc: Global,
+    origin: Origin,
     why: ScenarioFault,
     bytes: &[u8],
     tree: &Value,
@@ -120,7 +133,7 @@ fn text_of_fault(
 {
     match why {
         ScenarioFault::Read | ScenarioFault::NoMemory | ScenarioFault::Json => {
-            text_of_unread(alloc, why, &[])
+            text_of_unread(alloc, origin, why, &[])
         }
         ScenarioFault::Shape(_)
         | ScenarioFault::Size

@@ -6,7 +6,7 @@
 //! ```rattle
 //! let mut reader = Plain::new(rt.reader());
 //! let mut writer = Plain::new(io::writer(rt));
-//! let fault = explain(rt.alloc(), &mut reader, &mut writer)?;
+//! let fault = explain(rt.alloc(), Origin::Standard, &mut reader, &mut writer)?;
 //! let is_valid = fault.is_none();
 //! ```
 #![tactic(auto)]
@@ -18,6 +18,7 @@ mod forms;
 mod inner;
 mod members;
 mod names;
+mod origin;
 mod reason;
 mod shape;
 mod shown;
@@ -28,3 +29,4 @@ mod way;
 mod written;
 
 pub use explaining::explain;
+pub use origin::Origin;

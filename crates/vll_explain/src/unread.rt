@@ -1,4 +1,5 @@
 //! What is wrong with bytes that are not read to their end, or are not a JSON text.
+use crate::origin::Origin;
 use json::{Reader, Scratch, Token};
 use serde_json::Value;
 use std::alloc::{AllocError, Global};
@@ -8,24 +9,28 @@ use vll_scenario::{MOST_BYTES, ScenarioFault};
 // How deeply lists and objects may be nested.
 const MOST_DEEP: usize = 127;
 
-const UNREADABLE: &str = "standard input\nwhy: it cannot be read; use a file or a pipe\n";
-
-const TOO_LITTLE_MEMORY: &str =
-    "standard input\nwhy: there is not enough memory to read it; allow more, or make the scenario smaller\n";
-
 // Where the mistake is, and what is wrong there. If the source was not read to its end, `bytes` may be empty.
 pub(crate) fn unread_explanation(
     alloc: Global,
+    origin: Origin,
     why: ScenarioFault,
     bytes: &[u8],
 ) -> Result<String, AllocError> {
+    let name = origin.name();
     match why {
-        ScenarioFault::Read => String::from_str(alloc, UNREADABLE),
+        ScenarioFault::Read => {
+            let failure = origin.failure();
+            format!(in alloc; "{name}\nwhy: {failure}\n")
+        }
         ScenarioFault::Json => json_explanation(alloc, bytes),
         ScenarioFault::Size => {
-            format!(in alloc; "standard input\nwhy: there are more than {MOST_BYTES} bytes\n")
+            format!(in alloc; "{name}\nwhy: there are more than {MOST_BYTES} bytes\n")
         }
-        _ => String::from_str(alloc, TOO_LITTLE_MEMORY),
+        _ => {
+            format!(in alloc;
+                "{name}\nwhy: there is not enough memory to read it; allow more, or make the scenario smaller\n"
+            )
+        }
     }
 }
 

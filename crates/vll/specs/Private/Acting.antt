@@ -10,11 +10,13 @@ use Rattle.vll_replay.specs.Replay.{Replays}
 use Rattle.vll_server.specs.Headline.Serve.{Serves}
 use Rattle.vll_replay.specs.Headline.Text.{Text}
 use Rattle.vll_command.specs.declared.action.Action.{Action}
+use Rattle.vll_command.specs.declared.action.Input.{Input}
 use Rattle.vll_command.specs.declared.action.RunOptions.{RunOptions}
 use Rattle.vll_command.specs.declared.fault.CommandFault.{CommandFault}
 use Rattle.vll_stream.specs.Served.{EndsEarly, ServesLines}
 use Rattle.vll_stream.specs.declared.fault.StreamFault.{StreamFault}
 use Rattle.vll_command.specs.declared.action.Action.TheVariants as action
+use Rattle.vll_command.specs.declared.action.Input.TheVariants as input
 
 -- a scenario was read, and this holds of the text of serving it with these options
 abbrev pub Runs : RunOptions → Option (List ℕ) → Option (List ℕ) → (Text → Type 0) → Type 0
@@ -32,16 +34,22 @@ ServesFile old new Holds = (setup : Setup) × ServesLines setup old new Holds
 abbrev pub StopsFile : StreamFault → Option (List ℕ) → Option (List ℕ) → Option (List ℕ) → Option (List ℕ) → Type 0
 StopsFile why old new from to = (setup : Setup) × EndsEarly setup why old new from to
 
+-- this was done with what standard input had and has; or, if a file is given, standard input was not used, and this was done
+-- with some bytes of a file
+abbrev pub ReadsFrom : Input → Type 0 → Option (List ℕ) → Option (List ℕ) → (Option (List ℕ) → Option (List ℕ) → Type 0) → Type 0
+ReadsFrom input.Standard Unused old new Done = Done old new
+ReadsFrom (input.File path) Unused old new Done = Unused × (from : Option (List ℕ)) × (to : Option (List ℕ)) × Done from to
+
 -- a run serves what was read, a service answers it line by line, a replay replays it, an explanation reports what it has, a drawing lists its replay, and
--- this holds of the text. `Tell` reads and writes nothing here
-abbrev pub Does : Action → Option (List ℕ) → Option (List ℕ) → (Text → Type 0) → Type 0
-Does (action.Run options) old new Holds = Runs options old new Holds
-Does (action.Serve options) old new Holds = ServesFile old new Holds
-Does action.Replay old new Holds = Replays old new Holds
-Does action.Explain old new Holds = Explains old new None Holds
-Does (action.Draw window) old new Holds = Draws old new Holds
-Does (action.Tell text) old new Holds = (new ≡ old) × Holds []
+-- this holds of the text. `Tell` uses no reader and writes nothing here
+abbrev pub Does : Action → Type 0 → Option (List ℕ) → Option (List ℕ) → (Text → Type 0) → Type 0
+Does (action.Run from options) Unused old new Holds = ReadsFrom from Unused old new (λ a b. Runs options a b Holds)
+Does (action.Serve options) Unused old new Holds = ServesFile old new Holds
+Does (action.Replay from) Unused old new Holds = ReadsFrom from Unused old new (λ a b. Replays a b Holds)
+Does (action.Explain from) Unused old new Holds = ReadsFrom from Unused old new (λ a b. Explains a b None Holds)
+Does (action.Draw from window) Unused old new Holds = ReadsFrom from Unused old new (λ a b. Draws a b Holds)
+Does (action.Tell text) Unused old new Holds = Unused × Holds []
 
 -- the action that was asked for was performed, and this holds of the text
-abbrev pub Performs : Result Action CommandFault → Option (List ℕ) → Option (List ℕ) → (Text → Type 0) → Type 0
-Performs asked old new Holds = (action : Action) × (asked ≡ Ok action) × Does action old new Holds
+abbrev pub Performs : Result Action CommandFault → Type 0 → Option (List ℕ) → Option (List ℕ) → (Text → Type 0) → Type 0
+Performs asked Unused old new Holds = (action : Action) × (asked ≡ Ok action) × Does action Unused old new Holds

@@ -2,10 +2,10 @@ use Rattle.std.proofs.Common.{◌∙◌, Some, codes, subst, sym}
 use Rattle.clap.specs.Words.{Text, found_of, rows_of}
 use Rattle.clap.proofs.WalkLemmas.{first_value-rows}
 use Rattle.vll_command.specs.CommandLine.{Names}
-use Rattle.vll_command.proofs.Asked.{gives_of_rows}
+use Rattle.vll_command.proofs.Asked.{gives_input_of_rows, gives_of_rows}
 use Rattle.vll_command.proofs.action.action_named.Goals as goal
 
--- the values that its matches give are those of its rows
+-- the file and the values that its matches give are those of its rows
 pub returns-in_ok-options_of-in-run : goal.returns-in_ok-options_of-in-run
 returns-in_ok-options_of-in-run c words named =
     let found = found_of c.args.options.now in
@@ -13,6 +13,7 @@ returns-in_ok-options_of-in-run c words named =
     let says = c.in_ok-options_of-in-run.ensures in (
       rows_of found,
       subst (λ (n : Text). Names words n (rows_of found)) c.in-run.is named,
+      gives_input_of_rows found (codes "FILE") c.in_ok-input_of-in-run.field-0 c.in_ok-input_of-in-run.ensures,
       gives_of_rows found (codes "workers") (Some o.workers) says.workers,
       record { cap = gives_of_rows found (codes "cap") o.engine.cap says.cap; bits = gives_of_rows found (codes "bits") o.engine.bits says.bits },
     )
@@ -28,6 +29,22 @@ returns-in_ok-serve_options_of-in-serve c words named =
       record { cap = gives_of_rows found (codes "cap") o.engine.cap says.cap; bits = gives_of_rows found (codes "bits") o.engine.bits says.bits },
     )
 
+pub returns-in_ok-input_of-in-replay : goal.returns-in_ok-input_of-in-replay
+returns-in_ok-input_of-in-replay c words named =
+    let found = found_of c.args.options.now in (
+      rows_of found,
+      subst (λ (n : Text). Names words n (rows_of found)) c.in-replay.is named,
+      gives_input_of_rows found (codes "FILE") c.in_ok-input_of-in-replay.field-0 c.in_ok-input_of-in-replay.ensures,
+    )
+
+pub returns-in_ok-input_of-in-explain : goal.returns-in_ok-input_of-in-explain
+returns-in_ok-input_of-in-explain c words named =
+    let found = found_of c.args.options.now in (
+      rows_of found,
+      subst (λ (n : Text). Names words n (rows_of found)) c.in-explain.is named,
+      gives_input_of_rows found (codes "FILE") c.in_ok-input_of-in-explain.field-0 c.in_ok-input_of-in-explain.ensures,
+    )
+
 pub returns-in_ok-range_of-in-draw : goal.returns-in_ok-range_of-in-draw
 returns-in_ok-range_of-in-draw c words named =
     let found = found_of c.args.options.now in
@@ -35,6 +52,7 @@ returns-in_ok-range_of-in-draw c words named =
     let says = c.in_ok-range_of-in-draw.ensures in (
       rows_of found,
       subst (λ (n : Text). Names words n (rows_of found)) c.in-draw.is named,
+      gives_input_of_rows found (codes "FILE") c.in_ok-input_of-in-draw.field-0 c.in_ok-input_of-in-draw.ensures,
       gives_of_rows found (codes "from") (Some w.from) says.from,
       gives_of_rows found (codes "count") (Some w.count) says.count,
     )

@@ -14,6 +14,6 @@ returns c =
     let required = ap app_of_fields c.subcommand_required-command.ensures ∙ ap (on_top (λ s. record s { subcommand_required = true })) after in
     let one = c.in_ok-command.ensures.shape c.in_ok-run_command.ensures.1 ∙ ap₂ with_subcommand required (ap top c.in_ok-run_command.ensures.0) in
     let two = c.in_ok-command-2.ensures.shape c.in_ok-serve_command.ensures.1 ∙ ap₂ with_subcommand one (ap top c.in_ok-serve_command.ensures.0) in
-    let three = c.in_ok-command-3.ensures.shape c.replay_command.ensures.1 ∙ ap₂ with_subcommand two (ap top c.replay_command.ensures.0) in
-    let four = c.in_ok-command-4.ensures.shape c.explain_command.ensures.1 ∙ ap₂ with_subcommand three (ap top c.explain_command.ensures.0) in
+    let three = c.in_ok-command-3.ensures.shape c.in_ok-replay_command.ensures.1 ∙ ap₂ with_subcommand two (ap top c.in_ok-replay_command.ensures.0) in
+    let four = c.in_ok-command-4.ensures.shape c.in_ok-explain_command.ensures.1 ∙ ap₂ with_subcommand three (ap top c.in_ok-explain_command.ensures.0) in
     IfOk-weaker c.subcommand-5.result _ _ (λ m adds. adds.shape c.in_ok-draw_command.ensures.1 ∙ ap₂ with_subcommand four (ap top c.in_ok-draw_command.ensures.0)) c.subcommand-5.ensures
