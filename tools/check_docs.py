@@ -29,10 +29,10 @@ NAME = re.compile(r'`([^`]+)`')
 HEADING = re.compile(r'#+ +(.*)')
 # Names with the crate that has them behind them: `Queue::admit` (vll_core), or `delta`, `granted` (vll_record).
 IN_CRATE = re.compile(r'((?:`[^`]+`(?:, | and )?)+) \((vll\w*)\)')
-COMMAND = re.compile(r'`\./vll (?:run|replay)[^`<]*< ([\w./-]+)\.json`[^`]* prints$')
+COMMAND = re.compile(r'`\./vll (?:run|replay)[^`]* ([\w./-]+)\.json`[^`]* prints$')
 # How many public functions allocate, and which, up to the end of the sentence.
 ALLOCATE = re.compile(r'\bonly (\d+) public functions allocate\b')
-EXAMPLE = re.compile(r'\./vll (.*) < examples/(\w+)\.json$')
+EXAMPLE = re.compile(r'\./vll (.*) examples/(\w+)\.json$')
 
 # Words of HEADLINE.md that stand in code marks and are no names of this repository.
 OTHERS = set('Appends Ordering SeqCst atomic_table contents'.split())
