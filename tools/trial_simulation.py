@@ -51,6 +51,7 @@ BUGS = {
          'words.release(seat, claim); if claims.len() == 2 { words.release(seat, claim); }'),
     'a call free though a claim is denied':
         (f'{LOCKED}/admit.rt', 'free = free && granted(mode, old);', 'free = granted(mode, old);'),
+    # Not found so far: no procedure of vll_test_procedures sets a record before it aborts, but for an overflow.
     'the store of an aborted call':
         ('vll_queue/src/execution.rt', 'if let Reply::Committed(_) = reply {', 'if true {'),
     'a look that is always free':
