@@ -55,6 +55,8 @@ impl<N: Name, H: Place + Drop> NotClosed<N, H> {
 pub struct Reopened<H: Place> {
     /// Its capacity is at least the limit: the list can be passed when the next engine is reopened.
     pub journal: Vec<Line>,
+    /// The records of the opening, in a list that can be passed again like the journal's.
+    pub records: Vec<u64>,
     pub opening: Opening<H>,
 }
 
@@ -66,4 +68,6 @@ pub struct NotReopened<N: Name, H: Place + Drop> {
     pub left: Result<Closed, NotClosed<N, H>>,
     /// The list that was passed for the journal.
     pub journal: Vec<Line>,
+    /// The list that was passed for the records.
+    pub records: Vec<u64>,
 }

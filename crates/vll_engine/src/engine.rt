@@ -304,30 +304,35 @@ impl<N: Name, H: Place + Drop> Engine<N, H> {
 
     /// Closes the engine, and opens another one over the records as its calls have left them, with the same library,
     /// configuration, hash and number of clients. Returns the journal and the opening, which gets a name of its own and
-    /// an empty journal. What `close` promises of the journal, the replies and the sessions holds here too. All
-    /// sessions have to be passed. The capacity of the list `journal` is at least the limit, and so is that of the one
-    /// returned; what `journal` holds is dropped.
+    /// an empty journal. What `close` promises of the journal, the records, the replies and the sessions holds here too.
+    /// All sessions have to be passed. The capacity of the list `journal` is at least the limit and that of `records` at
+    /// least the number of records, and so is that of the lists returned; what the two hold is dropped.
     ///
     /// All lists are reused. The block of atomic words is freed, and one of the same size is allocated: no other memory
-    /// is taken. If that allocation fails, or if calls run or wait, returns what `close` returns, and `journal`.
+    /// is taken. If that allocation fails, or if calls run or wait, returns what `close` returns, and the two lists.
     pub fn reopen(
         self,
         alloc: Global,
         sessions: Vec<Session>,
         journal: Vec<Line>,
+        records: Vec<u64>,
     ) -> Result<Reopened<H>, NotReopened<N, H>>
         requires sessions { All (λ s. s.table ≡ N.engine.table) sessions.items }
         requires all { length sessions.items ≡ N.engine.clients }
         requires room { N.engine.config.limit ≤ vec_capacity journal }
+        requires room_for_records { length N.engine.base.records ≤ vec_capacity records }
         ensures serial { IfOk result (λ r. AreSerial N.engine r.journal.items) }
         ensures opening { IfOk result (λ r. GoesOn H.place_of N.engine (calls_in r.journal.items) r.opening) }
+        ensures records { IfOk result (λ r. r.records.items ≡ r.opening.records) }
         ensures sessions { IfOk result (λ r. All (λ s. HasItsCalls (calls_in r.journal.items) s.session) sessions.items) }
         ensures room { IfOk result (λ r. N.engine.config.limit ≤ vec_capacity r.journal) }
+        ensures room_for_records { IfOk result (λ r. length N.engine.base.records ≤ vec_capacity r.records) }
         ensures closed { IfErr result (λ n. IfOk n.left (λ c. IsSerial N.engine c)) }
         ensures closed_sessions { IfErr result (λ n. IfOk n.left (λ c. All (λ s. HasItsCalls (calls_in c.journal.items) s.session) sessions.items)) }
         ensures back { IfErr result (λ n. IfErr n.left (λ o. o.sessions ≡ sessions)) }
         ensures left { IfErr result (λ n. IfErr n.left (λ o. 0 < o.running + o.waiting)) }
         ensures list { IfErr result (λ n. n.journal ≡ journal) }
+        ensures records_back { IfErr result (λ n. n.records ≡ records) }
     {
         let Engine {
             library,
@@ -338,10 +343,11 @@ impl<N: Name, H: Place + Drop> Engine<N, H> {
         } = self;
         let locked = locked.into_inner().into_inner();
         match locked.close(library, words, memory, sessions) {
-            Ok(ended) => reopen::<N, H>(ended, alloc, journal),
+            Ok(ended) => reopen::<N, H>(ended, alloc, journal, records),
             Err(open) => Err(NotReopened {
                 left: Err(NotClosed::of(open)),
                 journal,
+                records,
             }),
         }
     }

@@ -1,5 +1,5 @@
 //! The next opening of an engine in which no call runs or waits.
-ghost use Rattle.std.specs.Prelude.{◌≡◌, ◌≤◌, [], IfErr, IfOk, IsOk, vec_capacity};
+ghost use Rattle.std.specs.Prelude.{◌≡◌, ◌≤◌, [], IfErr, IfOk, IsOk, length, vec_capacity};
 ghost use Rattle.vll_core.specs.Queue.{lines};
 ghost use Rattle.vll_counters.specs.Shown.{AreNewSessions, shown_queue};
 ghost use Rattle.vll_counters.specs.Steps.{first_queue};
@@ -15,24 +15,29 @@ use vll_counters::{QueueSeat, Words};
 use vll_queue::{Closed, ClosingMemory, Ended, Name, Session};
 use vll_sca::Place;
 
-// Returns the journal and the next opening.
+// Returns the journal, the records and the next opening. The list `values` gets the next engine's memory for records.
 pub(crate) fn reopen<N: Name, H: Place + Drop>(
     ended: Ended<H>,
     alloc: Global,
     journal: Vec<Line>,
+    values: Vec<u64>,
 ) -> Result<Reopened<H>, NotReopened<N, H>>
     requires ended { IsEnded H.place_of N.engine ended }
     requires clients { ended.clients ≡ N.engine.clients }
     requires sessions { ended.clients ≤ vec_capacity ended.sessions }
     requires room { N.engine.config.limit ≤ vec_capacity journal }
+    requires room_for_records { length N.engine.base.records ≤ vec_capacity values }
     ensures serial { IfOk result (λ r. AreSerial N.engine r.journal.items) }
     ensures opening { IfOk result (λ r. GoesOn H.place_of N.engine (calls_in r.journal.items) r.opening) }
+    ensures records { IfOk result (λ r. r.records.items ≡ r.opening.records) }
     ensures lines { IfOk result (λ r. r.journal.items ≡ lines ended.queue) }
     ensures room { IfOk result (λ r. N.engine.config.limit ≤ vec_capacity r.journal) }
+    ensures room_for_records { IfOk result (λ r. length N.engine.base.records ≤ vec_capacity r.records) }
     ensures closed { IfErr result (λ n. IfOk n.left (λ c. IsSerial N.engine c)) }
     ensures closed_lines { IfErr result (λ n. IfOk n.left (λ c. c.journal.items ≡ lines ended.queue)) }
     ensures is_closed { IfErr result (λ n. IsOk n.left) }
     ensures list { IfErr result (λ n. n.journal ≡ journal) }
+    ensures records_back { IfErr result (λ n. n.records ≡ values) }
 {
     let Ended {
         library,
@@ -51,13 +56,15 @@ pub(crate) fn reopen<N: Name, H: Place + Drop>(
                 journal: queue.into_journal(),
             }),
             journal,
+            records: values,
         });
     };
     let (queue, lines) = queue.reopen(journal);
     let sessions = new_sessions(&words, &mut seat, sessions, clients as u32);
-    let memory = ClosingMemory::of(library.records(), records, pairs);
+    let memory = ClosingMemory::of(library.records(), values, pairs);
     Ok(Reopened {
         journal: lines,
+        records,
         opening: Opening::of(library, words, seat, queue, memory, sessions),
     })
 }

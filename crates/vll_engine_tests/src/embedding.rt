@@ -6,7 +6,7 @@ ghost use Rattle.vll_sca.specs.Placing.{placing};
 use crate::asserts::{equal, fail, holds};
 use crate::opening::opening;
 use crate::playing::output_of;
-use crate::reopening::{LIMIT, opening_for_two, room_for_lines};
+use crate::reopening::{LIMIT, opening_for_two, room_for_lines, room_for_records};
 use std::alloc::Global;
 use std::marker::Brand;
 use std::process::Abort;
@@ -130,7 +130,8 @@ fn two_call_in_threads<N: Name + Send + Sync, R: Wait + Threads + Abort + Sync>(
     if !clients.are_all() {
         fail(rt, "a client is not there");
     }
-    let next = engine.reopen(alloc, clients.into_sessions(), room)?;
+    let records = room_for_records(rt, alloc, &engine);
+    let next = engine.reopen(alloc, clients.into_sessions(), room, records)?;
     Ok(next.journal)
 }
 

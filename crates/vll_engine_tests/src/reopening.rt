@@ -45,6 +45,20 @@ pub(crate) fn room_for_lines(alloc: Global) -> Result<Vec<Line>, AllocError>
     Vec::with_capacity(alloc, LIMIT as usize)
 }
 
+// A list for an engine's records.
+pub(crate) fn room_for_records<N: Name, R: Abort>(
+    rt: &R,
+    alloc: Global,
+    engine: &Engine<N, Placing>,
+) -> Vec<u64>
+    ensures { length N.engine.base.records ≤ vec_capacity result }
+{
+    match Vec::with_capacity(alloc, engine.library().records() as usize) {
+        Ok(room) => room,
+        Err(_) => fail(rt, "there is no memory"),
+    }
+}
+
 // Reopens an engine, with its two sessions.
 fn reopened<N: Name, R: Abort>(
     rt: &R,
@@ -62,7 +76,8 @@ fn reopened<N: Name, R: Abort>(
     ensures room { LIMIT ≤ vec_capacity result.journal }
 {
     holds(rt, sessions.len() == 2);
-    match engine.reopen(alloc, sessions, journal) {
+    let records = room_for_records(rt, alloc, &engine);
+    match engine.reopen(alloc, sessions, journal, records) {
         Ok(reopened) => reopened,
         Err(_) => fail(rt, "the engine is not reopened"),
     }
@@ -86,9 +101,10 @@ fn is_not_reopened<N: Name, R: Abort>(
     ensures journal { result.2 ≡ journal }
 {
     holds(rt, sessions.len() == 2);
-    match engine.reopen(alloc, sessions, journal) {
+    let records = room_for_records(rt, alloc, &engine);
+    match engine.reopen(alloc, sessions, journal, records) {
         Ok(_) => fail(rt, "no call is left"),
-        Err(NotReopened { left, journal }) => match left {
+        Err(NotReopened { left, journal, .. }) => match left {
             Ok(_) => fail(rt, "there is no memory"),
             Err(open) => {
                 equal(rt, open.running, running);

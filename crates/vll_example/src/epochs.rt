@@ -87,7 +87,11 @@ pub(crate) fn run_epochs<R: Threads + Wait + Sync>(
     let mut journals = Vec::new(alloc);
     for _ in 0..count {
         let room = Vec::with_capacity(alloc, LIMIT as usize)?;
-        let Reopened { journal, opening } = run_epoch::<Brand, R>(rt, alloc, now, room)?;
+        let Reopened {
+            journal,
+            opening,
+            ..
+        } = run_epoch::<Brand, R>(rt, alloc, now, room)?;
         journals.push(journal)?;
         now = opening;
     }
@@ -115,7 +119,8 @@ fn run_epoch<N: Name + Send + Sync, R: Threads + Wait + Sync>(
     if !clients.are_all() {
         return Err(EngineFault::Left);
     }
-    Ok(engine.reopen(alloc, clients.into_sessions(), room)?)
+    let records = Vec::with_capacity(alloc, engine.library().records() as usize)?;
+    Ok(engine.reopen(alloc, clients.into_sessions(), room, records)?)
 }
 
 // Makes the calls of all clients, each on a thread of its own, and puts the clients back.

@@ -59,8 +59,9 @@ impl<'a, R: Print + Wait> Service for Reopening<'a, R> {
     {
         make_all(self.rt, &engine, &mut clients)?;
         let journal = list_with_a_line(self.alloc, &engine)?;
+        let records = Vec::with_capacity(self.alloc, engine.library().records() as usize)?;
         begin(self.rt)?;
-        let reopened = engine.reopen(self.alloc, clients.into_sessions(), journal);
+        let reopened = engine.reopen(self.alloc, clients.into_sessions(), journal, records);
         end(self.rt)?;
         Ok(match reopened {
             Ok(next) => of_next(next),

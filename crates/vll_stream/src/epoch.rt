@@ -91,7 +91,7 @@ pub(crate) fn run_epoch<N: Name, S: Source, W: Sink>(
     )?;
     Ok(Ended {
         counts: callers.counts(),
-        then: end_epoch(wait, alloc, engine, callers, is_last)?,
+        then: end_epoch(alloc, engine, callers, is_last)?,
     })
 }
 
@@ -179,7 +179,6 @@ fn serve_round<N: Name, S: Source, W: Sink>(
 
 // Ends an engine whose clients have made these calls: opens the next one, or returns the records that the last one leaves.
 fn end_epoch<N: Name>(
-    wait: &impl Wait,
     alloc: Global,
     engine: Engine<N, Placing>,
     callers: Callers,
@@ -194,27 +193,25 @@ fn end_epoch<N: Name>(
         let (sessions, _) = callers.into_parts();
         Ok(Then::Over(closed(engine, sessions)?))
     } else {
-        go_on(wait, alloc, engine, callers)
+        go_on(alloc, engine, callers)
     }
 }
 
 // Ends an engine whose clients have made these calls, and opens the next one.
 fn go_on<N: Name>(
-    wait: &impl Wait,
     alloc: Global,
     engine: Engine<N, Placing>,
-    mut callers: Callers,
+    callers: Callers,
 ) -> Result<Then, StreamFault>
     requires callers { AreCallers N.engine callers }
     ensures follows { IfOk result (Follows N.engine (made_so_far callers)) }
     ensures last { IfOk result (λ then. is_over then ≡ false) }
     ensures own { IfErr result IsOwn }
 {
-    callers.catch_up(wait, &engine)?;
     let (sessions, snapshot) = callers.into_parts();
     let Snapshot { values, room, .. } = snapshot;
-    let next = reopened(alloc, engine, sessions, room)?;
-    Ok(Then::On(next.opening, Snapshot::new(values, next.journal)))
+    let next = reopened(alloc, engine, sessions, room, values)?;
+    Ok(Then::On(next.opening, Snapshot::new(next.records, next.journal)))
 }
 
 // Ends the engine, and returns the records that it leaves.
@@ -239,16 +236,19 @@ fn reopened<N: Name>(
     engine: Engine<N, Placing>,
     sessions: Vec<Session>,
     room: Vec<Line>,
+    values: Vec<u64>,
 ) -> Result<Reopened<Placing>, StreamFault>
     requires sessions { All (λ s. s.table ≡ N.engine.table) sessions.items }
     requires all { length sessions.items ≡ N.engine.clients }
     requires room { N.engine.config.limit ≤ vec_capacity room }
+    requires room_for_records { length N.engine.base.records ≤ vec_capacity values }
     ensures opening { IfOk result (λ next. (made : List Made) × AreTheCalls N.engine made sessions.items × GoesOn placing N.engine made next.opening) }
+    ensures records { IfOk result (λ next. next.records.items ≡ next.opening.records) }
     ensures room { IfOk result (λ next. N.engine.config.limit ≤ vec_capacity next.journal) }
     ensures no_memory { result ≡ Err fault.NoMemory → (made : List Made) × AreTheCalls N.engine made sessions.items }
     ensures own { IfErr result IsOwn }
 {
-    match engine.reopen(alloc, sessions, room) {
+    match engine.reopen(alloc, sessions, room, values) {
         Ok(next) => Ok(next),
         Err(not_reopened) => match not_reopened.left {
             Ok(_) => Err(StreamFault::NoMemory),
