@@ -51,9 +51,10 @@ BUGS = {
          'words.release(seat, claim); if claims.len() == 2 { words.release(seat, claim); }'),
     'a call free though a claim is denied':
         (f'{LOCKED}/admit.rt', 'free = free && granted(mode, old);', 'free = granted(mode, old);'),
-    # Not found so far: no procedure of vll_test_procedures sets a record before it aborts, but for an overflow.
     'the store of an aborted call':
-        ('vll_queue/src/execution.rt', 'if let Reply::Committed(_) = reply {', 'if true {'),
+        ('vll_queue/src/execution.rt', 'if let Reply::Committed(_) = reply {',
+         'if let Reply::Aborted(_) = reply { for claim in call.claims.iter() { words.store(seat, claim.id, 0); } }'
+         ' else {'),
     'a look that is always free':
         ('vll_engine/src/engine.rt', 'vll_queue::look::<N>(&self.words, call)', 'true'),
     'running calls counted as waiting ones too':

@@ -56,9 +56,14 @@ pub(crate) fn members(alloc: Global, draw: &mut Pcg32) -> Result<String, AllocEr
     Ok(text)
 }
 
+// A record that is full lets a transfer abort after it has set the other one.
 fn push_records(text: &mut String, draw: &mut Pcg32, records: u32) -> Result<(), AllocError> {
     for record in 0..records {
-        let value = below(draw, 8);
+        let value = if one_of(draw, 8) {
+            u64::MAX
+        } else {
+            below(draw, 8).into()
+        };
         let comma = if record == 0 { "" } else { "," };
         write!(text, "{comma}{value}")?;
     }
