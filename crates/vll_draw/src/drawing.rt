@@ -57,8 +57,8 @@ pub fn draw<S: Source, W: Sink>(
     write_text(writer, page.as_bytes()).map_err(|_| DrawFault::Write)
 }
 
-// The page of a scenario's replay.
-fn page_of(alloc: Global, scenario: Scenario, window: EventRange) -> Result<String, AllocError>
+/// The page that `draw` writes for a scenario. It fails if memory runs out.
+pub fn page_of(alloc: Global, scenario: Scenario, window: EventRange) -> Result<String, AllocError>
     ensures { IfOk result (λ page. Lists (string_bytes page) (text_of_setup (with_schedule scenario))) }
 {
     let first = window.from as usize;

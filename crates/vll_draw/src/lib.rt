@@ -19,5 +19,5 @@ mod page;
 mod picture;
 mod tape;
 
-pub use drawing::draw;
+pub use drawing::{draw, page_of};
 pub use fault::DrawFault;

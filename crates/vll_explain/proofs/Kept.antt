@@ -1,5 +1,7 @@
 -- How the result for bytes in memory becomes the result for the reader that supplied them.
-use Rattle.std.proofs.Common.{◌≡◌, ◌≤◌, ◌⊎◌, ◌∙◌, inl, inr, refl, arith, sym, subst, IfOk, ℕ, List, length, Option, Some, None, Result, Ok, Err, ap}
+use Rattle.std.proofs.Common.{◌≡◌, ◌≤◌, ◌⊎◌, ◌∙◌, inl, inr, refl, arith, sym, subst, IfOk, IfSome, ℕ, List, length, Option, Some, None, Result, Ok, Err, String, Global, ap, string_bytes}
+use Rattle.std.specs.Result.{result_ok}
+use Rattle.std.specs.declared.alloc.AllocError.{AllocError}
 use Rattle.std.proofs.lemmas.List.{length-append}
 use Rattle.serde_json.specs.Data.{Data}
 use Rattle.vll_scenario.specs.declared.limits.TheConstants.{MOST_BYTES}
@@ -14,8 +16,9 @@ use Rattle.vll_scenario.specs.declared.fault.ScenarioFault.TheVariants as fault
 use Rattle.vll_scenario.specs.declared.reading.bytes.ReadFault.{ReadFault}
 use Rattle.vll_scenario.specs.declared.reading.bytes.ReadFault.TheVariants as bytes
 use Rattle.vll_scenario.proofs.Answering.{reads_tell, setup_reads_nothing, shape_reads_nothing}
-use Rattle.vll_explain.specs.Private.{IsToldOf}
-use Rattle.vll_explain.specs.Explained.{AreMany, Explains, IsBegun, IsTold, fault_in}
+use Rattle.vll_explain.specs.Private.{HoldsOrExplains, IsToldOf}
+use Rattle.vll_explain.specs.Explained.{AreMany, IsBegun, IsTold, ReadsOrExplains}
+use Rattle.vll_explain.specs.declared.explaining.Refusal.{Refusal}
 
 -- ---- bytes that were read to their end
 
@@ -46,15 +49,24 @@ held_told old new bytes (Err fault.Size) text (consumed, at_end, few) (inl (many
 held_told old new bytes (Err fault.Size) text all (inr (tree, (is_tree, has_fault), told)) = inr (tree, (held_tells _ old new bytes (Ok tree) all is_tree, has_fault), told)
 held_told old new bytes (Err fault.NameTwice) text all (tree, (is_tree, has_fault), told) = (tree, (held_tells _ old new bytes (Ok tree) all is_tree, has_fault), told)
 
--- so an explanation of those bytes is one of what was read
-pub held_explains : {T E : Type 0} (fault_of : T → Option ScenarioFault) (text_of : T → List ℕ) (r : Result T E) (old new : Option (List ℕ)) (bytes held : List ℕ) → ReadsAll old new bytes → held ≡ bytes
-    → IfOk r (λ made. (read : Result Setup ScenarioFault) × Tells scenario_at (Some held) read × (fault_in read ≡ fault_of made) × IsTold (Some held) read (text_of made))
-    → IfOk r (λ made. Explains old new (fault_of made) (λ text. text ≡ text_of made))
-held_explains fault_of text_of (Ok made) old new bytes held all same (read, tells, fault, told) =
-    let known = subst (λ b. ReadsAll old new b) (sym same) all in
-    let is_read : IsRead old new read = (held_reads scenario_at old new held read known tells, held_tells scenario_at old new held read known tells) in
-    record { read = read; is_read = is_read; is_fault = fault; text = text_of made; told = held_told old new held read (text_of made) known told; holds = refl }
-held_explains fault_of text_of (Err e) old new bytes held all same told = tt
+held_some : (old new : Option (List ℕ)) (bytes : List ℕ) (why : ScenarioFault) (text : Option (String Global)) → ReadsAll old new bytes
+    → IfSome text (λ t. IsTold (Some bytes) (Err why) (string_bytes t)) → IfSome text (λ t. IsTold old (Err why) (string_bytes t))
+held_some old new bytes why None all told = tt
+held_some old new bytes why (Some t) all told = held_told old new bytes (Err why) (string_bytes t) all told
+
+-- so what holds of the bytes in memory holds of what was read
+held_explains : (old new : Option (List ℕ)) (bytes : List ℕ) (r : Result Setup Refusal) → ReadsAll old new bytes → HoldsOrExplains bytes r → ReadsOrExplains old new r
+held_explains old new bytes (Ok s) all tells = (held_reads scenario_at old new bytes (Ok s) all tells, held_tells scenario_at old new bytes (Ok s) all tells)
+held_explains old new bytes (Err r) all (tells, told) =
+    ((held_reads scenario_at old new bytes (Err r.fault) all tells, held_tells scenario_at old new bytes (Err r.fault) all tells), held_some old new bytes r.fault r.text all told)
+
+pub same_explains : (old new : Option (List ℕ)) (bytes held : List ℕ) (r : Result Setup Refusal) → ReadsAll old new bytes → held ≡ bytes → HoldsOrExplains held r → ReadsOrExplains old new r
+same_explains old new bytes held r all same is = held_explains old new held r (subst (λ b. ReadsAll old new b) (sym same) all) is
+
+-- a text, if there was memory for one
+pub some_text : (r : Result (String Global) AllocError) (P : List ℕ → Type 0) → IfOk r (λ t. P (string_bytes t)) → IfSome (result_ok r) (λ t. P (string_bytes t))
+some_text (Ok t) P holds = holds
+some_text (Err e) P holds = tt
 
 -- ---- bytes that were not read to their end
 
@@ -77,12 +89,15 @@ unread_told old new bytes.Read text many told = told
 unread_told old new bytes.NoMemory text many told = told
 unread_told old new bytes.Size text many told = inl (are_many old new (many refl), told)
 
--- the explanation of bytes that were not read to their end
-pub unread_explains : (old new : Option (List ℕ)) (read : ReadFault) (why : ScenarioFault) (text : List ℕ) → why ≡ fault_of read → (read ≡ bytes.Size → ReadsTooMany old new) → IsBegun why text → Explains old new (Some why) (λ t. t ≡ text)
+unread_some : (old new : Option (List ℕ)) (why : ReadFault) (text : Option (String Global)) → (why ≡ bytes.Size → ReadsTooMany old new) → IfSome text (λ t. IsBegun (fault_of why) (string_bytes t)) → IfSome text (λ t. IsTold old (Err (fault_of why)) (string_bytes t))
+unread_some old new why None many told = tt
+unread_some old new why (Some t) many told = unread_told old new why (string_bytes t) many told
+
+-- the fault of bytes that were not read to their end
+pub unread_explains : (old new : Option (List ℕ)) (read : ReadFault) (why : ScenarioFault) (text : Option (String Global)) → why ≡ fault_of read → (read ≡ bytes.Size → ReadsTooMany old new) → IfSome text (λ t. IsBegun why (string_bytes t)) → ReadsOrExplains old new (Err (record { fault = why; text = text }))
 unread_explains old new read why text is many told =
-    let explained = subst (λ f. IsBegun f text) is told in
-    subst (λ f. Explains old new (Some f) (λ t. t ≡ text)) (sym is)
-    (record { read = Err (fault_of read); is_read = unread old new read many; is_fault = refl; text = text; told = unread_told old new read text many explained; holds = refl })
+    let begun = subst (λ f. IfSome text (λ t. IsBegun f (string_bytes t))) is told in
+    subst (λ f. ReadsOrExplains old new (Err (record { fault = f; text = text }))) (sym is) (unread old new read many, unread_some old new read text many begun)
 
 -- ---- the tree of bytes
 
@@ -107,18 +122,20 @@ tree_told bytes tree (fault.Call c i f) text few is_tree is told = (tree, (inr (
 tree_told bytes tree fault.Size text few is_tree is told = inr (tree, (inr (few, (Some tree, is_tree, refl)), is), told)
 tree_told bytes tree fault.NameTwice text few is_tree is told = (tree, (inr (few, (Some tree, is_tree, refl)), is), told)
 
--- the result and the explanation of a fault that lies in the tree of bytes
-pub tree_explains : (bytes : List ℕ) (tree : Data) (why : ScenarioFault) (text : List ℕ) → length bytes ≤ MOST_BYTES → IsTree bytes (Some tree) → IsScenarioOf tree (Err why) → IsToldOf tree why text
-    → (read : Result Setup ScenarioFault) × Tells scenario_at (Some bytes) read × (fault_in read ≡ Some why) × IsTold (Some bytes) read text
-tree_explains bytes tree why text few is_tree is told = (Err why, tree_tells bytes tree (Err why) few is_tree is, refl, tree_told bytes tree why text few is_tree is told)
+tree_some : (bytes : List ℕ) (tree : Data) (why : ScenarioFault) (text : Option (String Global)) → length bytes ≤ MOST_BYTES → IsTree bytes (Some tree) → IsScenarioOf tree (Err why) → IfSome text (λ t. IsToldOf tree why (string_bytes t)) → IfSome text (λ t. IsTold (Some bytes) (Err why) (string_bytes t))
+tree_some bytes tree why None few is_tree is told = tt
+tree_some bytes tree why (Some t) few is_tree is told = tree_told bytes tree why (string_bytes t) few is_tree is told
 
--- the result and the explanation of bytes that have no tree
-pub treeless_explains : (bytes : List ℕ) (why : ScenarioFault) (text : List ℕ) → length bytes ≤ MOST_BYTES → ((why ≡ fault.Json) × IsTree bytes None) ⊎ (why ≡ fault.NoMemory) → IsBegun why text
-    → (read : Result Setup ScenarioFault) × Tells scenario_at (Some bytes) read × (fault_in read ≡ Some why) × IsTold (Some bytes) read text
+-- a fault that lies in the tree of bytes
+pub tree_explains : (bytes : List ℕ) (tree : Data) (why : ScenarioFault) (text : Option (String Global)) → length bytes ≤ MOST_BYTES → IsTree bytes (Some tree) → IsScenarioOf tree (Err why) → IfSome text (λ t. IsToldOf tree why (string_bytes t)) → HoldsOrExplains bytes (Err (record { fault = why; text = text }))
+tree_explains bytes tree why text few is_tree is told = (tree_tells bytes tree (Err why) few is_tree is, tree_some bytes tree why text few is_tree is told)
+
+-- the fault of bytes that have no tree
+pub treeless_explains : (bytes : List ℕ) (why : ScenarioFault) (text : Option (String Global)) → length bytes ≤ MOST_BYTES → ((why ≡ fault.Json) × IsTree bytes None) ⊎ (why ≡ fault.NoMemory) → IfSome text (λ t. IsBegun why (string_bytes t)) → HoldsOrExplains bytes (Err (record { fault = why; text = text }))
 treeless_explains bytes why text few (inl (json, is_tree)) told =
-    subst (λ f. IsBegun f text → (read : Result Setup ScenarioFault) × Tells scenario_at (Some bytes) read × (fault_in read ≡ Some f) × IsTold (Some bytes) read text) (sym json) (λ of_json. (Err fault.Json, inr (few, (None, is_tree, refl)), refl, of_json)) told
+    subst (λ f. IfSome text (λ t. IsBegun f (string_bytes t)) → HoldsOrExplains bytes (Err (record { fault = f; text = text }))) (sym json) (λ of_json. (inr (few, (None, is_tree, refl)), of_json)) told
 treeless_explains bytes why text few (inr memory) told =
-    subst (λ f. IsBegun f text → (read : Result Setup ScenarioFault) × Tells scenario_at (Some bytes) read × (fault_in read ≡ Some f) × IsTold (Some bytes) read text) (sym memory) (λ of_memory. (Err fault.NoMemory, tt, refl, of_memory)) told
+    subst (λ f. IfSome text (λ t. IsBegun f (string_bytes t)) → HoldsOrExplains bytes (Err (record { fault = f; text = text }))) (sym memory) (λ of_memory. (tt, of_memory)) told
 
 -- ---- the fault of a tree is not the reader's
 

@@ -1,15 +1,12 @@
 //! The text about a scenario, and writing it.
-ghost use Rattle.std.specs.Prelude.{◌≡◌, ◌≤◌, ◌↔◌, false, true, Some, None, Ok, Err, Option, Result, IfOk, IfErr, length, string_bytes};
+ghost use Rattle.std.specs.Prelude.{◌≡◌, ◌≤◌, ◌↔◌, false, true, Some, None, Ok, Err, Option, IfOk, IfErr, length, string_bytes};
 ghost use Rattle.std.specs.Io.KnownBytes.{Appends};
-ghost use Rattle.vll_scenario.specs.Reading.{Tells};
-ghost use Rattle.vll_scenario.specs.Scenario.{scenario_at};
-ghost use Rattle.vll_scenario.specs.Headline.Setup.{Setup};
 ghost use Rattle.vll_scenario.specs.Streams.{AppendsBeginning};
 ghost use Rattle.vll_scenario.specs.declared.fault.ScenarioFault.{ScenarioFault};
 ghost use Rattle.vll_scenario.specs.declared.fault.ScenarioFault.TheVariants.{Read};
 ghost use Rattle.serde_json.specs.View.{view};
-ghost use Rattle.vll_explain.specs.Explained.{Explains, IsBegun, IsLocated, IsTold, fault_in};
-ghost use Rattle.vll_explain.specs.Private.{IsToldOf};
+ghost use Rattle.vll_explain.specs.Explained.{Explains, IsBegun, IsLocated, IsTold, ReadsOrExplains, fault_of};
+ghost use Rattle.vll_explain.specs.Private.{HoldsOrExplains, IsToldOf};
 
 use crate::origin::Origin;
 use crate::reason::reason_of;
@@ -18,6 +15,7 @@ use crate::unread::unread_explanation;
 use crate::way::{push_way, shown_name};
 use serde_json::Value;
 use std::alloc::{AllocError, Global};
+use thiserror::Error;
 use vll_fault_path::way_to_fault;
 use vll_scenario::{
     MOST_BYTES, Reading, Scenario, ScenarioFault, Sink, Source, WriteFault, read_bytes, reading_of,
@@ -53,6 +51,57 @@ pub fn explain<S: Source, W: Sink>(
     Ok(fault)
 }
 
+/// Why a scenario is refused.
+#[derive(Debug, Drop, Error)]
+#[error("{fault}")]
+pub struct Refusal {
+    pub fault: ScenarioFault,
+    /// What `explain` writes about it. It is missing if there was no memory for it.
+    pub text: Option<String>,
+}
+
+/// Reads a scenario as `read_scenario` does. If it is refused, a text explains why; it is not written. `origin` is what
+/// the reader reads. The fault is `Read` exactly if the reader has failed.
+pub fn read_or_explain<S: Source>(
+    alloc: Global,
+    origin: Origin,
+    reader: &mut S,
+) -> Result<Scenario, Refusal>
+    requires { S.failed reader.old ≡ false }
+    ensures read { ReadsOrExplains (S.remaining reader.old) (S.remaining reader.new) result }
+    ensures failed { (fault_of result ≡ Some Read) ↔ (S.failed reader.new ≡ true) }
+{
+    match read_bytes(alloc, reader) {
+        Ok(bytes) => held_or_explained(alloc, origin, bytes.as_slice()),
+        Err(why) => {
+            let fault = ScenarioFault::from(why);
+            let text = text_of_unread(alloc, origin, fault, &[]).ok();
+            Err(Refusal { fault, text })
+        }
+    }
+}
+
+// As `read_or_explain`, for bytes that were read to their end.
+fn held_or_explained(alloc: Global, origin: Origin, bytes: &[u8]) -> Result<Scenario, Refusal>
+    requires { length bytes.now ≤ MOST_BYTES }
+    ensures held { HoldsOrExplains bytes.now result }
+    ensures read { ¬ (fault_of result ≡ Some Read) }
+{
+    match reading_of(alloc, bytes) {
+        Ok(Reading { tree, scenario }) => match scenario {
+            Ok(scenario) => Ok(scenario),
+            Err(fault) => {
+                let text = text_of_fault(alloc, origin, fault, bytes, &tree).ok();
+                Err(Refusal { fault, text })
+            }
+        },
+        Err(fault) => {
+            let text = text_of_unread(alloc, origin, fault, bytes).ok();
+            Err(Refusal { fault, text })
+        }
+    }
+}
+
 // The fault of the scenario that a reader supplies, if there is one, and the text about it.
 fn explained<S: Source>(
     alloc: Global,
@@ -65,45 +114,15 @@ fn explained<S: Source>(
     ensures read { IfOk result (λ made. (made.0 ≡ Some Read) ↔ (S.failed reader.new ≡ true)) }
     ensures fault { IfErr result (λ fault. fault ≡ WriteFault.NoMemory) }
 {
-    match read_bytes(alloc, reader) {
-        Ok(bytes) => explained_of(alloc, origin, bytes.as_slice()),
-        Err(why) => {
-            let why = ScenarioFault::from(why);
-            let text = text_of_unread(alloc, origin, why, &[]).map_err(|_| WriteFault::NoMemory)?;
-            Ok((Some(why), text))
+    match read_or_explain(alloc, origin, reader) {
+        Ok(scenario) => {
+            let text = text_of_scenario(alloc, scenario).map_err(|_| WriteFault::NoMemory)?;
+            Ok((None, text))
         }
-    }
-}
-
-// As `explained`, for bytes that were read to their end.
-fn explained_of(
-    alloc: Global,
-    origin: Origin,
-    bytes: &[u8],
-) -> Result<(Option<ScenarioFault>, String), WriteFault>
-    requires { length bytes.now ≤ MOST_BYTES }
-    ensures told { IfOk result (λ made. (read : Result Setup ScenarioFault) × Tells scenario_at (Some bytes.now) read
-        × (fault_in read ≡ made.0) × IsTold (Some bytes.now) read (string_bytes made.1)) }
-    ensures read { IfOk result (λ made. ¬ (made.0 ≡ Some Read)) }
-    ensures fault { IfErr result (λ fault. fault ≡ WriteFault.NoMemory) }
-{
-    match reading_of(alloc, bytes) {
-        Ok(Reading { tree, scenario }) => match scenario {
-            Ok(scenario) => {
-                let text = text_of_scenario(alloc, scenario).map_err(|_| WriteFault::NoMemory)?;
-                Ok((None, text))
-            }
-            Err(why) => {
-                let text = text_of_fault(alloc, origin, why, bytes, &tree).map_err(
-                    |_| WriteFault::NoMemory,
-                )?;
-                Ok((Some(why), text))
-            }
+        Err(Refusal { fault, text }) => match text {
+            Some(text) => Ok((Some(fault), text)),
+            None => Err(WriteFault::NoMemory),
         },
-        Err(why) => {
-            let text = text_of_unread(alloc, origin, why, bytes).map_err(|_| WriteFault::NoMemory)?;
-            Ok((Some(why), text))
-        }
     }
 }
 

@@ -28,5 +28,5 @@ mod unread;
 mod way;
 mod written;
 
-pub use explaining::explain;
+pub use explaining::{Refusal, explain, read_or_explain};
 pub use origin::Origin;
