@@ -30,6 +30,8 @@ CALLS = {
 # What is told of a number: the number, and dots if it is cut.
 QUOTED = re.compile(rb'^why: (?:.* begins with .*, not with )?(-?\d[-+.\deE]*?)(\.\.)?(?: is not an? | does not say |;)',
                     re.MULTILINE)
+# What is said of a command line that is refused: the reason, perhaps a tip and how to use it, and how to get help.
+REFUSAL = re.compile(rb"error: [^\n]+\n(?:[^\n]*\n)*\nFor more information, try '--help'\.\n")
 NAMED = r'( \("(?:[^"\\]|\\.)*"\))?'
 
 
@@ -55,6 +57,15 @@ def pieces_of(words):
         'read': (f'({INPUT})$', 'cannot be read'),
         'no': (f'({INPUT})$', 'not enough memory'),
     }[kind]
+
+
+def is_command_line(words, said):
+    """Whether this says why the program does not accept these words: nothing if one of them is no text."""
+    try:
+        b' '.join(words).decode()
+    except UnicodeError:
+        return not said
+    return bool(REFUSAL.fullmatch(said))
 
 
 def unexplained(line, printed):

@@ -10,7 +10,7 @@ ROW = re.compile(r'  +(\S.*?)(?: {2,}(\S.*))?')
 STATUS = [
     ('0', 'The scenario was run, served, replayed, drawn or found valid, whatever its calls gave.'),
     ('1', 'Memory, threads, standard output or input were lacking; a line says which.'),
-    ('2', 'The scenario or the command line was refused. vll explain reports where a scenario is wrong.'),
+    ('2', 'The scenario or the command line was refused. Standard error says why.'),
 ]
 
 

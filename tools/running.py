@@ -1,4 +1,5 @@
 """Runs a program for the trials, and says what of a run is not as it has to be."""
+import os
 import subprocess
 
 SECONDS = 300
@@ -12,6 +13,19 @@ def called(words, text=b'', **how):
     """How a command that reads this input ended, and what it printed."""
     streams = {'stdout': subprocess.PIPE, 'stderr': subprocess.PIPE, **how}
     return subprocess.run(words, input=text, timeout=SECONDS, check=False, **streams)
+
+
+def failure(what, number):
+    """What `vll` says on standard error of a file or a stream that fails, by the number of the system's reason."""
+    return f'vll: {what}: {os.strerror(number)} (os error {number})\n'.encode()
+
+
+def explanation(program, text, *files):
+    """What `vll explain` prints of a scenario that is refused: the other commands say it on standard error."""
+    ran = called([program, 'explain', *files], text)
+    if ran.returncode != 2 or not ran.stdout.startswith(b'vll: scenario: '):
+        raise ValueError(f'explain: status {ran.returncode}; it printed {ran.stdout[:100]!r}')
+    return ran.stdout
 
 
 def unlike(what, ran, status, printed, said=b''):

@@ -75,13 +75,17 @@ FAULTS = [
 ]
 
 # A program that prints what it reads with a line end behind it, and ends with the status that goes with that. What it
-# explains is that a text is no JSON text.
+# explains, on standard error if it is not asked to, is that a text is no JSON text.
 RIGHT = f'''
-[ "$*" = 'run  --cap=1' ] && echo 'vll: command line' && exit 2
+[ "$*" = 'run  --cap=1' ] && echo 'vll: command line' &&
+  printf '%s\\n' 'error: no' '' "For more information, try '--help'." >&2 && exit 2
 text=$(cat)
 case $text in *bump*) text='{LAWFUL.rstrip()}' ;; esac
 printf '%s\\n' "$text"
-[ "$*" = explain ] && printf '%s\\n' 'at: line 1, column 1' 'why: invalid JSON'
+case $text in 'vll: scenario'*)
+  [ "$*" = explain ] || {{ exec >&2; printf '%s\\n' "$text"; }}
+  printf '%s\\n' 'at: line 1, column 1' 'why: invalid JSON'
+esac
 case $text in 'vll: scenario'*) exit 2 ;; 'vll: replay'*) exit 1 ;; esac
 exit 0
 '''
@@ -97,7 +101,15 @@ WRONG = [
     ('committed 7', 'committed 6', 'judged judged_row'),
     ('text=$(cat)', '[ "$2" = --workers ] && exit 1; text=$(cat)', 'made'),
     ('[ "$*" = explain ]', 'false', 'refused'),
-    ("invalid JSON'", "invalid JSON' && exit 1", 'refused'),
+    ("invalid JSON'", "invalid JSON' && [ $1 = explain ] && exit 1", 'refused'),
+    ('exec >&2', ':', 'refused'),
+    ('|| {', '|| exit 2; {', 'refused'),
+    ("exec >&2; printf '%s\\n' \"$text\"", 'exec >&2', 'refused'),
+    ("'at: line 1, column 1'", '"at: line 1, column ${#1}"', 'refused'),
+    ("'error: no'", "'no'", 'words'),
+    ("try '--help'", 'try it', 'words'),
+    (' >&2 && exit 2', ' && exit 2', 'words'),
+    ('text=$(cat)', 'text=$(cat); [ "${text%%bump*}" = "$text" ] || echo x >&2', 'judged judged_row'),
     ('text=$(cat)', 'text=$(head -n 2)', 'made'),
 ]
 
@@ -228,8 +240,11 @@ class Scripts(unittest.TestCase):
     def test_trials_of_a_program_that_does_nothing_fail(self):
         lines = self.said_of('trials', 'exit 0', '--refusals', self.room / 'program', 'command_line', 'faults',
                              'files', 'installed', 'lacks', 'service', 'refused_memory', 'refused_starts')[1]
-        # it cannot be tried everywhere how threads are lacked and in a root of its own, and a socket needs socat
-        self.assertRegex(lines[-1], '^trials: 0 passed, (108 failed, 3|109 failed, 2|110 failed, 1|111 failed, 0) skipped$')
+        # it cannot be tried everywhere how threads are lacked and in a root of its own, a socket needs socat, and root
+        # may read each file
+        failed, skipped = map(int, re.fullmatch('trials: 0 passed, (.+) failed, (.+) skipped', lines[-1]).groups())
+        self.assertEqual(failed + skipped, 120)
+        self.assertLessEqual(skipped, 4)
 
     def test_random_tests_of_wrong_programs_fail(self):
         right = f'"{sys.executable}" "{TOOLS}/replay_model.py" /dev/stdin'

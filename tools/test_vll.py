@@ -60,11 +60,11 @@ class WithStandIn(unittest.TestCase):
     def list_crates(self, lines):
         self.write('crates.txt', '\n'.join(['# NAME: the libraries that it uses', *lines, '']))
 
-    def answer(self, printed, status, last=None):
-        """What the stand-in prints, and the status of the program that it ran."""
+    def answer(self, printed, status, last=None, told=''):
+        """What the stand-in prints, the status of the program that it ran, and what this said on standard error."""
         ended = f'run=ended status={status} runners=1 races=unchecked proved=no\n'
         (self.room / 'printed').write_bytes(printed)
-        self.write('said', 'checked: something\n' + (ended if last is None else last))
+        self.write('said', f'{told}checked: something\n' + (ended if last is None else last))
         self.write('status', f'{status}\n')
 
     def vll(self, *words, **given):
@@ -126,6 +126,15 @@ class WithStandIn(unittest.TestCase):
             for word in 'run', 'replay', '--help':
                 said = self.check(['--unproved', word], status, printed, b'UNPROVED')
                 self.assertNotIn(b'checked: something', said)
+
+    def test_what_the_program_says_is_shown_alone(self):
+        """All that it says on standard error, behind the notice that the run is unproved."""
+        explained = 'vll: nothing.json: No such file\nvll: scenario: read\nat: the file\nwhy: it cannot be read\n'
+        for told, wanted in (explained, explained), ('', ''), ('error: no\n\nUsage: program run\n',
+                                                             'error: no\n\nUsage: vll run\n'):
+            self.answer(b'vll: scenario: read\n', 2, told=told)
+            said = self.check(['--unproved', 'run'], 2, b'vll: scenario: read\n')
+            self.assertEqual(said.decode().partition('\n')[2], wanted)
 
     def test_help_names_the_program(self):
         usage = b'Runs it\n\nUsage: program run [OPTIONS]\n'

@@ -1,6 +1,7 @@
-"""The trial of `vll explain` on texts that are refused: it tells the way to the fault, and takes at most three times as
-long as `vll run` does to refuse the same text. The texts are large, wide or nested deeply, and the fault comes last, so
-each level that is read anew would show. What counts is processor time, since a machine may be busy."""
+"""The trial of `vll explain` on texts that are refused: it tells the way to the fault, as `vll run` does on standard
+error, and each takes at most three times as long as it takes to refuse the same text with a byte behind it that makes it
+no JSON. The texts are large, wide or nested deeply, and the fault comes last, so each level that is read anew would show.
+What counts is processor time, since a machine may be busy."""
 import os
 import subprocess
 import tempfile
@@ -8,7 +9,7 @@ import threading
 
 from running import SECONDS
 
-# How long explaining may take, in times of running, and in seconds what may come to it on a busy machine.
+# How long explaining may take, in times of refusing what is no JSON, and in seconds what may come to it on a busy machine.
 TIMES, MORE = 3, 0.1
 SIZE = 1 << 20
 
@@ -120,30 +121,38 @@ def shapes(first):
 
 
 def processor_time(program, command, text):
-    """How a command ended that reads this text, what it printed, and its processor time in seconds."""
-    with tempfile.TemporaryFile() as file, tempfile.TemporaryFile() as printed:
+    """How a command ended that reads this text, what it printed, also on standard error, and its processor time in
+    seconds."""
+    with tempfile.TemporaryFile() as file, tempfile.TemporaryFile() as printed, tempfile.TemporaryFile() as said:
         file.write(text)
         file.seek(0)
-        running = subprocess.Popen([program, command], stdin=file, stdout=printed)
+        running = subprocess.Popen([program, command], stdin=file, stdout=printed, stderr=said)
         late = threading.Timer(SECONDS, running.kill)
         late.start()
         _, status, usage = os.wait4(running.pid, 0)
         late.cancel()
         running.returncode = os.waitstatus_to_exitcode(status)
         printed.seek(0)
-        return running.returncode, printed.read(), usage.ru_utime + usage.ru_stime
+        said.seek(0)
+        return running.returncode, printed.read(), said.read(), usage.ru_utime + usage.ru_stime
 
 
 def explained(program, text, way):
-    """Both commands refuse the text by the same line, and the way to the fault is told in time."""
-    status, refused, took = processor_time(program, 'run', text.encode())
-    told, explanation, longer = processor_time(program, 'explain', text.encode())
-    lines = explanation.decode().splitlines()
-    if (status, told) != (2, 2) or not explanation.startswith(refused) or lines[1:2] != [f'at: {way}']:
+    """Both commands refuse the text by the same line and the same explanation, and the way to the fault is told in
+    time."""
+    _, no_json, _, took = processor_time(program, 'run', text.encode() + b']')
+    status, refused, said, longer = processor_time(program, 'run', text.encode())
+    told, explanation, more, longest = processor_time(program, 'explain', text.encode())
+    first, *lines = explanation.decode().split('\n')
+    if no_json != b'vll: scenario: json\n':
+        yield f'with a byte behind it: {no_json[:100]!r}'
+    if (status, told) != (2, 2) or refused != f'{first}\n'.encode() or lines[:1] != [f'at: {way}']:
         yield f'status {status} and {told}; {refused[:100]!r}, {explanation[:100]!r} .. and not at: {way[-100:]}'
-    print(f'{took:.2f} s to refuse, {longer:.2f} s to explain')
-    if longer > TIMES * took + MORE:
-        yield f'to refuse {len(text)} bytes takes {took:.2f} s, and to explain that {longer:.2f} s'
+    if said != explanation or more:
+        yield f'on standard error came {said[:200]!r} and {more[:200]!r}'
+    print(f'{took:.2f} s to refuse what is no JSON, {longer:.2f} s and {longest:.2f} s to explain')
+    if max(longer, longest) > TIMES * took + MORE:
+        yield f'to refuse {len(text)} bytes takes {took:.2f} s, and to explain that {longer:.2f} s and {longest:.2f} s'
 
 
 def faults(words, _):

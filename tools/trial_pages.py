@@ -12,7 +12,7 @@ from cases import TOP, bytes_of, read_cases, status_of
 from generate import SIZES, scenario_of, text_of
 from model import Unlawful
 from replay_model import Machine
-from running import called, unlike
+from running import called, explanation, unlike
 
 PICTURE = TOP / 'docs/replay.svg'
 PICTURED = TOP / 'examples/09_contention_analysis.json'
@@ -123,7 +123,7 @@ def one_by_one(scenario):
 
 def unlike_replay(program, name, text, *window):
     """What is wrong with the page of a scenario: without a schedule it is the page of its calls one after the other. A
-    scenario that is refused is refused with the same line."""
+    scenario that is refused is refused with the same line, and with the explanation of it."""
     replayed = called([program, 'replay'], text)
     is_without = replayed.returncode == 0 and not json.loads(text).get('schedule')
     if is_without:
@@ -133,7 +133,7 @@ def unlike_replay(program, name, text, *window):
     options = [f'{option}={value}' for option, value in zip(('--from', '--count'), window)]
     drawn = called([program, 'draw', *options], text)
     if replayed.returncode:
-        yield from unlike(name, drawn, replayed.returncode, replayed.stdout)
+        yield from unlike(name, drawn, replayed.returncode, replayed.stdout, explanation(program, text))
     elif drawn.returncode or drawn.stderr:
         yield f'{name}: the status is {drawn.returncode}, and on standard error came {drawn.stderr[:200]!r}'
     else:

@@ -1,6 +1,7 @@
 """The trials of `vll serve`: random streams of lines, judged by a model of the bank of examples/serve, and what no
 stream shows: pauses, closed pipes, a very long line, and clients in other languages."""
 import contextlib
+import errno
 import json
 import random
 import re
@@ -13,7 +14,7 @@ import time
 from pathlib import Path
 
 from cases import TOP
-from running import SECONDS, Skipped, called, unlike
+from running import SECONDS, Skipped, called, explanation, failure, unlike
 
 BANK = TOP / 'examples/serve/bank.json'
 CLIENT = TOP / 'examples/serve/transfers.py'
@@ -68,7 +69,12 @@ NO_UTF8 = [line.encode('latin-1') for line in (
       for text in ('\xc3', '\xc0\x80', '\xed\xa0\x80', '\xf4\x90\x80\x80')))]
 BALANCE = b'{"client":0,"proc":"balance","args":[0]}'
 NO_JSON = 'no JSON text: column'
-CANNOT_WRITE = b'vll: serve: write\n'
+CANNOT_WRITE = b'vll: serve: write\n' + failure('standard output', errno.EPIPE)
+HAS_CALLS = (b'vll: serve: calls\nthe file has calls, and a service takes them from its lines: leave each list in '
+             b'"clients" empty, or use `vll run`\n')
+# Scenarios that are refused: one is no JSON, one no object of this kind, and one has a faulty procedure.
+REFUSED = (b'{"version":1}]', b'{}', b'{"version":1,"records":[7],"clients":[[]],"procs":[{"name":"p","args":0,'
+           b'"keys":[],"body":[["reply",["key",0]]]}]}')
 
 
 class Bank:
@@ -359,10 +365,25 @@ def long_line(program):
 
 
 def refused_files(program):
-    """A scenario that is refused, that is not there, or that has calls."""
-    for path, said in ((TOP / 'README.md', b'vll: scenario: json\n'), ('/nowhere', b'vll: scenario: read\n'),
-                       (TOP / 'scenarios/transfer.json', b'vll: serve: calls\n')):
-        yield from unlike(str(path), served(program, b'', file=path), 2, b'', said)
+    """A scenario that is refused is explained as `vll explain` does, and one that has calls has its own words. None has
+    an answer. Files that cannot be read are tried by `tools/trials files`."""
+    with tempfile.TemporaryDirectory() as room:
+        file = Path(room) / 'refused.json'
+        for text in REFUSED:
+            file.write_bytes(text)
+            yield from unlike(text.decode(), served(program, BALANCE, file=file), 2, b'', explanation(program, b'', file))
+    for path in TOP / 'scenarios/transfer.json', TOP / 'examples/06_blocked_call.json':
+        yield from unlike(str(path), served(program, BALANCE, file=path), 2, b'', HAS_CALLS)
+
+
+def failing_streams(program):
+    """Input that cannot be read, and output that is full."""
+    for behind, said in (('</', b'vll: serve: read\n' + failure('standard input', errno.EISDIR)),
+                         ('<&-', b'vll: serve: read\n' + failure('standard input', errno.EBADF)),
+                         ('>/dev/full', b'vll: serve: write\n' + failure('standard output', errno.ENOSPC)),
+                         ('>&-', b'vll: serve: write\n' + failure('standard output', errno.EBADF))):
+        ran = called(['bash', '-c', f'exec "$@" {behind}', 'bash', program, 'serve', BANK], BALANCE)
+        yield from unlike(behind, ran, 1, b'', said)
 
 
 def other_language(program):
@@ -380,5 +401,5 @@ def socket(program):
 
 def service(words, _):
     for trial in (random_streams, epochs, pauses, counts, records, closed_input, no_utf8, many_clients, many_procedures,
-                  closed_output, long_line, refused_files, other_language, socket):
+                  closed_output, long_line, refused_files, failing_streams, other_language, socket):
         yield trial.__name__.replace('_', ' '), trial(words.program)

@@ -1,73 +1,114 @@
 //! The actions of the program, over any reader and writer. `main` passes standard input and output.
-ghost use Rattle.std.specs.Prelude.{◌≡◌, ◌<◌, ◌≤◌, ◌+◌, ◌↔◌, ℕ, false, true, Err, IfOk, None, OnOk, Some};
+ghost use Rattle.std.specs.Prelude.{◌≡◌, ◌<◌, ◌≤◌, ◌+◌, ◌↔◌, ℕ, false, true, Err, IfSome, None, OnOk, Some, string_bytes};
 ghost use Rattle.std.specs.Io.KnownBytes.{Appends};
 ghost use Rattle.vll_scenario.specs.Streams.{AppendsBeginning};
 ghost use Rattle.vll_scenario.specs.declared.fault.ScenarioFault.{ScenarioFault};
 ghost use Rattle.vll_scenario.specs.Options.{with_options};
-ghost use Rattle.vll_scenario.specs.Reading.{IsRead};
-ghost use Rattle.vll_draw.specs.Page.{Draws};
-ghost use Rattle.vll_draw.specs.declared.fault.DrawFault.{DrawFault};
-ghost use Rattle.vll_draw.specs.declared.fault.DrawFault.TheVariants as draw_fault;
-ghost use Rattle.vll_replay.specs.Replay.{Replays};
-ghost use Rattle.vll_replay.specs.declared.fault.ReplayFault.{ReplayFault};
-ghost use Rattle.vll_replay.specs.declared.fault.ReplayFault.TheVariants as replay_fault;
+ghost use Rattle.vll_explain.specs.Explained.{Explains};
+ghost use Rattle.vll.specs.declared.fault.NoScenario.{NoScenario};
+ghost use Rattle.vll_replay.specs.Replay.{text_of_setup};
+ghost use Rattle.vll_server.specs.Headline.Serve.{Serves};
 ghost use Rattle.vll_server.specs.declared.fault.ServeFault.{ServeFault};
 ghost use Rattle.vll_server.specs.declared.fault.ServeFault.TheVariants as serve_fault;
 ghost use Rattle.vll_workers.specs.declared.fault.RunFault.TheVariants as run_fault;
-ghost use Rattle.vll_explain.specs.Explained.{Explains};
 ghost use Rattle.vll_scenario.specs.declared.writing.WriteFault.TheVariants as write_fault;
 ghost use Rattle.vll_stream.specs.declared.fault.StreamFault.{StreamFault};
 ghost use Rattle.vll_stream.specs.declared.fault.StreamFault.TheVariants as stream_fault;
-ghost use Rattle.vll.specs.Private.Acting.{IsWith, Runs, ServesFile, StopsFile};
+ghost use Rattle.vll.specs.Private.Acting.{DrawsSetup, HasFault, ReadsFrom, ReadsOrNot, ServesFile, StopsFile, explanation_in};
 ghost use Rattle.vll.specs.declared.fault.Fault.TheVariants as fault;
 
-use crate::fault::Fault;
-use crate::file::opened;
+use crate::fault::{Fault, NoScenario};
+use crate::stream::opened;
 use clap::Error;
 use std::alloc::Global;
+use std::io;
 use std::rt::Files;
 use std::sync::Wait;
 use std::thread::Threads;
-use vll_command::{CommandFault, RunOptions, ServeOptions};
-use vll_draw::draw;
-use vll_explain::{Origin, explain};
+use vll_command::{CommandFault, Input, RunOptions, ServeOptions};
+use vll_draw::page_of;
+use vll_explain::{Origin, explain, read_or_explain};
+use vll_replay::{Unwatched, text_of_replay};
 use vll_scenario::{EngineOptions, EventRange};
-use vll_server::{Scenario, ScenarioFault, Sink, Source, read_scenario, replay};
+use vll_server::{Scenario, Sink, Source, WriteFault, write_text};
 use vll_stream::serve_stream;
 use vll_workers::{MOST_WORKERS, OpenGate};
 
 // Prints a help text or the version. One that cannot be printed has no line of its own.
-pub(crate) fn print_text(rt: &(impl Print + Eprint), text: &Error) -> Result<(), Fault> {
-    text.print(rt).map_err(|_| Fault::CommandLine(CommandFault))
+pub(crate) fn print_text(rt: &(impl Print + Eprint), text: &Error) -> Result<(), Fault>
+    ensures { explanation_in result ≡ None }
+{
+    match text.print(rt) {
+        Ok(()) => Ok(()),
+        Err(why) => {
+            tell_failure(rt, "standard output", Some(why));
+            Err(Fault::CommandLine(CommandFault::Failed))
+        }
+    }
 }
 
-// Reads a scenario, runs it with these options, and writes the text of the outcome.
-pub(crate) fn run<R: Threads + Wait + Sync, S: Source, W: Sink>(
+// Reads a scenario from standard input, which is the reader, or from a file.
+pub(crate) fn scenario_of<R: Files, S: Source>(
+    rt: &R,
+    alloc: Global,
+    input: Input,
+    reader: &mut S,
+) -> Result<Scenario, NoScenario>
+    requires { S.failed reader.old ≡ false }
+    ensures { ReadsFrom input (reader.new ≡ reader.old) (S.remaining reader.old) (S.remaining reader.new) (λ a b. ReadsOrNot a b result) }
+{
+    match input {
+        Input::Standard => match read_or_explain(alloc, Origin::Standard, reader) {
+            Ok(scenario) => Ok(scenario),
+            Err(refusal) => Err(NoScenario {
+                refusal,
+                unread: None,
+            }),
+        },
+        Input::File(path) => scenario_in(rt, alloc, path),
+    }
+}
+
+// Reads the scenario in a file.
+fn scenario_in<R: Files>(rt: &R, alloc: Global, path: String) -> Result<Scenario, NoScenario>
+    ensures { ReadsOrNot None None result }
+{
+    let mut file = opened(rt, path.as_str());
+    match read_or_explain(alloc, Origin::File, &mut file) {
+        Ok(scenario) => Ok(scenario),
+        Err(refusal) => Err(NoScenario {
+            refusal,
+            unread: file.failure().map(|why| (path, why)),
+        }),
+    }
+}
+
+// Tells on standard error why this was not read or written.
+pub(crate) fn tell_failure(rt: &impl Eprint, what: &str, failure: Option<io::Error>) {
+    if let Some(why) = failure {
+        let _ = eprintln!(rt; "vll: {what}: {why}");
+    }
+}
+
+// Runs a scenario with these options, and writes the text of the outcome.
+pub(crate) fn run<R: Threads + Wait + Sync, W: Sink>(
     rt: &R,
     alloc: Global,
     options: RunOptions,
-    reader: &mut S,
+    scenario: Scenario,
     writer: &mut W,
 ) -> Result<(), Fault>
-    requires reader { S.failed reader.old ≡ false }
-    requires writer { W.failed writer.old ≡ false }
-    ensures ok { OnOk result (Runs options (S.remaining reader.old) (S.remaining reader.new)
-        (Appends (W.contents writer.old) (W.contents writer.new))) }
-    ensures scenario { (why : ScenarioFault) → result ≡ Err (fault.Scenario why)
-        → IsRead (S.remaining reader.old) (S.remaining reader.new) (Err why) × (writer.new ≡ writer.old) }
-    ensures write { result ≡ Err (fault.Run serve_fault.Write) → Runs options (S.remaining reader.old) (S.remaining reader.new)
+    requires { W.failed writer.old ≡ false }
+    ensures ok { OnOk result (Serves (with_options options.engine scenario) (Appends (W.contents writer.old) (W.contents writer.new))) }
+    ensures write { result ≡ Err (fault.Run serve_fault.Write) → Serves (with_options options.engine scenario)
         (AppendsBeginning (W.contents writer.old) (W.contents writer.new)) }
     ensures before { (why : ServeFault) → result ≡ Err (fault.Run why) → ¬ (why ≡ serve_fault.Write) → writer.new ≡ writer.old }
     ensures failed { (result ≡ Err (fault.Run serve_fault.Write)) ↔ (W.failed writer.new ≡ true) }
     ensures spent { ¬ (result ≡ Err (fault.Run (serve_fault.Run run_fault.Spent))) }
     ensures unfinished { (running waiting : ℕ) → result ≡ Err (fault.Run (serve_fault.Unfinished running waiting))
         → 0 < running + waiting }
-    ensures unexplained { (why : ScenarioFault) → ¬ (result ≡ Err (fault.Explained why)) }
+    ensures unexplained { explanation_in result ≡ None }
 {
-    let scenario = match read_scenario(alloc, reader) {
-        Ok(scenario) => scenario,
-        Err(why) => return Err(Fault::Scenario(why)),
-    };
     let (scenario, workers) = chosen(scenario, options);
     match vll_server::serve(rt, rt, alloc, scenario, workers, &OpenGate, writer) {
         Ok(()) => Ok(()),
@@ -101,60 +142,84 @@ pub(crate) fn serve<R: Threads + Wait + Files + Sync, S: Source, W: Sink>(
         (W.contents writer.old) (W.contents writer.new) }
     ensures read { (result ≡ Err (fault.Serve stream_fault.Read)) ↔ (S.failed reader.new ≡ true) }
     ensures write { (result ≡ Err (fault.Serve stream_fault.Write)) ↔ (W.failed writer.new ≡ true) }
-    ensures file { (why : ScenarioFault) → result ≡ Err (fault.File why) → (reader.new ≡ reader.old) × (writer.new ≡ writer.old) }
-    ensures unexplained { (why : ScenarioFault) → ¬ (result ≡ Err (fault.Explained why)) }
+    ensures file { (why : NoScenario) → result ≡ Err (fault.File why) → (reader.new ≡ reader.old) × (writer.new ≡ writer.old) }
+    ensures explained { IfSome (explanation_in result) (λ text. (reader.new ≡ reader.old) × HasFault None None (λ t. t ≡ string_bytes text)) }
 {
     let ServeOptions { file, engine } = options;
-    let scenario = match scenario_in(rt, alloc, file.as_str(), engine) {
-        Ok(scenario) => scenario,
-        Err(why) => return Err(Fault::File(why)),
-    };
-    match serve_stream(rt, alloc, scenario, reader, writer) {
-        Ok(()) => Ok(()),
-        Err(why) => Err(Fault::Serve(why)),
+    match scenario_in(rt, alloc, file) {
+        Ok(scenario) => {
+            let scenario = with_engine(scenario, engine);
+            match serve_stream(rt, alloc, scenario, reader, writer) {
+                Ok(()) => Ok(()),
+                Err(why) => Err(Fault::Serve(why)),
+            }
+        }
+        Err(why) => Err(Fault::File(why)),
     }
 }
 
-// The scenario in a file, with these options of its engine.
-fn scenario_in<R: Files>(
-    rt: &R,
-    alloc: Global,
-    path: &str,
-    engine: EngineOptions,
-) -> Result<Scenario, ScenarioFault>
-    ensures { IfOk result (IsWith engine) }
+// Returns the scenario with these options of its engine.
+fn with_engine(scenario: Scenario, engine: EngineOptions) -> Scenario
+    ensures { result ≡ with_options engine scenario }
 {
-    match read_scenario(alloc, &mut opened(rt, path)) {
-        Ok(scenario) => Ok(scenario.with_options(engine)),
-        Err(why) => Err(why),
-    }
+    scenario.with_options(engine)
 }
 
-// Reads a scenario, and writes the text of the replay of its schedule.
-pub(crate) fn replay_schedule<S: Source, W: Sink>(
+// Writes the text of the replay of a scenario's schedule.
+pub(crate) fn replay<W: Sink>(
     alloc: Global,
-    reader: &mut S,
+    scenario: Scenario,
     writer: &mut W,
 ) -> Result<(), Fault>
-    requires reader { S.failed reader.old ≡ false }
-    requires writer { W.failed writer.old ≡ false }
-    ensures ok { OnOk result (Replays (S.remaining reader.old) (S.remaining reader.new)
-        (Appends (W.contents writer.old) (W.contents writer.new))) }
-    ensures write { result ≡ Err (fault.Replay replay_fault.Write)
-        → Replays (S.remaining reader.old) (S.remaining reader.new)
-        (AppendsBeginning (W.contents writer.old) (W.contents writer.new)) }
-    ensures before { (why : ReplayFault) → result ≡ Err (fault.Replay why) → ¬ (why ≡ replay_fault.Write) → writer.new ≡ writer.old }
-    ensures failed { (result ≡ Err (fault.Replay replay_fault.Write)) ↔ (W.failed writer.new ≡ true) }
-    ensures unexplained { (why : ScenarioFault) → ¬ (result ≡ Err (fault.Explained why)) }
+    requires { W.failed writer.old ≡ false }
+    ensures ok { OnOk result (Appends (W.contents writer.old) (W.contents writer.new) (text_of_setup scenario)) }
+    ensures write { result ≡ Err (fault.Replay write_fault.Write)
+        → AppendsBeginning (W.contents writer.old) (W.contents writer.new) (text_of_setup scenario) }
+    ensures no_memory { result ≡ Err (fault.Replay write_fault.NoMemory) → writer.new ≡ writer.old }
+    ensures failed { (result ≡ Err (fault.Replay write_fault.Write)) ↔ (W.failed writer.new ≡ true) }
+    ensures unexplained { explanation_in result ≡ None }
 {
-    match replay(alloc, reader, writer) {
+    let Ok((text, _)) = text_of_replay(alloc, scenario, &mut Unwatched) else {
+        return Err(Fault::Replay(WriteFault::NoMemory));
+    };
+    match write_text(writer, text.as_bytes()) {
         Ok(()) => Ok(()),
         Err(why) => Err(Fault::Replay(why)),
     }
 }
 
 // Reads a scenario, and writes its fault with an explanation, or what the scenario has.
-pub(crate) fn explain_fault<S: Source, W: Sink>(
+pub(crate) fn explain_input<R: Eprint + Files, S: Source, W: Sink>(
+    rt: &R,
+    alloc: Global,
+    input: &Input,
+    reader: &mut S,
+    writer: &mut W,
+) -> Result<(), Fault>
+    requires reader { S.failed reader.old ≡ false }
+    requires writer { W.failed writer.old ≡ false }
+    ensures ok { OnOk result (ReadsFrom input.now (reader.new ≡ reader.old) (S.remaining reader.old) (S.remaining reader.new)
+        (λ a b. Explains a b None (Appends (W.contents writer.old) (W.contents writer.new)))) }
+    ensures explained { (why : ScenarioFault) → result ≡ Err (fault.Explained why)
+        → ReadsFrom input.now (reader.new ≡ reader.old) (S.remaining reader.old) (S.remaining reader.new)
+        (λ a b. Explains a b (Some why) (Appends (W.contents writer.old) (W.contents writer.new))) }
+    ensures no_memory { result ≡ Err (fault.Explain write_fault.NoMemory) → writer.new ≡ writer.old }
+    ensures failed { (result ≡ Err (fault.Explain write_fault.Write)) ↔ (W.failed writer.new ≡ true) }
+    ensures unexplained { explanation_in result ≡ None }
+{
+    match input {
+        Input::Standard => explain_fault(alloc, Origin::Standard, reader, writer),
+        Input::File(path) => {
+            let mut file = opened(rt, path.as_str());
+            let explained = explain_fault(alloc, Origin::File, &mut file, writer);
+            tell_failure(rt, path.as_str(), file.failure());
+            explained
+        }
+    }
+}
+
+// Reads a scenario, and writes its fault with an explanation, or what the scenario has.
+fn explain_fault<S: Source, W: Sink>(
     alloc: Global,
     origin: Origin,
     reader: &mut S,
@@ -169,6 +234,7 @@ pub(crate) fn explain_fault<S: Source, W: Sink>(
         (Appends (W.contents writer.old) (W.contents writer.new)) }
     ensures no_memory { result ≡ Err (fault.Explain write_fault.NoMemory) → writer.new ≡ writer.old }
     ensures failed { (result ≡ Err (fault.Explain write_fault.Write)) ↔ (W.failed writer.new ≡ true) }
+    ensures unexplained { explanation_in result ≡ None }
 {
     match explain(alloc, origin, reader, writer) {
         Ok(None) => Ok(()),
@@ -177,25 +243,25 @@ pub(crate) fn explain_fault<S: Source, W: Sink>(
     }
 }
 
-// Reads a scenario, and writes the page that draws the replay of its schedule.
-pub(crate) fn draw_schedule<S: Source, W: Sink>(
+// Writes the page that draws the replay of a scenario's schedule.
+pub(crate) fn draw<W: Sink>(
     alloc: Global,
-    reader: &mut S,
+    scenario: Scenario,
     writer: &mut W,
     window: EventRange,
 ) -> Result<(), Fault>
-    requires reader { S.failed reader.old ≡ false }
-    requires writer { W.failed writer.old ≡ false }
-    ensures ok { OnOk result (Draws (S.remaining reader.old) (S.remaining reader.new)
-        (Appends (W.contents writer.old) (W.contents writer.new))) }
-    ensures write { result ≡ Err (fault.Draw draw_fault.Write)
-        → Draws (S.remaining reader.old) (S.remaining reader.new)
-        (AppendsBeginning (W.contents writer.old) (W.contents writer.new)) }
-    ensures before { (why : DrawFault) → result ≡ Err (fault.Draw why) → ¬ (why ≡ draw_fault.Write) → writer.new ≡ writer.old }
-    ensures failed { (result ≡ Err (fault.Draw draw_fault.Write)) ↔ (W.failed writer.new ≡ true) }
-    ensures unexplained { (why : ScenarioFault) → ¬ (result ≡ Err (fault.Explained why)) }
+    requires { W.failed writer.old ≡ false }
+    ensures ok { OnOk result (DrawsSetup scenario (Appends (W.contents writer.old) (W.contents writer.new))) }
+    ensures write { result ≡ Err (fault.Draw write_fault.Write)
+        → DrawsSetup scenario (AppendsBeginning (W.contents writer.old) (W.contents writer.new)) }
+    ensures no_memory { result ≡ Err (fault.Draw write_fault.NoMemory) → writer.new ≡ writer.old }
+    ensures failed { (result ≡ Err (fault.Draw write_fault.Write)) ↔ (W.failed writer.new ≡ true) }
+    ensures unexplained { explanation_in result ≡ None }
 {
-    match draw(alloc, reader, writer, window) {
+    let Ok(page) = page_of(alloc, scenario, window) else {
+        return Err(Fault::Draw(WriteFault::NoMemory));
+    };
+    match write_text(writer, page.as_bytes()) {
         Ok(()) => Ok(()),
         Err(why) => Err(Fault::Draw(why)),
     }

@@ -1,36 +1,47 @@
 //! The faults with which the program ends: the line that is printed, and the exit status.
 ghost use Rattle.std.specs.Prelude.{◌<◌};
 
+use std::io;
 use thiserror::Error;
 use vll_command::CommandFault;
-use vll_draw::DrawFault;
-use vll_server::{ReplayFault, ScenarioFault, ServeFault, WriteFault};
+use vll_explain::Refusal;
+use vll_server::{ScenarioFault, ServeFault, WriteFault};
 use vll_stream::StreamFault;
 
+/// Why there is no scenario.
+#[derive(Debug, Drop, Error)]
+#[error("{refusal}")]
+pub(crate) struct NoScenario {
+    pub(crate) refusal: Refusal,
+    /// The path of the file, and what the system says of it, if it could not be read.
+    pub(crate) unread: Option<(String, io::Error)>,
+}
+
 /// Why the program ended without an outcome. Its text is the line that is printed.
-#[derive(Clone, Copy, Debug, Error)]
+#[derive(Debug, Drop, Error)]
 pub(crate) enum Fault {
     /// No action is performed, since the words ask for none, or the text that they ask for could not be printed.
     #[error("vll: {0}")]
     CommandLine(CommandFault),
+    /// There is no scenario to run, to replay or to draw.
     #[error("vll: scenario: {0}")]
-    Scenario(ScenarioFault),
+    Scenario(NoScenario),
     #[error("vll: run: {0}")]
     Run(ServeFault),
-    /// The file of a service's scenario could not be read, or the scenario is refused.
+    /// There is no scenario for a service.
     #[error("vll: scenario: {0}")]
-    File(ScenarioFault),
+    File(NoScenario),
     #[error("vll: serve: {0}")]
     Serve(StreamFault),
-    #[error("vll: {0}")]
-    Replay(ReplayFault),
+    #[error("vll: replay: {0}")]
+    Replay(WriteFault),
     #[error("vll: explain: {0}")]
     Explain(WriteFault),
     /// The scenario is refused with this fault. Its line has been printed, with the explanation.
     #[error("vll: scenario: {0}")]
     Explained(ScenarioFault),
-    #[error("vll: {0}")]
-    Draw(DrawFault),
+    #[error("vll: draw: {0}")]
+    Draw(WriteFault),
 }
 
 impl Fault {
@@ -43,8 +54,6 @@ impl Fault {
             | Fault::Scenario(_)
             | Fault::File(_)
             | Fault::Serve(StreamFault::Calls)
-            | Fault::Replay(ReplayFault::Scenario(_))
-            | Fault::Draw(DrawFault::Scenario(_))
             | Fault::Explained(_) => 2,
             Fault::Run(_)
             | Fault::Serve(_)

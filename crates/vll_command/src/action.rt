@@ -61,7 +61,7 @@ pub struct ServeOptions {
 
 /// Reads the command line, whose first word is the program's name. The other words have to be `run`, `serve`, `replay`,
 /// `explain` or `draw`, with its options and the path of a file, which only `serve` has to have; or ask for help or the
-/// version. Any others are refused, and so is running out of memory. The action has the file and the values that the
+/// version. Any others are refused. The action has the file and the values that the
 /// words give, and those of options that they do not give are the defaults.
 pub fn action_of(alloc: Global, words: &[String]) -> Result<Action, CommandFault>
     ensures { IfOk result (AsksFor (map string_bytes words.now)) }
@@ -69,11 +69,11 @@ pub fn action_of(alloc: Global, words: &[String]) -> Result<Action, CommandFault
     match matches_of(alloc, words) {
         Ok(matches) => match matches.subcommand() {
             Some((name, options)) => action_named(alloc, name, options),
-            None => Err(CommandFault),
+            None => Err(CommandFault::Failed),
         },
         Err(text) => match text.kind() {
             ErrorKind::DisplayHelp | ErrorKind::DisplayVersion => Ok(Action::Tell(text)),
-            _ => Err(CommandFault),
+            _ => Err(CommandFault::Refused(text)),
         },
     }
 }
@@ -88,6 +88,6 @@ fn action_named(alloc: Global, name: &str, options: &ArgMatches<'_>) -> Result<A
         "replay" => Ok(Action::Replay(input_of(alloc, options)?)),
         "explain" => Ok(Action::Explain(input_of(alloc, options)?)),
         "draw" => Ok(Action::Draw(input_of(alloc, options)?, range_of(options)?)),
-        _ => Err(CommandFault),
+        _ => Err(CommandFault::Failed),
     }
 }

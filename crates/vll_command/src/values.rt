@@ -16,7 +16,7 @@ pub(crate) fn input_of(alloc: Global, matches: &ArgMatches<'_>) -> Result<Input,
     let Some(path) = matches.get_str("FILE") else {
         return Ok(Input::Standard);
     };
-    let path = String::from_str(alloc, path).map_err(|_| CommandFault)?;
+    let path = String::from_str(alloc, path).map_err(|_| CommandFault::Failed)?;
     Ok(Input::File(path))
 }
 
@@ -26,7 +26,7 @@ pub(crate) fn options_of(matches: &ArgMatches<'_>) -> Result<RunOptions, Command
     ensures cap { IfOk result (λ o. Gives (one_text (found_of matches.now) (codes "cap")) o.engine.cap) }
     ensures bits { IfOk result (λ o. Gives (one_text (found_of matches.now) (codes "bits")) o.engine.bits) }
 {
-    let workers = number_of(matches, "workers")?.ok_or(CommandFault)?;
+    let workers = number_of(matches, "workers")?.ok_or(CommandFault::Failed)?;
     let engine = engine_options_of(matches)?;
     Ok(RunOptions { workers, engine })
 }
@@ -40,8 +40,8 @@ pub(crate) fn serve_options_of(
     ensures cap { IfOk result (λ o. Gives (one_text (found_of matches.now) (codes "cap")) o.engine.cap) }
     ensures bits { IfOk result (λ o. Gives (one_text (found_of matches.now) (codes "bits")) o.engine.bits) }
 {
-    let path = matches.get_str("FILE").ok_or(CommandFault)?;
-    let file = String::from_str(alloc, path).map_err(|_| CommandFault)?;
+    let path = matches.get_str("FILE").ok_or(CommandFault::Failed)?;
+    let file = String::from_str(alloc, path).map_err(|_| CommandFault::Failed)?;
     let engine = engine_options_of(matches)?;
     Ok(ServeOptions { file, engine })
 }
@@ -61,8 +61,8 @@ pub(crate) fn range_of(matches: &ArgMatches<'_>) -> Result<EventRange, CommandFa
     ensures from { IfOk result (λ w. Gives (one_text (found_of matches.now) (codes "from")) (Some w.from)) }
     ensures count { IfOk result (λ w. Gives (one_text (found_of matches.now) (codes "count")) (Some w.count)) }
 {
-    let from = whole_of(matches, "from").ok_or(CommandFault)?;
-    let count = number_of(matches, "count")?.ok_or(CommandFault)?;
+    let from = whole_of(matches, "from").ok_or(CommandFault::Failed)?;
+    let count = number_of(matches, "count")?.ok_or(CommandFault::Failed)?;
     Ok(EventRange { from, count })
 }
 
@@ -85,6 +85,6 @@ fn number_of<const MOST: u32>(
     };
     match UpTo::new(number) {
         Some(number) => Ok(Some(number)),
-        None => Err(CommandFault),
+        None => Err(CommandFault::Failed),
     }
 }
