@@ -17,6 +17,8 @@ import { readFileSync } from 'node:fs'
 import { connect } from 'node:net'
 
 const LARGEST = 2n ** 64n - 1n
+// how much is kept of what a service says: more than its explanation of a refused file has
+const MOST_SAID = 2 ** 15
 
 /** Why a call did not commit. */
 export class VllError extends Error {
@@ -100,7 +102,7 @@ function startChild (file, program, read, ended) {
   const child = spawn(program, ['serve', file], { stdio: ['pipe', 'pipe', 'pipe'], detached: true })
   let said = ''
   child.stdin.on('error', () => {}) // the service has ended: 'close' tells
-  child.stderr.setEncoding('utf8').on('data', text => { said = (said + text).slice(-2000) })
+  child.stderr.setEncoding('utf8').on('data', text => { said = (said + text).slice(-MOST_SAID) })
   child.stdout.setEncoding('utf8').on('data', read)
   child.on('error', error => ended(error.message))
   child.on('close', (status, signal) => ended(status === 0 ? undefined : `status ${status ?? signal}: ${said.trim()}`))

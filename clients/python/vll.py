@@ -44,6 +44,8 @@ LARGEST = 2 ** 64 - 1
 PIECE, TICK, PATIENCE = 1 << 16, 0.002, 60
 # How many lines are written though nobody waits for an answer.
 BATCH = 256
+# How many bytes are kept of what a service says: more than its explanation of a refused file has.
+MOST_SAID = 1 << 15
 
 
 class Error(Exception):
@@ -251,7 +253,7 @@ class Connection:
 
 def early(status: int, said: Any) -> Optional[str]:
     """Why a service ended with this status and these words, if it did not end as it should."""
-    said.seek(max(0, said.seek(0, os.SEEK_END) - 2000))
+    said.seek(max(0, said.seek(0, os.SEEK_END) - MOST_SAID))
     words = said.read().decode(errors='replace').strip()
     return f'status {status}: {words}' if status else None
 

@@ -40,6 +40,17 @@ class Case(unittest.TestCase):
         self.file.write_bytes(BANK.read_bytes())
         self.socket, self.log = self.room / 'socket', self.room / 'log'
 
+    def refused(self):
+        """Has the bank's file refused, and returns what `vll explain` prints of it."""
+        bank = json.loads(BANK.read_text())
+        for proc in bank['procs']:
+            proc['body'] = [['reply', ['key', len(proc['keys'])]]]
+        self.file.write_text(json.dumps(bank))
+        ran = subprocess.run([PROGRAM, 'explain', self.file], stdout=subprocess.PIPE, timeout=SECONDS, check=False)
+        self.assertEqual(ran.returncode, 2)
+        self.assertRegex(ran.stdout, rb'\Avll: scenario: check 0 5\nat: .+\nwhy: .+\n\Z')
+        return ran.stdout.decode()
+
     def stand_in(self, text):
         """A program in place of vll, of this Python."""
         path = self.room / 'stand_in'

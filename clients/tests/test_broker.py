@@ -296,11 +296,12 @@ class Ending(Case):
         self.assertFalse(self.socket.exists())
 
     def test_a_scenario_that_is_refused(self):
-        self.file.write_text('{}')
+        """It is explained, as the service does."""
+        explained = self.refused()
         with self.broker() as broker:
             status, last, said = broker.ended()
         self.assertEqual((status, last), (1, None))
-        self.assertIn('vll: scenario: shape top', said)
+        self.assertEqual(said.count(explained), 1)
 
 
 if __name__ == '__main__':

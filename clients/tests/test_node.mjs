@@ -1,6 +1,6 @@
 // The client for Node; its file, the program and the bank are in the environment (clients/tests/node).
 import assert from 'node:assert/strict'
-import { spawn } from 'node:child_process'
+import { spawn, spawnSync } from 'node:child_process'
 import { once } from 'node:events'
 import { chmodSync, mkdtempSync, readFileSync, rmSync, writeFileSync } from 'node:fs'
 import { tmpdir } from 'node:os'
@@ -198,10 +198,20 @@ test('the end fails what is in flight', { timeout }, async t => {
 })
 
 test('why it ended is told', { timeout }, async t => {
-  const refusing = standIn('refusing', 'console.error("vll: scenario: json"); process.exitCode = 2')
-  const refused = open(t, bankFile, { program: refusing })
-  await assert.rejects(refused.balance(0), /status 2: vll: scenario: json/)
-  await assert.rejects(refused.close(), Ended)
+  // as much as an explanation may have
+  const said = `vll: scenario: json\nat: line 1, column 1\nwhy: ${'x'.repeat(20000)}`
+  const refusing = standIn('refusing', `console.error(${JSON.stringify(said)}); process.exitCode = 2`)
+  const noKey = scenario('no_key.json', bank => {
+    for (const proc of bank.procs) proc.body = [['reply', ['key', proc.keys.length]]]
+  })
+  const explained = spawnSync(program, ['explain', noKey], { encoding: 'utf8' }).stdout
+  assert.match(explained, /^vll: scenario: check 0 5\nat: .+\nwhy: .+\n$/)
+  for (const [file, options, text] of [[bankFile, { program: refusing }, said], [noKey, {}, explained.trim()]]) {
+    const refused = open(t, file, options)
+    const message = `the service has ended: status 2: ${text}`
+    await assert.rejects(refused.balance(0), { message })
+    await assert.rejects(refused.close(), Ended)
+  }
   const missing = open(t, bankFile, { program: join(room, 'nowhere') })
   await assert.rejects(missing.balance(0), /ENOENT/)
   await assert.rejects(missing.close(), Ended)

@@ -64,7 +64,9 @@ sys.stdin.buffer.readline()
 answer(15, 17, '{"calls":17,"records":[]}\\n')
 '''
 NEVER_ANSWERING = 'while os.read(0, 65536): pass\n'
-REFUSING = 'print("vll: scenario: json", file=sys.stderr); sys.exit(2)\n'
+# What it says of a scenario that it refuses: as much as an explanation may have.
+EXPLAINED = f'vll: scenario: json\nat: line 1, column 1\nwhy: {"x" * 20000}'
+REFUSING = f'print({EXPLAINED!r}, file=sys.stderr); sys.exit(2)\n'
 
 
 def outcome(call):
@@ -317,9 +319,11 @@ class Threads(Both):
         self.assertIsNone(bank.last)
 
     def test_why_it_ended_is_told(self):
-        with self.assertRaisesRegex(vll.Ended, 'status 2: vll: scenario: json'):
-            with self.service(program=self.stand_in(REFUSING)) as bank:
-                bank.balance(0)
+        for how, said in ({'program': self.stand_in(REFUSING)}, EXPLAINED), ({}, self.refused().strip()):
+            with self.assertRaises(vll.Ended) as raised:
+                with self.service(**how) as bank:
+                    bank.balance(0)
+            self.assertEqual(str(raised.exception), f'the service has ended: status 2: {said}')
         with self.assertRaisesRegex(vll.Ended, 'no answer'):
             with self.service(program=self.stand_in('print("what?", flush=True)\n' + NEVER_ANSWERING)) as bank:
                 bank.balance(0)
@@ -457,8 +461,10 @@ class Asyncio(Both):
     def test_why_it_ended_is_told(self):
         async def work(bank):
             await bank.balance(0)
-        with self.assertRaisesRegex(vll.Ended, 'status 2: vll: scenario: json'):
-            self.run_with(work, program=self.stand_in(REFUSING))
+        for how, said in ({'program': self.stand_in(REFUSING)}, EXPLAINED), ({}, self.refused().strip()):
+            with self.assertRaises(vll.Ended) as raised:
+                self.run_with(work, **how)
+            self.assertEqual(str(raised.exception), f'the service has ended: status 2: {said}')
 
 
 if __name__ == '__main__':
