@@ -348,8 +348,10 @@ class Threads(Both):
     def test_interrupts(self):
         """Ctrl-C reaches the caller alone, also while it waits for an answer, and spoils no other call."""
         slow = self.stand_in('time.sleep(1)\nANSWERS = {}' + ANSWERING)
+        # what is started in the background of a shell ignores Ctrl-C
         script = '''
-import sys, vll
+import signal, sys, vll
+signal.signal(signal.SIGINT, signal.default_int_handler)
 bank = vll.Service(sys.argv[1], sys.argv[2])
 first, second = bank.submit('balance', 0), bank.submit('balance', 0)
 try:
