@@ -2,16 +2,37 @@
 use crate::tally::Tally;
 use vll_core::Ticket;
 
-/// An observer of each call that a run executes, and of each worker that leaves. Its functions are called outside the
-/// engine's lock, by the thread that executes the call, and the call waits for as long as they take. A gate that may
-/// wait can wait in such a function until another call has entered and was executed, if another worker is free to do
-/// that.
+/// How a call that waited was chosen to run.
+#[derive(Clone, Copy, PartialEq, Eq, Debug)]
+pub enum Choice {
+    /// It is at the front of the queue.
+    Front,
+    /// The scan of the queue found it.
+    Scan,
+}
+
+/// An observer of each call that a run executes, and of each worker that leaves. `before`, `after` and `left` are called
+/// outside the engine's lock, by the thread that executes the call, and the call waits for as long as they take. A gate
+/// that may wait can wait in such a function until another call has entered and was executed, if another worker is free
+/// to do that.
+///
+/// `entered`, `chosen` and `finished` are called under the engine's lock, so all of them are called one after the other,
+/// in the order in which these things happen. They must not wait for another call.
 pub trait Gate {
     /// Called when a call is about to be executed.
     fn before(&self, ticket: Ticket);
 
     /// Called once the call has its reply.
     fn after(&self, ticket: Ticket);
+
+    /// Called under the engine's lock, when a call has entered. One that is not free waits.
+    fn entered(&self, _ticket: Ticket, _is_free: bool) {}
+
+    /// Called under the engine's lock, when a call that waited may run.
+    fn chosen(&self, _ticket: Ticket, _by: Choice) {}
+
+    /// Called under the engine's lock, when a call that was executed is gone from the queue.
+    fn finished(&self, _ticket: Ticket) {}
 
     /// Called when a worker has left, with what it did: once for each worker, and for the calling thread, which makes
     /// the calls that are left.

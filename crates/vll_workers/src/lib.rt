@@ -25,7 +25,7 @@ mod tally;
 mod work;
 
 pub use fault::{RunError, RunFault};
-pub use gate::{Gate, OpenGate};
+pub use gate::{Choice, Gate, OpenGate};
 pub use laws::{
     journals_merge_the_scripts, sessions_gain_found_calls, spent_engines_took_fewer_calls,
 };

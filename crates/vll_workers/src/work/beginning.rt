@@ -4,9 +4,10 @@ ghost use Rattle.crossbeam_queue.specs.Passes.{view};
 ghost use Rattle.vll_tokens.specs.Settled.{IsSettled};
 ghost use Rattle.vll_workers.specs.Private.Work.{IsAtWork};
 ghost use Rattle.vll_tokens.specs.Tokens.{AreFit, IsFit, IsOf};
+ghost use Rattle.vll_queue.specs.declared.begun.BeginRefusal.TheVariants.{Spent};
 
 use super::Work;
-use crate::gate::Gate;
+use crate::gate::{Choice, Gate};
 use crate::pace::{HeldBy, Pace};
 use std::sync::Wait;
 use vll_engine::{BeginRefusal, BegunOnto, Hold, Name, Passes};
@@ -45,6 +46,7 @@ impl<N: Name, H: Place + Send + Drop, T: Roster, W: Wait, G: Gate> Work<'_, N, H
         ensures parts { (view worker.new.pass).parts ≡ (view worker.old.pass).parts }
     {
         if passes.next_front(hold) {
+            self.tell_chosen(passes, Choice::Front);
             pace.saw_front(true);
             return true;
         }
@@ -63,9 +65,40 @@ impl<N: Name, H: Place + Send + Drop, T: Roster, W: Wait, G: Gate> Work<'_, N, H
             self.put_back(worker, taken);
         }
         if passes.len() == 0 {
-            pace.saw_scan(passes.next_scan(hold, false));
+            self.scan(hold, passes, pace);
         }
         had_token
+    }
+
+    // Looks for a waiting call that may run.
+    fn scan(self, hold: &mut Hold<'_, N, H>, passes: &mut Passes<N>, pace: &mut Pace)
+        requires { passes.old ≡ [] }
+    {
+        let was_found = passes.next_scan(hold, false);
+        if was_found {
+            self.tell_chosen(passes, Choice::Scan);
+        }
+        pace.saw_scan(was_found);
+    }
+
+    // Tells the gate of the call of the last pass, which was chosen to run.
+    fn tell_chosen(self, passes: &Passes<N>, by: Choice) {
+        if let Some(ticket) = passes.last() {
+            self.gate.chosen(ticket, by);
+        }
+    }
+
+    // Tells the gate of a call that has entered: one that is free has the last pass.
+    fn tell_entered(self, begun: &BegunOnto, passes: &Passes<N>) {
+        match begun {
+            BegunOnto::Free => {
+                if let Some(ticket) = passes.last() {
+                    self.gate.entered(ticket, true);
+                }
+            }
+            BegunOnto::Blocked(ticket) => self.gate.entered(*ticket, false),
+            BegunOnto::Refused(_) => {}
+        }
     }
 
     // Begins the next calls of the last token, and reports whether all that began are free. The token is set aside, or
@@ -166,13 +199,24 @@ impl<N: Name, H: Place + Send + Drop, T: Roster, W: Wait, G: Gate> Work<'_, N, H
             if token.is_through() {
                 return Course::Free;
             }
-            match token.begin(hold, passes) {
+            let begun = token.begin(hold, passes);
+            self.tell_entered(&begun, passes);
+            match begun {
                 BegunOnto::Free => {}
                 BegunOnto::Blocked(_) => return Course::Held(HeldBy::Claim),
-                BegunOnto::Refused(BeginRefusal::Busy) => return Course::Held(HeldBy::Cap),
-                BegunOnto::Refused(BeginRefusal::Spent) => return Course::Spent,
+                BegunOnto::Refused(why) => return refused(why),
             }
         }
         Course::Free
+    }
+}
+
+// What happened to the calls of a token whose next one is refused.
+fn refused(why: BeginRefusal) -> Course
+    ensures { result ≡ Course.Spent → why ≡ Spent }
+{
+    match why {
+        BeginRefusal::Busy => Course::Held(HeldBy::Cap),
+        BeginRefusal::Spent => Course::Spent,
     }
 }

@@ -69,7 +69,7 @@ impl<N: Name, H: Place + Send + Drop, T: Roster, W: Wait, G: Gate> Work<'_, N, H
         passes.run_last(self.engine)
     }
 
-    // Finishes the calls that were executed.
+    // Finishes the calls that were executed, and tells the gate of each.
     pub(super) fn finish_all(
         self,
         hold: &mut Hold<'_, N, H>,
@@ -82,7 +82,9 @@ impl<N: Name, H: Place + Send + Drop, T: Roster, W: Wait, G: Gate> Work<'_, N, H
         ensures { released.new ≡ [] }
     {
         while let Some(done) = released.pop() {
-            finished.push(hold.finish(done));
+            let ticket = hold.finish(done);
+            self.gate.finished(ticket);
+            finished.push(ticket);
         }
     }
 
