@@ -1,3 +1,2 @@
 -- Cited by private contracts and by the views and invariants of types; no contract of an exported item cites it.
 pub mod Acting
-pub mod Streams

@@ -18,7 +18,7 @@ ghost use Rattle.vll.specs.Private.Acting.{DrawsSetup, HasFault, ReadsFrom, Read
 ghost use Rattle.vll.specs.declared.fault.Fault.TheVariants as fault;
 
 use crate::fault::{Fault, NoScenario};
-use crate::stream::opened;
+use crate::input_file::opened;
 use clap::Error;
 use std::alloc::Global;
 use std::io;

@@ -10,13 +10,12 @@ ghost use Rattle.vll.specs.Private.Acting.{Performs, RefusesAsked, explanation_i
 
 mod acting;
 mod fault;
-mod stream;
+mod input_file;
 
 use crate::acting::{
     draw, explain_input, print_text, replay, run, scenario_of, serve, tell_failure,
 };
 use crate::fault::{Fault, NoScenario};
-use crate::stream::Stream;
 use std::process::ExitCode;
 use std::rt::{Env, Files};
 use std::sync::Wait;
@@ -29,8 +28,8 @@ use vll_stream::StreamFault;
 // It passes standard input as the reader, standard output as the writer, and standard error for explanations.
 fn main(rt: HostRuntime) -> ExitCode {
     let asked = action_asked(&rt);
-    let mut reader = Stream::new(rt.reader());
-    let mut writer = Stream::new(io::writer(&rt));
+    let mut reader = Plain::new(rt.reader());
+    let mut writer = Plain::new(io::writer(&rt));
     let stderr = rt.stderr();
     let mut errors = Plain::new(io::writer(&stderr));
     let status = work(&rt, asked, &mut reader, &mut writer, &mut errors);

@@ -2,16 +2,17 @@
 ghost use Rattle.std.specs.Prelude.{◌≡◌, false};
 ghost use Rattle.std.specs.Io.{ReadsAtMost, WritesAtMost};
 ghost use Rattle.std.specs.Io.KnownBytes.{Keeps, ReadConsumes, WriteAppends};
-ghost use Rattle.vll_scenario.specs.Plain.{plain_inner, plain_failed};
+ghost use Rattle.vll_scenario.specs.Plain.{plain_failed, plain_failure, plain_inner};
 
 use crate::stream::{Sink, Source};
 use std::io;
+use std::io::ErrorKind;
 
-/// A reader or a writer of std that remembers whether it has failed.
+/// A reader or a writer of std that keeps why it failed.
 #[derive(Drop)]
 pub struct Plain<T> {
     inner: T,
-    failed: bool,
+    failure: Option<io::Error>,
 }
 
 impl<T> Plain<T> {
@@ -22,8 +23,15 @@ impl<T> Plain<T> {
     {
         Plain {
             inner,
-            failed: false,
+            failure: None,
         }
+    }
+
+    /// Returns why it failed the last time, if it has.
+    pub fn failure(&self) -> Option<io::Error>
+        ensures { result ≡ plain_failure self.now }
+    {
+        self.failure
     }
 }
 
@@ -34,14 +42,14 @@ impl<R: io::Read> Source for Plain<R> {
 
     fn read(&mut self, buf: &mut [u8]) -> io::Result<usize> {
         let read = self.inner.read(buf);
-        if read.is_err() {
-            self.failed = true;
+        if let Err(why) = read {
+            self.failure = Some(why);
         }
         read
     }
 
     fn has_failed(&self) -> bool {
-        self.failed
+        self.failure.is_some()
     }
 }
 
@@ -53,8 +61,8 @@ impl<W: io::Write> Sink for Plain<W> {
     fn write(&mut self, buf: &[u8]) -> io::Result<usize> {
         let written = self.inner.write(buf);
         match written {
-            Ok(0) if !buf.is_empty() => self.failed = true,
-            Err(_) => self.failed = true,
+            Ok(0) if !buf.is_empty() => self.failure = Some(ErrorKind::WriteZero.into()),
+            Err(why) => self.failure = Some(why),
             Ok(_) => {}
         }
         written
@@ -62,13 +70,13 @@ impl<W: io::Write> Sink for Plain<W> {
 
     fn flush(&mut self) -> io::Result<()> {
         let flushed = self.inner.flush();
-        if flushed.is_err() {
-            self.failed = true;
+        if let Err(why) = flushed {
+            self.failure = Some(why);
         }
         flushed
     }
 
     fn has_failed(&self) -> bool {
-        self.failed
+        self.failure.is_some()
     }
 }
