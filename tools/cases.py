@@ -23,8 +23,8 @@ JUDGED = '@judge'
 # An option whose value is the next word.
 OPTION = re.compile(rb'--[^=]+')
 
-FAULT = re.compile(rb'^vll: (run|replay|explain|draw|scenario|command line)', re.MULTILINE)
-STATUS = {b'run': 1, b'replay': 1, b'explain': 1, b'draw': 1, b'scenario': 2, b'command line': 2}
+FAULT = re.compile(rb'^vll: (run|replay|explain|draw|trace|scenario|command line)', re.MULTILINE)
+STATUS = {b'run': 1, b'replay': 1, b'explain': 1, b'draw': 1, b'trace': 1, b'scenario': 2, b'command line': 2}
 
 
 class Case(NamedTuple):

@@ -1,7 +1,7 @@
 """Makes random scenarios, the same ones for the same kind, seed and size.
 
-One of a replay has a schedule of up to so many events as its size says, mostly ones that can be taken; one of a run has
-up to so many calls, and options of `vll run`. tools/random_tests runs them, and keeps the text of one that fails.
+One of a replay has a schedule of up to so many events as its size says, mostly ones that can be taken; one of a run or
+a trace has up to so many calls, and options of `vll run`. tools/random_tests runs them, and keeps the text of one that fails.
 
 Of three seeds that follow each other one has procedures with indirect keys, and finds in its schedule. Of four
 one is of version 2.
@@ -12,7 +12,7 @@ import random
 from random_procedures import MOST_KEYS, any_call, any_number, any_procedures, become_version_two
 from replay_model import Machine
 
-SIZES = {'replay': 240, 'run': 60}
+SIZES = {'replay': 240, 'run': 60, 'trace': 60}
 CLIENT_WORDS = ['enter', 'find']
 TICKET_WORDS = ['load', 'store', 'release', 'finish']
 LARGEST = 4294967295
@@ -169,9 +169,9 @@ def scenario_of(kind, seed, size):
     add_choices(rng, scenario, sum(map(len, scenario['clients'])))
     if kind == 'replay' and rng.random() < 0.96:
         scenario['schedule'] = any_schedule(rng, scenario, size)
-    elif kind == 'run' and rng.random() < 0.1:
+    elif kind != 'replay' and rng.random() < 0.1:
         scenario['schedule'] = [['enter', 0], ['scan']]
-    return scenario, any_options(rng) if kind == 'run' else []
+    return scenario, [] if kind == 'replay' else any_options(rng)
 
 
 def chosen_by(options):

@@ -155,7 +155,7 @@ SPOILED = [
     ('docs/HEADLINE.md', r'\n```\n(\w+)', r'\n```\n\1x', 'no source has: '),
     ('docs/ARCHITECTURE.md', r'(`[A-Z]\w+::)[a-z]\w*`', r'\1unheard_of`', 'has no function unheard_of'),
     ('docs/ARCHITECTURE.md', r'(\]\([A-Z]+\.md#)[\w-]+', r'\1nowhere', 'there is no heading'),
-    ('README.md', r'21,000 lines', '30,000 lines', 'lines of code with contracts'),
+    ('README.md', r'24,000 lines', '30,000 lines', 'lines of code with contracts'),
     ('README.md', r'committed 70', 'committed 71', 'transfer.out is not what is quoted here'),
     ('README.md', r'(\| bodies of 500 nodes.*?\| )[\d,]+', r'\g<1>1', 'these are not the figures of docs/speed.csv'),
     ('examples/README.md', r'0 opened', '0 closed', 'this is not what is printed'),
@@ -243,7 +243,7 @@ class Scripts(unittest.TestCase):
         # it cannot be tried everywhere how threads are lacked and in a root of its own, a socket needs socat, and root
         # may read each file
         failed, skipped = map(int, re.fullmatch('trials: 0 passed, (.+) failed, (.+) skipped', lines[-1]).groups())
-        self.assertEqual(failed + skipped, 120)
+        self.assertEqual(failed + skipped, 125)
         self.assertLessEqual(skipped, 4)
 
     def test_random_tests_of_wrong_programs_fail(self):

@@ -11,7 +11,7 @@ from pathlib import Path
 from cases import TOP, status_of
 from running import SECONDS, Skipped, called, explanation, failure, unlike
 
-COMMANDS = 'run', 'run --workers 1 --cap 2', 'replay', 'explain', 'draw', 'draw --from 2 --count 5'
+COMMANDS = 'run', 'run --workers 1 --cap 2', 'replay', 'explain', 'draw', 'draw --from 2 --count 5', 'trace --workers 1'
 TRANSFER = TOP / 'scenarios/transfer.json'
 # It has several clients, so a run has several outcomes.
 BLOCKED = TOP / 'examples/06_blocked_call.json'

@@ -47,6 +47,7 @@ refuses (action.Serve options) Unused old new t Holds holds has = reads_fault (i
 refuses (action.Replay from) Unused old new t Holds holds has = reads_fault from Unused old new t Holds holds has
 refuses (action.Explain from) Unused old new t Holds holds has = absurd has
 refuses (action.Draw from window) Unused old new t Holds holds has = reads_fault from Unused old new t Holds holds has
+refuses (action.Trace from options) Unused old new t Holds holds has = reads_fault from Unused old new t Holds holds has
 refuses (action.Tell text) Unused old new t Holds holds has = absurd has
 
 -- nothing was told, or what there is to tell

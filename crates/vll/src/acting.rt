@@ -14,7 +14,9 @@ ghost use Rattle.vll_workers.specs.declared.fault.RunFault.TheVariants as run_fa
 ghost use Rattle.vll_scenario.specs.declared.writing.WriteFault.TheVariants as write_fault;
 ghost use Rattle.vll_stream.specs.declared.fault.StreamFault.{StreamFault};
 ghost use Rattle.vll_stream.specs.declared.fault.StreamFault.TheVariants as stream_fault;
-ghost use Rattle.vll.specs.Private.Acting.{DrawsSetup, HasFault, ReadsFrom, ReadsOrNot, ServesFile, StopsFile, explanation_in};
+ghost use Rattle.vll_trace.specs.Traced.{Traces};
+ghost use Rattle.vll_trace.specs.declared.fault.TraceFault.TheVariants as trace_fault;
+ghost use Rattle.vll.specs.Private.Acting.{DrawsSetup, HasFault, ParsesOrNot, ReadsFrom, ReadsOrNot, ServesFile, StopsFile, explanation_in};
 ghost use Rattle.vll.specs.declared.fault.Fault.TheVariants as fault;
 
 use crate::fault::{Fault, NoScenario};
@@ -27,7 +29,7 @@ use std::sync::Wait;
 use std::thread::Threads;
 use vll_command::{CommandFault, Input, RunOptions, ServeOptions};
 use vll_draw::page_of;
-use vll_explain::{Origin, explain, read_or_explain};
+use vll_explain::{Origin, Parsed, explain, read_or_explain};
 use vll_replay::{Unwatched, text_of_replay};
 use vll_scenario::{EngineOptions, EventRange};
 use vll_server::{Scenario, Sink, Source, WriteFault, write_text};
@@ -57,25 +59,41 @@ pub(crate) fn scenario_of<R: Files, S: Source>(
     requires { S.failed reader.old ≡ false }
     ensures { ReadsFrom input (reader.new ≡ reader.old) (S.remaining reader.old) (S.remaining reader.new) (λ a b. ReadsOrNot a b result) }
 {
+    match parsed_of(rt, alloc, input, reader) {
+        Ok(parsed) => Ok(parsed.scenario),
+        Err(none) => Err(none),
+    }
+}
+
+// The same, with the tree that describes the scenario.
+pub(crate) fn parsed_of<R: Files, S: Source>(
+    rt: &R,
+    alloc: Global,
+    input: Input,
+    reader: &mut S,
+) -> Result<Parsed, NoScenario>
+    requires { S.failed reader.old ≡ false }
+    ensures { ReadsFrom input (reader.new ≡ reader.old) (S.remaining reader.old) (S.remaining reader.new) (λ a b. ParsesOrNot a b result) }
+{
     match input {
         Input::Standard => match read_or_explain(alloc, Origin::Standard, reader) {
-            Ok(scenario) => Ok(scenario),
+            Ok(parsed) => Ok(parsed),
             Err(refusal) => Err(NoScenario {
                 refusal,
                 unread: None,
             }),
         },
-        Input::File(path) => scenario_in(rt, alloc, path),
+        Input::File(path) => parsed_in(rt, alloc, path),
     }
 }
 
 // Reads the scenario in a file.
-fn scenario_in<R: Files>(rt: &R, alloc: Global, path: String) -> Result<Scenario, NoScenario>
-    ensures { ReadsOrNot None None result }
+fn parsed_in<R: Files>(rt: &R, alloc: Global, path: String) -> Result<Parsed, NoScenario>
+    ensures { ParsesOrNot None None result }
 {
     let mut file = opened(rt, path.as_str());
     match read_or_explain(alloc, Origin::File, &mut file) {
-        Ok(scenario) => Ok(scenario),
+        Ok(parsed) => Ok(parsed),
         Err(refusal) => Err(NoScenario {
             refusal,
             unread: file.failure().map(|why| (path, why)),
@@ -146,8 +164,9 @@ pub(crate) fn serve<R: Threads + Wait + Files + Sync, S: Source, W: Sink>(
     ensures explained { IfSome (explanation_in result) (λ text. (reader.new ≡ reader.old) × HasFault None None (λ t. t ≡ string_bytes text)) }
 {
     let ServeOptions { file, engine } = options;
-    match scenario_in(rt, alloc, file) {
-        Ok(scenario) => {
+    match parsed_in(rt, alloc, file) {
+        Ok(Parsed { tree, scenario }) => {
+            drop(tree);
             let scenario = with_engine(scenario, engine);
             match serve_stream(rt, alloc, scenario, reader, writer) {
                 Ok(()) => Ok(()),
@@ -240,6 +259,27 @@ fn explain_fault<S: Source, W: Sink>(
         Ok(None) => Ok(()),
         Ok(Some(why)) => Err(Fault::Explained(why)),
         Err(why) => Err(Fault::Explain(why)),
+    }
+}
+
+// Runs a scenario with these options, and writes it with the schedule of the run.
+pub(crate) fn trace<R: Threads + Wait + Sync, W: Sink>(
+    rt: &R,
+    alloc: Global,
+    options: RunOptions,
+    parsed: Parsed,
+    writer: &mut W,
+) -> Result<(), Fault>
+    requires { W.failed writer.old ≡ false }
+    ensures ok { OnOk result (Traces (with_options options.engine parsed.scenario) (Appends (W.contents writer.old) (W.contents writer.new))) }
+    ensures failed { (result ≡ Err (fault.Trace trace_fault.Write)) ↔ (W.failed writer.new ≡ true) }
+    ensures unexplained { explanation_in result ≡ None }
+{
+    let Parsed { tree, scenario } = parsed;
+    let (scenario, workers) = chosen(scenario, options);
+    match vll_trace::trace(rt, rt, alloc, &tree, scenario, workers, writer) {
+        Ok(()) => Ok(()),
+        Err(why) => Err(Fault::Trace(why)),
     }
 }
 

@@ -7,6 +7,7 @@ use vll_command::CommandFault;
 use vll_explain::Refusal;
 use vll_server::{ScenarioFault, ServeFault, WriteFault};
 use vll_stream::StreamFault;
+use vll_trace::TraceFault;
 
 /// Why there is no scenario.
 #[derive(Debug, Drop, Error)]
@@ -42,6 +43,8 @@ pub(crate) enum Fault {
     Explained(ScenarioFault),
     #[error("vll: draw: {0}")]
     Draw(WriteFault),
+    #[error("vll: trace: {0}")]
+    Trace(TraceFault),
 }
 
 impl Fault {
@@ -59,7 +62,8 @@ impl Fault {
             | Fault::Serve(_)
             | Fault::Replay(_)
             | Fault::Draw(_)
-            | Fault::Explain(_) => 1,
+            | Fault::Explain(_)
+            | Fault::Trace(_) => 1,
         }
     }
 }

@@ -1,5 +1,5 @@
-//! The program `vll`: reads a scenario from standard input or a file, runs it, replays its schedule, draws the replay or
-//! explains its fault, and writes the result; or serves calls over the scenario of a file.
+//! The program `vll`: reads a scenario from standard input or a file, runs it, replays its schedule, draws the replay,
+//! explains its fault or traces a run, and writes the result; or serves calls over the scenario of a file.
 #![tactic(auto)]
 
 ghost use Rattle.std.specs.Prelude.{◌≡◌, ◌↔◌, ◌⊎◌, false, IfNone, IfSome, IsOk, OnOk, string_bytes};
@@ -13,7 +13,8 @@ mod fault;
 mod input_file;
 
 use crate::acting::{
-    draw, explain_input, print_text, replay, run, scenario_of, serve, tell_failure,
+    draw, explain_input, parsed_of, print_text, replay, run, scenario_of, serve, tell_failure,
+    trace,
 };
 use crate::fault::{Fault, NoScenario};
 use std::process::ExitCode;
@@ -105,6 +106,10 @@ fn perform<R: Print + Eprint + AllocGlobal + Threads + Wait + Files + Sync, S: S
         Ok(Action::Explain(input)) => explain_input(rt, alloc, &input, reader, writer),
         Ok(Action::Draw(input, window)) => match scenario_of(rt, alloc, input, reader) {
             Ok(scenario) => draw(alloc, scenario, writer, window),
+            Err(none) => Err(Fault::Scenario(none)),
+        },
+        Ok(Action::Trace(input, options)) => match parsed_of(rt, alloc, input, reader) {
+            Ok(parsed) => trace(rt, alloc, options, parsed, writer),
             Err(none) => Err(Fault::Scenario(none)),
         },
         Err(why) => Err(Fault::CommandLine(why)),

@@ -1,5 +1,5 @@
 -- What the rows of a command give, from what its matches give.
-use Rattle.std.proofs.Common.{◌≡◌, ◌∙◌, ℕ, List, Option, None, Some, ap₂, option_map, refl, subst, sym, Box}
+use Rattle.std.proofs.Common.{◌≡◌, ◌∙◌, ℕ, List, Option, None, Some, ap₂, codes, option_map, refl, subst, sym, Box}
 use Rattle.std.specs.Box.{box_value}
 use Rattle.clap.specs.Words.{Row, Text, first_of, first_value, one_of, one_text, rows_of, subcommand_name_of, subcommand_rows_of}
 use Rattle.clap.specs.Simple.{subcommand_rows}
@@ -8,8 +8,10 @@ use Rattle.clap.specs.declared.parser.matches.ArgMatches.TheViews.{out-ArgMatche
 use Rattle.clap.specs.declared.parser.matches.Found.{Found}
 use Rattle.clap.specs.declared.parser.matches.SubCommand.{SubCommand}
 use Rattle.clap.proofs.WalkLemmas.{first_value-rows, one_text-rows}
+use Rattle.vll_command.specs.CommandLine.{Names, NamesRun}
 use Rattle.vll_command.specs.Options.{Gives, GivesInput}
 use Rattle.vll_command.specs.declared.action.Input.{Input}
+use Rattle.vll_command.specs.declared.action.RunOptions.{RunOptions}
 
 -- an option's number
 pub gives_of_rows : (f : Found) (id : Text) (n : Option ℕ) → Gives (one_text f id) n → Gives (one_of id (rows_of f)) n
@@ -33,3 +35,14 @@ name_of_rows (Some b) = refl
 
 pub is_named : (m : ArgMatches) (name : Text) (rows : List Row) → Some name ≡ subcommand_name_of m → Some rows ≡ option_map (λ (p : Text × List Row). p.1) (subcommand_rows_of m) → subcommand_rows_of m ≡ Some (name, rows)
 is_named m name rows named given = pair_is (subcommand_rows_of m) name rows (name_of_rows (out-ArgMatches m).subcommand ∙ sym named) (sym given)
+
+-- what a command with the options of a run gives
+pub names_run : (words : List Text) (name : Text) (f : Found) (i : Input) (o : RunOptions) → Names words name (rows_of f) → GivesInput (first_value f (codes "FILE")) i
+    → Gives (one_text f (codes "workers")) (Some o.workers) → Gives (one_text f (codes "cap")) o.engine.cap → Gives (one_text f (codes "bits")) o.engine.bits → NamesRun words name i o
+names_run words name f i o named file workers cap bits = (
+  rows_of f,
+  named,
+  gives_input_of_rows f (codes "FILE") i file,
+  gives_of_rows f (codes "workers") (Some o.workers) workers,
+  record { cap = gives_of_rows f (codes "cap") o.engine.cap cap; bits = gives_of_rows f (codes "bits") o.engine.bits bits },
+)

@@ -13,6 +13,8 @@ use Rattle.vll_scenario.specs.declared.event_range.TheConstants.{MOST_COLUMNS}
 use Rattle.vll_scenario.specs.declared.engine_options.EngineOptions.{EngineOptions}
 use Rattle.vll_command.specs.Options.{Gives, GivesInput}
 use Rattle.vll_command.specs.declared.action.Action.{Action}
+use Rattle.vll_command.specs.declared.action.Input.{Input}
+use Rattle.vll_command.specs.declared.action.RunOptions.{RunOptions}
 use Rattle.vll_command.specs.declared.action.Action.TheVariants as action
 
 -- the option --NAME, a whole number from `least` to `most`, with the text of the one that it has if it is not given
@@ -36,9 +38,17 @@ bits = option (codes "bits") 1 MOST_BITS []
 abbrev pub file : Rule
 file = new_rule (codes "FILE")
 
--- `run`, with the number of threads that make the calls
+-- what a run is given: the file, the number of threads that make the calls, and the engine's options
+abbrev pub run_rules : List Rule
+run_rules = file ∷ option (codes "workers") 1 MOST_WORKERS (codes "4" ∷ []) ∷ cap ∷ bits ∷ []
+
+-- `run`
 abbrev pub run : Shape
-run = record (new_shape (codes "run")) { rules = file ∷ option (codes "workers") 1 MOST_WORKERS (codes "4" ∷ []) ∷ cap ∷ bits ∷ [] }
+run = record (new_shape (codes "run")) { rules = run_rules }
+
+-- `trace`, with the options of a run
+abbrev pub trace : Shape
+trace = record (new_shape (codes "trace")) { rules = run_rules }
 
 -- `serve`, which needs the file
 abbrev pub serve : Shape
@@ -60,7 +70,7 @@ draw = record (new_shape (codes "draw")) { rules = file ∷ option (codes "from"
 abbrev pub vll : App
 vll = record {
   top = record (new_shape (codes "vll")) { is_leaf = false; has_version = true; subcommand_required = true };
-  subs = run ∷ serve ∷ replay ∷ explain ∷ draw ∷ [];
+  subs = run ∷ serve ∷ replay ∷ explain ∷ draw ∷ trace ∷ [];
 }
 
 -- the words have no fault, name this command, and give its options these values
@@ -72,11 +82,16 @@ pub record GivesEngine (rows : List Row) (o : EngineOptions) : Type 0 where
   pub cap : Gives (one_of (codes "cap") rows) o.cap
   pub bits : Gives (one_of (codes "bits") rows) o.bits
 
+-- the words name this command, and give the file and the values of the options of a run
+abbrev pub NamesRun : List Text → Text → Input → RunOptions → Type 0
+NamesRun words name i o = (rows : List Row) × Names words name rows × GivesInput (first_of (codes "FILE") rows) i × Gives (one_of (codes "workers") rows) (Some o.workers) × GivesEngine rows o.engine
+
 -- the words ask for this action: they name its command, and give its file and the values of its options, or they ask for a text
 abbrev pub AsksFor : List Text → Action → Type 0
-AsksFor words (action.Run i o) = (rows : List Row) × Names words (codes "run") rows × GivesInput (first_of (codes "FILE") rows) i × Gives (one_of (codes "workers") rows) (Some o.workers) × GivesEngine rows o.engine
+AsksFor words (action.Run i o) = NamesRun words (codes "run") i o
 AsksFor words (action.Serve o) = (rows : List Row) × Names words (codes "serve") rows × (first_of (codes "FILE") rows ≡ Some (string_bytes o.file)) × GivesEngine rows o.engine
 AsksFor words (action.Replay i) = (rows : List Row) × Names words (codes "replay") rows × GivesInput (first_of (codes "FILE") rows) i
 AsksFor words (action.Explain i) = (rows : List Row) × Names words (codes "explain") rows × GivesInput (first_of (codes "FILE") rows) i
 AsksFor words (action.Draw i w) = (rows : List Row) × Names words (codes "draw") rows × GivesInput (first_of (codes "FILE") rows) i × Gives (one_of (codes "from") rows) (Some w.from) × Gives (one_of (codes "count") rows) (Some w.count)
+AsksFor words (action.Trace i o) = NamesRun words (codes "trace") i o
 AsksFor words (action.Tell text) = IsAmong (kind_of text) (fault_of vll words) × ((kind_of text ≡ kind.DisplayHelp) ⊎ (kind_of text ≡ kind.DisplayVersion))

@@ -27,6 +27,8 @@ pub enum Action {
     Explain(Input),
     /// To draw these events of the replay of the scenario of this input.
     Draw(Input, EventRange),
+    /// To run the scenario of this input with these options, and to tell its steps.
+    Trace(Input, RunOptions),
 }
 
 /// Where a scenario is read from.
@@ -60,7 +62,7 @@ pub struct ServeOptions {
 }
 
 /// Reads the command line, whose first word is the program's name. The other words have to be `run`, `serve`, `replay`,
-/// `explain` or `draw`, with its options and the path of a file, which only `serve` has to have; or ask for help or the
+/// `explain`, `draw` or `trace`, with its options and the path of a file, which only `serve` has to have; or ask for help or the
 /// version. Any others are refused. The action has the file and the values that the
 /// words give, and those of options that they do not give are the defaults.
 pub fn action_of(alloc: Global, words: &[String]) -> Result<Action, CommandFault>
@@ -88,6 +90,7 @@ fn action_named(alloc: Global, name: &str, options: &ArgMatches<'_>) -> Result<A
         "replay" => Ok(Action::Replay(input_of(alloc, options)?)),
         "explain" => Ok(Action::Explain(input_of(alloc, options)?)),
         "draw" => Ok(Action::Draw(input_of(alloc, options)?, range_of(options)?)),
+        "trace" => Ok(Action::Trace(input_of(alloc, options)?, options_of(options)?)),
         _ => Err(CommandFault::Failed),
     }
 }

@@ -2,12 +2,12 @@
 ghost use Rattle.std.specs.Prelude.{◌≡◌, ◌++◌, ◌∷◌, [], IfErr, IfOk, codes, map, string_bytes};
 ghost use Rattle.clap.specs.Faults.{fault_of};
 ghost use Rattle.clap.specs.Words.{HasKind, Shape, app_of, subcommand_of, subcommand_rows_of};
-ghost use Rattle.vll_command.specs.CommandLine.{bits, cap, draw, explain, file, option, replay, run, serve, vll};
+ghost use Rattle.vll_command.specs.CommandLine.{bits, cap, draw, explain, file, option, replay, run, run_rules, serve, trace, vll};
 ghost use Rattle.vll_command.specs.Private.Made.{IsMade, IsOption};
 
 use crate::help::{
     BITS, CAP, COUNT, DRAW_EXAMPLES, EXAMPLES, EXPLAIN_EXAMPLE, FILE, FROM, REPLAY_EXAMPLE,
-    RUN_EXAMPLES, SERVE_EXAMPLES, SERVE_FILE, WORKERS,
+    RUN_EXAMPLES, SERVE_EXAMPLES, SERVE_FILE, TRACE_EXAMPLES, WORKERS,
 };
 use clap::{Arg, ArgMatches, Command, Error, value_parser};
 use std::alloc::{AllocError, Global};
@@ -40,17 +40,34 @@ fn program<'a>(alloc: Global) -> Result<Command<'a>, AllocError>
     let command = command.subcommand(serve_command(alloc)?)?;
     let command = command.subcommand(replay_command(alloc)?)?;
     let command = command.subcommand(explain_command(alloc)?)?;
-    command.subcommand(draw_command(alloc)?)
+    let command = command.subcommand(draw_command(alloc)?)?;
+    command.subcommand(trace_command(alloc)?)
 }
 
 fn run_command<'a>(alloc: Global) -> Result<Command<'a>, AllocError>
     ensures { IfOk result (IsMade run) }
 {
-    let workers = number(alloc, "workers", MOST_WORKERS, WORKERS).default_value("4");
     let command = Command::new(alloc, "run")
         .about("Runs a scenario and prints its outcome")
-        .after_help(RUN_EXAMPLES)
-        .arg(file_argument(alloc))?;
+        .after_help(RUN_EXAMPLES);
+    with_run_options(alloc, command)
+}
+
+fn trace_command<'a>(alloc: Global) -> Result<Command<'a>, AllocError>
+    ensures { IfOk result (IsMade trace) }
+{
+    let command = Command::new(alloc, "trace")
+        .about("Runs a scenario and prints it with the schedule of that run")
+        .after_help(TRACE_EXAMPLES);
+    with_run_options(alloc, command)
+}
+
+// The command with the file and the options of a run.
+fn with_run_options<'a>(alloc: Global, command: Command<'a>) -> Result<Command<'a>, AllocError>
+    ensures { (s : Shape) → IsMade s command.entry → IfOk result (IsMade (record s { rules = s.rules ++ run_rules })) }
+{
+    let workers = number(alloc, "workers", MOST_WORKERS, WORKERS).default_value("4");
+    let command = command.arg(file_argument(alloc))?;
     let command = command.arg(workers)?;
     with_engine_options(alloc, command)
 }

@@ -7,6 +7,7 @@ pub(crate) const EXAMPLES: &str = "Examples:
   vll replay scenario.json
   vll explain scenario.json
   vll draw scenario.json > page.html
+  vll trace scenario.json > traced.json
 
 docs/SCENARIO.md describes the format of a scenario, and what is printed.";
 
@@ -53,6 +54,15 @@ pub(crate) const DRAW_EXAMPLES: &str = "Examples:
   vll draw --from 1000 --count 100 < scenario.json > page.html
 
 docs/SCENARIO.md describes the format of a scenario with its schedule, and the page.";
+
+pub(crate) const TRACE_EXAMPLES: &str = "Examples:
+  vll trace scenario.json > traced.json
+  vll trace --workers 8 scenario.json | vll draw > page.html
+
+It runs the scenario as run does, and prints the scenario with the steps of this run as its schedule. A replay of it
+takes each of these steps, and ends with the tickets, replies and records of this run.
+
+docs/SCENARIO.md describes the format of a scenario, and the schedule.";
 
 pub(crate) const FROM: &str = "The number of the first event to draw, 0 to 1048576";
 

@@ -4,6 +4,7 @@ use Rattle.std.specs.Result.{result_ok}
 use Rattle.std.specs.declared.alloc.AllocError.{AllocError}
 use Rattle.std.proofs.lemmas.List.{length-append}
 use Rattle.serde_json.specs.Data.{Data}
+use Rattle.serde_json.specs.View.{view}
 use Rattle.vll_scenario.specs.declared.limits.TheConstants.{MOST_BYTES}
 use Rattle.vll_scenario.specs.Bytes.{ReadsAll, ReadsTooMany, fault_of}
 use Rattle.vll_scenario.specs.Reading.{IsRead, IsScenarioOf, Reads, Tells}
@@ -17,7 +18,8 @@ use Rattle.vll_scenario.specs.declared.reading.bytes.ReadFault.{ReadFault}
 use Rattle.vll_scenario.specs.declared.reading.bytes.ReadFault.TheVariants as bytes
 use Rattle.vll_scenario.proofs.Answering.{reads_tell, setup_reads_nothing, shape_reads_nothing}
 use Rattle.vll_explain.specs.Private.{HoldsOrExplains, IsToldOf}
-use Rattle.vll_explain.specs.Explained.{AreMany, IsBegun, IsTold, ReadsOrExplains}
+use Rattle.vll_explain.specs.Explained.{AreMany, Describes, IsBegun, IsTold, ReadsOrExplains}
+use Rattle.vll_explain.specs.declared.explaining.Parsed.{Parsed}
 use Rattle.vll_explain.specs.declared.explaining.Refusal.{Refusal}
 
 -- ---- bytes that were read to their end
@@ -55,12 +57,15 @@ held_some old new bytes why None all told = tt
 held_some old new bytes why (Some t) all told = held_told old new bytes (Err why) (string_bytes t) all told
 
 -- so what holds of the bytes in memory holds of what was read
-held_explains : (old new : Option (List ℕ)) (bytes : List ℕ) (r : Result Setup Refusal) → ReadsAll old new bytes → HoldsOrExplains bytes r → ReadsOrExplains old new r
-held_explains old new bytes (Ok s) all tells = (held_reads scenario_at old new bytes (Ok s) all tells, held_tells scenario_at old new bytes (Ok s) all tells)
+held_explains : (old new : Option (List ℕ)) (bytes : List ℕ) (r : Result Parsed Refusal) → ReadsAll old new bytes → HoldsOrExplains bytes r → ReadsOrExplains old new r
+held_explains old new bytes (Ok p) all (tells, described) = (
+  (held_reads scenario_at old new bytes (Ok p.scenario) all tells, held_tells scenario_at old new bytes (Ok p.scenario) all tells),
+  (held_tells _ old new bytes (Ok (view p.tree)) all described.0, described.1),
+)
 held_explains old new bytes (Err r) all (tells, told) =
     ((held_reads scenario_at old new bytes (Err r.fault) all tells, held_tells scenario_at old new bytes (Err r.fault) all tells), held_some old new bytes r.fault r.text all told)
 
-pub same_explains : (old new : Option (List ℕ)) (bytes held : List ℕ) (r : Result Setup Refusal) → ReadsAll old new bytes → held ≡ bytes → HoldsOrExplains held r → ReadsOrExplains old new r
+pub same_explains : (old new : Option (List ℕ)) (bytes held : List ℕ) (r : Result Parsed Refusal) → ReadsAll old new bytes → held ≡ bytes → HoldsOrExplains held r → ReadsOrExplains old new r
 same_explains old new bytes held r all same is = held_explains old new held r (subst (λ b. ReadsAll old new b) (sym same) all) is
 
 -- a text, if there was memory for one
@@ -101,7 +106,7 @@ unread_explains old new read why text is many told =
 
 -- ---- the tree of bytes
 
-pub tree_tells : (bytes : List ℕ) (tree : Data) (r : Result Setup ScenarioFault) → length bytes ≤ MOST_BYTES → IsTree bytes (Some tree) → IsScenarioOf tree r → Tells scenario_at (Some bytes) r
+tree_tells : (bytes : List ℕ) (tree : Data) (r : Result Setup ScenarioFault) → length bytes ≤ MOST_BYTES → IsTree bytes (Some tree) → IsScenarioOf tree r → Tells scenario_at (Some bytes) r
 tree_tells bytes tree (Ok setup) few is_tree is = inr (few, (Some tree, is_tree, is))
 tree_tells bytes tree (Err fault.Read) few is_tree is = tt
 tree_tells bytes tree (Err fault.NoMemory) few is_tree is = tt
@@ -111,6 +116,10 @@ tree_tells bytes tree (Err (fault.Check i f)) few is_tree is = inr (few, (Some t
 tree_tells bytes tree (Err (fault.Call c i f)) few is_tree is = inr (few, (Some tree, is_tree, is))
 tree_tells bytes tree (Err fault.Size) few is_tree is = inr (few, (Some tree, is_tree, is))
 tree_tells bytes tree (Err fault.NameTwice) few is_tree is = inr (few, (Some tree, is_tree, is))
+
+-- so the tree of bytes describes their scenario
+pub tree_describes : (bytes : List ℕ) (tree : Data) (setup : Setup) → length bytes ≤ MOST_BYTES → IsTree bytes (Some tree) → IsScenarioOf tree (Ok setup) → Tells scenario_at (Some bytes) (Ok setup) × Describes (Some bytes) tree setup
+tree_describes bytes tree setup few is_tree is = (tree_tells bytes tree (Ok setup) few is_tree is, (inr (few, (Some tree, is_tree, refl)), is))
 
 tree_told : (bytes : List ℕ) (tree : Data) (why : ScenarioFault) (text : List ℕ) → length bytes ≤ MOST_BYTES → IsTree bytes (Some tree) → IsScenarioOf tree (Err why) → IsToldOf tree why text → IsTold (Some bytes) (Err why) text
 tree_told bytes tree fault.Read text few is_tree is told = told

@@ -1,6 +1,7 @@
 -- What `explain` writes about a scenario that was read.
 use Rattle.std.specs.Prelude.{◌≡◌, ◌⊎◌, ℕ, ◌<◌, List, [], ◌∷◌, ◌++◌, length, Option, Some, None, IfSome, Result, Ok, Err, codes, string_bytes}
 use Rattle.serde_json.specs.Data.{Data}
+use Rattle.serde_json.specs.View.{view}
 use Rattle.vll_scenario.specs.declared.fault.ScenarioFault.{ScenarioFault}
 use Rattle.vll_scenario.specs.declared.fault.ScenarioFault.TheVariants as fault
 use Rattle.vll_scenario.specs.declared.limits.TheConstants.{MOST_BYTES}
@@ -11,6 +12,7 @@ use Rattle.vll_scenario.specs.Reading.{IsRead, Tells}
 use Rattle.vll_scenario.specs.Scenario.{scenario_at, tree_or_json}
 use Rattle.vll_scenario.specs.Headline.Setup.{Setup}
 use Rattle.vll_fault_path.specs.Ways.{LeadsToFault, step_words, words_of}
+use Rattle.vll_explain.specs.declared.explaining.Parsed.{Parsed}
 use Rattle.vll_explain.specs.declared.explaining.Refusal.{Refusal}
 
 -- the line of a fault
@@ -73,12 +75,16 @@ pub record Explains (old new : Option (List ℕ)) (fault : Option ScenarioFault)
   pub told : IsTold old read text
   pub holds : Holds text
 
--- a scenario was read, or a fault, with a text about it if there was memory for one
-abbrev pub ReadsOrExplains : Option (List ℕ) → Option (List ℕ) → Result Setup Refusal → Type 0
-ReadsOrExplains old new (Ok setup) = IsRead old new (Ok setup)
+-- the tree of bytes, as far as they are known, describes this scenario
+abbrev pub Describes : Option (List ℕ) → Data → Setup → Type 0
+Describes known tree setup = Tells tree_or_json known (Ok tree) × (scenario_at (Some tree) ≡ Ok setup)
+
+-- a scenario was read with the tree that describes it, or a fault, with a text about it if there was memory for one
+abbrev pub ReadsOrExplains : Option (List ℕ) → Option (List ℕ) → Result Parsed Refusal → Type 0
+ReadsOrExplains old new (Ok parsed) = IsRead old new (Ok parsed.scenario) × Describes old (view parsed.tree) parsed.scenario
 ReadsOrExplains old new (Err r) = IsRead old new (Err r.fault) × IfSome r.text (λ t. IsTold old (Err r.fault) (string_bytes t))
 
 -- the fault, if there is one
-abbrev pub fault_of : Result Setup Refusal → Option ScenarioFault
-fault_of (Ok setup) = None
+abbrev pub fault_of : Result Parsed Refusal → Option ScenarioFault
+fault_of (Ok parsed) = None
 fault_of (Err r) = Some r.fault

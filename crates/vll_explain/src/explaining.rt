@@ -60,13 +60,20 @@ pub struct Refusal {
     pub text: Option<String>,
 }
 
-/// Reads a scenario as `read_scenario` does. If it is refused, a text explains why; it is not written. `origin` is what
-/// the reader reads. The fault is `Read` exactly if the reader has failed.
+/// A scenario, and the JSON tree that describes it.
+#[derive(Drop)]
+pub struct Parsed {
+    pub tree: Value,
+    pub scenario: Scenario,
+}
+
+/// Reads a scenario as `read_scenario` does, and returns it with its tree. If it is refused, a text explains why; it is
+/// not written. `origin` is what the reader reads. The fault is `Read` exactly if the reader has failed.
 pub fn read_or_explain<S: Source>(
     alloc: Global,
     origin: Origin,
     reader: &mut S,
-) -> Result<Scenario, Refusal>
+) -> Result<Parsed, Refusal>
     requires { S.failed reader.old ≡ false }
     ensures read { ReadsOrExplains (S.remaining reader.old) (S.remaining reader.new) result }
     ensures failed { (fault_of result ≡ Some Read) ↔ (S.failed reader.new ≡ true) }
@@ -82,14 +89,14 @@ pub fn read_or_explain<S: Source>(
 }
 
 // As `read_or_explain`, for bytes that were read to their end.
-fn held_or_explained(alloc: Global, origin: Origin, bytes: &[u8]) -> Result<Scenario, Refusal>
+fn held_or_explained(alloc: Global, origin: Origin, bytes: &[u8]) -> Result<Parsed, Refusal>
     requires { length bytes.now ≤ MOST_BYTES }
     ensures held { HoldsOrExplains bytes.now result }
     ensures read { ¬ (fault_of result ≡ Some Read) }
 {
     match reading_of(alloc, bytes) {
         Ok(Reading { tree, scenario }) => match scenario {
-            Ok(scenario) => Ok(scenario),
+            Ok(scenario) => Ok(Parsed { tree, scenario }),
             Err(fault) => {
                 let text = text_of_fault(alloc, origin, fault, bytes, &tree).ok();
                 Err(Refusal { fault, text })
@@ -115,8 +122,8 @@ fn explained<S: Source>(
     ensures fault { IfErr result (λ fault. fault ≡ WriteFault.NoMemory) }
 {
     match read_or_explain(alloc, origin, reader) {
-        Ok(scenario) => {
-            let text = text_of_scenario(alloc, scenario).map_err(|_| WriteFault::NoMemory)?;
+        Ok(parsed) => {
+            let text = text_of_scenario(alloc, parsed.scenario).map_err(|_| WriteFault::NoMemory)?;
             Ok((None, text))
         }
         Err(Refusal { fault, text }) => match text {

@@ -28,5 +28,5 @@ mod unread;
 mod way;
 mod written;
 
-pub use explaining::{Refusal, explain, read_or_explain};
+pub use explaining::{Parsed, Refusal, explain, read_or_explain};
 pub use origin::Origin;

@@ -20,6 +20,7 @@ mod text;
 pub use fault::ServeFault;
 pub use laws::served_texts_are_serial;
 pub use serving::{opening_of, run_scenario, serve, tokens_of};
+pub use text::closed_text_of;
 pub use text::outcome::write_outcome;
 pub use vll_core::Line;
 pub use vll_engine::Closed;

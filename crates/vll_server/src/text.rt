@@ -45,8 +45,9 @@ fn push_record_lines(text: &mut String, records: &[u64], pairs: &[u64]) -> Resul
     Ok(())
 }
 
-// Makes the text of what a run leaves.
-pub(crate) fn closed_text_of(alloc: Global, closed: &Closed) -> Result<String, AllocError>
+/// Returns the text of what a run leaves: a line for each call, and then one for each record, with its value and its
+/// pair word. It fails only if memory runs out.
+pub fn closed_text_of(alloc: Global, closed: &Closed) -> Result<String, AllocError>
     ensures { IfOk result (λ text. string_bytes text ≡ closed_text closed.now) }
 {
     let mut text = String::new(alloc);

@@ -20,3 +20,9 @@ returns-in-Err-scenario_of-3-clause-refused g c =
     let none = c.in-Err-scenario_of-3.none in
     if_some none.refusal.text _ _ (λ t has. (action.Draw c.in-Ok-Draw.input c.in-Ok-Draw.window, c.in-Ok-Draw.is ∙ ap Ok c.in-Ok-Draw.field-0-is, has))
     (refused c.in-Ok-Draw.input _ _ _ none none.refusal.text refl c.in-Err-scenario_of-3.ensures)
+
+pub returns-in-Err-parsed_of-clause-refused : goal.returns-in-Err-parsed_of-clause-refused
+returns-in-Err-parsed_of-clause-refused g c =
+    let none = c.in-Err-parsed_of.none in
+    if_some none.refusal.text _ _ (λ t has. (action.Trace c.in-Ok-Trace.input c.in-Ok-Trace.options, c.in-Ok-Trace.is ∙ ap Ok c.in-Ok-Trace.field-0-is, has))
+    (refused c.in-Ok-Trace.input _ _ _ none none.refusal.text refl c.in-Err-parsed_of.ensures)

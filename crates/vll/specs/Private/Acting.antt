@@ -4,6 +4,7 @@ use Rattle.std.specs.Global.{Global}
 use Rattle.vll_draw.specs.OneByOne.{with_schedule}
 use Rattle.vll_draw.specs.Page.{Draws, Lists}
 use Rattle.vll_explain.specs.Explained.{Explains, ReadsOrExplains}
+use Rattle.vll_explain.specs.declared.explaining.Parsed.{Parsed}
 use Rattle.vll_scenario.specs.Headline.Setup.{Setup}
 use Rattle.vll_scenario.specs.Options.{with_options}
 use Rattle.vll_scenario.specs.declared.fault.ScenarioFault.{ScenarioFault}
@@ -16,6 +17,7 @@ use Rattle.vll_command.specs.declared.action.Input.{Input}
 use Rattle.vll_command.specs.declared.action.RunOptions.{RunOptions}
 use Rattle.vll_command.specs.declared.fault.CommandFault.{CommandFault}
 use Rattle.vll_stream.specs.Served.{EndsEarly, ServesLines}
+use Rattle.vll_trace.specs.Traced.{Traces}
 use Rattle.vll_stream.specs.declared.fault.StreamFault.{StreamFault}
 use Rattle.vll_command.specs.declared.action.Action.TheVariants as action
 use Rattle.vll_command.specs.declared.action.Input.TheVariants as input
@@ -44,20 +46,30 @@ abbrev pub ReadsOrNot : Option (List ℕ) → Option (List ℕ) → Result Setup
 ReadsOrNot old new (Ok setup) = IsRead old new (Ok setup)
 ReadsOrNot old new (Err none) = ReadsOrExplains old new (Err none.refusal)
 
+-- the same, with the tree that describes the scenario
+abbrev pub ParsesOrNot : Option (List ℕ) → Option (List ℕ) → Result Parsed NoScenario → Type 0
+ParsesOrNot old new (Ok parsed) = ReadsOrExplains old new (Ok parsed)
+ParsesOrNot old new (Err none) = ReadsOrExplains old new (Err none.refusal)
+
+-- a scenario was read, and run with these options, and this holds of the text that traces the run
+abbrev pub TracesRun : RunOptions → Option (List ℕ) → Option (List ℕ) → (Text → Type 0) → Type 0
+TracesRun options old new Holds = (setup : Setup) × IsRead old new (Ok setup) × Traces (with_options options.engine setup) Holds
+
 -- this was done with what standard input had and has; or, if a file is given, standard input was not used, and this was done
 -- with some bytes of a file
 abbrev pub ReadsFrom : Input → Type 0 → Option (List ℕ) → Option (List ℕ) → (Option (List ℕ) → Option (List ℕ) → Type 0) → Type 0
 ReadsFrom input.Standard Unused old new Done = Done old new
 ReadsFrom (input.File path) Unused old new Done = Unused × (from : Option (List ℕ)) × (to : Option (List ℕ)) × Done from to
 
--- a run serves what was read, a service answers it line by line, a replay replays it, an explanation reports what it has, a drawing lists its replay, and
--- this holds of the text. `Tell` uses no reader and writes nothing here
+-- a run serves what was read, a service answers it line by line, a replay replays it, an explanation reports what it has, a drawing lists its replay, a
+-- trace has the steps of its run, and this holds of the text. `Tell` uses no reader and writes nothing here
 abbrev pub Does : Action → Type 0 → Option (List ℕ) → Option (List ℕ) → (Text → Type 0) → Type 0
 Does (action.Run from options) Unused old new Holds = ReadsFrom from Unused old new (λ a b. Runs options a b Holds)
 Does (action.Serve options) Unused old new Holds = ServesFile old new Holds
 Does (action.Replay from) Unused old new Holds = ReadsFrom from Unused old new (λ a b. Replays a b Holds)
 Does (action.Explain from) Unused old new Holds = ReadsFrom from Unused old new (λ a b. Explains a b None Holds)
 Does (action.Draw from window) Unused old new Holds = ReadsFrom from Unused old new (λ a b. Draws a b Holds)
+Does (action.Trace from options) Unused old new Holds = ReadsFrom from Unused old new (λ a b. TracesRun options a b Holds)
 Does (action.Tell text) Unused old new Holds = Unused × Holds []
 
 -- the action that was asked for was performed, and this holds of the text
@@ -76,6 +88,7 @@ Refuses (action.Serve options) Unused old new Holds = ReadsFrom (input.File opti
 Refuses (action.Replay from) Unused old new Holds = ReadsFrom from Unused old new (λ a b. HasFault a b Holds)
 Refuses (action.Explain from) Unused old new Holds = ⊥
 Refuses (action.Draw from window) Unused old new Holds = ReadsFrom from Unused old new (λ a b. HasFault a b Holds)
+Refuses (action.Trace from options) Unused old new Holds = ReadsFrom from Unused old new (λ a b. HasFault a b Holds)
 Refuses (action.Tell text) Unused old new Holds = ⊥
 
 -- the action that was asked for has a scenario with a fault, and this holds of a text that explains it

@@ -16,4 +16,5 @@ returns c =
     let two = c.in_ok-command-2.ensures.shape c.in_ok-serve_command.ensures.1 ∙ ap₂ with_subcommand one (ap top c.in_ok-serve_command.ensures.0) in
     let three = c.in_ok-command-3.ensures.shape c.in_ok-replay_command.ensures.1 ∙ ap₂ with_subcommand two (ap top c.in_ok-replay_command.ensures.0) in
     let four = c.in_ok-command-4.ensures.shape c.in_ok-explain_command.ensures.1 ∙ ap₂ with_subcommand three (ap top c.in_ok-explain_command.ensures.0) in
-    IfOk-weaker c.subcommand-5.result _ _ (λ m adds. adds.shape c.in_ok-draw_command.ensures.1 ∙ ap₂ with_subcommand four (ap top c.in_ok-draw_command.ensures.0)) c.subcommand-5.ensures
+    let five = c.in_ok-command-5.ensures.shape c.in_ok-draw_command.ensures.1 ∙ ap₂ with_subcommand four (ap top c.in_ok-draw_command.ensures.0) in
+    IfOk-weaker c.subcommand-6.result _ _ (λ m adds. adds.shape c.in_ok-trace_command.ensures.1 ∙ ap₂ with_subcommand five (ap top c.in_ok-trace_command.ensures.0)) c.subcommand-6.ensures

@@ -6,10 +6,10 @@ use Rattle.vll_explain.proofs.explaining.explained.Goals as goal
 -- the scenario that was read is the witness
 pub returns-in_ok-text-in-Ok-clause-told : goal.returns-in_ok-text-in-Ok-clause-told
 returns-in_ok-text-in-Ok-clause-told g c =
-    let scenario = c.in-Ok.scenario in
+    let scenario = c.in-Ok.parsed.scenario in
     let was = ok_before c.text_of_scenario.result c.map_err.result _ c.in_ok-text-in-Ok.text c.map_err.ensures.cases c.map_err.ensures.variant c.in_ok-text-in-Ok.was in
     let told = subst (λ r. IfOk r (λ text. IsTold None (Ok scenario) (string_bytes text))) was c.text_of_scenario.ensures in
-    record { read = Ok scenario; is_read = c.in-Ok.ensures.read; is_fault = refl; text = string_bytes c.in_ok-text-in-Ok.text; told = told; holds = refl }
+    record { read = Ok scenario; is_read = c.in-Ok.ensures.read.0; is_fault = refl; text = string_bytes c.in_ok-text-in-Ok.text; told = told; holds = refl }
 
 -- an explanation is about the fault that was read
 pub returns-in-Some-clause-told : goal.returns-in-Some-clause-told
