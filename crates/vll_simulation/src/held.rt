@@ -167,6 +167,12 @@ impl<N: Name> Caller<N> {
         }
     }
 
+    pub(crate) fn into_session(self) -> Session
+        ensures { result.table ≡ N.engine.table }
+    {
+        self.session
+    }
+
     // Whether its script has a call left.
     pub(crate) fn has_call(&self) -> bool {
         self.next < self.script.len()

@@ -3,6 +3,7 @@ ghost use Rattle.std.specs.Prelude.{IsTrue};
 
 use std::fmt::Debug;
 use std::process::Abort;
+use vll_core::Line;
 use vll_proc::{Outputs, Reason, Reply};
 
 // A step of a seed's schedule.
@@ -64,6 +65,36 @@ impl Spot {
             self.same(rt, "the outputs", engine.as_slice(), machine.as_slice());
         }
     }
+}
+
+// The lines are the machine's, as far as they go.
+pub(crate) fn are_lines<R: Abort>(rt: &R, spot: Spot, lines: &[Line], wanted: &[Line]) {
+    for (line, wanted) in lines.iter().zip(wanted) {
+        spot.same(rt, "a line's client", line.client, wanted.client);
+        spot.same_reply(rt, &line.reply, &wanted.reply);
+    }
+}
+
+// These are every second one of the machine's words, from `first` on.
+pub(crate) fn are_words<R: Abort>(
+    rt: &R,
+    spot: Spot,
+    what: &str,
+    found: &[u64],
+    words: &[u64],
+    first: usize,
+) {
+    let mut index = first;
+    for word in found {
+        spot.same(rt, what, Some(*word), words.get(index).copied());
+        index = index.saturating_add(2);
+    }
+    spot.same(
+        rt,
+        "the number of words",
+        index,
+        words.len().saturating_add(first).saturating_sub(1),
+    );
 }
 
 fn reason_of(reply: &Reply) -> Option<Reason> {

@@ -1,21 +1,14 @@
 //! The steps of a schedule: each is made by the engine and by the machine, and both have to show the same.
-ghost use Rattle.std.specs.Prelude.{◌≡◌, ◌<◌, length};
-ghost use Rattle.vll_queue.specs.Shown.{library_of};
-
 use crate::draw::{at_most, below, one_of};
 use crate::held::{Caller, Held, InHand, Let};
 use crate::machine::{Entry, Start, enters, executes, finishes, releases, starts};
-use crate::shown::{Spot, fail};
-use crate::tally::Tally;
+use crate::shown::are_lines;
+use crate::under::makes_under_a_hold;
 use crate::world::World;
 use rand_pcg::Pcg32;
-use std::alloc::Global;
 use std::process::Abort;
 use std::sync::Wait;
-use vll_check::Library;
-use vll_core::{Core, Line};
-use vll_engine::{Engine, Hold, MOST_PASSES, Name, Passes};
-use vll_sca::Placing;
+use vll_engine::Name;
 
 // More than the steps that finish all calls that a limit lets in.
 const MOST_TURNS: u32 = 400;
@@ -276,73 +269,10 @@ impl<N: Name> World<N> {
             spot.same_reply(rt, &Some(reply), &finishes(core, ticket));
         }
     }
-
-    // Where calls are left, the engine does not close, and says how many.
-    fn closes_too_early<R: Abort>(self, rt: &R) -> World<N> {
-        let World {
-            engine,
-            callers,
-            passes,
-            hand,
-            core,
-            draw,
-            spot,
-            tally,
-            alloc,
-        } = self;
-        let engine = if core.running() == 0 && core.waiting() == 0 {
-            engine
-        } else {
-            stays_open(rt, spot, alloc, engine, core.running(), core.waiting())
-        };
-        World {
-            engine,
-            callers,
-            passes,
-            hand,
-            core,
-            draw,
-            spot,
-            tally,
-            alloc,
-        }
-    }
-
-    // No call is left: the engine closes with what the machine has. Returns the tally.
-    pub(crate) fn closes<R: Wait + Abort>(self, rt: &R) -> Tally {
-        let World {
-            engine,
-            passes,
-            hand,
-            core,
-            spot,
-            tally,
-            alloc,
-            callers: _,
-            draw: _,
-        } = self;
-        are_used_up(rt, &engine, passes, hand);
-        match engine.close(Vec::new(alloc)) {
-            Ok(closed) => {
-                let words = core.words();
-                are_words(rt, spot, "a record", closed.records.as_slice(), words, 1);
-                are_words(rt, spot, "a pair word", closed.pairs.as_slice(), words, 2);
-                spot.same(
-                    rt,
-                    "the number of calls",
-                    closed.journal.len(),
-                    core.journal().len(),
-                );
-                are_lines(rt, spot, closed.journal.as_slice(), core.journal());
-                tally
-            }
-            Err(_) => fail(rt, "calls are left"),
-        }
-    }
 }
 
 // Some caller, if there is one.
-fn drawn<'a, N: Name>(
+pub(crate) fn drawn<'a, N: Name>(
     draw: &mut Pcg32,
     callers: &'a mut Vec<Caller<N>>,
 ) -> Option<&'a mut Caller<N>> {
@@ -351,167 +281,4 @@ fn drawn<'a, N: Name>(
         return None;
     }
     callers.get_mut(at_most(draw, count - 1))
-}
-
-// Up to five steps under one hold.
-fn makes_under_a_hold<N: Name, R: Wait + Abort>(
-    rt: &R,
-    spot: Spot,
-    engine: &Engine<N, Placing>,
-    callers: &mut Vec<Caller<N>>,
-    passes: &mut Passes<N>,
-    hand: &mut Vec<InHand<N>>,
-    core: &mut Core<Placing>,
-    draw: &mut Pcg32,
-) {
-    let library = engine.library();
-    let mut hold = engine.hold(rt);
-    for _ in 0..below(draw, 6) {
-        match below(draw, 6) {
-            0 => finishes_under(rt, spot, &mut hold, hand, core),
-            _ if passes.len() >= MOST_PASSES => {}
-            1 => starts_front_under(rt, spot, &mut hold, passes, core),
-            2 => scans_under(rt, spot, &mut hold, passes, core, one_of(draw, 2)),
-            _ => match drawn(draw, callers) {
-                Some(caller) => { begins_under(rt, spot, library, &mut hold, caller, passes, core) }
-                None => {}
-            },
-        }
-    }
-}
-
-fn begins_under<N: Name, R: Abort>(
-    rt: &R,
-    spot: Spot,
-    library: &Library,
-    hold: &mut Hold<'_, N, Placing>,
-    caller: &mut Caller<N>,
-    passes: &mut Passes<N>,
-    core: &mut Core<Placing>,
-)
-    requires room { length passes.old < MOST_PASSES }
-    requires library { library.now ≡ library_of N.engine }
-{
-    if let Some(entry) = caller.begins_under(library, hold, passes) {
-        spot.same(rt, "an entry", entry, enters(core, caller.client));
-    }
-}
-
-fn starts_front_under<N: Name, R: Abort>(
-    rt: &R,
-    spot: Spot,
-    hold: &mut Hold<'_, N, Placing>,
-    passes: &mut Passes<N>,
-    core: &mut Core<Placing>,
-)
-    requires { length passes.old < MOST_PASSES }
-{
-    let found = if passes.next_front(hold) {
-        passes.last().map(|ticket| ticket.0)
-    } else {
-        None
-    };
-    spot.same(rt, "the front", found, starts(core, Start::Front));
-}
-
-// A scan is put off only where more calls wait than a limit lets in here.
-fn scans_under<N: Name, R: Abort>(
-    rt: &R,
-    spot: Spot,
-    hold: &mut Hold<'_, N, Placing>,
-    passes: &mut Passes<N>,
-    core: &mut Core<Placing>,
-    may_be_put_off: bool,
-)
-    requires { length passes.old < MOST_PASSES }
-{
-    let found = if passes.next_scan(hold, may_be_put_off) {
-        passes.last().map(|ticket| ticket.0)
-    } else {
-        None
-    };
-    spot.same(rt, "a scan", found, starts(core, Start::Scan));
-}
-
-// The last call in hand is finished, if it has released its claims.
-fn finishes_under<N: Name, R: Abort>(
-    rt: &R,
-    spot: Spot,
-    hold: &mut Hold<'_, N, Placing>,
-    hand: &mut Vec<InHand<N>>,
-    core: &mut Core<Placing>,
-) {
-    match hand.pop() {
-        Some(InHand::Released(released)) => {
-            let (ticket, reply) = (released.ticket(), released.reply());
-            let found = hold.finish(released.into_released());
-            spot.same(rt, "the ticket of a finished call", found.0, ticket);
-            spot.same_reply(rt, &Some(reply), &finishes(core, ticket));
-        }
-        Some(call) => hand.push_reserved(call),
-        None => {}
-    }
-}
-
-// No call is left in these lists, which are destroyed.
-fn are_used_up<N: Name, R: Wait + Abort>(
-    rt: &R,
-    engine: &Engine<N, Placing>,
-    mut passes: Passes<N>,
-    mut hand: Vec<InHand<N>>,
-) {
-    if let Some(released) = passes.run_last(engine) {
-        engine.finish(rt, released);
-        fail(rt, "a pass is left");
-    }
-    passes.destroy();
-    match hand.pop() {
-        None => hand.destroy_empty(),
-        Some(call) => {
-            hand.push_reserved(call);
-            fail(rt, "a call is left in hand");
-        }
-    }
-}
-
-// An engine in which calls are left does not close, and says how many.
-fn stays_open<N: Name, R: Abort>(
-    rt: &R,
-    spot: Spot,
-    alloc: Global,
-    engine: Engine<N, Placing>,
-    running: u32,
-    waiting: u32,
-) -> Engine<N, Placing> {
-    match engine.close(Vec::new(alloc)) {
-        Ok(_) => fail(rt, "no call is left"),
-        Err(left) => {
-            spot.same(rt, "the number of running calls", left.running, running);
-            spot.same(rt, "the number of waiting calls", left.waiting, waiting);
-            left.engine
-        }
-    }
-}
-
-// The lines are the machine's, as far as they go.
-fn are_lines<R: Abort>(rt: &R, spot: Spot, lines: &[Line], wanted: &[Line]) {
-    for (line, wanted) in lines.iter().zip(wanted) {
-        spot.same(rt, "a line's client", line.client, wanted.client);
-        spot.same_reply(rt, &line.reply, &wanted.reply);
-    }
-}
-
-// These are every second one of the machine's words, from `first` on.
-fn are_words<R: Abort>(rt: &R, spot: Spot, what: &str, found: &[u64], words: &[u64], first: usize) {
-    let mut index = first;
-    for word in found {
-        spot.same(rt, what, Some(*word), words.get(index).copied());
-        index = index.saturating_add(2);
-    }
-    spot.same(
-        rt,
-        "the number of words",
-        index,
-        words.len().saturating_add(first).saturating_sub(1),
-    );
 }

@@ -15,6 +15,8 @@ pub(crate) struct Tally {
     committed: u64,
     aborted: u64,
     moved: u64,
+    // Engines that were reopened.
+    reopened: u64,
 }
 
 impl Tally {
@@ -29,6 +31,7 @@ impl Tally {
             committed: 0,
             aborted: 0,
             moved: 0,
+            reopened: 0,
         }
     }
 
@@ -61,6 +64,10 @@ impl Tally {
         });
     }
 
+    pub(crate) fn reopens(&mut self) {
+        add(&mut self.reopened);
+    }
+
     // Whether each kind has happened.
     pub(crate) fn has_all(&self) -> bool {
         let Tally {
@@ -73,8 +80,9 @@ impl Tally {
             committed,
             aborted,
             moved,
+            reopened,
         } = *self;
-        let rare = [spent, busy, scans, aborted, moved];
+        let rare = [spent, busy, scans, aborted, moved, reopened];
         [free, blocked, fronts, committed]
             .iter()
             .chain(&rare)

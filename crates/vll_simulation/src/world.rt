@@ -29,6 +29,14 @@ pub(crate) struct World<N: Name> {
     pub(crate) alloc: Global,
 }
 
+// What goes on from an engine of a seed to the next one.
+#[derive(Drop)]
+pub(crate) struct Course {
+    pub(crate) draw: Pcg32,
+    pub(crate) spot: Spot,
+    pub(crate) tally: Tally,
+}
+
 // Room for as many calls as a limit lets in.
 const MOST_IN_HAND: usize = 64;
 
@@ -39,9 +47,7 @@ impl<N: Name> World<N> {
         opening: Opening<Placing>,
         scripts: Vec<Vec<Call>>,
         core: Core<Placing>,
-        draw: Pcg32,
-        seed: u64,
-        tally: Tally,
+        course: Course,
     ) -> Result<World<N>, Fail>
         requires { N.engine ≡ name_of placing opening }
     {
@@ -52,6 +58,7 @@ impl<N: Name> World<N> {
             passes.destroy();
             return Err(Fail::new("no memory"));
         };
+        let Course { draw, spot, tally } = course;
         Ok(World {
             engine,
             callers,
@@ -59,7 +66,7 @@ impl<N: Name> World<N> {
             hand,
             core,
             draw,
-            spot: Spot { seed, step: 0 },
+            spot,
             tally,
             alloc,
         })
