@@ -1,5 +1,5 @@
 //! The actions of the program, over any reader and writer. `main` passes standard input and output.
-ghost use Rattle.std.specs.Prelude.{◌≡◌, ◌<◌, ◌≤◌, ◌+◌, ◌↔◌, ℕ, false, true, Err, IfSome, None, OnOk, Some, string_bytes};
+ghost use Rattle.std.specs.Prelude.{◌≡◌, ◌<◌, ◌≤◌, ◌+◌, ◌↔◌, ℕ, false, true, Err, IfOk, IfSome, None, OnOk, Some, string_bytes};
 ghost use Rattle.std.specs.Io.KnownBytes.{Appends};
 ghost use Rattle.vll_scenario.specs.Streams.{AppendsBeginning};
 ghost use Rattle.vll_scenario.specs.declared.fault.ScenarioFault.{ScenarioFault};
@@ -14,7 +14,7 @@ ghost use Rattle.vll_workers.specs.declared.fault.RunFault.TheVariants as run_fa
 ghost use Rattle.vll_scenario.specs.declared.writing.WriteFault.TheVariants as write_fault;
 ghost use Rattle.vll_stream.specs.declared.fault.StreamFault.{StreamFault};
 ghost use Rattle.vll_stream.specs.declared.fault.StreamFault.TheVariants as stream_fault;
-ghost use Rattle.vll_trace.specs.Traced.{Traces};
+ghost use Rattle.vll_trace.specs.Traced.{IsTreeOf, Traces};
 ghost use Rattle.vll_trace.specs.declared.fault.TraceFault.TheVariants as trace_fault;
 ghost use Rattle.vll.specs.Private.Acting.{DrawsSetup, HasFault, ParsesOrNot, ReadsFrom, ReadsOrNot, ServesFile, StopsFile, explanation_in};
 ghost use Rattle.vll.specs.declared.fault.Fault.TheVariants as fault;
@@ -73,7 +73,8 @@ pub(crate) fn parsed_of<R: Files, S: Source>(
     reader: &mut S,
 ) -> Result<Parsed, NoScenario>
     requires { S.failed reader.old ≡ false }
-    ensures { ReadsFrom input (reader.new ≡ reader.old) (S.remaining reader.old) (S.remaining reader.new) (λ a b. ParsesOrNot a b result) }
+    ensures parsed { ReadsFrom input (reader.new ≡ reader.old) (S.remaining reader.old) (S.remaining reader.new) (λ a b. ParsesOrNot a b result) }
+    ensures tree { IfOk result (λ parsed. IsTreeOf parsed.tree parsed.scenario) }
 {
     match input {
         Input::Standard => match read_or_explain(alloc, Origin::Standard, reader) {
@@ -89,7 +90,8 @@ pub(crate) fn parsed_of<R: Files, S: Source>(
 
 // Reads the scenario in a file.
 fn parsed_in<R: Files>(rt: &R, alloc: Global, path: String) -> Result<Parsed, NoScenario>
-    ensures { ParsesOrNot None None result }
+    ensures parsed { ParsesOrNot None None result }
+    ensures tree { IfOk result (λ parsed. IsTreeOf parsed.tree parsed.scenario) }
 {
     let mut file = opened(rt, path.as_str());
     match read_or_explain(alloc, Origin::File, &mut file) {
@@ -270,7 +272,8 @@ pub(crate) fn trace<R: Threads + Wait + Sync, W: Sink>(
     parsed: Parsed,
     writer: &mut W,
 ) -> Result<(), Fault>
-    requires { W.failed writer.old ≡ false }
+    requires tree { IsTreeOf parsed.tree parsed.scenario }
+    requires writer { W.failed writer.old ≡ false }
     ensures ok { OnOk result (Traces (with_options options.engine parsed.scenario) (Appends (W.contents writer.old) (W.contents writer.new))) }
     ensures failed { (result ≡ Err (fault.Trace trace_fault.Write)) ↔ (W.failed writer.new ≡ true) }
     ensures unexplained { explanation_in result ≡ None }

@@ -4,6 +4,8 @@ ghost use Rattle.std.specs.Io.KnownBytes.{Appends};
 ghost use Rattle.vll_scenario.specs.Streams.{AppendsBeginning};
 ghost use Rattle.vll_scenario.specs.declared.fault.ScenarioFault.{ScenarioFault};
 ghost use Rattle.vll_scenario.specs.declared.fault.ScenarioFault.TheVariants.{Read};
+ghost use Rattle.serde_json.specs.Data.{depth};
+ghost use Rattle.serde_json.specs.Read.{max_depth};
 ghost use Rattle.serde_json.specs.View.{view};
 ghost use Rattle.vll_explain.specs.Explained.{Explains, IsBegun, IsLocated, IsTold, ReadsOrExplains, fault_of};
 ghost use Rattle.vll_explain.specs.Private.{HoldsOrExplains, IsToldOf};
@@ -76,6 +78,7 @@ pub fn read_or_explain<S: Source>(
 ) -> Result<Parsed, Refusal>
     requires { S.failed reader.old ≡ false }
     ensures read { ReadsOrExplains (S.remaining reader.old) (S.remaining reader.new) result }
+    ensures depth { IfOk result (λ parsed. depth (view parsed.tree) ≤ max_depth) }
     ensures failed { (fault_of result ≡ Some Read) ↔ (S.failed reader.new ≡ true) }
 {
     match read_bytes(alloc, reader) {
@@ -92,6 +95,7 @@ pub fn read_or_explain<S: Source>(
 fn held_or_explained(alloc: Global, origin: Origin, bytes: &[u8]) -> Result<Parsed, Refusal>
     requires { length bytes.now ≤ MOST_BYTES }
     ensures held { HoldsOrExplains bytes.now result }
+    ensures depth { IfOk result (λ parsed. depth (view parsed.tree) ≤ max_depth) }
     ensures read { ¬ (fault_of result ≡ Some Read) }
 {
     match reading_of(alloc, bytes) {

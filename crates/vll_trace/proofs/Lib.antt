@@ -1,1 +1,2 @@
 pub mod Retraced
+pub mod Repeated

@@ -1,16 +1,20 @@
 //! A run that is traced: what the workers did, as a schedule that the machine of atomic steps has taken.
-ghost use Rattle.std.specs.Prelude.{◌≡◌, ◌≤◌, ◌↔◌, All, IfErr, IfOk, IsOk, OnOk, Ok, false, length, string_bytes, true};
+ghost use Rattle.std.specs.Prelude.{◌≡◌, ◌≤◌, ◌↔◌, All, IfErr, IfOk, IsOk, OnOk, Ok, Some, false, length, string_bytes, true};
 ghost use Rattle.std.specs.Io.KnownBytes.{Appends};
-ghost use Rattle.serde_json.specs.Data.{Data};
+ghost use Rattle.serde_json.specs.Data.{depth};
+ghost use Rattle.serde_json.specs.Find.{get};
+ghost use Rattle.serde_json.specs.Read.{max_depth};
+ghost use Rattle.serde_json.specs.View.{view};
 ghost use Rattle.vll_core.specs.Machine.{answers, opened, run};
 ghost use Rattle.vll_core.specs.Shown.{opening_of};
 ghost use Rattle.vll_sca.specs.Placing.{placing};
 ghost use Rattle.vll_replay.specs.ReplayText.{state_text};
 ghost use Rattle.vll_scenario.specs.Scenario.{IsTree, scenario_at};
-ghost use Rattle.vll_scenario.specs.Setup.{IsSetup};
+ghost use Rattle.vll_scenario.specs.Headline.Setup.{Setup};
 ghost use Rattle.vll_scenario.specs.Streams.{AppendsBeginning};
 ghost use Rattle.vll_server.specs.Headline.Text.{closed_text};
-ghost use Rattle.vll_trace.specs.Traced.{AreGranted, IsTrace, Traces};
+ghost use Rattle.vll_trace.specs.Private.Repeated.{AreAlike};
+ghost use Rattle.vll_trace.specs.Traced.{AreGranted, IsTrace, IsTreeOf, Traces};
 
 use crate::fault::TraceFault;
 use crate::ordering::Ordering;
@@ -18,7 +22,7 @@ use crate::recorder::{Happening, Recorder};
 use crate::sources::Sources;
 use crate::text::text_of;
 use serde_json::Value;
-use std::alloc::Global;
+use std::alloc::{AllocError, Global};
 use std::sync::Wait;
 use std::thread::Threads;
 use vll_core::{Config, Core, Event, Line};
@@ -34,8 +38,8 @@ use vll_workers::MOST_WORKERS;
 
 /// Runs a scenario's scripts with `workers` worker threads, 1 to `MOST_WORKERS` of `vll_workers`, as `run_scenario` of
 /// `vll_server` does, and writes the scenario's text with a schedule: the atomic steps of the run, in an order in which
-/// they can have happened. `tree` is the JSON tree that describes the scenario; the text has its version, records,
-/// procedures, clients and hash, the scenario's cap and bits, and the number of calls as its limit.
+/// they can have happened. `tree` is the JSON tree that describes the scenario, but for its cap and bits; the text has its
+/// version, records, procedures, clients and hash, the scenario's cap and bits, and the number of calls as its limit.
 ///
 /// A replay of what is written takes each event of the schedule, and ends with the tickets, replies and records of the
 /// run. Nothing is written before this was seen: the machine of atomic steps takes the events, and its outcome is
@@ -52,6 +56,7 @@ pub fn trace<R: Threads + Wait + Sync, W: Wait + Sync, S: Sink>(
     workers: u32,
     writer: &mut S,
 ) -> Result<(), TraceFault>
+    requires tree { IsTreeOf tree.now scenario }
     requires workers { (1 ≤ workers) × (workers ≤ MOST_WORKERS) }
     requires writer { S.failed writer.old ≡ false }
     ensures ok { OnOk result (Traces scenario (Appends (S.contents writer.old) (S.contents writer.new))) }
@@ -76,7 +81,8 @@ fn text_of_trace<R: Threads + Wait + Sync, W: Wait + Sync>(
     scenario: Scenario,
     workers: u32,
 ) -> Result<String, TraceFault>
-    requires { (1 ≤ workers) × (workers ≤ MOST_WORKERS) }
+    requires tree { IsTreeOf tree.now scenario }
+    requires workers { (1 ≤ workers) × (workers ≤ MOST_WORKERS) }
     ensures traced { IfOk result (λ text. Traces scenario (λ t. t ≡ string_bytes text)) }
     ensures write { ¬ (result ≡ Err TraceFault.Write) }
 {
@@ -95,7 +101,7 @@ fn text_of_trace<R: Threads + Wait + Sync, W: Wait + Sync>(
         closed.journal.as_slice(),
     )?;
     let text = text_of(alloc, tree, config, schedule.as_slice())?;
-    if !is_taken(alloc, text.as_str(), config, &closed)? {
+    if !is_taken(alloc, tree, text.as_str(), config, &closed)? {
         return Err(TraceFault::Refused);
     }
     Ok(text)
@@ -136,10 +142,11 @@ fn least_of(scripts: &[Vec<Call>]) -> (u32, u64) {
     (calls, events)
 }
 
-// Returns the scenario of a text.
-fn scenario_in(alloc: Global, text: &str) -> Result<Scenario, TraceFault>
-    ensures few { IfOk result (λ s. length text.now ≤ MOST_BYTES) }
-    ensures tree { IfOk result (λ s. (tree : Data) × IsTree text.now (Some tree) × (scenario_at (Some tree) ≡ Ok s)) }
+// Returns the scenario of a text, and the tree that describes it.
+fn scenario_in(alloc: Global, text: &str) -> Result<(Value, Scenario), TraceFault>
+    ensures few { IfOk result (λ made. length text.now ≤ MOST_BYTES) }
+    ensures tree { IfOk result (λ made. IsTree text.now (Some (view made.0))) }
+    ensures scenario { IfOk result (λ made. scenario_at (Some (view made.0)) ≡ Ok made.1) }
     ensures write { ¬ (result ≡ Err TraceFault.Write) }
 {
     let bytes = text.as_bytes();
@@ -147,8 +154,8 @@ fn scenario_in(alloc: Global, text: &str) -> Result<Scenario, TraceFault>
         return Err(TraceFault::Size(bytes.len() as u64));
     }
     match reading_of(alloc, bytes) {
-        Ok(Reading { tree: _, scenario }) => match scenario {
-            Ok(scenario) => Ok(scenario),
+        Ok(Reading { tree, scenario }) => match scenario {
+            Ok(scenario) => Ok((tree, scenario)),
             Err(why) => Err(unread(why)),
         },
         Err(why) => Err(unread(why)),
@@ -176,7 +183,7 @@ fn schedule_of(
     ensures { ¬ (result ≡ Err TraceFault.Write) }
 {
     let untraced = text_of(alloc, tree, config, &[])?;
-    let scenario = scenario_in(alloc, untraced.as_str())?;
+    let (_, scenario) = scenario_in(alloc, untraced.as_str())?;
     let parts = scenario.into_parts();
     let sources = Sources::new(alloc, &parts.library, parts.scripts.as_slice())?;
     let records = parts.records.len();
@@ -189,13 +196,24 @@ fn schedule_of(
     Ok(schedule)
 }
 
-// Whether a text is a scenario with these settings, the machine takes each event of its schedule, and ends as the run
-// did.
-fn is_taken(alloc: Global, text: &str, config: Config, closed: &Closed) -> Result<bool, TraceFault>
-    ensures taken { result ≡ Ok true → IsTrace config closed.now text.now }
+// Whether a text is the scenario of a tree with these settings, the machine takes each event of its schedule, and ends
+// as the run did.
+fn is_taken(
+    alloc: Global,
+    tree: &Value,
+    text: &str,
+    config: Config,
+    closed: &Closed,
+) -> Result<bool, TraceFault>
+    requires { depth (view tree.now) ≤ max_depth }
+    ensures taken { result ≡ Ok true → (read : Setup) → scenario_at (Some (view tree.now)) ≡ Ok read
+        → IsTrace (record read { config = config }) closed.now text.now }
     ensures write { ¬ (result ≡ Err TraceFault.Write) }
 {
-    let scenario = scenario_in(alloc, text)?;
+    let (again, scenario) = scenario_in(alloc, text)?;
+    if !are_alike(alloc, tree, &again)? {
+        return Ok(false);
+    }
     let parts = scenario.into_parts();
     if parts.config.cap != config.cap || parts.config.bits != config.bits {
         return Ok(false);
@@ -206,6 +224,33 @@ fn is_taken(alloc: Global, text: &str, config: Config, closed: &Closed) -> Resul
         return Ok(false);
     }
     ends_alike(alloc, &core, closed)
+}
+
+// Whether two trees have the same members, but for the engine's settings and the schedule.
+fn are_alike(alloc: Global, one: &Value, other: &Value) -> Result<bool, AllocError>
+    requires one { depth (view one.now) ≤ max_depth }
+    requires other { depth (view other.now) ≤ max_depth }
+    ensures { result ≡ Ok true → AreAlike (view one.now) (view other.now) }
+{
+    let version = is_alike(alloc, one, other, "version")?;
+    let records = is_alike(alloc, one, other, "records")?;
+    let procs = is_alike(alloc, one, other, "procs")?;
+    let clients = is_alike(alloc, one, other, "clients")?;
+    let hash = is_alike(alloc, one, other, "hash")?;
+    Ok(version && records && procs && clients && hash)
+}
+
+// Whether two trees have the same member of this name, or none.
+fn is_alike(alloc: Global, one: &Value, other: &Value, name: &str) -> Result<bool, AllocError>
+    requires one { depth (view one.now) ≤ max_depth }
+    requires other { depth (view other.now) ≤ max_depth }
+    ensures { result ≡ Ok true → get name.now (view one.now) ≡ get name.now (view other.now) }
+{
+    match (one.get(name), other.get(name)) {
+        (Some(one), Some(other)) => Ok(one.to_string(alloc)? == other.to_string(alloc)?),
+        (None, None) => Ok(true),
+        _ => Ok(false),
+    }
 }
 
 // Whether the machine has the tickets, replies and records that a run has left.

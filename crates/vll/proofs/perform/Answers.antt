@@ -25,4 +25,4 @@ pub returns-in-Err-parsed_of-clause-refused : goal.returns-in-Err-parsed_of-clau
 returns-in-Err-parsed_of-clause-refused g c =
     let none = c.in-Err-parsed_of.none in
     if_some none.refusal.text _ _ (λ t has. (action.Trace c.in-Ok-Trace.input c.in-Ok-Trace.options, c.in-Ok-Trace.is ∙ ap Ok c.in-Ok-Trace.field-0-is, has))
-    (refused c.in-Ok-Trace.input _ _ _ none none.refusal.text refl c.in-Err-parsed_of.ensures)
+    (refused c.in-Ok-Trace.input _ _ _ none none.refusal.text refl c.in-Err-parsed_of.ensures.parsed)

@@ -1,5 +1,6 @@
 use Rattle.std.proofs.Common.{IfSome, string_bytes, subst, sym}
 use Rattle.serde_json.specs.View.{view}
+use Rattle.serde_json.proofs.Nesting.{depth-read}
 use Rattle.vll_scenario.specs.Reading.{IsScenarioOf}
 use Rattle.vll_explain.specs.Explained.{IsBegun}
 use Rattle.vll_explain.specs.Private.{IsToldOf}
@@ -12,6 +13,9 @@ returns-in-Ok-scenario-clause-held c =
     let scenario = c.in-Ok-scenario.scenario in
     let tree = view c.in-Ok.field-0.tree in
     tree_describes c.args.bytes.now tree scenario c.requires c.in-Ok.ensures.tree (subst (IsScenarioOf tree) c.in-Ok-scenario.is c.in-Ok.ensures.scenario)
+
+pub returns-in-Ok-scenario-clause-depth : goal.returns-in-Ok-scenario-clause-depth
+returns-in-Ok-scenario-clause-depth c = depth-read c.args.bytes.now (view c.in-Ok.field-0.tree) c.in-Ok.ensures.tree.1
 
 -- the fault lies in the tree
 pub returns-in-Err-scenario-clause-held : goal.returns-in-Err-scenario-clause-held

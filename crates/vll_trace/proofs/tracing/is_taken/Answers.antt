@@ -6,14 +6,23 @@ use Rattle.vll_core.specs.Shown.{opening_of}
 use Rattle.vll_replay.specs.Replay.{opening_for}
 use Rattle.vll_replay.specs.ReplayText.{state_text}
 use Rattle.vll_scenario.specs.Headline.Setup.{Setup}
+use Rattle.serde_json.specs.View.{view}
+use Rattle.serde_json.proofs.Nesting.{depth-read}
+use Rattle.vll_trace.proofs.Repeated.{alike_are_one}
 use Rattle.vll_trace.specs.Traced.{AreGranted, end_of}
 use Rattle.vll_trace.proofs.tracing.is_taken.Goals as goal
 
+-- what was read nests no deeper than the reader allows
+pub are_alike-requires-clause-other : goal.are_alike-requires-clause-other
+are_alike-requires-clause-other c = depth-read c.args.text.now (view c.in_ok-again.again) c.in_ok-again.ensures.tree.1
+
 pub returns-clause-taken : goal.returns-clause-taken
-returns-clause-taken c is =
-    let setup = c.in_ok-scenario.scenario in
+returns-clause-taken c is read of_tree =
+    let setup = c.in_ok-again.scenario in
     let core = c.in_ok-core.core in
-    let read = c.in_ok-scenario.ensures.tree in
+    let again = c.in_ok-again.again in
+    let alike = c.in_ok-are_alike.ensures (grind (arith, common_steps)) in
+    let one = alike_are_one (view c.args.tree.now) (view again) read setup alike of_tree c.in_ok-again.ensures.scenario in
     let same : c.from_parts.result ≡ setup = grind (arith, common_steps) in
     let o : opening_of placing core ≡ opening_for setup = c.in_ok-core.ensures.opening ∙ ap opening_for same in
     let s : core.state ≡ opened setup.scripts = c.in_ok-core.ensures.state ∙ ap (λ (x : Setup). opened x.scripts) same in
@@ -25,13 +34,19 @@ returns-clause-taken c is =
     let left = ap (λ k. k.state) after ∙ ran in
     let base = ap (λ k. k.base) after ∙ ap (λ p. p.base) o in
     record {
-      few = c.in_ok-scenario.ensures.few;
-      tree = read.0;
-      is_tree = read.1;
+      few = c.in_ok-again.ensures.few;
+      tree = view again;
+      is_tree = c.in_ok-again.ensures.tree;
       setup = setup;
-      is_setup = read.2;
-      cap = grind (arith, common_steps);
-      bits = grind (arith, common_steps);
+      is_setup = c.in_ok-again.ensures.scenario;
+      again = record {
+        records = sym one.records;
+        procs = sym one.procs;
+        scripts = sym one.scripts;
+        placing = sym one.placing;
+        cap = grind (arith, common_steps);
+        bits = grind (arith, common_steps);
+      };
       granted = subst AreGranted told (c.takes_all.ensures.granted taken);
       ended = sym (ap₂ state_text base left) ∙ c.ends_alike.ensures.alike is;
     }

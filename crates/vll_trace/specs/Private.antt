@@ -1,0 +1,2 @@
+-- Cited by private contracts alone.
+pub mod Repeated
