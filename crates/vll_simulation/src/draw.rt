@@ -47,7 +47,7 @@ pub(crate) fn members(alloc: Global, draw: &mut Pcg32) -> Result<String, AllocEr
     let limit = between(draw, 1, 40);
     let hash = if one_of(draw, 2) { "modulo" } else { "spread" };
     let mut text = format!(in alloc;
-        "\"version\":1,\"bits\":{bits},\"cap\":{cap},\"limit\":{limit},\"hash\":\"{hash}\",\"records\":["
+        "\"bits\":{bits},\"cap\":{cap},\"limit\":{limit},\"hash\":\"{hash}\",\"records\":["
     )?;
     push_records(&mut text, draw, records)?;
     text.push_str("],\"clients\":[")?;
@@ -86,7 +86,7 @@ fn push_call(text: &mut String, draw: &mut Pcg32, records: u32) -> Result<(), Al
     requires { 0 < records }
 {
     let (one, other, number) = (below(draw, records), below(draw, records), below(draw, 4));
-    match below(draw, 8) {
+    match below(draw, 9) {
         0 | 1 => write!(
             text,
             "{{\"proc\":\"transfer\",\"args\":[{one},{other},{number}]}}"
@@ -96,6 +96,7 @@ fn push_call(text: &mut String, draw: &mut Pcg32, records: u32) -> Result<(), Al
         4 => write!(text, "{{\"proc\":\"read\",\"args\":[{one}]}}"),
         5 => write!(text, "{{\"proc\":\"take\",\"args\":[{one},{number}]}}"),
         6 => write!(text, "{{\"proc\":\"seven\",\"args\":[]}}"),
+        7 => write!(text, "{{\"proc\":\"grow\",\"args\":[{one},{number}]}}"),
         _ => write!(text, "{{\"proc\":\"via\",\"args\":[{one}]}}"),
     }
 }

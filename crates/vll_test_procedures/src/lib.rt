@@ -1,5 +1,5 @@
 //! The procedures that the tests of several crates call, and scenarios from JSON text for such tests. `library` makes a
-//! checked library of seven small procedures for any number of records from 1, `parts_with` reads the parts of a
+//! checked library of eight small procedures for any number of records from 1, `parts_with` reads the parts of a
 //! scenario of these procedures, and `parts` those of any scenario that a test writes as text. The crate proves that a
 //! library is for the number of records asked for, and that the library of a scenario makes each call of its scripts.
 //! Start at `library` and `parts_with`.
@@ -21,7 +21,7 @@ use vll_check::Library;
 use vll_scenario::{Plain, ScenarioParts, read_scenario};
 
 // The procedures of `library`, up to a scenario's other members.
-const PROCEDURES: &str = r#"{"version":1,"procs":[
+const PROCEDURES: &str = r#"{"version":2,"procs":[
  {"name":"transfer","args":3,"keys":[["write","arg",0],["write","arg",1]],
   "body":[["set",0,["sub",["key",0],["arg",2]]],
           ["set",1,["add",["key",1],["arg",2]]],["reply",["key",0]]]},
@@ -37,7 +37,9 @@ const PROCEDURES: &str = r#"{"version":1,"procs":[
  {"name":"seven","args":0,"keys":[],
   "body":[["reply",7]]},
  {"name":"via","args":1,"keys":[["read","arg",0],["write","through",0]],
-  "body":[["set",1,["add",["key",1],1]],["reply",["key",1]]]}],
+  "body":[["set",1,["add",["key",1],1]],["reply",["key",1]]]},
+ {"name":"grow","args":2,"keys":[["write","arg",0]],
+  "body":[["repeat",3,[["set",0,["add",["key",0],["arg",1]]]]],["reply",["key",0]]]}],
  "#;
 
 /// Returns the parts of the scenario that `text` describes. Fails if `read_scenario` refuses the text.
@@ -63,8 +65,9 @@ pub fn parts_with(alloc: Global, members: &str) -> Result<ScenarioParts, Fail>
 /// Returns a library for `records` records, at least 1. Its procedures are, in order: `transfer` of an amount from one
 /// record to another, which replies what is left; `bump`, which adds 1 to a record and replies the sum; `sum2`, which
 /// replies the sum of two records; `read`, which replies a record; `take` of an amount from a record, which replies
-/// what is left, and aborts with code 7 if there is less; `seven`, which replies 7; and `via`, which adds 1 to the
-/// record that another record's value leads to, and replies the sum.
+/// what is left, and aborts with code 7 if there is less; `seven`, which replies 7; `via`, which adds 1 to the record
+/// that another record's value leads to, and replies the sum; and `grow`, which adds a number to a record three times,
+/// and replies the sum.
 pub fn library(alloc: Global, records: u32) -> Result<Library, Fail>
     ensures { IfOk result (λ l. l.records ≡ records) }
 {
