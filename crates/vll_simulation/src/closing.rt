@@ -7,6 +7,7 @@ use crate::world::{Course, World};
 use std::alloc::Global;
 use std::process::Abort;
 use std::sync::Wait;
+use vll_check::Library;
 use vll_core::{Core, Line};
 use vll_engine::{Engine, Name, Opening, Passes, Session};
 use vll_sca::Placing;
@@ -14,11 +15,12 @@ use vll_sca::Placing;
 // The highest limit of an engine.
 pub(crate) const MOST_LIMIT: u32 = 64;
 
-// What the next engine continues from: its opening, and the records of that.
+// What the next engine continues from: its opening, and the records and the library of the machine beside it.
 #[derive(Drop)]
 pub(crate) struct Next {
     pub(crate) opening: Opening<Placing>,
     pub(crate) records: Vec<u64>,
+    pub(crate) library: Library,
 }
 
 impl<N: Name> World<N> {
@@ -112,8 +114,12 @@ impl<N: Name> World<N> {
                 let records = reopened.records;
                 are_words(rt, spot, "a record", records.as_slice(), core.words(), 1);
                 tally.reopens();
-                let opening = reopened.opening;
-                (Next { opening, records }, Course { draw, spot, tally })
+                let next = Next {
+                    opening: reopened.opening,
+                    records,
+                    library: core.into_parts().1,
+                };
+                (next, Course { draw, spot, tally })
             }
             Err(_) => fail(rt, "calls are left, or there is no memory"),
         }

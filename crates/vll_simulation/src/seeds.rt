@@ -1,5 +1,6 @@
 //! The tests: many seeds, each of which is a world and a schedule.
-ghost use Rattle.std.specs.Prelude.{◌≡◌, ◌≤◌, IfOk, IfSome};
+ghost use Rattle.std.specs.Prelude.{◌≡◌, ◌≤◌, All, IfOk, IfSome};
+ghost use Rattle.vll_check.specs.Calls.{Fits};
 ghost use Rattle.vll_queue.specs.Shown.{name_of};
 ghost use Rattle.vll_sca.specs.Placing.{placing};
 
@@ -13,7 +14,8 @@ use std::marker::Brand;
 use std::process::Abort;
 use std::sync::Wait;
 use std::test::*;
-use vll_core::Core;
+use vll_check::Library;
+use vll_core::{Config, Core};
 use vll_engine::{Name, Opening};
 use vll_proc::Call;
 use vll_sca::Placing;
@@ -61,26 +63,37 @@ fn runs<N: Name, R: Wait + Abort>(
     }
 }
 
-// The machine of a scenario, but over these records.
-fn core_over(alloc: Global, text: &str, records: Vec<u64>) -> Result<Core<Placing>, Fail> {
-    let ScenarioParts {
-        library,
-        scripts,
-        config,
-        placing,
-        ..
-    } = parts_with(alloc, text)?;
-    if library.records() as usize != records.len() {
-        return Err(Fail::new("another number of records"));
-    }
-    let core = Core::open(alloc, records, library, scripts, config, placing)?;
-    Ok(core)
+// What the engines of a seed have in common: the scripts, and what the machine beside each is opened with.
+#[derive(Drop)]
+struct Common {
+    clients: u32,
+    scripts: Vec<Vec<Call>>,
+    config: Config,
+    placing: Placing,
 }
 
-// What the first engine of a scenario begins with.
-fn first_of(alloc: Global, text: &str) -> Result<(Next, u32), Fail>
+impl Common {
+    // The machine over these records, with its library.
+    fn machine(
+        &self,
+        alloc: Global,
+        library: Library,
+        records: Vec<u64>,
+    ) -> Result<Core<Placing>, Fail> {
+        if library.records() as usize != records.len() {
+            return Err(Fail::new("another number of records"));
+        }
+        let scripts = copied(alloc, &library, self.scripts.as_slice())?;
+        let core = Core::open(alloc, records, library, scripts, self.config, self.placing)?;
+        Ok(core)
+    }
+}
+
+// What the first engine of a scenario begins with, and what all have in common. The machine has a library of its own, so
+// the text is read twice.
+fn first_of(alloc: Global, text: &str) -> Result<(Next, Common), Fail>
     ensures limit { IfOk result (λ first. first.0.opening.config.limit ≤ MOST_LIMIT) }
-    ensures clients { IfOk result (λ first. first.0.opening.clients ≡ first.1) }
+    ensures clients { IfOk result (λ first. first.0.opening.clients ≡ first.1.clients) }
 {
     let ScenarioParts {
         records,
@@ -96,26 +109,36 @@ fn first_of(alloc: Global, text: &str) -> Result<(Next, u32), Fail>
     let clients = u32::try_from(scripts.len()).unwrap_or(u32::MAX);
     let same = Vec::from_slice(alloc, records.as_slice())?;
     let opening = Opening::new(alloc, records, library, config, placing, clients)?;
-    Ok((
-        Next {
-            opening,
-            records: same,
-        },
+    let next = Next {
+        opening,
+        records: same,
+        library: parts_with(alloc, text)?.library,
+    };
+    let common = Common {
         clients,
-    ))
+        scripts,
+        config,
+        placing,
+    };
+    Ok((next, common))
 }
 
 // Makes the world of a seed and its schedule, engine after engine, and returns the tally with what has happened.
 fn tries<R: Wait + Abort>(rt: &R, alloc: Global, seed: u64, tally: Tally) -> Result<Tally, Fail> {
     let mut draw = generator(seed);
     let text = members(alloc, &mut draw)?;
-    let (mut next, clients) = first_of(alloc, text.as_str())?;
+    let (mut next, common) = first_of(alloc, text.as_str())?;
+    let clients = common.clients;
     let spot = Spot { seed, step: 0 };
     let mut course = Course { draw, spot, tally };
     for _ in 0..MOST_ENGINES {
-        let Next { opening, records } = next;
-        let core = core_over(alloc, text.as_str(), records)?;
-        let scripts = parts_with(alloc, text.as_str())?.scripts;
+        let Next {
+            opening,
+            records,
+            library,
+        } = next;
+        let scripts = copied(alloc, &library, common.scripts.as_slice())?;
+        let core = common.machine(alloc, library, records)?;
         let (ended, left) = runs::<Brand, R>(rt, alloc, opening, clients, scripts, core, course)?;
         course = left;
         next = match ended {
@@ -124,6 +147,31 @@ fn tries<R: Wait + Abort>(rt: &R, alloc: Global, seed: u64, tally: Tally) -> Res
         };
     }
     Ok(course.tally)
+}
+
+// These scripts, of calls that the library makes.
+fn copied(alloc: Global, library: &Library, scripts: &[Vec<Call>]) -> Result<Vec<Vec<Call>>, Fail>
+    ensures { IfOk result (λ s. All (λ script. All (Fits library.now) script.items) s.items) }
+{
+    let mut copies = Vec::with_capacity(alloc, scripts.len())?;
+    for script in scripts {
+        copies.push(copied_script(alloc, library, script.as_slice())?)?;
+    }
+    Ok(copies)
+}
+
+// This script, of calls that the library makes.
+fn copied_script(alloc: Global, library: &Library, script: &[Call]) -> Result<Vec<Call>, Fail>
+    ensures { IfOk result (λ s. All (Fits library.now) s.items) }
+{
+    let mut copy = Vec::with_capacity(alloc, script.len())?;
+    for call in script {
+        if !library.fits(call) {
+            return Err(Fail::new("a call of another library"));
+        }
+        copy.push(*call)?;
+    }
+    Ok(copy)
 }
 
 #[test]
