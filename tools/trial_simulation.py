@@ -32,8 +32,7 @@ BUGS = {
         (f'{LOCKED}/admit.rt', 'if self.queue.is_busy() {',
          'if self.queue.is_busy() || self.queue.waiting() == 2 {'),
     'scans put off for ever':
-        ('vll_queue/src/patience.rt', 'if waiting < LEAST_WAITING || self.owed < LEAST_OWED {',
-         'if waiting == 0 {'),
+        ('vll_queue/src/patience.rt', '|| self.owed < self.least_owed', ''),
     'the reply of the ticket before':
         (f'{LOCKED}/reply.rt', '.get(ticket.0 as usize)?.reply',
          '.get((ticket.0 as usize).saturating_sub(1))?.reply'),

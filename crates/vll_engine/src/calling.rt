@@ -201,7 +201,7 @@ impl<N: Name, H: Place + Drop> Engine<N, H> {
                 self.bring_to_its_end(wait, pass, rest)
             }
             None => {
-                rest.rest();
+                rest.rest(&self.pacing);
                 self.hold_of_a_caller(wait, rest)
             }
         }

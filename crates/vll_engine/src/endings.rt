@@ -5,7 +5,7 @@ ghost use Rattle.vll_queue.specs.Shown.{library_of, words_of};
 use crate::engine::Engine;
 use crate::opening::Opening;
 use vll_core::Line;
-use vll_queue::{Closed, Name, NotEnded, Session};
+use vll_queue::{Closed, Name, NotEnded, Pacing, Session};
 use vll_sca::Place;
 
 /// An engine that was not closed, since calls run or wait in it. It goes on unchanged.
@@ -22,7 +22,7 @@ pub struct NotClosed<N: Name, H: Place + Drop> {
 
 impl<N: Name, H: Place + Drop> NotClosed<N, H> {
     // The engine of all that was passed to close it.
-    pub(crate) fn of(left: NotEnded<N, H>) -> NotClosed<N, H>
+    pub(crate) fn of(left: NotEnded<N, H>, pacing: Pacing) -> NotClosed<N, H>
         requires library { left.library ≡ library_of N.engine }
         requires words { left.words ≡ words_of N.engine }
         requires memory { left.memory ≡ length N.engine.base.records }
@@ -41,7 +41,7 @@ impl<N: Name, H: Place + Drop> NotClosed<N, H> {
             waiting,
         } = left;
         NotClosed {
-            engine: Engine::new(library, words, locked, memory),
+            engine: Engine::new(library, words, locked, memory, pacing),
             sessions,
             running,
             waiting,

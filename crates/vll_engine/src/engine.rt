@@ -16,7 +16,7 @@ use crate::endings::{NotClosed, NotReopened, Reopened};
 use crate::hold::Hold;
 use crate::latch::Latch;
 use crate::reopening::reopen;
-use crate::rest::{MOST_TRIES, Rest};
+use crate::rest::Rest;
 use crossbeam_utils::CachePadded;
 use std::alloc::Global;
 use std::sync::{Mutex, Wait};
@@ -24,7 +24,9 @@ use vll_check::Library;
 use vll_core::{Line, Ticket};
 use vll_counters::{PassSeat, Words};
 use vll_proc::{Call, Reply};
-use vll_queue::{Begun, Closed, ClosingMemory, Done, Locked, Name, Pass, Released, Session, find};
+use vll_queue::{
+    Begun, Closed, ClosingMemory, Done, Knob, Locked, Name, Pacing, Pass, Released, Session, find,
+};
 use vll_sca::Place;
 
 /// The engine. Many threads may share it. Only a function that takes `wait` takes the lock: `hold` keeps it for several
@@ -38,6 +40,7 @@ pub struct Engine<N: Name, H: Place + Drop> {
     locked: CachePadded<Mutex<Locked<N, H>>>,
     // Waiting threads read it all the time, so it is kept apart from what a hold changes.
     latch: CachePadded<Latch>,
+    pub(crate) pacing: Pacing,
     ghost library_is: { library ≡ library_of N.engine },
     ghost catalog: { IsCatalog library },
     ghost words_are: { words ≡ words_of N.engine },
@@ -52,6 +55,7 @@ impl<N: Name, H: Place + Drop> Engine<N, H> {
         words: Words,
         locked: Locked<N, H>,
         memory: ClosingMemory,
+        pacing: Pacing,
     ) -> Engine<N, H>
         requires library { library ≡ library_of N.engine }
         requires words { words ≡ words_of N.engine }
@@ -66,6 +70,7 @@ impl<N: Name, H: Place + Drop> Engine<N, H> {
             memory,
             locked: CachePadded::new(Mutex::new(locked)),
             latch: CachePadded::new(Latch::new()),
+            pacing,
         }
     }
 
@@ -76,11 +81,16 @@ impl<N: Name, H: Place + Drop> Engine<N, H> {
         &self.library
     }
 
+    /// How its threads look, wait and put off, as its opening said.
+    pub fn pacing(&self) -> Pacing {
+        self.pacing
+    }
+
     /// Takes the lock and keeps it until the hold is dropped: functions of the hold take no lock of their own, and
     /// nothing that another thread does under the lock comes between them.
     pub fn hold(&self, wait: &impl Wait) -> Hold<'_, N, H> {
         let latch: &Latch = &self.latch;
-        let latch = latch.enter().then_some(latch);
+        let latch = latch.enter(&self.pacing).then_some(latch);
         Hold::new(self.locked.lock(wait), &self.words, &self.library, latch)
     }
 
@@ -100,8 +110,8 @@ impl<N: Name, H: Place + Drop> Engine<N, H> {
     // Takes the lock in one of many tries, with a pause before each, or waits for it.
     #[inline(never)]
     fn hold_after_pauses(&self, wait: &impl Wait, rest: &mut Rest) -> Hold<'_, N, H> {
-        for tries in 1..MOST_TRIES {
-            rest.pause(tries);
+        for tries in 1..self.pacing.get(Knob::MostTries) {
+            rest.pause(&self.pacing, tries);
             if let Some(guard) = self.locked.try_lock() {
                 return Hold::new(guard, &self.words, &self.library, None);
             }
@@ -294,19 +304,20 @@ impl<N: Name, H: Place + Drop> Engine<N, H> {
             memory,
             locked,
             latch: _,
+            pacing,
         } = self;
         let locked = locked.into_inner().into_inner();
         match locked.close(library, words, memory, sessions) {
             Ok(ended) => Ok(ended.into_closed::<N>()),
-            Err(open) => Err(NotClosed::of(open)),
+            Err(open) => Err(NotClosed::of(open, pacing)),
         }
     }
 
     /// Closes the engine, and opens another one over the records as its calls have left them, with the same library,
-    /// configuration, hash and number of clients. Returns the journal and the opening, which gets a name of its own and
-    /// an empty journal. What `close` promises of the journal, the records, the replies and the sessions holds here too.
-    /// All sessions have to be passed. The capacity of the list `journal` is at least the limit and that of `records` at
-    /// least the number of records, and so is that of the lists returned; what the two hold is dropped.
+    /// configuration, hash, pacing and number of clients. Returns the journal and the opening, which gets a name of its
+    /// own and an empty journal. What `close` promises of the journal, the records, the replies and the sessions holds
+    /// here too. All sessions have to be passed. The capacity of the list `journal` is at least the limit and that of
+    /// `records` at least the number of records, and so is that of the lists returned; what the two hold is dropped.
     ///
     /// All lists are reused. The block of atomic words is freed, and one of the same size is allocated: no other memory
     /// is taken. If that allocation fails, or if calls run or wait, returns what `close` returns, and the two lists.
@@ -340,12 +351,13 @@ impl<N: Name, H: Place + Drop> Engine<N, H> {
             memory,
             locked,
             latch: _,
+            pacing,
         } = self;
         let locked = locked.into_inner().into_inner();
         match locked.close(library, words, memory, sessions) {
-            Ok(ended) => reopen::<N, H>(ended, alloc, journal, records),
+            Ok(ended) => reopen::<N, H>(ended, alloc, journal, records, pacing),
             Err(open) => Err(NotReopened {
-                left: Err(NotClosed::of(open)),
+                left: Err(NotClosed::of(open, pacing)),
                 journal,
                 records,
             }),

@@ -2,12 +2,7 @@
 use std::hint::spin_loop;
 use std::sync::atomic::{AtomicBool, Ordering};
 use std::thread::yield_now;
-
-// After this many looks a thread that waits yields to others.
-const LOOKS_A_TURN: u32 = 256;
-
-// How often a thread looks at a taken latch before it goes on without it: for about 50 microseconds.
-const MOST_LOOKS: u32 = 4_096;
+use vll_queue::{Knob, Pacing};
 
 // A word in front of the engine's lock. A thread that finds the lock taken goes to sleep and has to be woken; one that
 // finds this word taken spins for a while. It keeps no thread out, and nothing is claimed of it: the lock alone
@@ -26,12 +21,13 @@ impl Latch {
     }
 
     // Tries to take the latch for a while, and returns whether it did. Only the thread that has taken it opens it.
-    pub(crate) fn enter(&self) -> bool {
-        for look in 1..=MOST_LOOKS {
+    pub(crate) fn enter(&self, pacing: &Pacing) -> bool {
+        let looks_a_yield = pacing.get(Knob::LooksAYield).max(1);
+        for look in 1..=pacing.get(Knob::MostLooks) {
             if !self.taken.load(Ordering::SeqCst) && !self.taken.swap(true, Ordering::SeqCst) {
                 return true;
             }
-            if look % LOOKS_A_TURN == 0 {
+            if look % looks_a_yield == 0 {
                 yield_now();
             } else {
                 spin_loop();

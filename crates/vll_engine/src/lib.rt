@@ -39,5 +39,6 @@ pub use passes::{BegunOnto, MOST_PASSES, Passes};
 pub use rest::rest_for;
 pub use service::Service;
 pub use vll_queue::{
-    BeginRefusal, Begun, Closed, Done, Name, News, Pass, Released, Session, news_orders_calls,
+    BeginRefusal, Begun, Closed, Done, Knob, Name, News, Pacing, Pass, Released, Session, USUAL,
+    news_orders_calls,
 };

@@ -14,7 +14,7 @@ use std::marker::Model;
 use vll_check::Library;
 use vll_core::{Config, OpenFault, Queue, open_fault};
 use vll_counters::{QueueSeat, SessionSeat, Words};
-use vll_queue::{ClosingMemory, Locked, Name, Session};
+use vll_queue::{ClosingMemory, Locked, Name, Pacing, Session};
 use vll_sca::Place;
 
 /// An engine that has no name yet. Contracts see which words it has, and what it was opened with.
@@ -26,6 +26,7 @@ pub struct Opening<H: Place> {
     library: Library,
     sessions: Vec<Session>,
     memory: ClosingMemory,
+    pacing: Pacing,
 }
 
 impl<H: Place> Model for Opening<H> {
@@ -75,6 +76,7 @@ impl<H: Place + Drop> Opening<H> {
             library,
             sessions,
             memory,
+            pacing: Pacing::usual(),
         })
     }
 
@@ -102,7 +104,17 @@ impl<H: Place + Drop> Opening<H> {
             library,
             sessions,
             memory,
+            pacing: Pacing::usual(),
         }
+    }
+
+    /// The same opening, whose engine, with all that are reopened after it, looks, waits and puts off as the pacing
+    /// says, and not as `Pacing::usual`. It affects speed alone.
+    pub fn with_pacing(mut self, pacing: Pacing) -> Opening<H>
+        ensures { result ≡ self }
+    {
+        self.pacing = pacing;
+        self
     }
 }
 
@@ -120,9 +132,11 @@ impl<H: Place + Drop> Opening<H> {
             library,
             sessions,
             memory,
+            pacing,
         } = self;
+        let locked = Locked::new(queue, seat, &pacing);
         (
-            Engine::new(library, words, Locked::new(queue, seat), memory),
+            Engine::new(library, words, locked, memory, pacing),
             sessions,
         )
     }

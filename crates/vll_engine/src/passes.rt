@@ -166,10 +166,10 @@ impl<N: Name> Passes<N> {
     /// which has room for it. Returns whether there is one.
     ///
     /// If the scan may be put off, it may also return `false` though it would find a call. A scan that finds no call
-    /// adds a debt of as many entries as calls wait. Each finished call pays off eight of them, and each time that a
-    /// scan is put off here, 64. A scan is put off while 64 or more entries are owed and 64 or more calls wait, at most
-    /// once in a row for each 64 that wait, so that what such scans cost a call does not grow with the number of waiting
-    /// calls. A caller that is about to leave the engine alone does not let it be put off.
+    /// adds a debt of as many entries as calls wait. Finished calls pay it off, and so does each scan that is put off
+    /// here; a scan is put off while much is owed and many calls wait, as `Knob` says: usually at most once in a
+    /// row for each 64 that wait. So what such scans cost a call does not grow with the number of waiting calls. A caller
+    /// that is about to leave the engine alone does not let it be put off.
     pub fn next_scan<H: Place + Drop>(
         &mut self,
         hold: &mut Hold<'_, N, H>,

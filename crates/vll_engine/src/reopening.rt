@@ -12,7 +12,7 @@ use crate::opening::Opening;
 use std::alloc::Global;
 use vll_core::Line;
 use vll_counters::{QueueSeat, Words};
-use vll_queue::{Closed, ClosingMemory, Ended, Name, Session};
+use vll_queue::{Closed, ClosingMemory, Ended, Name, Pacing, Session};
 use vll_sca::Place;
 
 // Returns the journal, the records and the next opening. The list `values` gets the next engine's memory for records.
@@ -21,6 +21,7 @@ pub(crate) fn reopen<N: Name, H: Place + Drop>(
     alloc: Global,
     journal: Vec<Line>,
     values: Vec<u64>,
+    pacing: Pacing,
 ) -> Result<Reopened<H>, NotReopened<N, H>>
     requires ended { IsEnded H.place_of N.engine ended }
     requires clients { ended.clients ≡ N.engine.clients }
@@ -65,7 +66,7 @@ pub(crate) fn reopen<N: Name, H: Place + Drop>(
     Ok(Reopened {
         journal: lines,
         records,
-        opening: Opening::of(library, words, seat, queue, memory, sessions),
+        opening: Opening::of(library, words, seat, queue, memory, sessions).with_pacing(pacing),
     })
 }
 

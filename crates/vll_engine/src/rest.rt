@@ -1,21 +1,10 @@
 //! How a thread that makes calls waits: for the engine's lock, and while it finds nothing to do.
 use std::hint::spin_loop;
 use std::thread::yield_now;
-
-// How often a thread tries to take the lock before it goes to sleep, after some milliseconds.
-pub(crate) const MOST_TRIES: u32 = 512;
-
-// After this many tries it yields to others.
-const TRIES_A_YIELD: u32 = 16;
-
-// The first rest, in spins of a loop.
-const FIRST_REST: u32 = 32;
+use vll_queue::{Knob, Pacing};
 
 // After this many spins of a rest the thread yields to others.
 const SPINS_A_YIELD: u32 = 64;
-
-// The longest pause and the longest rest, in spins: some ten microseconds.
-const LONGEST: u32 = 1_024;
 
 // How a thread that makes calls waits. It only affects speed, and nothing is promised of it.
 #[derive(Clone, Copy)]
@@ -39,15 +28,17 @@ impl Rest {
     }
 
     // Waits after a try in vain, the `tries`-th: each time twice as long.
-    pub(crate) fn pause(&mut self, tries: u32) {
-        if tries % TRIES_A_YIELD == 0 {
+    pub(crate) fn pause(&mut self, pacing: &Pacing, tries: u32) {
+        if tries % pacing.get(Knob::TriesAYield).max(1) == 0 {
             yield_now();
             return;
         }
         for _ in 0..self.pause {
             spin_loop();
         }
-        self.pause = LONGEST.min(self.pause.saturating_mul(2));
+        self.pause = pacing
+            .get(Knob::LongestRest)
+            .min(self.pause.saturating_mul(2));
     }
 
     // Notes that something was found to do: the next rest is the shortest.
@@ -56,8 +47,12 @@ impl Rest {
     }
 
     // Waits while there is nothing to do: each time about twice as long.
-    pub(crate) fn rest(&mut self) {
-        self.rest = LONGEST.min(self.rest.saturating_mul(2).saturating_add(FIRST_REST));
+    pub(crate) fn rest(&mut self, pacing: &Pacing) {
+        let longer = self
+            .rest
+            .saturating_mul(2)
+            .saturating_add(pacing.get(Knob::FirstRest));
+        self.rest = pacing.get(Knob::LongestRest).min(longer);
         rest_for(self.rest);
     }
 }

@@ -1,4 +1,5 @@
 pub mod Headline
+pub mod Pacing
 pub mod Shown
 pub mod Sessions
 pub mod Pass

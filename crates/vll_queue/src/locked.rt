@@ -3,6 +3,7 @@ ghost use Rattle.std.specs.Prelude.{◌≡◌};
 ghost use Rattle.vll_queue.specs.Private.Kept.{IsKept};
 
 use crate::name::Name;
+use crate::pacing::Pacing;
 use crate::patience::Patience;
 use std::marker::{Model, PhantomData};
 use vll_core::Queue;
@@ -42,15 +43,15 @@ impl<N: Name, H: Place> Model for Locked<N, H> {
 }
 
 impl<N: Name, H: Place> Locked<N, H> {
-    /// A queue with its seat, which has no open turn and no session at it.
-    pub fn new(queue: Queue<H>, seat: QueueSeat) -> Locked<N, H>
+    /// A queue with its seat, which has no open turn and no session at it. Scans are put off as the pacing says.
+    pub fn new(queue: Queue<H>, seat: QueueSeat, pacing: &Pacing) -> Locked<N, H>
         requires { IsKept N.engine H.place_of seat queue }
         ensures { result ≡ queue }
     {
         Locked {
             queue,
             seat,
-            patience: Patience::new(),
+            patience: Patience::new(pacing),
             of: PhantomData,
         }
     }

@@ -1,16 +1,5 @@
 //! Decides whether a scan is due: scans that find no call add to a debt, and finished calls pay it off.
-
-// What a finished call pays off of the scans' debt, in entries that a scan walks over.
-const PAID_BY_A_CALL: u32 = 8;
-
-// What a scan that is put off pays off: the caller has nothing better to do, and rests before it asks again.
-const PAID_BY_A_REST: u32 = 64;
-
-// While less than this is owed, no scan is put off.
-const LEAST_OWED: u32 = 64;
-
-// While fewer calls than this wait, no scan is put off.
-const LEAST_WAITING: u32 = 64;
+use crate::pacing::{Knob, Pacing};
 
 // Decides whether a scan is due. A scan that walks over the queue and finds no call adds a debt of the number of waiting
 // entries. Finished calls pay it off, so that what such scans cost a call does not grow with the number of waiting
@@ -18,26 +7,37 @@ const LEAST_WAITING: u32 = 64;
 #[derive(Clone, Copy)]
 pub(crate) struct Patience {
     owed: u32,
+    // The numbers of a `Pacing` by which a scan is put off.
+    paid_by_a_call: u32,
+    paid_by_a_rest: u32,
+    least_owed: u32,
+    least_waiting: u32,
 }
 
 impl Patience {
     // No debt: a scan is due.
-    pub(crate) fn new() -> Patience {
-        Patience { owed: 0 }
+    pub(crate) fn new(pacing: &Pacing) -> Patience {
+        Patience {
+            owed: 0,
+            paid_by_a_call: pacing.get(Knob::PaidByACall),
+            paid_by_a_rest: pacing.get(Knob::PaidByARest).max(1),
+            least_owed: pacing.get(Knob::LeastOwed).max(1),
+            least_waiting: pacing.get(Knob::LeastWaiting),
+        }
     }
 
     // Returns whether a scan is due while `waiting` calls wait. If it is put off, part of the debt is paid off.
     pub(crate) fn is_due(&mut self, waiting: u32) -> bool {
-        if waiting < LEAST_WAITING || self.owed < LEAST_OWED {
+        if waiting < self.least_waiting || self.owed < self.least_owed {
             return true;
         }
-        self.owed = self.owed.saturating_sub(PAID_BY_A_REST);
+        self.owed = self.owed.saturating_sub(self.paid_by_a_rest);
         false
     }
 
     // Notes that a call was finished.
     pub(crate) fn finished(&mut self) {
-        self.owed = self.owed.saturating_sub(PAID_BY_A_CALL);
+        self.owed = self.owed.saturating_sub(self.paid_by_a_call);
     }
 
     // Notes that a scan walked over the queue and found no call, while `waiting` calls wait.

@@ -4,6 +4,7 @@ ghost use Rattle.std.specs.Prelude.{◌<◌, ◌≤◌};
 use rand_core::Rng;
 use rand_pcg::Pcg32;
 use std::alloc::{AllocError, Global};
+use vll_engine::{Knob, Pacing};
 
 // The generator of a seed.
 pub(crate) fn generator(seed: u64) -> Pcg32 {
@@ -36,6 +37,15 @@ fn between(draw: &mut Pcg32, least: u32, most: u32) -> u32 {
 // Whether one of `count` came out.
 pub(crate) fn one_of(draw: &mut Pcg32, count: u32) -> bool {
     below(draw, count.max(1)) == 0
+}
+
+// A pacing with which scans are put off where few calls wait.
+pub(crate) fn pacing(draw: &mut Pcg32) -> Pacing {
+    Pacing::usual()
+        .with(Knob::PaidByACall, below(draw, 4))
+        .with(Knob::PaidByARest, below(draw, 4))
+        .with(Knob::LeastOwed, below(draw, 8))
+        .with(Knob::LeastWaiting, below(draw, 4))
 }
 
 // The members of a scenario: up to 6 records, up to 5 clients with up to 12 calls each, and small settings, so that

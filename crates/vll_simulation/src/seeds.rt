@@ -5,7 +5,7 @@ ghost use Rattle.vll_queue.specs.Shown.{name_of};
 ghost use Rattle.vll_sca.specs.Placing.{placing};
 
 use crate::closing::{MOST_LIMIT, Next};
-use crate::draw::{generator, members, one_of};
+use crate::draw::{generator, members, one_of, pacing};
 use crate::shown::Spot;
 use crate::tally::Tally;
 use crate::world::{Course, World};
@@ -16,7 +16,7 @@ use std::sync::Wait;
 use std::test::*;
 use vll_check::Library;
 use vll_core::{Config, Core};
-use vll_engine::{Name, Opening};
+use vll_engine::{Name, Opening, Pacing};
 use vll_proc::Call;
 use vll_sca::Placing;
 use vll_scenario::ScenarioParts;
@@ -91,7 +91,7 @@ impl Common {
 
 // What the first engine of a scenario begins with, and what all have in common. The machine has a library of its own, so
 // the text is read twice.
-fn first_of(alloc: Global, text: &str) -> Result<(Next, Common), Fail>
+fn first_of(alloc: Global, text: &str, pacing: Pacing) -> Result<(Next, Common), Fail>
     ensures limit { IfOk result (λ first. first.0.opening.config.limit ≤ MOST_LIMIT) }
     ensures clients { IfOk result (λ first. first.0.opening.clients ≡ first.1.clients) }
 {
@@ -110,7 +110,7 @@ fn first_of(alloc: Global, text: &str) -> Result<(Next, Common), Fail>
     let same = Vec::from_slice(alloc, records.as_slice())?;
     let opening = Opening::new(alloc, records, library, config, placing, clients)?;
     let next = Next {
-        opening,
+        opening: opening.with_pacing(pacing),
         records: same,
         library: parts_with(alloc, text)?.library,
     };
@@ -127,7 +127,8 @@ fn first_of(alloc: Global, text: &str) -> Result<(Next, Common), Fail>
 fn tries<R: Wait + Abort>(rt: &R, alloc: Global, seed: u64, tally: Tally) -> Result<Tally, Fail> {
     let mut draw = generator(seed);
     let text = members(alloc, &mut draw)?;
-    let (mut next, common) = first_of(alloc, text.as_str())?;
+    let pacing = pacing(&mut draw);
+    let (mut next, common) = first_of(alloc, text.as_str(), pacing)?;
     let clients = common.clients;
     let spot = Spot { seed, step: 0 };
     let mut course = Course { draw, spot, tally };

@@ -153,9 +153,10 @@ impl<N: Name> World<N> {
             core,
             draw,
             spot,
+            tally,
             ..
         } = self;
-        makes_under_a_hold(rt, *spot, engine, callers, passes, hand, core, draw);
+        makes_under_a_hold(rt, *spot, engine, callers, passes, hand, core, draw, tally);
     }
 
     // The call of the last pass made under a hold is executed and releases its claims.

@@ -15,6 +15,8 @@ pub(crate) struct Tally {
     committed: u64,
     aborted: u64,
     moved: u64,
+    // Scans that were put off though they would have found a call.
+    put_off: u64,
     // Engines that were reopened.
     reopened: u64,
 }
@@ -31,6 +33,7 @@ impl Tally {
             committed: 0,
             aborted: 0,
             moved: 0,
+            put_off: 0,
             reopened: 0,
         }
     }
@@ -64,6 +67,10 @@ impl Tally {
         });
     }
 
+    pub(crate) fn puts_off(&mut self, times: u32) {
+        self.put_off = self.put_off.saturating_add(times.into());
+    }
+
     pub(crate) fn reopens(&mut self) {
         add(&mut self.reopened);
     }
@@ -80,9 +87,10 @@ impl Tally {
             committed,
             aborted,
             moved,
+            put_off,
             reopened,
         } = *self;
-        let rare = [spent, busy, scans, aborted, moved, reopened];
+        let rare = [spent, busy, scans, aborted, moved, put_off, reopened];
         [free, blocked, fronts, committed]
             .iter()
             .chain(&rare)

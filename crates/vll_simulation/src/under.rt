@@ -7,6 +7,7 @@ use crate::held::{Caller, InHand};
 use crate::machine::{Start, enters, finishes, starts};
 use crate::shown::Spot;
 use crate::steps::drawn;
+use crate::tally::Tally;
 use rand_pcg::Pcg32;
 use std::process::Abort;
 use std::sync::Wait;
@@ -14,6 +15,9 @@ use vll_check::Library;
 use vll_core::Core;
 use vll_engine::{Engine, Hold, MOST_PASSES, Name, Passes};
 use vll_sca::Placing;
+
+// More than a scan is ever put off in a row here.
+const MOST_PUT_OFF: u32 = 2_000;
 
 // Up to five steps under one hold.
 pub(crate) fn makes_under_a_hold<N: Name, R: Wait + Abort>(
@@ -25,6 +29,7 @@ pub(crate) fn makes_under_a_hold<N: Name, R: Wait + Abort>(
     hand: &mut Vec<InHand<N>>,
     core: &mut Core<Placing>,
     draw: &mut Pcg32,
+    tally: &mut Tally,
 ) {
     let library = engine.library();
     let mut hold = engine.hold(rt);
@@ -33,7 +38,8 @@ pub(crate) fn makes_under_a_hold<N: Name, R: Wait + Abort>(
             0 => finishes_under(rt, spot, &mut hold, hand, core),
             _ if passes.len() >= MOST_PASSES => {}
             1 => starts_front_under(rt, spot, &mut hold, passes, core),
-            2 => scans_under(rt, spot, &mut hold, passes, core, one_of(draw, 2)),
+            2 if one_of(draw, 2) => scans_under(rt, spot, &mut hold, passes, core),
+            2 => scans_at_last_under(rt, spot, &mut hold, passes, core, tally),
             _ => match drawn(draw, callers) {
                 Some(caller) => { begins_under(rt, spot, library, &mut hold, caller, passes, core) }
                 None => {}
@@ -76,23 +82,61 @@ fn starts_front_under<N: Name, R: Abort>(
     spot.same(rt, "the front", found, starts(core, Start::Front));
 }
 
-// A scan is put off only where more calls wait than a limit lets in here.
 fn scans_under<N: Name, R: Abort>(
     rt: &R,
     spot: Spot,
     hold: &mut Hold<'_, N, Placing>,
     passes: &mut Passes<N>,
     core: &mut Core<Placing>,
-    may_be_put_off: bool,
 )
     requires { length passes.old < MOST_PASSES }
 {
-    let found = if passes.next_scan(hold, may_be_put_off) {
+    let found = if passes.next_scan(hold, false) {
         passes.last().map(|ticket| ticket.0)
     } else {
         None
     };
     spot.same(rt, "a scan", found, starts(core, Start::Scan));
+}
+
+// A scan that may be put off finds no call if there is none, and at last the one that there is.
+fn scans_at_last_under<N: Name, R: Abort>(
+    rt: &R,
+    spot: Spot,
+    hold: &mut Hold<'_, N, Placing>,
+    passes: &mut Passes<N>,
+    core: &mut Core<Placing>,
+    tally: &mut Tally,
+)
+    requires { length passes.old < MOST_PASSES }
+{
+    let wanted = starts(core, Start::Scan);
+    tally.scans(wanted);
+    let most = if wanted.is_none() { 0 } else { MOST_PUT_OFF };
+    match scans_at_last(hold, passes, most) {
+        Some(times) => {
+            tally.puts_off(times);
+            let found = passes.last().map(|ticket| ticket.0);
+            spot.same(rt, "a scan that may be put off", found, wanted);
+        }
+        None => spot.same(rt, "a scan that may be put off", None, wanted),
+    }
+}
+
+// Scans until a call is found, at most so often after the first time. How often a scan was put off before it found one.
+fn scans_at_last<N: Name>(
+    hold: &mut Hold<'_, N, Placing>,
+    passes: &mut Passes<N>,
+    most: u32,
+) -> Option<u32>
+    requires { length passes.old < MOST_PASSES }
+{
+    for times in 0..=most {
+        if passes.next_scan(hold, true) {
+            return Some(times);
+        }
+    }
+    None
 }
 
 // The last call in hand is finished, if it has released its claims.

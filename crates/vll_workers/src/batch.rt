@@ -4,7 +4,7 @@ ghost use Rattle.std.specs.Prelude.{◌≡◌, [], IfOk};
 use crate::pace::Pace;
 use std::alloc::{AllocError, Global};
 use vll_core::Ticket;
-use vll_engine::{Name, Passes, Released};
+use vll_engine::{Name, Pacing, Passes, Released};
 use vll_tokens::{Stack, Taken};
 
 // What a worker has under way: the tokens that it has taken, passes of calls that may run, calls that were executed,
@@ -33,6 +33,7 @@ impl<N: Name> BatchMemory<N> {
         alloc: Global,
         workers: u32,
         most: usize,
+        pacing: Pacing,
     ) -> Result<BatchMemory<N>, AllocError> {
         let taken = Taken::new(alloc)?;
         let finished = Stack::new(alloc)?;
@@ -44,7 +45,7 @@ impl<N: Name> BatchMemory<N> {
                     passes,
                     released,
                     finished,
-                    pace: Pace::new(workers, most),
+                    pace: Pace::new(workers, most, pacing),
                 },
             }),
             Err(AllocError) => {

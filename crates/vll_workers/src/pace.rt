@@ -1,35 +1,8 @@
 //! A worker's pace: how many tokens it takes and calls it begins, how long it rests, and when it leaves.
 use crate::solo::{Conflicts, Solo};
 use crate::tally::Tally;
-use vll_engine::rest_for;
+use vll_engine::{Knob, Pacing, rest_for};
 use vll_tokens::MOST_BATCH;
-
-// The longest pause of few workers, in spins of a loop.
-const LONGEST_OF_FEW: u32 = 1_024;
-
-// The longest pause of many workers, most of which have to let the others run.
-const LONGEST_OF_MANY: u32 = 16_384;
-
-// The spins of the longest pause for each worker, within these bounds.
-const SPINS_A_WORKER: u32 = 256;
-
-// The first pause, in spins.
-const FIRST_PAUSE: u32 = 32;
-
-// The most calls that are to be ready before a hold: the capacity of a batch.
-const MOST_CALLS: u32 = MOST_BATCH as u32;
-
-// How many rounds in a row a worker keeps its tokens in hand before they go back to the pool.
-const ROUNDS_IN_HAND: u32 = 16;
-
-// After a call was held back under a hold, each call is looked at once more in this many rounds.
-const HEAT_OF_ONE: u32 = 8;
-
-// Such calls add up to this many rounds at most.
-const MOST_HEAT: u32 = 64;
-
-// How many rounds in a row may find no token before a worker leaves.
-const MOST_IDLE: u32 = 16;
 
 // What holds back a call that is to begin.
 #[derive(Clone, Copy)]
@@ -47,7 +20,9 @@ pub(crate) enum HeldBy {
 // speed alone.
 #[derive(Clone, Copy)]
 pub(crate) struct Pace {
+    pacing: Pacing,
     most: usize,
+    most_calls: u32,
     now: u32,
     longest: u32,
     pause: u32,
@@ -64,17 +39,22 @@ pub(crate) struct Pace {
 
 impl Pace {
     // The pace of one of `workers` workers, which takes at most `most` tokens before a hold.
-    pub(crate) fn new(workers: u32, most: usize) -> Pace {
-        let longest = workers.saturating_mul(SPINS_A_WORKER);
+    pub(crate) fn new(workers: u32, most: usize, pacing: Pacing) -> Pace {
+        let longest = workers.saturating_mul(pacing.get(Knob::SpinsAWorker));
+        let most_calls = pacing.get(Knob::MostCalls).clamp(1, MOST_BATCH as u32);
         Pace {
+            pacing,
             most,
-            now: MOST_CALLS,
-            longest: longest.clamp(LONGEST_OF_FEW, LONGEST_OF_MANY),
+            most_calls,
+            now: most_calls,
+            longest: longest
+                .max(pacing.get(Knob::LongestOfFew))
+                .min(pacing.get(Knob::LongestOfMany)),
             pause: 0,
             idle: 0,
             had_front: false,
             keeps: false,
-            rounds: ROUNDS_IN_HAND,
+            rounds: pacing.get(Knob::RoundsInHand),
             heat: 0,
             conflicts: Conflicts::new(),
             tally: Tally::none(),
@@ -103,7 +83,8 @@ impl Pace {
             HeldBy::Claim => self.tally.blocked = self.tally.blocked.saturating_add(1),
             HeldBy::Cap => self.tally.busy = self.tally.busy.saturating_add(1),
         }
-        self.heat = MOST_HEAT.min(self.heat.saturating_add(HEAT_OF_ONE));
+        let hotter = self.heat.saturating_add(self.pacing.get(Knob::HeatOfOne));
+        self.heat = self.pacing.get(Knob::MostHeat).min(hotter);
     }
 
     // Whether tokens are ever taken before a hold, and not only under it.
@@ -146,7 +127,7 @@ impl Pace {
         if was_held {
             self.now = self.now.min(free.max(1));
         } else if free >= self.now {
-            self.now = MOST_CALLS.min(self.now.saturating_add(1));
+            self.now = self.most_calls.min(self.now.saturating_add(1));
         }
     }
 
@@ -163,7 +144,7 @@ impl Pace {
     // Whether the tokens stay in hand for the next round.
     pub(crate) fn stay_in_hand(&mut self) -> bool {
         if self.rounds == 0 {
-            self.rounds = ROUNDS_IN_HAND;
+            self.rounds = self.pacing.get(Knob::RoundsInHand);
             return false;
         }
         self.rounds -= 1;
@@ -191,7 +172,7 @@ impl Pace {
 
     // Whether the worker leaves after a round that finds no call that may run.
     pub(crate) fn is_leaving(&self, had_token: bool) -> bool {
-        !had_token && (!self.takes_ahead() || self.idle >= MOST_IDLE)
+        !had_token && (!self.takes_ahead() || self.idle >= self.pacing.get(Knob::MostIdle))
     }
 
     // Waits after a round that found no call that may run, longer each time. Reports whether to go on: a worker leaves
@@ -201,14 +182,15 @@ impl Pace {
             return false;
         }
         self.tally.rests = self.tally.rests.saturating_add(1);
-        let mut longest = LONGEST_OF_FEW;
+        let mut longest = self.pacing.get(Knob::LongestOfFew);
         if had_token {
             self.idle = 0;
             longest = self.longest;
         } else {
             self.idle = self.idle.saturating_add(1);
         }
-        self.pause = longest.min(self.pause.saturating_mul(2).saturating_add(FIRST_PAUSE));
+        let longer = self.pause.saturating_mul(2);
+        self.pause = longest.min(longer.saturating_add(self.pacing.get(Knob::FirstPause)));
         rest_for(self.pause);
         true
     }

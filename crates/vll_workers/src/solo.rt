@@ -1,24 +1,6 @@
 //! Whether a worker goes on alone, and when it does.
 use std::sync::atomic::{AtomicBool, Ordering};
-use vll_engine::rest_for;
-
-// A worker judges how calls conflict by this many rounds that began calls.
-const ROUNDS_JUDGED: u32 = 64;
-
-// If more of these rounds held a call back, and few calls were free, nearly all calls conflict.
-const MANY_HELD: u32 = 32;
-
-// The most calls that are free in these rounds, if nearly all calls conflict.
-const FEW_FREE: u32 = 80;
-
-// The most judgements that a worker lets pass before it tries again to go on alone.
-const MOST_PATIENCE: u32 = 64;
-
-// How long a worker that stands aside rests between two looks, in spins: some ten microseconds.
-const REST: u32 = 1_024;
-
-// After this many rests, some two milliseconds, a worker that stands aside looks for calls all the same.
-const MOST_RESTS: u32 = 200;
+use vll_engine::{Knob, Pacing, rest_for};
 
 // Whether one of the workers goes on alone. Where nearly all calls conflict, one worker makes them faster than several,
 // which take the records and the lock from one another's caches; so the others stand aside. It affects speed alone:
@@ -26,13 +8,15 @@ const MOST_RESTS: u32 = 200;
 #[derive(Drop)]
 pub(crate) struct Solo {
     is_taken: AtomicBool,
+    pacing: Pacing,
 }
 
 impl Solo {
     // No worker goes on alone.
-    pub(crate) fn new() -> Solo {
+    pub(crate) fn new(pacing: Pacing) -> Solo {
         Solo {
             is_taken: AtomicBool::new(false),
+            pacing,
         }
     }
 
@@ -53,11 +37,11 @@ impl Solo {
 
     // Rests while a worker goes on alone, but not for ever.
     pub(crate) fn stand_aside(&self) {
-        for _ in 0..MOST_RESTS {
+        for _ in 0..self.pacing.get(Knob::MostAside) {
             if !self.is_taken() {
                 return;
             }
-            rest_for(REST);
+            rest_for(self.pacing.get(Knob::AsideRest));
         }
     }
 }
@@ -98,19 +82,22 @@ impl Conflicts {
     // Once there were enough rounds, goes on alone if nearly all calls conflict, and no longer if they do not. Whoever
     // went on alone for nothing tries again later each time.
     pub(crate) fn judge(&mut self, solo: &Solo) {
-        if self.rounds < ROUNDS_JUDGED {
+        let pacing = &solo.pacing;
+        if self.rounds < pacing.get(Knob::RoundsJudged) {
             return;
         }
-        let is_crowded = self.free <= FEW_FREE;
+        let is_crowded = self.free <= pacing.get(Knob::FewFree);
         if self.is_alone && is_crowded {
             self.patience = 1;
         } else if self.is_alone {
             self.end(solo);
             self.to_pass = self.patience;
-            self.patience = MOST_PATIENCE.min(self.patience.saturating_mul(2));
+            self.patience = pacing
+                .get(Knob::MostPatience)
+                .min(self.patience.saturating_mul(2));
         } else if self.to_pass > 0 {
             self.to_pass -= 1;
-        } else if is_crowded && self.held > MANY_HELD {
+        } else if is_crowded && self.held > pacing.get(Knob::ManyHeld) {
             self.is_alone = solo.take();
         }
         self.rounds = 0;

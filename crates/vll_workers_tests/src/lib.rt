@@ -14,6 +14,8 @@ mod limited;
 #[cfg(test)]
 mod opening;
 #[cfg(test)]
+mod paced;
+#[cfg(test)]
 mod put_off;
 #[cfg(test)]
 mod resumed;

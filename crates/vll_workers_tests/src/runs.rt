@@ -23,7 +23,7 @@ use vll_sca::Placing;
 use vll_workers::{MOST_WORKERS, OpenGate, RunError, RunFault, run};
 
 // Runs `clients` clients of `times` calls each on one record: each call finds what the one before it left.
-fn counts<N: Name + Send + Sync, R: Wait + Threads + Abort + Sync>(
+pub(crate) fn counts<N: Name + Send + Sync, R: Wait + Threads + Abort + Sync>(
     rt: &R,
     alloc: Global,
     opening: Opening<Placing>,

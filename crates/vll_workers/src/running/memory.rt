@@ -6,7 +6,7 @@ ghost use Rattle.vll_tokens.specs.Pool.{HasInHand, all_parts};
 use crate::batch::BatchMemory;
 use crate::pace::share_of;
 use std::alloc::{AllocError, Global};
-use vll_engine::Name;
+use vll_engine::{Name, Pacing};
 use vll_tokens::{Pool, Roster, Shelf, Worker};
 
 // What a worker needs memory for: what it keeps, and what it has under way.
@@ -18,11 +18,16 @@ pub(super) struct Desk<N: Name, T: Roster> {
 
 impl<N: Name, T: Roster> Desk<N, T> {
     // Allocates the memory of a worker, for a run of `count` tokens by `workers` workers.
-    fn new(alloc: Global, count: usize, workers: u32) -> Result<Desk<N, T>, AllocError>
+    fn new(
+        alloc: Global,
+        count: usize,
+        workers: u32,
+        pacing: Pacing,
+    ) -> Result<Desk<N, T>, AllocError>
         requires { count ≡ length T.tokens }
     {
         let shelf = Shelf::new(alloc, count)?;
-        let memory = BatchMemory::new(alloc, workers, share_of(count, workers))?;
+        let memory = BatchMemory::new(alloc, workers, share_of(count, workers), pacing)?;
         Ok(Desk { shelf, memory })
     }
 }
@@ -41,6 +46,7 @@ pub(super) fn memory_for<N: Name, T: Roster>(
     alloc: Global,
     count: usize,
     workers: u32,
+    pacing: Pacing,
 ) -> Result<RunMemory<N, T>, AllocError>
     requires some { 0 < count }
     requires count { count ≡ length T.tokens }
@@ -51,10 +57,10 @@ pub(super) fn memory_for<N: Name, T: Roster>(
 {
     let mut desks = Vec::with_capacity(alloc, workers as usize)?;
     for _ in 0..workers {
-        desks.push_reserved(Desk::new(alloc, count, workers)?);
+        desks.push_reserved(Desk::new(alloc, count, workers, pacing)?);
     }
     let (pool, pass) = Pool::new(alloc, count)?;
-    let Desk { shelf, memory } = Desk::new(alloc, count, workers)?;
+    let Desk { shelf, memory } = Desk::new(alloc, count, workers, pacing)?;
     Ok(RunMemory {
         pool,
         own: Worker::new(shelf, pass),

@@ -59,7 +59,8 @@ pub(super) fn run_named<
     if tokens.is_empty() {
         return Ok(tokens);
     }
-    let memory = match memory_for::<N, T>(alloc, tokens.len(), workers) {
+    let pacing = shared.engine().pacing();
+    let memory = match memory_for::<N, T>(alloc, tokens.len(), workers, pacing) {
         Ok(memory) => memory,
         Err(AllocError) => return Err(RunError::new(RunFault::NoMemory, tokens)),
     };
@@ -70,7 +71,7 @@ pub(super) fn run_named<
         desks,
     } = memory;
     let door = Mutex::new(());
-    let solo = Solo::new();
+    let solo = Solo::new(pacing);
     let workplace = Workplace {
         wait,
         shared,
