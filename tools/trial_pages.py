@@ -15,7 +15,7 @@ from replay_model import Machine
 from running import called, explanation, unlike
 
 PICTURE = TOP / 'docs/replay.svg'
-PICTURED = TOP / 'examples/09_contention_analysis.json'
+PICTURED = TOP / 'examples/13_two_threads.json'
 SEEDS = 300
 # The most events that a schedule has, and what a page says of a scenario without one.
 MOST_EVENTS = 1048576
