@@ -31,7 +31,7 @@ pub enum BegunOnto {
 }
 
 /// The most passes in a list of them.
-pub const MOST_PASSES: usize = 8;
+pub const MOST_PASSES: usize = 16;
 
 /// A list of up to `MOST_PASSES` passes of one engine, of calls that have made no step yet. A pass is made in the list
 /// and stays there until its call is executed, so that the call is copied once. All memory is allocated when the list

@@ -15,7 +15,9 @@ use std::process::Abort;
 use std::sync::Wait;
 use std::test::*;
 use vll_core::{Config, Line};
-use vll_engine::{Client, Engine, Name, NotReopened, Opening, Reopened, Session};
+use vll_engine::{
+    Client, Engine, Knob, Name, NotReopened, Opening, Pacing, Reopened, Session, USUAL,
+};
 use vll_sca::Placing;
 use vll_test_procedures::library;
 
@@ -192,6 +194,9 @@ fn makes<N: Name, R: Wait + Abort>(
     holds(rt, client.call(rt, engine, name, args).is_ok());
 }
 
+// How often a thread tries to take the lock in the three epochs, which is not as usual.
+const TRIES: u32 = 7;
+
 // An epoch: the two clients make these calls in turn, and the engine is reopened.
 fn epoch<N: Name, R: Wait + Abort>(
     rt: &R,
@@ -209,6 +214,7 @@ fn epoch<N: Name, R: Wait + Abort>(
     ensures room { LIMIT ≤ vec_capacity result.journal }
 {
     let (engine, mut clients) = opening.start_clients::<N>();
+    equal(rt, engine.pacing().get(Knob::MostTries), TRIES);
     let mut now = last_client(rt, &mut clients);
     let mut next = last_client(rt, &mut clients);
     for asked in calls {
@@ -284,12 +290,21 @@ fn three_epochs<R: Wait + Abort>(
     next.opening
 }
 
-// Each epoch begins with the records that the one before left: a take aborts at first, and commits later.
+#[test]
+fn usual_pacing_has_the_usual_numbers(rt: HostRuntime) {
+    for (knob, number) in USUAL {
+        equal(&rt, Pacing::usual().get(knob), number);
+    }
+}
+
+// Each epoch begins with the records that the one before left: a take aborts at first, and commits later. The engines of
+// all of them have the first opening's pacing.
 #[test]
 fn three_epochs_are_one_serial_run(rt: HostRuntime) -> Result<(), Fail> {
     let alloc = rt.alloc();
     let mut joined = Vec::with_capacity(alloc, 9)?;
-    let opening = opening_for_two(alloc, [5, 9])?;
+    let pacing = Pacing::usual().with(Knob::MostTries, TRIES);
+    let opening = opening_for_two(alloc, [5, 9])?.with_pacing(pacing);
     let room = room_for_lines(alloc)?;
     let last = three_epochs(&rt, alloc, opening, room, &mut joined);
     let library = library(alloc, 2)?;

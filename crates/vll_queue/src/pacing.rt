@@ -10,7 +10,7 @@ pub enum Knob {
     /// What a scan that is put off pays off of it, since its caller has nothing better to do; 0 counts as 1, so that
     /// none is put off for ever.
     PaidByARest,
-    /// While less than this is owed, no scan is put off.
+    /// While less than this is owed, no scan is put off; 0 counts as 1.
     LeastOwed,
     /// While fewer calls than this wait, no scan is put off.
     LeastWaiting,
@@ -74,7 +74,7 @@ pub const USUAL: [(Knob, u32); KNOBS] = [
     (Knob::LongestRest, 1_024),
     (Knob::MostLooks, 4_096),
     (Knob::LooksAYield, 256),
-    (Knob::MostCalls, 8),
+    (Knob::MostCalls, 16),
     (Knob::RoundsInHand, 16),
     (Knob::HeatOfOne, 8),
     (Knob::MostHeat, 64),
