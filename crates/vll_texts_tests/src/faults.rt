@@ -1,8 +1,9 @@
-//! Tests of the words of faults: of serving, of a replay, and of writing a text.
+//! Tests of the words of faults: of runs, of replays, of writing a text, and of a service.
 use crate::asserts::equal;
 use std::alloc::{AllocError, Global};
 use std::test::Fail;
 use vll_server::{ReplayFault, ServeFault, WriteFault};
+use vll_stream::StreamFault;
 use vll_workers::RunFault;
 
 fn served(alloc: Global, fault: ServeFault) -> Result<String, AllocError> {
@@ -58,5 +59,20 @@ fn fault_of_a_text_is_told(rt: HostRuntime) -> Result<(), Fail> {
     equal(&rt, no_memory.as_str(), "no memory");
     let write = written(rt.alloc(), WriteFault::Write)?;
     equal(&rt, write.as_str(), "write");
+    Ok(())
+}
+
+#[test]
+fn fault_of_a_service_is_told(rt: HostRuntime) -> Result<(), Fail> {
+    for (fault, words) in [
+        (StreamFault::Calls, "calls"),
+        (StreamFault::Read, "read"),
+        (StreamFault::Write, "write"),
+        (StreamFault::NoMemory, "no memory"),
+        (StreamFault::Unfinished, "unfinished"),
+    ] {
+        let told = fault.to_string(rt.alloc())?;
+        equal(&rt, told.as_str(), words);
+    }
     Ok(())
 }

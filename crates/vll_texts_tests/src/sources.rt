@@ -1,32 +1,12 @@
 //! Tests of reading a source that is slow, that fails, or that is the largest allowed or larger.
 use crate::asserts::{equal, holds, holds_at};
+use crate::streams::Slow;
 use std::io;
 use std::io::Read;
 use std::test::Fail;
 use vll_scenario::{Plain, ScenarioFault, Source, read_scenario};
 
 const TEXT: &str = r#"{"version":1,"records":[7,5],"procs":[],"clients":[]}"#;
-
-/// A reader that supplies its text a byte at a time, and then ends or fails.
-#[derive(Drop)]
-struct Slow<'a> {
-    text: &'a [u8],
-    breaks: bool,
-}
-
-impl<'a> Read for Slow<'a> {
-    fn read(&mut self, buf: &mut [u8]) -> io::Result<usize> {
-        match (self.text.split_first(), buf.first_mut()) {
-            (Some((byte, rest)), Some(place)) => {
-                *place = *byte;
-                self.text = rest;
-                Ok(1)
-            }
-            _ if self.breaks => Err(io::Error::from(io::ErrorKind::BrokenPipe)),
-            _ => Ok(0),
-        }
-    }
-}
 
 #[test]
 fn source_may_give_a_byte_at_a_time(rt: HostRuntime) -> Result<(), Fail> {

@@ -1,8 +1,0 @@
-//! Asserts, each proved once: proving one in place takes a second or two, proving a call of one takes no time.
-use std::fmt::Debug;
-use std::process::Abort;
-
-// Asserts that the two are equal.
-pub(crate) fn equal<T: PartialEq + Debug + Drop>(rt: &impl Abort, found: T, wanted: T) {
-    assert_eq!(rt; found, wanted);
-}
