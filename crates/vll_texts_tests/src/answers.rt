@@ -1,6 +1,7 @@
 //! Tests of the answers to lines, as text.
 use crate::asserts::equal;
 use std::alloc::{AllocError, Global};
+use std::process::Abort;
 use std::test::Fail;
 use vll_check::Library;
 use vll_lines::{
@@ -39,10 +40,28 @@ fn answer(alloc: Global, library: &Library, line: &str) -> Result<Vec<u8>, Alloc
     }
 }
 
+const OBJECT: &str =
+    r#"{"fault":"the line has to be an object with proc, args and perhaps client and id"}"#;
+
+const ID: &str = r#"{"fault":"id has to be a whole number or a text of at most 64 bytes"}"#;
+
+const COUNTS: &str = r#"{"fault":"counts has to be true"}"#;
+
+// Asserts what the answer to each line is, over so many records.
+fn check<R: Abort + AllocGlobal>(rt: &R, records: u32, rows: &[(&str, &str)]) -> Result<(), Fail> {
+    let library = library(rt.alloc(), records)?;
+    for row in rows {
+        let (line, wanted) = *row;
+        let found = answer(rt.alloc(), &library, line)?;
+        let text = std::str::from_utf8(found.as_slice())?;
+        equal(rt, text.trim_end(), wanted);
+    }
+    Ok(())
+}
+
 #[test]
 fn line_has_its_call(rt: HostRuntime) -> Result<(), Fail> {
-    let library = library(rt.alloc(), 8)?;
-    for (line, wanted) in [
+    let rows = [
         (
             r#"{"client":0,"proc":"transfer","args":[0,1,30]}"#,
             r#"{"call":12,"aborted":"underflow"}"#,
@@ -72,21 +91,13 @@ fn line_has_its_call(rt: HostRuntime) -> Result<(), Fail> {
             r#"{"client":"a","client":1,"proc":[1e3],"proc":"seven","args":[]}"#,
             r#"{"call":12,"aborted":"underflow"}"#,
         ),
-    ] {
-        let found = answer(rt.alloc(), &library, line)?;
-        equal(
-            &rt,
-            std::str::from_utf8(found.as_slice())?.trim_end(),
-            wanted,
-        );
-    }
-    Ok(())
+    ];
+    check(&rt, 8, rows.as_slice())
 }
 
 #[test]
 fn line_has_its_counts(rt: HostRuntime) -> Result<(), Fail> {
-    let library = library(rt.alloc(), 8)?;
-    for (line, wanted) in [
+    let rows = [
         (
             r#"{"counts":true}"#,
             r#"{"counts":{"calls":15,"aborted":{"code":5,"overflow":4,"underflow":3,"zero divisor":2,"moved":1},"rounds":7,"most_lines":40}}"#,
@@ -100,21 +111,13 @@ fn line_has_its_counts(rt: HostRuntime) -> Result<(), Fail> {
             r#"{"counts":1,"id":7,"co\u0075nts":true}"#,
             r#"{"id":7,"counts":{"calls":15,"aborted":{"code":5,"overflow":4,"underflow":3,"zero divisor":2,"moved":1},"rounds":7,"most_lines":40}}"#,
         ),
-    ] {
-        let found = answer(rt.alloc(), &library, line)?;
-        equal(
-            &rt,
-            std::str::from_utf8(found.as_slice())?.trim_end(),
-            wanted,
-        );
-    }
-    Ok(())
+    ];
+    check(&rt, 8, rows.as_slice())
 }
 
 #[test]
 fn line_has_its_records(rt: HostRuntime) -> Result<(), Fail> {
-    let library = library(rt.alloc(), 8)?;
-    for (line, wanted) in [
+    let rows = [
         (
             r#"{"records":[0,8]}"#,
             r#"{"records":[100,101,102,103,104,105,106,18446744073709551615]}"#,
@@ -132,25 +135,17 @@ fn line_has_its_records(rt: HostRuntime) -> Result<(), Fail> {
             r#"{"records":7,"id":7,"rec\u006frds":[7,1]}"#,
             r#"{"id":7,"records":[18446744073709551615]}"#,
         ),
-    ] {
-        let found = answer(rt.alloc(), &library, line)?;
-        equal(
-            &rt,
-            std::str::from_utf8(found.as_slice())?.trim_end(),
-            wanted,
-        );
-    }
-    Ok(())
+    ];
+    check(&rt, 8, rows.as_slice())
 }
 
 #[test]
 fn line_asks_for_records_that_there_are(rt: HostRuntime) -> Result<(), Fail> {
-    let library = library(rt.alloc(), 2_000)?;
     let form =
         r#"{"fault":"records has to be a list of two whole numbers, the first record and how many"}"#;
     let range =
         r#"{"fault":"records has to ask for at most 1024 records, all of which there are"}"#;
-    for (line, wanted) in [
+    let rows = [
         (r#"{"records":7}"#, form),
         (r#"{"records":true}"#, form),
         (r#"{"records":[]}"#, form),
@@ -165,44 +160,21 @@ fn line_asks_for_records_that_there_are(rt: HostRuntime) -> Result<(), Fail> {
         (r#"{"records":[2001,0]}"#, range),
         (r#"{"records":[18446744073709551615,1]}"#, range),
         (r#"{"records":[1,18446744073709551615]}"#, range),
-        (
-            r#"{"records":[0,1],"client":0}"#,
-            r#"{"fault":"the line has to be an object with proc, args and perhaps client and id"}"#,
-        ),
-        (
-            r#"{"records":[0,1],"counts":true}"#,
-            r#"{"fault":"the line has to be an object with proc, args and perhaps client and id"}"#,
-        ),
-        (
-            r#"{"id":-1,"records":[0,1]}"#,
-            r#"{"fault":"id has to be a whole number or a text of at most 64 bytes"}"#,
-        ),
-    ] {
-        let found = answer(rt.alloc(), &library, line)?;
-        equal(
-            &rt,
-            std::str::from_utf8(found.as_slice())?.trim_end(),
-            wanted,
-        );
-    }
-    Ok(())
+        (r#"{"records":[0,1],"client":0}"#, OBJECT),
+        (r#"{"records":[0,1],"counts":true}"#, OBJECT),
+        (r#"{"id":-1,"records":[0,1]}"#, ID),
+    ];
+    check(&rt, 2_000, rows.as_slice())
 }
 
 #[test]
 fn line_has_its_fault(rt: HostRuntime) -> Result<(), Fail> {
-    let library = library(rt.alloc(), 8)?;
-    for (line, wanted) in [
+    let rows = [
         ("", r#"{"fault":"the line is empty"}"#),
         (" ", r#"{"fault":"no JSON text: column 1"}"#),
         (r#"{"client":0,}"#, r#"{"fault":"no JSON text: column 13"}"#),
-        (
-            "[]",
-            r#"{"fault":"the line has to be an object with proc, args and perhaps client and id"}"#,
-        ),
-        (
-            r#"{"id":-1,"client":0,"proc":"seven","args":[]}"#,
-            r#"{"fault":"id has to be a whole number or a text of at most 64 bytes"}"#,
-        ),
+        ("[]", OBJECT),
+        (r#"{"id":-1,"client":0,"proc":"seven","args":[]}"#, ID),
         (
             r#"{"id":5,"client":0,"proc":"seven","args":[],"more":1}"#,
             r#"{"id":5,"fault":"the line has to be an object with proc, args and perhaps client and id"}"#,
@@ -211,28 +183,16 @@ fn line_has_its_fault(rt: HostRuntime) -> Result<(), Fail> {
             r#"{"id":5,"counts":true,"proc":"seven","args":[]}"#,
             r#"{"id":5,"fault":"the line has to be an object with proc, args and perhaps client and id"}"#,
         ),
-        (
-            r#"{"counts":false,"client":1}"#,
-            r#"{"fault":"the line has to be an object with proc, args and perhaps client and id"}"#,
-        ),
-        (
-            r#"{"id":-1,"counts":true}"#,
-            r#"{"fault":"id has to be a whole number or a text of at most 64 bytes"}"#,
-        ),
+        (r#"{"counts":false,"client":1}"#, OBJECT),
+        (r#"{"id":-1,"counts":true}"#, ID),
         (
             r#"{"id":5,"counts":false}"#,
             r#"{"id":5,"fault":"counts has to be true"}"#,
         ),
-        (r#"{"counts":null}"#, r#"{"fault":"counts has to be true"}"#),
-        (r#"{"counts":1}"#, r#"{"fault":"counts has to be true"}"#),
-        (
-            r#"{"counts":"true"}"#,
-            r#"{"fault":"counts has to be true"}"#,
-        ),
-        (
-            r#"{"counts":true,"counts":[true]}"#,
-            r#"{"fault":"counts has to be true"}"#,
-        ),
+        (r#"{"counts":null}"#, COUNTS),
+        (r#"{"counts":1}"#, COUNTS),
+        (r#"{"counts":"true"}"#, COUNTS),
+        (r#"{"counts":true,"counts":[true]}"#, COUNTS),
         (
             r#"{"id":5,"client":4294967296,"proc":"seven","args":[]}"#,
             r#"{"id":5,"fault":"client has to be the number of a client"}"#,
@@ -293,15 +253,8 @@ fn line_has_its_fault(rt: HostRuntime) -> Result<(), Fail> {
             r#"{"id":5,"client":1,"proc":"bump","args":[8]}"#,
             r#"{"id":5,"fault":"argument 0 has to be the number of a record"}"#,
         ),
-    ] {
-        let found = answer(rt.alloc(), &library, line)?;
-        equal(
-            &rt,
-            std::str::from_utf8(found.as_slice())?.trim_end(),
-            wanted,
-        );
-    }
-    Ok(())
+    ];
+    check(&rt, 8, rows.as_slice())
 }
 
 #[test]

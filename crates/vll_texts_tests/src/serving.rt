@@ -1,8 +1,10 @@
 //! Tests of whole services over bytes in memory.
 use crate::asserts::equal;
+use crate::streams::Slow;
 use std::alloc::Global;
 use std::fmt::Write;
 use std::io;
+use std::process::Abort;
 use std::sync::Wait;
 use std::test::Fail;
 use vll_scenario::{Plain, read_scenario};
@@ -16,14 +18,36 @@ const BANK: &str = r#"{"version":1,"records":[100,50],"procs":[
  {"name":"p","args":0,"keys":[],"body":[]}],
  "clients":[[],[]]}"#;
 
-// What a service of the bank writes for an input.
-fn served(wait: &impl Wait, alloc: Global, input: &str) -> Result<Vec<u8>, Fail> {
-    let scenario = read_scenario(alloc, &mut Plain::new(BANK.as_bytes()))?;
+// What a service of a scenario writes for what the reader gives.
+fn written<R: io::Read + Drop>(
+    wait: &impl Wait,
+    alloc: Global,
+    scenario: &str,
+    reader: R,
+) -> Result<Vec<u8>, Fail> {
+    let scenario = read_scenario(alloc, &mut Plain::new(scenario.as_bytes()))?;
     let mut output = Vec::new(alloc);
     let mut writer = Plain::new(&mut output);
-    let mut reader = Plain::new(input.as_bytes());
+    let mut reader = Plain::new(reader);
     serve_stream(wait, alloc, scenario, &mut reader, &mut writer)?;
     Ok(output)
+}
+
+// What a service of the bank writes for an input.
+fn served(wait: &impl Wait, alloc: Global, input: &str) -> Result<Vec<u8>, Fail> {
+    written(wait, alloc, BANK, input.as_bytes())
+}
+
+// Asserts that a service of a scenario writes this for what the reader gives.
+fn check<T: Wait + Abort + AllocGlobal, R: io::Read + Drop>(
+    rt: &T,
+    scenario: &str,
+    reader: R,
+    wanted: &str,
+) -> Result<(), Fail> {
+    let found = written(rt, rt.alloc(), scenario, reader)?;
+    equal(rt, std::str::from_utf8(found.as_slice())?, wanted);
+    Ok(())
 }
 
 #[test]
@@ -40,17 +64,13 @@ fn each_line_is_answered(rt: HostRuntime) -> Result<(), Fail> {
 {"call":2,"committed":[79]}
 {"calls":3,"records":[71,79]}
 "#;
-    let found = served(&rt, rt.alloc(), input)?;
-    equal(&rt, std::str::from_utf8(found.as_slice())?, wanted);
-    Ok(())
+    check(&rt, BANK, input.as_bytes(), wanted)
 }
 
 #[test]
 fn empty_input_has_the_first_records(rt: HostRuntime) -> Result<(), Fail> {
-    let found = served(&rt, rt.alloc(), "")?;
     let wanted = "{\"calls\":0,\"records\":[100,50]}\n";
-    equal(&rt, std::str::from_utf8(found.as_slice())?, wanted);
-    Ok(())
+    check(&rt, BANK, "".as_bytes(), wanted)
 }
 
 // Procedures that are aborted for each reason that one thread can see.
@@ -94,13 +114,7 @@ fn counts_are_of_the_calls_before(rt: HostRuntime) -> Result<(), Fail> {
 {"fault":"the line has to be an object with proc, args and perhaps client and id"}
 {"calls":6,"records":[5]}
 "#;
-    let scenario = read_scenario(rt.alloc(), &mut Plain::new(ABORTING.as_bytes()))?;
-    let mut output = Vec::new(rt.alloc());
-    let mut writer = Plain::new(&mut output);
-    let mut reader = Plain::new(input.as_bytes());
-    serve_stream(&rt, rt.alloc(), scenario, &mut reader, &mut writer)?;
-    equal(&rt, std::str::from_utf8(output.as_slice())?, wanted);
-    Ok(())
+    check(&rt, ABORTING, input.as_bytes(), wanted)
 }
 
 // Each line with records lies between calls of the round.
@@ -131,9 +145,7 @@ fn records_are_those_at_their_place(rt: HostRuntime) -> Result<(), Fail> {
 {"call":3,"committed":[49]}
 {"calls":4,"records":[49,101]}
 "#;
-    let found = served(&rt, rt.alloc(), input)?;
-    equal(&rt, std::str::from_utf8(found.as_slice())?, wanted);
-    Ok(())
+    check(&rt, BANK, input.as_bytes(), wanted)
 }
 
 // A bank that finds the second account of a transfer by the value of the first record.
@@ -162,13 +174,7 @@ fn records_follow_what_calls_have_found(rt: HostRuntime) -> Result<(), Fail> {
 {"records":[2,93,41]}
 {"calls":4,"records":[2,93,41]}
 "#;
-    let scenario = read_scenario(rt.alloc(), &mut Plain::new(FINDING.as_bytes()))?;
-    let mut output = Vec::new(rt.alloc());
-    let mut writer = Plain::new(&mut output);
-    let mut reader = Plain::new(input.as_bytes());
-    serve_stream(&rt, rt.alloc(), scenario, &mut reader, &mut writer)?;
-    equal(&rt, std::str::from_utf8(output.as_slice())?, wanted);
-    Ok(())
+    check(&rt, FINDING, input.as_bytes(), wanted)
 }
 
 // Lines that ask for `count` transfers of 1 from the first account to the second, or from the second to the first. They
@@ -237,9 +243,7 @@ fn client_that_is_left_out_is_the_first(rt: HostRuntime) -> Result<(), Fail> {
 {"call":1,"committed":[40]}
 {"calls":2,"records":[40,110]}
 "#;
-    let found = served(&rt, rt.alloc(), input)?;
-    equal(&rt, std::str::from_utf8(found.as_slice())?, wanted);
-    Ok(())
+    check(&rt, BANK, input.as_bytes(), wanted)
 }
 
 #[test]
@@ -265,19 +269,10 @@ fn round_of_short_lines_has_room(rt: HostRuntime) -> Result<(), Fail> {
 }
 
 // A reader that supplies its text a byte at a time.
-#[derive(Drop)]
-struct Slow<'a>(&'a [u8]);
-
-impl io::Read for Slow<'_> {
-    fn read(&mut self, buf: &mut [u8]) -> io::Result<usize> {
-        match (self.0.split_first(), buf.first_mut()) {
-            (Some((byte, rest)), Some(place)) => {
-                *place = *byte;
-                self.0 = rest;
-                Ok(1)
-            }
-            _ => Ok(0),
-        }
+fn slow(text: &str) -> Slow<'_> {
+    Slow {
+        text: text.as_bytes(),
+        breaks: false,
     }
 }
 
@@ -285,12 +280,8 @@ impl io::Read for Slow<'_> {
 fn input_may_come_byte_by_byte(rt: HostRuntime) -> Result<(), Fail> {
     let input = transfers(rt.alloc(), 10)?;
     let wanted = served(&rt, rt.alloc(), input.as_str())?;
-    let scenario = read_scenario(rt.alloc(), &mut Plain::new(BANK.as_bytes()))?;
-    let mut output = Vec::new(rt.alloc());
-    let mut writer = Plain::new(&mut output);
-    let mut reader = Plain::new(Slow(input.as_bytes()));
-    serve_stream(&rt, rt.alloc(), scenario, &mut reader, &mut writer)?;
-    equal(&rt, output.as_slice(), wanted.as_slice());
+    let found = written(&rt, rt.alloc(), BANK, slow(input.as_str()))?;
+    equal(&rt, found.as_slice(), wanted.as_slice());
     Ok(())
 }
 
@@ -304,13 +295,7 @@ fn counts_tell_the_rounds(rt: HostRuntime) -> Result<(), Fail> {
 {"calls":1,"records":[100,50]}
 "#;
     let input = "{\"counts\":true}\n{\"proc\":\"p\",\"args\":[]}\n{\"counts\":true}";
-    let scenario = read_scenario(rt.alloc(), &mut Plain::new(BANK.as_bytes()))?;
-    let mut output = Vec::new(rt.alloc());
-    let mut writer = Plain::new(&mut output);
-    let mut reader = Plain::new(Slow(input.as_bytes()));
-    serve_stream(&rt, rt.alloc(), scenario, &mut reader, &mut writer)?;
-    equal(&rt, std::str::from_utf8(output.as_slice())?, wanted);
-    Ok(())
+    check(&rt, BANK, slow(input), wanted)
 }
 
 #[test]
@@ -333,8 +318,7 @@ fn line_that_is_too_long_is_read_over(rt: HostRuntime) -> Result<(), Fail> {
         for _ in 0..length {
             input.push('x')?;
         }
-        let found = served(&rt, rt.alloc(), input.as_str())?;
-        equal(&rt, std::str::from_utf8(found.as_slice())?, wanted);
+        check(&rt, BANK, input.as_bytes(), wanted)?;
     }
     Ok(())
 }
@@ -425,7 +409,7 @@ fn output_that_fails_has_a_beginning(rt: HostRuntime) -> Result<(), Fail> {
             room,
         };
         let mut writer = Plain::new(&mut narrow);
-        let mut reader = Plain::new(Slow(input.as_bytes()));
+        let mut reader = Plain::new(slow(input.as_str()));
         let ended = serve_stream(&rt, rt.alloc(), scenario, &mut reader, &mut writer);
         equal(&rt, ended, Err(StreamFault::Write));
         equal(&rt, narrow.taken.len(), room);
