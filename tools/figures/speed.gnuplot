@@ -39,9 +39,9 @@ stats csv every ::1 using ( \
     strstrt(titles, '|'.strcol(1).'|') ? 0 : (titles = titles.'|'.strcol(1).'|', 0), 0) nooutput
 
 count = 0
-array names[6]
+array names[7]
 rest = titles
-while (strlen(rest) > 0 && count < 6) {
+while (strlen(rest) > 0 && count < 7) {
     rest = rest[2:*]
     end = strstrt(rest, '|')
     count = count + 1
@@ -49,9 +49,9 @@ while (strlen(rest) > 0 && count < 6) {
     rest = rest[end+1:*]
 }
 
-set terminal svg size 960,640 name 'speed' font 'sans-serif,13' background '#ffffff'
+set terminal svg size 1200,640 name 'speed' font 'sans-serif,13' background '#ffffff'
 set output 'docs/speed.svg'
-set multiplot layout 2,3 title "Nanoseconds a call, by the number of threads: less is better" font ',16' \
+set multiplot layout 2,4 title "Nanoseconds a call, by the number of threads: less is better" font ',16' \
     margins 0.06,0.985,0.12,0.86 spacing 0.055,0.16
 set logscale y
 set xrange [0.7:4.3]

@@ -33,6 +33,7 @@ CLIENTS = 256
 CALLS = 65536
 LONG_CALLS = 16384
 CAP = 8
+CUSTOMERS = 32768
 # The procedures with ten claims read two records each that no call writes; these are the last ones.
 TENS = 64
 WRITTEN = RECORDS - 2 * TENS
@@ -62,6 +63,45 @@ def long():
                      ['set', 0, ['min', ['local', 0], 1000000]], ['reply', ['key', 0]]]}
 
 
+# Of customer N, record 2N holds the savings and record 2N + 1 the balance of the checking account.
+SAVINGS, CHECKING = ['key', 0], ['key', 1]
+SMALLBANK = [
+    {'name': 'balance', 'args': 2, 'keys': [['read', 'arg', 0], ['read', 'arg', 1]],
+     'body': [['reply', ['add', SAVINGS, CHECKING]]]},
+    {'name': 'deposit_checking', 'args': 2, 'keys': [['write', 'arg', 0]],
+     'body': [['set', 0, ['add', ['key', 0], ['arg', 1]]]]},
+    # one of its two amounts is 0: what is paid in, and what is taken out
+    {'name': 'transact_savings', 'args': 3, 'keys': [['write', 'arg', 0]],
+     'body': [['let', 0, ['add', SAVINGS, ['arg', 1]]], ['if', ['less', ['local', 0], ['arg', 2]], [['abort', 1]], []],
+              ['set', 0, ['sub', ['local', 0], ['arg', 2]]]]},
+    {'name': 'amalgamate', 'args': 3, 'keys': [['write', 'arg', 0], ['write', 'arg', 1], ['write', 'arg', 2]],
+     'body': [['set', 2, ['add', ['key', 2], ['add', SAVINGS, CHECKING]]], ['set', 0, 0], ['set', 1, 0]]},
+    {'name': 'write_check', 'args': 3, 'keys': [['read', 'arg', 0], ['write', 'arg', 1]],
+     'body': [['let', 0, ['less', ['add', SAVINGS, CHECKING], ['arg', 2]]],
+              ['set', 1, ['sub', CHECKING, ['add', ['arg', 2], ['local', 0]]]]]},
+    {'name': 'send_payment', 'args': 3, 'keys': [['write', 'arg', 0], ['write', 'arg', 1]],
+     'body': [['if', ['less', ['key', 0], ['arg', 2]], [['abort', 1]], []],
+              ['set', 0, ['sub', ['key', 0], ['arg', 2]]], ['set', 1, ['add', ['key', 1], ['arg', 2]]]]},
+]
+
+
+def smallbank(rng):
+    """A quarter of the calls are payments, and as many of each other procedure as of the next."""
+    calls = []
+    for _ in range(CALLS):
+        one, other = rng.sample(range(CUSTOMERS), 2)
+        savings, checking, amount = 2 * one, 2 * one + 1, rng.randrange(1, 100)
+        calls.append(rng.choices([
+            ('balance', [savings, checking]),
+            ('deposit_checking', [checking, amount]),
+            ('transact_savings', [savings, *rng.sample([0, amount], 2)]),
+            ('amalgamate', [savings, checking, 2 * other + 1]),
+            ('write_check', [savings, checking, amount]),
+            ('send_payment', [checking, 2 * other + 1, amount]),
+        ], [15, 15, 15, 15, 15, 25])[0])
+    return [10000] * (2 * CUSTOMERS), SMALLBANK, calls
+
+
 def tens(rng, hot):
     """Calls with ten claims. One is for one of the hot records, if there are any."""
     calls = []
@@ -88,6 +128,7 @@ def long_bodies(rng):
 WORKLOADS = {
     'bodies of 500 nodes': ('bodies of 500 nodes, no two on one record', long_bodies),
     'transfers': ('transfers between two of 65,536 records', transfers),
+    'SmallBank': ('SmallBank, 32,768 customers with two accounts each', smallbank),
     'ten claims': ('ten claims of 65,536 records, hardly a conflict', lambda rng: tens(rng, 0)),
     'ten claims with one hot': ('ten claims, one of them among ten hot records', lambda rng: tens(rng, 10)),
     'bump of one record': ('one statement, all calls on one record', lambda _: ([0], [BUMP], [('bump', [0])] * CALLS)),
