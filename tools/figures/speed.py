@@ -128,7 +128,7 @@ def long_bodies(rng):
 WORKLOADS = {
     'bodies of 500 nodes': ('bodies of 500 nodes, no two on one record', long_bodies),
     'transfers': ('transfers between two of 65,536 records', transfers),
-    'SmallBank': ('SmallBank, 32,768 customers with two accounts each', smallbank),
+    'SmallBank': ('SmallBank, six procedures, 32,768 customers', smallbank),
     'ten claims': ('ten claims of 65,536 records, hardly a conflict', lambda rng: tens(rng, 0)),
     'ten claims with one hot': ('ten claims, one of them among ten hot records', lambda rng: tens(rng, 10)),
     'bump of one record': ('one statement, all calls on one record', lambda _: ([0], [BUMP], [('bump', [0])] * CALLS)),
